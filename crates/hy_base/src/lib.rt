@@ -1,0 +1,15 @@
+//! The ground that every crate stands on: one list, want of memory, limits, and the outside as
+//! files that are read (`Shelf`) and bytes that are written (`Sink`).
+#![tactic(auto)]
+
+mod limit;
+mod list;
+mod memory;
+mod shelf;
+mod sink;
+
+pub use limit::{Kind, Limit};
+pub use list::{List, NumList, Remake, Text};
+pub use memory::{M, Memory};
+pub use shelf::{Shelf, ShelfFailed};
+pub use sink::{Sink, SinkFailed};

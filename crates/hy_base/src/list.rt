@@ -1,0 +1,126 @@
+use crate::memory::M;
+
+use std::alloc::Global;
+use std::marker::Model;
+
+ghost use Rattle.std.specs.Prelude.{◌≡◌, ◌+◌, ◌<◌, ◌≤◌, [], ◌∷◌, ◌++◌, length, OnOk, OnErr, IfOk, slice_get, Some, nat_eq};
+
+/// A list of values, which contracts see as a list.
+#[derive(Drop)]
+pub struct List<T> {
+    items: Vec<T>,
+}
+
+impl<T> Model for List<T> {
+    ghost use Rattle.std.specs.Prelude.{List as Sequence};
+
+    ghost Value = { Sequence T };
+
+    ghost view = { λ l. l.items.items };
+}
+
+/// Bytes: a name, a file, a text to print.
+pub type Text = List<u8>;
+
+/// Numbers.
+pub type NumList = List<u32>;
+
+/// A value of which an equal one can be made.
+pub trait Remake {
+    /// An equal value. Memory is the only refusal.
+    fn remake(&self, alloc: Global) -> M<Self>
+        ensures { IfOk result (λ made. made ≡ self.now) };
+}
+
+impl Remake for u8 {
+    fn remake(&self, _alloc: Global) -> M<Self> {
+        Ok(*self)
+    }
+}
+
+impl Remake for u32 {
+    fn remake(&self, _alloc: Global) -> M<Self> {
+        Ok(*self)
+    }
+}
+
+impl<T> List<T> {
+    /// The empty list. Takes no memory.
+    pub fn new(alloc: Global) -> Self
+        ensures { result ≡ [] }
+    {
+        List {
+            items: Vec::new(alloc),
+        }
+    }
+
+    /// How many values there are.
+    pub fn len(&self) -> usize
+        ensures { result ≡ length self.now }
+    {
+        self.items.len()
+    }
+
+    /// Whether there is no value.
+    pub fn is_empty(&self) -> bool
+        ensures { result ≡ nat_eq (length self.now) 0 }
+    {
+        self.items.is_empty()
+    }
+
+    /// The value at place `i`, counted from 0.
+    pub fn at(&self, i: usize) -> &T
+        requires { i < length self.now }
+        ensures { slice_get self.now i ≡ Some result.now }
+    {
+        &self.items[i]
+    }
+
+    /// The values as a slice.
+    pub fn as_slice(&self) -> &[T]
+        ensures { result.now ≡ self.now }
+    {
+        self.items.as_slice()
+    }
+
+    /// Adds `x` last, in constant time but for growth. Refused for memory it changes nothing.
+    pub fn push(&mut self, x: T) -> M<()>
+    where
+        T: Drop,
+        ensures added { OnOk result (self.new ≡ self.old ++ x ∷ []) }
+        ensures refused { OnErr result (self.new ≡ self.old) }
+    {
+        self.items.push(x)?;
+        Ok(())
+    }
+}
+
+impl<T: Remake + Drop> Remake for List<T> {
+    fn remake(&self, alloc: Global) -> M<Self> {
+        self.copy(alloc)
+    }
+}
+
+impl<T: Remake + Drop> List<T> {
+    /// An equal list, in time linear in its length.
+    pub fn copy(&self, alloc: Global) -> M<Self>
+        ensures { IfOk result (λ made. made ≡ self.now) }
+    {
+        let mut made = List::new(alloc);
+        for x in self.as_slice() {
+            made.push(x.remake(alloc)?)?;
+        }
+        Ok(made)
+    }
+}
+
+impl List<u8> {
+    /// Adds `bytes` last, in time linear in them. Refused for memory it changes nothing.
+    pub fn extend(&mut self, bytes: &[u8]) -> M<()>
+        ensures added { OnOk result (self.new ≡ self.old ++ bytes.now) }
+        ensures refused { OnErr result (self.new ≡ self.old) }
+    {
+        self.items.extend_from_slice(bytes)?;
+        Ok(())
+    }
+}

@@ -1,0 +1,45 @@
+//! Where bytes are written: what a writer may count on, wherever the bytes go.
+
+use std::error::Error;
+use std::fmt;
+
+/// A sink took nothing.
+#[derive(Clone, Copy, Debug, PartialEq, Eq)]
+pub struct SinkFailed;
+
+impl fmt::Display for SinkFailed {
+    fn fmt<W: fmt::Write>(&self, f: &mut fmt::Formatter<W>) -> fmt::Result {
+        write!(f, "the sink failed")
+    }
+}
+
+impl Error for SinkFailed {}
+
+/// What takes bytes, a piece at a time.
+///
+/// A sink over a real stream tells nothing of what it was given: only its count is known.
+pub trait Sink {
+    ghost use Rattle.std.specs.Prelude.{◌≡◌, ℕ, ◌≤◌, ◌<◌, ◌++◌, List, OnErr, IfOk, length, take};
+    ghost use Rattle.hy_base.specs.Counts.{Rose};
+
+    /// Whether the sink tells what it was given.
+    ghost tells: { Self → Type 0 };
+
+    /// The bytes that it was given so far.
+    ghost given: { Self → List ℕ };
+
+    /// How many puts have failed, as far as a `u64` counts.
+    ghost faults: { Self → ℕ };
+
+    /// Gives bytes from the front of `piece`, and answers how many: at least one of a piece that is
+    /// not empty. A failure gives nothing.
+    fn put(&mut self, piece: &[u8]) -> Result<usize, SinkFailed>
+        ensures tells { tells self.old → tells self.new }
+        ensures faults { faults self.old ≤ faults self.new }
+        ensures counted { OnErr result (Rose (faults self.old) (faults self.new)) }
+        ensures within { IfOk result (λ k. k ≤ length piece.now) }
+        ensures some { IfOk result (λ k. 0 < length piece.now → 0 < k) }
+        ensures empty { length piece.now ≡ 0 → result ≡ Ok 0 }
+        ensures given { tells self.old → IfOk result (λ k. given self.new ≡ given self.old ++ take k piece.now) }
+        ensures refused { tells self.old → OnErr result (given self.new ≡ given self.old) };
+}
