@@ -1,0 +1,12 @@
+//! HyperLTL formulas: quantifiers over traces, and a body over the names in their letters.
+#![tactic(auto)]
+
+mod atom;
+mod body;
+mod formula;
+mod prefix;
+
+pub use atom::Atom;
+pub use body::Body;
+pub use formula::Formula;
+pub use prefix::{Prefix, Quant};
