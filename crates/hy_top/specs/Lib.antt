@@ -1,0 +1,6 @@
+pub mod Bytes
+pub mod Formulas
+pub mod Grammar
+pub mod Scans
+pub mod Symbols
+pub mod Tokens

@@ -1,0 +1,5 @@
+//! Formula texts.
+
+mod scan;
+mod symbol;
+mod token;
