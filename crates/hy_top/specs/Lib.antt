@@ -1,8 +1,11 @@
+pub mod Answers
 pub mod Bytes
 pub mod Finite
 pub mod Formulas
 pub mod Grammar
+pub mod Outputs
 pub mod Scans
 pub mod Symbols
 pub mod Tokens
 pub mod TraceTexts
+pub mod Words

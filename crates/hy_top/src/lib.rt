@@ -1,4 +1,7 @@
 //! The programs, from words and files to answers and texts.
 #![tactic(auto)]
 
+mod answer;
 mod read;
+
+pub use answer::{Answer, Done, Tool, Tuple};
