@@ -5,11 +5,15 @@
 mod limit;
 mod list;
 mod memory;
+mod reading;
 mod shelf;
 mod sink;
+mod writing;
 
 pub use limit::{Kind, Limit};
 pub use list::{List, NumList, Remake, Text};
 pub use memory::{M, Memory};
+pub use reading::{BYTES_LIMIT, FileError, read_all};
 pub use shelf::{Shelf, ShelfFailed};
 pub use sink::{Sink, SinkFailed};
+pub use writing::{write_all, write_pieces};
