@@ -1,16 +1,15 @@
 //! A whole file of a shelf.
 
-use crate::list::Text;
-use crate::memory::Memory;
-use crate::shelf::{Shelf, ShelfFailed};
-
-use std::alloc::Global;
-use std::error::Error;
-use std::fmt;
-
 ghost use Rattle.std.specs.Prelude.{◌≡◌, ◌≢◌, ◌≤◌, ◌<◌, ◌++◌, ℕ, List, [], length, Option, Some, None, IsErrOf, OnOk, OnErr, IfOk};
 ghost use Rattle.hy_base.specs.Counts.{Rose};
 ghost use Rattle.hy_base.specs.declared.reading.FileError.TheVariants.{Memory as OfMemory};
+
+use crate::list::Text;
+use crate::memory::Memory;
+use crate::shelf::{Shelf, ShelfFailed};
+use std::alloc::Global;
+use std::error::Error;
+use std::fmt;
 
 /// The most bytes that a file may have.
 pub const BYTES_LIMIT: usize = 67_108_864;

@@ -1,10 +1,10 @@
 //! Whole texts into a sink.
 
-use crate::sink::{Sink, SinkFailed};
-
 ghost use Rattle.std.specs.Prelude.{◌≡◌, ◌≤◌, ◌<◌, ◌++◌, ℕ, List, OnOk, OnErr};
 ghost use Rattle.hy_base.specs.Counts.{Rose};
 ghost use Rattle.hy_base.specs.Pieces.{IsProperPrefix, GaveFront, joined};
+
+use crate::sink::{Sink, SinkFailed};
 
 /// Gives all of `bytes` to the sink, by as few puts as it takes them in. It takes no memory.
 ///
