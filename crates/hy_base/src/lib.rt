@@ -2,8 +2,10 @@
 //! files that are read (`Shelf`) and bytes that are written (`Sink`).
 #![tactic(auto)]
 
+mod calls;
 mod limit;
 mod list;
+mod mem_shelf;
 mod memory;
 mod reading;
 mod shelf;
@@ -12,6 +14,7 @@ mod writing;
 
 pub use limit::{Kind, Limit};
 pub use list::{List, NumList, Remake, Text};
+pub use mem_shelf::{File, FileList, MemShelf};
 pub use memory::{M, Memory};
 pub use reading::{BYTES_LIMIT, FileError, read_all};
 pub use shelf::{Shelf, ShelfFailed};
