@@ -2,14 +2,23 @@
 //! files that are read (`Shelf`) and bytes that are written (`Sink`).
 #![tactic(auto)]
 
+mod calls;
 mod limit;
 mod list;
+mod mem_shelf;
+mod mem_sink;
 mod memory;
+mod reading;
 mod shelf;
 mod sink;
+mod writing;
 
 pub use limit::{Kind, Limit};
 pub use list::{List, NumList, Remake, Text};
+pub use mem_shelf::{File, FileList, MemShelf};
+pub use mem_sink::MemSink;
 pub use memory::{M, Memory};
+pub use reading::{BYTES_LIMIT, FileError, read_all};
 pub use shelf::{Shelf, ShelfFailed};
 pub use sink::{Sink, SinkFailed};
+pub use writing::{write_all, write_pieces};

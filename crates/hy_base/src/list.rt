@@ -1,9 +1,8 @@
-use crate::memory::M;
+ghost use Rattle.std.specs.Prelude.{◌≡◌, ◌+◌, ◌<◌, ◌≤◌, [], ◌∷◌, ◌++◌, length, OnOk, OnErr, IfOk, slice_get, Some, nat_eq};
 
+use crate::memory::M;
 use std::alloc::Global;
 use std::marker::Model;
-
-ghost use Rattle.std.specs.Prelude.{◌≡◌, ◌+◌, ◌<◌, ◌≤◌, [], ◌∷◌, ◌++◌, length, OnOk, OnErr, IfOk, slice_get, Some, nat_eq};
 
 /// A list of values, which contracts see as a list.
 #[derive(Drop)]

@@ -1,8 +1,8 @@
+ghost use Rattle.std.specs.Prelude.{◌≡◌};
+
 use std::alloc::{AllocError, AllocFailed};
 use std::error::Error;
 use std::fmt;
-
-ghost use Rattle.std.specs.Prelude.{◌≡◌};
 
 /// Memory ran out. It is the one answer that needs no cause.
 #[derive(Clone, Copy, Debug, PartialEq, Eq)]
