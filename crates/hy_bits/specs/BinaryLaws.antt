@@ -2,6 +2,7 @@
 --     contains-insert_same, contains-insert_other      whether a set with one more member has a number
 --     contains-ones, has_one-number, bit_at-number      the members of a number's ones, and the ones of a set's number
 --     ones-number, number-ones, same_letter      the two are inverse; sets with the same members are equal
+--     same_from_numbers, numbers_differ      what `==` of two letters says
 use Rattle.std.proofs.Common.{◌≡◌, ◌≢◌, ℕ, zero, suc, ◌^◌, ◌<◌, ◌≤◌, Bool, true, false, cond, ◌||◌, List, [], ◌∷◌, max, nat_eq, refl, sym, ap, ◌∙◌, inl, inr, subst}
 use Rattle.std.specs.Int.{bit_at}
 use Rattle.std.specs.List.{list_any}
@@ -12,7 +13,7 @@ use Rattle.std.proofs.Math.Arith.{lt_of_le-ne}
 use Rattle.std.proofs.Math.Nat.{le_refl, lt_irrefl, lt-suc_self, zero-lt-suc, not-suc-le-zero, le_of_suc-le, le_of_suc-le-suc, lt_of_lt_of_le, lt_of_le_of_lt, le_trans, le-max_left, le-max_right, zero-max, max-zero}
 use Rattle.std.proofs.Math.Pow.{pow_mono}
 use Rattle.std.proofs.lemmas.Nat.{pow_below}
-use Rattle.std.proofs.lemmas.Bool.{ne_eqb, eq-eqb, cases_eq, cases_lt}
+use Rattle.std.proofs.lemmas.Bool.{eqb-true, eqb-false, ne_eqb, eq-eqb, cases_eq, cases_lt}
 use Rattle.std.proofs.lemmas.Nat.Bits.{bit_at_or, bit_at-zero, bit_at-pow_same, bit_at-pow_other, bit_at-lt, bit_at_above, same_from_bits}
 use Rattle.hy_bits.specs.Letter.{Letter}
 use Rattle.hy_bits.specs.Binary.{has_one, ones_below, ones, number_below, above_all, number}
@@ -148,3 +149,11 @@ bit_is (suc (suc b)) lt = absurd (not-suc-le-zero (le_of_suc-le-suc (le_of_suc-l
 pub number-ones : (n : ℕ) → number (ones n) ≡ n
 number-ones n =
     same_from_bits _ _ (λ q. bit_at-number (ones n) q ∙ ap (λ b. cond b 1 0) (contains-ones n q) ∙ bit_is (bit_at n q) (bit_at-lt n q))
+
+-- ---- `==` compares the numbers
+
+pub same_from_numbers : (s t : Letter) → nat_eq (number s) (number t) ≡ true → s ≡ t
+same_from_numbers s t e = sym (ones-number s) ∙ ap ones (eqb-true _ _ e) ∙ ones-number t
+
+pub numbers_differ : (s t : Letter) → nat_eq (number s) (number t) ≡ false → s ≢ t
+numbers_differ s t e same = eqb-false _ _ e (ap number same)

@@ -6,7 +6,7 @@ use std::alloc::Global;
 use std::marker::Model;
 
 /// A letter: a set of names, each by its number, which is below 64.
-#[derive(Clone, Copy, Debug)]
+#[derive(Clone, Copy, PartialEq, Eq, PartialOrd, Ord, Hash, Debug)]
 pub struct LetterMask {
     /// Name k is a member where bit k is 1.
     bits: u64,
@@ -92,5 +92,16 @@ impl LetterMask {
 impl Remake for LetterMask {
     fn remake(&self, _alloc: Global) -> M<Self> {
         Ok(*self)
+    }
+}
+
+#[cfg(test)]
+mod tests {
+    use super::*;
+
+    #[test]
+    fn is_remade(rt: HostRuntime) {
+        let letter = LetterMask::empty().with(3);
+        assert_eq!(rt; letter.remake(rt.alloc()), Ok(letter));
     }
 }
