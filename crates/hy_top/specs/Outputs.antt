@@ -1,10 +1,16 @@
 -- The text that each answer prints, its error line, and its status.
-use Rattle.std.specs.Prelude.{ℕ, List, [], ◌∷◌, ◌++◌, map, codes, decimal, nat_eq, if◌then◌else◌, slice_index_or}
-use Rattle.std.specs.List.{join_with_byte}
+use Rattle.std.specs.Prelude.{◌≡◌, ◌⊎◌, ℕ, List, [], ◌∷◌, ◌++◌, map, codes, decimal, nat_eq, if◌then◌else◌, slice_index_or}
+use Rattle.std.specs.List.{join_with_byte, flat_map}
+use Rattle.hy_base.specs.Counts.{Rose}
+use Rattle.hy_base.specs.Pieces.{GaveFront}
 use Rattle.hy_base.specs.declared.limit.Kind.{Kind}
 use Rattle.hy_base.specs.declared.limit.Kind.TheVariants.{Bytes}
 use Rattle.hy_top.specs.declared.answer.Answer.{Answer}
 use Rattle.hy_top.specs.declared.answer.Answer.TheVariants.{NoViolation, Violation, Words, OpenFault, ReadFault, WriteFault, Limit, Unbuilt, Memory}
+
+-- numbers, each behind a space
+abbrev pub spaced : List ℕ → List ℕ
+spaced numbers = flat_map (λ n. 32 ∷ decimal n) numbers
 
 -- how many sessions are open, where some are
 abbrev pub open_text : ℕ → List ℕ
@@ -47,3 +53,8 @@ status_of (ReadFault file) = 3
 status_of WriteFault = 3
 status_of (Limit kind limit) = 5
 status_of Memory = 6
+
+-- A sink received the line, or a front of it and a count that rose.
+abbrev pub Received : List ℕ → List ℕ → List ℕ → ℕ → ℕ → Type 0
+Received line old new faults_before faults_after =
+    (new ≡ old ++ line) ⊎ (Rose faults_before faults_after × GaveFront old new line)

@@ -2,6 +2,9 @@
 #![tactic(auto)]
 
 mod answer;
+mod output;
 mod read;
+mod refusal;
+mod words;
 
 pub use answer::{Answer, Done, Tool, Tuple};

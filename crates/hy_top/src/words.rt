@@ -1,0 +1,29 @@
+//! Command lines.
+
+ghost use Rattle.std.specs.Prelude.{◌≡◌, List, ℕ, map, length, string_bytes, IsTrue};
+ghost use Rattle.std.specs.Bool.{OnTrue, OnFalse};
+ghost use Rattle.hy_top.specs.Words.{is_file_word, IsCommand};
+ghost use Rattle.hy_top.specs.Outputs.{file_word};
+
+/// Whether a word names a file: it is not empty, and begins with a dash only where it is one.
+fn is_file_word(word: &str) -> bool
+    ensures { result ≡ is_file_word word.now }
+{
+    match word.as_bytes() {
+        [] => false,
+        [_] => true,
+        [first, ..] => *first != b'-',
+    }
+}
+
+/// Whether the words are a command of `rvhyper`: a specification file and a trace file.
+pub fn is_command(words: &[String]) -> bool
+    ensures two { IsTrue result → length words.now ≡ 2 }
+    ensures command { let texts = map string_bytes words.now in OnTrue result (IsCommand texts (file_word texts 0) (file_word texts 1)) }
+    ensures other { OnFalse result ((specs traces : List ℕ) → IsCommand (map string_bytes words.now) specs traces → ⊥) }
+{
+    match words {
+        [specs, traces] => is_file_word(specs.as_str()) && is_file_word(traces.as_str()),
+        _ => false,
+    }
+}
