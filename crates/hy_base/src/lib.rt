@@ -13,6 +13,8 @@ mod reading;
 mod shelf;
 mod sink;
 mod std_sink;
+#[cfg(test)]
+mod tests;
 mod writing;
 
 pub use disk_shelf::DiskShelf;
