@@ -3,6 +3,7 @@
 #![tactic(auto)]
 
 mod calls;
+mod disk_shelf;
 mod limit;
 mod list;
 mod mem_shelf;
@@ -11,8 +12,12 @@ mod memory;
 mod reading;
 mod shelf;
 mod sink;
+mod std_sink;
+#[cfg(test)]
+mod tests;
 mod writing;
 
+pub use disk_shelf::DiskShelf;
 pub use limit::{Kind, Limit};
 pub use list::{List, NumList, Remake, Text};
 pub use mem_shelf::{File, FileList, MemShelf};
@@ -21,4 +26,5 @@ pub use memory::{M, Memory};
 pub use reading::{BYTES_LIMIT, FileError, read_all};
 pub use shelf::{Shelf, ShelfFailed};
 pub use sink::{Sink, SinkFailed};
+pub use std_sink::StdSink;
 pub use writing::{write_all, write_pieces};

@@ -1,0 +1,46 @@
+//! A sink over standard output or standard error. It is not proved what a stream takes, so this
+//! sink tells nothing.
+
+ghost use Rattle.std.specs.Prelude.{◌≡◌, []};
+
+use crate::calls::one_more;
+use crate::sink::{Sink, SinkFailed};
+use std::io::Print;
+
+/// A stream of the process: over `rt.stdout()` its standard output, over `rt.stderr()` its standard
+/// error. It keeps no byte back, so nothing is lost at exit.
+#[derive(Drop)]
+pub struct StdSink<P> {
+    stream: P,
+    faults: u64,
+}
+
+impl<P: Print> StdSink<P> {
+    /// A sink with no fault counted.
+    pub fn new(stream: P) -> StdSink<P>
+        ensures { ⟦<StdSink<P> as Sink>⟧.faults result ≡ 0 }
+    {
+        StdSink { stream, faults: 0 }
+    }
+}
+
+impl<P: Print> Sink for StdSink<P> {
+    ghost tells = { λ _. ⊥ };
+
+    ghost given = { λ _. [] };
+
+    ghost faults = { λ s. s.faults };
+
+    fn put(&mut self, piece: &[u8]) -> Result<usize, SinkFailed> {
+        if piece.is_empty() {
+            return Ok(0);
+        }
+        match self.stream.write_some(piece) {
+            Ok(count) if count > 0 => Ok(count),
+            _ => {
+                self.faults = one_more(self.faults);
+                Err(SinkFailed)
+            }
+        }
+    }
+}
