@@ -1,5 +1,6 @@
 pub mod Answers
 pub mod Bytes
+pub mod Classes
 pub mod Finite
 pub mod Formulas
 pub mod Grammar

@@ -1,5 +1,6 @@
 -- What the scanner answers.
-use Rattle.std.specs.Prelude.{◌≡◌, ◌≢◌, ℕ, ◌<◌, ◌≤◌, List, [], length, drop, Some, None}
+use Rattle.std.specs.Prelude.{◌≡◌, ◌≢◌, ℕ, ◌<◌, ◌≤◌, List, [], length, drop, Option, Some, None}
+use Rattle.std.specs.Option.{option_map}
 use Rattle.hy_top.specs.declared.read.token.Token.{Token as Scanned}
 use Rattle.hy_top.specs.declared.read.token.Token.TheVariants.{Symbol, Variable, Atom}
 use Rattle.hy_top.specs.declared.read.token.Next.{Next}
@@ -11,6 +12,10 @@ abbrev pub plain : Scanned → Token
 plain (Symbol s) = symbol s
 plain (Variable v) = variable v.now
 plain (Atom n v) = atom n.now v.now
+
+-- a token and its length, the token without where its text lies in memory
+abbrev pub plain_found : Option (Scanned × ℕ) → Option (Token × ℕ)
+plain_found found = option_map (λ f. (plain f.0, f.1)) found
 
 -- The token at the front of `here`, behind blanks, ends where `rest` begins.
 abbrev pub StandsFirst : List ℕ → Token → List ℕ → Type 0

@@ -1,5 +1,5 @@
 -- How a formula text splits into tokens. At each place the longest token is taken.
-use Rattle.std.specs.Prelude.{◌≡◌, ℕ, ◌+◌, Bool, ◌&&◌, nat_eq, nat_lt, if◌then◌else◌, List, [], ◌∷◌, length, take, drop, Option, Some, None, codes}
+use Rattle.std.specs.Prelude.{◌≡◌, ℕ, ◌+◌, ◌&&◌, nat_eq, nat_lt, if◌then◌else◌, List, [], ◌∷◌, length, drop, Option, Some, None, codes}
 use Rattle.std.specs.List.{prefix_len, take_while, before_last, after_last, list_any, find, starts_with}
 use Rattle.std.specs.Option.{option_map}
 use Rattle.std.specs.Str.{bytes_eq}
@@ -45,8 +45,9 @@ word_at text =
 -- At the front a quote, a name, a quote, an underscore and a variable.
 abbrev pub quoted_at : List ℕ → Option (Token × ℕ)
 quoted_at text =
-    let name = take_while is_quotable (drop 1 text) in
-    let behind = drop (1 + length name) text in
+    let inner = drop 1 text in
+    let name = take_while is_quotable inner in
+    let behind = drop (length name) inner in
     let bound = take_while is_letter_or_digit (drop 2 behind) in
     if nat_lt 0 (length name) && starts_with nat_eq behind (codes "\"_") && is_variable bound
     then Some (atom name bound, length name + 3 + length bound)

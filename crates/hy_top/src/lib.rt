@@ -3,6 +3,7 @@
 
 mod answer;
 mod output;
+mod bytes;
 mod read;
 mod refusal;
 mod words;

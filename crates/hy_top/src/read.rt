@@ -3,3 +3,4 @@
 mod scan;
 mod symbol;
 mod token;
+mod word;
