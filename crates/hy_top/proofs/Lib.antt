@@ -1,1 +1,3 @@
+pub mod Deriving
 pub mod Examples
+pub mod Splitting
