@@ -1,3 +1,5 @@
+pub mod Deriving
 pub mod Examples
 pub mod Texts
 pub mod Suffixes
+pub mod Splitting

@@ -5,6 +5,7 @@ pub mod Finite
 pub mod Formulas
 pub mod Grammar
 pub mod Outputs
+pub mod Parses
 pub mod Scans
 pub mod Symbols
 pub mod Tokens
