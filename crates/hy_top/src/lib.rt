@@ -2,6 +2,7 @@
 #![tactic(auto)]
 
 mod answer;
+mod finite;
 mod read;
 
 pub use answer::{Answer, Done, Tool, Tuple};
