@@ -4,6 +4,7 @@
 mod answer;
 mod output;
 mod bytes;
+mod finite;
 mod read;
 mod refusal;
 mod words;

@@ -1,0 +1,3 @@
+//! Finite traces: what a body means on them, and the first violation.
+
+mod trace;
