@@ -59,7 +59,7 @@ impl From<Memory> for FileError {
 /// than that were read or could have been.
 pub fn read_all<S: Shelf>(alloc: Global, shelf: &mut S, name: &str) -> Result<Text, FileError>
     ensures tells { S.tells shelf.old → S.tells shelf.new }
-    ensures files { S.tells shelf.old → S.file shelf.new ≡ S.file shelf.old }
+    ensures files { S.file shelf.new ≡ S.file shelf.old }
     ensures sound { S.is_sound shelf.old → S.is_sound shelf.new }
     ensures open_faults { S.open_faults shelf.old ≤ S.open_faults shelf.new }
     ensures read_faults { S.read_faults shelf.old ≤ S.read_faults shelf.new }
@@ -87,7 +87,7 @@ pub fn read_all<S: Shelf>(alloc: Global, shelf: &mut S, name: &str) -> Result<Te
 /// What is left of the open file.
 fn read_rest<S: Shelf>(alloc: Global, shelf: &mut S) -> Result<Text, FileError>
     ensures tells { S.tells shelf.old → S.tells shelf.new }
-    ensures files { S.tells shelf.old → S.file shelf.new ≡ S.file shelf.old }
+    ensures files { S.file shelf.new ≡ S.file shelf.old }
     ensures sound { S.is_sound shelf.old → S.is_sound shelf.new }
     ensures opened { S.tells shelf.old → S.open_name shelf.new ≡ S.open_name shelf.old }
     ensures open_faults { S.open_faults shelf.new ≡ S.open_faults shelf.old }

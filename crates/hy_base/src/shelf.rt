@@ -46,7 +46,7 @@ pub trait Shelf {
     /// Opens the file `name` and closes the one that was open. After a failure no file is open.
     fn open_file(&mut self, name: &str) -> Result<(), ShelfFailed>
         ensures tells { tells self.old → tells self.new }
-        ensures files { tells self.old → file self.new ≡ file self.old }
+        ensures files { file self.new ≡ file self.old }
         ensures sound { is_sound self.old → is_sound self.new }
 
         ensures open_faults { open_faults self.old ≤ open_faults self.new }
@@ -62,7 +62,7 @@ pub trait Shelf {
     /// Into a `buf` that is not empty it moves none exactly where nothing is left.
     fn read(&mut self, buf: &mut [u8]) -> Result<usize, ShelfFailed>
         ensures tells { tells self.old → tells self.new }
-        ensures files { tells self.old → file self.new ≡ file self.old }
+        ensures files { file self.new ≡ file self.old }
         ensures sound { is_sound self.old → is_sound self.new }
 
         ensures open_faults { open_faults self.new ≡ open_faults self.old }

@@ -1,6 +1,6 @@
 //! Whole texts into a sink.
 
-ghost use Rattle.std.specs.Prelude.{◌≡◌, ◌≤◌, ◌<◌, ◌++◌, ℕ, List, OnOk, OnErr};
+ghost use Rattle.std.specs.Prelude.{◌≡◌, ◌≤◌, ◌<◌, ◌++◌, ℕ, List, OnOk, OnErr, length};
 ghost use Rattle.hy_base.specs.Counts.{Rose};
 ghost use Rattle.hy_base.specs.Pieces.{IsProperPrefix, GaveFront, joined};
 
@@ -13,6 +13,7 @@ pub fn write_all<O: Sink>(sink: &mut O, bytes: &[u8]) -> Result<(), SinkFailed>
     ensures tells { O.tells sink.old → O.tells sink.new }
     ensures faults { O.faults sink.old ≤ O.faults sink.new }
     ensures counted { OnErr result (Rose (O.faults sink.old) (O.faults sink.new)) }
+    ensures some { OnErr result (0 < length bytes.now) }
     ensures given { O.tells sink.old → OnOk result (O.given sink.new ≡ O.given sink.old ++ bytes.now) }
     ensures refused { O.tells sink.old → OnErr result (GaveFront (O.given sink.old) (O.given sink.new) bytes.now) }
 {

@@ -1,13 +1,17 @@
 -- When each answer of `rvhyper` is right, for the words and the bytes of the files.
-use Rattle.std.specs.Prelude.{◌≡◌, ℕ, ◌<◌, ◌≤◌, ◌⊎◌, List, [], ◌∷◌, length, Option, Some}
+use Rattle.std.specs.Prelude.{◌≡◌, ℕ, ◌<◌, ◌≤◌, ◌⊎◌, List, [], ◌∷◌, ◌++◌, length, Option, Some}
+use Rattle.hy_base.specs.Pieces.{GaveFront}
 use Rattle.hy_base.specs.declared.limit.Kind.{Kind}
 use Rattle.hy_base.specs.declared.limit.Kind.TheVariants.{Bytes}
+use Rattle.hy_base.specs.declared.reading.FileError.{FileError}
+use Rattle.hy_base.specs.declared.reading.FileError.TheVariants as errors
 use Rattle.hy_formula.specs.declared.prefix.Quant.{Quant}
 use Rattle.hy_formula.specs.Trees.{Tree}
 use Rattle.hy_top.specs.declared.answer.Answer.{Answer}
 use Rattle.hy_top.specs.declared.answer.Answer.TheVariants.{NoViolation, Violation, Words, OpenFault, ReadFault, WriteFault, Limit, Unbuilt, Memory}
 use Rattle.hy_top.specs.Finite.{Trace, AllSatisfy, FirstViolation}
 use Rattle.hy_top.specs.Formulas.{IsFirstFormula}
+use Rattle.hy_top.specs.Outputs.{out_text}
 use Rattle.hy_top.specs.TraceTexts.{IsTraceFile}
 use Rattle.hy_top.specs.Words.{IsCommand}
 
@@ -58,31 +62,21 @@ pub record Monitors (words : List (List ℕ)) (files : Files) (prefix : List Qua
   pub specs : HasFormula files specs_name prefix tree names
   pub arrivals : HasTraces files traces_name names traces
 
--- No tuple of the traces violates the body.
-pub record IsClean (words : List (List ℕ)) (files : Files) (count : ℕ) (kept : List ℕ) (live : ℕ) : Type 0 where
+-- What a verdict says of the traces: that none of their tuples violates the body; or the first trace after
+-- which all that arrived violate it, and a tuple of those that does.
+abbrev pub IsJudged : ℕ → Tree → List Trace → Answer → Type 0
+IsJudged n tree traces (NoViolation count kept live) =
+    (count ≡ length traces) × (kept ≡ length traces ∷ []) × (live ≡ 0) × AllSatisfy n tree traces
+IsJudged n tree traces (Violation spec trace tuple) = (spec ≡ 0) × FirstViolation n tree traces trace tuple
+IsJudged n tree traces _ = ⊥
+
+-- A verdict that is right by what the files hold. No other answer is a verdict.
+pub record IsRightVerdict (words : List (List ℕ)) (files : Files) (answer : Answer) : Type 0 where
   pub prefix : List Quant
   pub tree : Tree
   pub traces : List Trace
   pub monitors : Monitors words files prefix tree traces
-  pub counted : count ≡ length traces
-  pub all_kept : kept ≡ length traces ∷ []
-  pub none_live : live ≡ 0
-  pub clean : AllSatisfy (length prefix) tree traces
-
--- Trace `trace` is the first after which all that arrived violate the body, and the tuple is of those and does.
-pub record IsViolated (words : List (List ℕ)) (files : Files) (spec trace : ℕ) (tuple : List ℕ) : Type 0 where
-  pub prefix : List Quant
-  pub tree : Tree
-  pub traces : List Trace
-  pub monitors : Monitors words files prefix tree traces
-  pub only_spec : spec ≡ 0
-  pub violated : FirstViolation (length prefix) tree traces trace tuple
-
--- A verdict is right by what the files hold, and no other answer is a verdict.
-abbrev pub IsRightVerdict : List (List ℕ) → Files → Answer → Type 0
-IsRightVerdict words files (NoViolation traces kept live) = IsClean words files traces kept live
-IsRightVerdict words files (Violation spec trace tuple) = IsViolated words files spec trace tuple
-IsRightVerdict words files _ = ⊥
+  pub judged : IsJudged (length prefix) tree traces answer
 
 -- The files are read in the order of the command: this one's turn came.
 pub record IsReached (words : List (List ℕ)) (files : Files) (file : ℕ) (name : List ℕ) : Type 0 where
@@ -125,8 +119,8 @@ pub record RefusesTraces (words : List (List ℕ)) (files : Files) : Type 0 wher
 -- Each answer is right for the words and the bytes of the files. Beside these causes, the answers that tell of
 -- a fault need a count that rose, and want of memory needs nothing.
 abbrev pub IsRight : List (List ℕ) → Files → Answer → Type 0
-IsRight words files (NoViolation traces kept live) = IsClean words files traces kept live
-IsRight words files (Violation spec trace tuple) = IsViolated words files spec trace tuple
+IsRight words files (NoViolation traces kept live) = IsRightVerdict words files (NoViolation traces kept live)
+IsRight words files (Violation spec trace tuple) = IsRightVerdict words files (Violation spec trace tuple)
 IsRight words files Words = (specs traces : List ℕ) → ¬ IsCommand words specs traces
 IsRight words files (OpenFault file) = (name : List ℕ) × IsReached words files file name
 IsRight words files (ReadFault file) = (name : List ℕ) × IsReached words files file name
@@ -140,3 +134,57 @@ abbrev pub FitsWords : List (List ℕ) → Answer → Type 0
 FitsWords words Words = (specs traces : List ℕ) → ¬ IsCommand words specs traces
 FitsWords words Memory = Unit {0}
 FitsWords words _ = (specs traces : List ℕ) × IsCommand words specs traces
+
+-- What the answer for the bytes of a trace file says.
+abbrev pub IsFileJudged : ℕ → Tree → List (List ℕ) → List ℕ → Answer → Type 0
+IsFileJudged n tree names bytes (Unbuilt file) = (file ≡ 1) × ((traces : List Trace) → ¬ IsTraceFile names bytes traces)
+IsFileJudged n tree names bytes answer =
+    (traces : List Trace) × IsTraceFile names bytes traces × IsJudged n tree traces answer
+
+-- Memory ran out, or the fact holds.
+abbrev pub OrMemory : Answer → Type 0 → Type 0
+OrMemory Memory P = Unit {0}
+OrMemory _ P = P
+
+-- the answer that file `file` was not read
+abbrev pub fault_answer : FileError → ℕ → Answer
+fault_answer errors.OpenFailed file = OpenFault file
+fault_answer errors.ReadFailed file = ReadFault file
+fault_answer errors.Limit file = Limit Bytes most_bytes
+fault_answer errors.Memory file = Memory
+
+abbrev pub IfOpenFault : Answer → (ℕ → Type 0) → Type 0
+IfOpenFault (OpenFault file) P = P file
+IfOpenFault _ P = Unit {0}
+
+abbrev pub IfReadFault : Answer → (ℕ → Type 0) → Type 0
+IfReadFault (ReadFault file) P = P file
+IfReadFault _ P = Unit {0}
+
+abbrev pub OnWriteFault : Answer → Type 0 → Type 0
+OnWriteFault WriteFault P = P
+OnWriteFault _ P = Unit {0}
+
+abbrev pub OnVerdict : Answer → Type 0 → Type 0
+OnVerdict (NoViolation traces kept live) P = P
+OnVerdict (Violation spec trace tuple) P = P
+OnVerdict _ P = Unit {0}
+
+-- What `out` received: the text of the answer; or, where it failed, a proper prefix of the text of the verdict
+-- that was due.
+abbrev pub IsWritten : Answer → (Answer → Type 0) → List ℕ → List ℕ → Type 0
+IsWritten WriteFault IsDue old new = (due : Answer) × IsDue due × GaveFront old new (out_text due)
+IsWritten answer IsDue old new = new ≡ old ++ out_text answer
+
+-- a violation, or that there is none
+abbrev pub IsVerdict : Answer → Type 0
+IsVerdict (NoViolation traces kept live) = Unit {0}
+IsVerdict (Violation spec trace tuple) = Unit {0}
+IsVerdict _ = ⊥
+
+-- What is answered once the text of the answer that was due was written, or not: that answer, want of memory, or
+-- that the text of a verdict could not be written.
+abbrev pub IsAnswerFor : Answer → Answer → Type 0
+IsAnswerFor due WriteFault = IsVerdict due
+IsAnswerFor due Memory = Unit {0}
+IsAnswerFor due answer = answer ≡ due

@@ -1,3 +1,5 @@
 //! Finite traces: what a body means on them, and the first violation.
 
-mod trace;
+pub mod monitor;
+pub mod trace;
+pub mod traces;

@@ -7,6 +7,7 @@ mod bytes;
 mod finite;
 mod read;
 mod refusal;
+mod run;
 mod words;
 
 pub use answer::{Answer, Done, Tool, Tuple};

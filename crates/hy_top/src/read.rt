@@ -1,5 +1,7 @@
 //! Formula texts.
 
+pub mod error;
+pub mod formula;
 mod scan;
 mod symbol;
 mod token;

@@ -3,23 +3,12 @@
 ghost use Rattle.std.specs.Prelude.{◌≡◌, ◌++◌, ◌≤◌, ◌⊎◌, List, [], ◌∷◌, ℕ, OnOk, OnErr, map, string_bytes, codes};
 ghost use Rattle.hy_base.specs.Counts.{Rose};
 ghost use Rattle.hy_base.specs.Pieces.{GaveFront};
-ghost use Rattle.hy_top.specs.Outputs.{error_line, kind_text, file_word, Received};
+ghost use Rattle.hy_top.specs.Outputs.{error_line, kind_text, Received};
 
 use crate::answer::Answer;
+use crate::words::file_word;
 use hy_base::{Kind, Sink, SinkFailed, write_all, write_pieces};
 use itoa::Buffer;
-
-/// The word of a file of the command; no word where there is none of that number.
-fn file_word(words: &[String], file: u8) -> &[u8]
-    ensures { result.now ≡ file_word (map string_bytes words.now) file }
-{
-    let i = file as usize;
-    if i < words.len() {
-        words[i].as_bytes()
-    } else {
-        b""
-    }
-}
 
 /// How a kind of limit is printed.
 fn kind_text(kind: Kind) -> &'static [u8]
@@ -65,12 +54,12 @@ fn write_line<E: Sink>(answer: &Answer, words: &[String], err: &mut E) -> Result
     match answer {
         Answer::NoViolation { .. } | Answer::Violation { .. } => write_all(err, b""),
         Answer::Words => write_all(err, b"error E1: words\n"),
-        Answer::OpenFault { file } => write_with_word(err, b"error E7 ", file_word(words, *file)),
-        Answer::ReadFault { file } => write_with_word(err, b"error E6 ", file_word(words, *file)),
+        Answer::OpenFault { file } => write_with_word(err, b"error E7 ", file_word(words, *file).as_bytes()),
+        Answer::ReadFault { file } => write_with_word(err, b"error E6 ", file_word(words, *file).as_bytes()),
         Answer::WriteFault => write_all(err, b"error E8\n"),
         Answer::Limit { kind, limit } => write_limit(err, *kind, *limit),
         Answer::Unbuilt { file } => {
-            write_with_word(err, b"error: unbuilt ", file_word(words, *file))
+            write_with_word(err, b"error: unbuilt ", file_word(words, *file).as_bytes())
         }
         Answer::Memory => write_all(err, b"error: memory\n"),
     }

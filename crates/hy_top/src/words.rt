@@ -27,3 +27,15 @@ pub fn is_command(words: &[String]) -> bool
         _ => false,
     }
 }
+
+/// The word that named file `file` of the command; no word where there is none of that number.
+pub fn file_word(words: &[String], file: u8) -> &str
+    ensures { result.now ≡ file_word (map string_bytes words.now) file }
+{
+    let i = file as usize;
+    if i < words.len() {
+        words[i].as_str()
+    } else {
+        ""
+    }
+}

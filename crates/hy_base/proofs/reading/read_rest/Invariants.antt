@@ -6,7 +6,7 @@ use Rattle.hy_base.specs.declared.reading.TheConstants.{BYTES_LIMIT}
 abbrev pub invariant-loop-text : goal.invariant-loop-text
 invariant-loop-text g l = record {
   tells : g.S.Shelf.tells l.initial.shelf → g.S.Shelf.tells l.shelf;
-  files : g.S.Shelf.tells l.initial.shelf → g.S.Shelf.file l.shelf ≡ g.S.Shelf.file l.initial.shelf;
+  files : g.S.Shelf.file l.shelf ≡ g.S.Shelf.file l.initial.shelf;
   sound : g.S.Shelf.is_sound l.initial.shelf → g.S.Shelf.is_sound l.shelf;
   opened : g.S.Shelf.tells l.initial.shelf → g.S.Shelf.open_name l.shelf ≡ g.S.Shelf.open_name l.initial.shelf;
   open_faults : g.S.Shelf.open_faults l.shelf ≡ g.S.Shelf.open_faults l.initial.shelf;
