@@ -30,6 +30,7 @@ impl Calls {
         ensures counted { self.old.made ≢ last_count → self.new.made ≡ self.old.made + 1 }
         ensures stands { self.old.made ≡ last_count → self.new.made ≡ last_count }
         ensures chosen { self.old.made ≢ last_count → (IsTrue result ↔ Contains self.old.fail self.new.made) }
+        ensures fails { IsTrue result → Contains self.old.fail self.new.made }
         ensures sound { NoneFailsAfter self.old.made self.old.fail → result ≡ false }
         ensures keeps { NoneFailsAfter self.old.made self.old.fail → NoneFailsAfter self.new.made self.new.fail }
     {

@@ -1,13 +1,14 @@
 //! A shelf in memory, of which chosen calls fail.
 
-ghost use Rattle.std.specs.Prelude.{◌≡◌, ◌≤◌, ◌<◌, ◌↔◌, ⊤, None, [], length, take, min, position, slice_get};
-ghost use Rattle.std.specs.Option.{ForSome};
-ghost use Rattle.hy_base.specs.Files.{has_name, file_of, open_name_of, rest_of};
+ghost use Rattle.std.specs.Prelude.{◌≡◌, ◌≢◌, ◌≤◌, ◌<◌, ◌++◌, ◌⊎◌, ◌+◌, ⊤, false, Some, None, [], length, take, min, position, Contains, IsOk, IsErr, IfOk, OnOk, OnErr};
+ghost use Rattle.hy_base.specs.Counts.{Rose, last_count};
 ghost use Rattle.hy_base.specs.Calls.{NoneFailsAfter};
+ghost use Rattle.hy_base.specs.Files.{has_name, file_of};
 
 use crate::calls::{Calls, one_more};
 use crate::list::{List, NumList, Text};
 use crate::shelf::{Shelf, ShelfFailed};
+use std::marker::Model;
 
 /// A file in memory.
 #[derive(Drop)]
@@ -37,19 +38,35 @@ pub struct MemShelf {
     place: Option<Place>,
     open_faults: u64,
     read_faults: u64,
-    ghost in_files: { ForSome place (λ p. p.file < length files) },
-    ghost in_bytes: { ForSome place (λ p. ForSome (slice_get files p.file) (λ file. p.position ≤ length file.bytes)) },
+}
+
+impl Model for MemShelf {
+    ghost use Rattle.std.specs.Prelude.{◌≤◌, ◌<◌, length, slice_get};
+    ghost use Rattle.std.specs.Option.{ForSome};
+    ghost use Rattle.hy_base.specs.Files.{open_name_of, rest_of};
+    ghost use Rattle.hy_base.specs.Fakes.{Store};
+
+    ghost Value = { Store };
+
+    ghost view = { λ s. record {
+      files = s.files;
+      open_name = open_name_of s.files s.place;
+      rest = rest_of s.files s.place;
+      made = s.calls.made;
+      fail = s.calls.fail;
+      open_faults = s.open_faults;
+      read_faults = s.read_faults;
+    } };
+
+    ghost invariant = { λ s.
+        ForSome s.place (λ p. p.file < length s.files)
+        × ForSome s.place (λ p. ForSome (slice_get s.files p.file) (λ file. p.position ≤ length file.bytes)) };
 }
 
 impl MemShelf {
     /// The files, none open, with no call made. The calls with the numbers `fail` are to fail.
     pub fn new(files: FileList, fail: NumList) -> MemShelf
-        ensures tells { ⟦<MemShelf as Shelf>⟧.tells result }
-        ensures files { ⟦<MemShelf as Shelf>⟧.file result ≡ file_of files }
-        ensures closed { ⟦<MemShelf as Shelf>⟧.open_name result ≡ None }
-        ensures sound { ⟦<MemShelf as Shelf>⟧.is_sound result ↔ NoneFailsAfter 0 fail }
-        ensures open_faults { ⟦<MemShelf as Shelf>⟧.open_faults result ≡ 0 }
-        ensures read_faults { ⟦<MemShelf as Shelf>⟧.read_faults result ≡ 0 }
+        ensures { result ≡ record { files = files; open_name = None; rest = []; made = 0; fail = fail; open_faults = 0; read_faults = 0 } }
     {
         MemShelf {
             files,
@@ -66,18 +83,35 @@ impl Shelf for MemShelf {
 
     ghost file = { λ s. file_of s.files };
 
-    ghost open_name = { λ s. open_name_of s.files s.place };
+    ghost open_name = { λ s. s.open_name };
 
-    ghost rest = { λ s. rest_of s.files s.place };
+    ghost rest = { λ s. s.rest };
 
-    ghost is_sound = { λ s. NoneFailsAfter s.calls.made s.calls.fail };
+    ghost is_sound = { λ s. NoneFailsAfter s.made s.fail };
 
     ghost open_faults = { λ s. s.open_faults };
 
     ghost read_faults = { λ s. s.read_faults };
 
     #[tactic(auto, using(crate::proofs::FileLemmas::opened_name, crate::proofs::FileLemmas::opened_rest, crate::proofs::FileLemmas::lacks_file))]
-    fn open_file(&mut self, name: &str) -> Result<(), ShelfFailed> {
+    fn open_file(&mut self, name: &str) -> Result<(), ShelfFailed>
+        ensures files { self.new.files ≡ self.old.files }
+        ensures sound { NoneFailsAfter self.old.made self.old.fail → NoneFailsAfter self.new.made self.new.fail }
+
+        ensures open_faults { self.old.open_faults ≤ self.new.open_faults }
+        ensures read_faults { self.new.read_faults ≡ self.old.read_faults }
+        ensures counted { OnErr result (Rose self.old.open_faults self.new.open_faults) }
+        ensures lacks { NoneFailsAfter self.old.made self.old.fail → OnErr result (file_of self.old.files name.now ≡ None) }
+
+        ensures opened { OnOk result (self.new.open_name ≡ Some name.now) }
+        ensures whole { OnOk result (file_of self.old.files name.now ≡ Some self.new.rest) }
+        ensures closed { OnErr result ((self.new.open_name ≡ None) × (self.new.rest ≡ [])) }
+
+        ensures made { self.old.made ≢ last_count → self.new.made ≡ self.old.made + 1 }
+        ensures chosen { self.old.made ≢ last_count → Contains self.old.fail self.new.made → IsErr result }
+        ensures numbers { self.new.fail ≡ self.old.fail }
+        ensures fails { OnErr result ((file_of self.old.files name.now ≡ None) ⊎ Contains self.old.fail self.new.made) }
+    {
         self.place = None;
         if !self.calls.next_fails() {
             if let Some(file) = find_file(&self.files, name) {
@@ -89,7 +123,25 @@ impl Shelf for MemShelf {
         Err(ShelfFailed)
     }
 
-    fn read(&mut self, buf: &mut [u8]) -> Result<usize, ShelfFailed> {
+    fn read(&mut self, buf: &mut [u8]) -> Result<usize, ShelfFailed>
+        ensures files { self.new.files ≡ self.old.files }
+        ensures sound { NoneFailsAfter self.old.made self.old.fail → NoneFailsAfter self.new.made self.new.fail }
+
+        ensures open_faults { self.new.open_faults ≡ self.old.open_faults }
+        ensures read_faults { self.old.read_faults ≤ self.new.read_faults }
+        ensures counted { OnErr result (Rose self.old.read_faults self.new.read_faults) }
+        ensures succeeds { NoneFailsAfter self.old.made self.old.fail → IsOk result }
+
+        ensures opened { self.new.open_name ≡ self.old.open_name }
+        ensures within { IfOk result (λ k. k ≤ length buf.old) }
+        ensures moved { IfOk result (λ k. self.old.rest ≡ take k buf.new ++ self.new.rest) }
+        ensures ended { 0 < length buf.old → IfOk result (λ k. k ≡ 0 → self.old.rest ≡ []) }
+
+        ensures made { self.old.made ≢ last_count → self.new.made ≡ self.old.made + 1 }
+        ensures chosen { self.old.made ≢ last_count → Contains self.old.fail self.new.made → IsErr result }
+        ensures numbers { self.new.fail ≡ self.old.fail }
+        ensures fails { OnErr result (Contains self.old.fail self.new.made) }
+    {
         if self.calls.next_fails() {
             self.read_faults = one_more(self.read_faults);
             return Err(ShelfFailed);

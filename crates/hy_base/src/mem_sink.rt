@@ -1,12 +1,14 @@
 //! A sink in memory, of which chosen calls fail.
 
-ghost use Rattle.std.specs.Prelude.{◌≡◌, ◌≤◌, ◌+◌, ⊤, [], min, IfOk, vec_len, vec_capacity};
+ghost use Rattle.std.specs.Prelude.{◌≡◌, ◌≢◌, ◌≤◌, ◌<◌, ◌+◌, ◌++◌, ◌⊎◌, ⊤, [], length, min, take, Contains, IsErr, IfOk, OnErr};
+ghost use Rattle.hy_base.specs.Counts.{Rose, last_count};
 
 use crate::calls::{Calls, one_more};
 use crate::list::NumList;
 use crate::memory::M;
 use crate::sink::{Sink, SinkFailed};
 use std::alloc::Global;
+use std::marker::Model;
 
 /// A buffer that takes up to a number of bytes, and so many at one call. It tells all that a sink
 /// may tell.
@@ -20,8 +22,24 @@ pub struct MemSink {
     most: usize,
     calls: Calls,
     faults: u64,
-    ghost reserved: { vec_len bytes + room ≤ vec_capacity bytes },
-    ghost some: { 1 ≤ most },
+}
+
+impl Model for MemSink {
+    ghost use Rattle.std.specs.Prelude.{◌≤◌, ◌+◌, vec_len, vec_capacity};
+    ghost use Rattle.hy_base.specs.Fakes.{Buffer};
+
+    ghost Value = { Buffer };
+
+    ghost view = { λ s. record {
+      given = s.bytes.items;
+      room = s.room;
+      most = s.most;
+      made = s.calls.made;
+      fail = s.calls.fail;
+      faults = s.faults;
+    } };
+
+    ghost invariant = { λ s. (vec_len s.bytes + s.room ≤ vec_capacity s.bytes) × (1 ≤ s.most) };
 }
 
 impl MemSink {
@@ -29,9 +47,7 @@ impl MemSink {
     /// numbers `fail` are to fail.
     pub fn new(alloc: Global, room: u32, most: u32, fail: NumList) -> M<MemSink>
         requires { 1 ≤ most }
-        ensures tells { IfOk result (λ sink. ⟦<MemSink as Sink>⟧.tells sink) }
-        ensures given { IfOk result (λ sink. ⟦<MemSink as Sink>⟧.given sink ≡ []) }
-        ensures faults { IfOk result (λ sink. ⟦<MemSink as Sink>⟧.faults sink ≡ 0) }
+        ensures { IfOk result (λ sink. sink ≡ record { given = []; room = room; most = most; made = 0; fail = fail; faults = 0 }) }
     {
         let room = room as usize;
         Ok(MemSink {
@@ -45,7 +61,7 @@ impl MemSink {
 
     /// What the sink was given.
     pub fn bytes(&self) -> &[u8]
-        ensures { result.now ≡ ⟦<MemSink as Sink>⟧.given self.now }
+        ensures { result.now ≡ self.now.given }
     {
         self.bytes.as_slice()
     }
@@ -61,11 +77,27 @@ impl MemSink {
 impl Sink for MemSink {
     ghost tells = { λ s. ⊤ };
 
-    ghost given = { λ s. s.bytes.items };
+    ghost given = { λ s. s.given };
 
     ghost faults = { λ s. s.faults };
 
-    fn put(&mut self, piece: &[u8]) -> Result<usize, SinkFailed> {
+    fn put(&mut self, piece: &[u8]) -> Result<usize, SinkFailed>
+        ensures faults { self.old.faults ≤ self.new.faults }
+        ensures counted { OnErr result (Rose self.old.faults self.new.faults) }
+        ensures within { IfOk result (λ k. k ≤ length piece.now) }
+        ensures some { IfOk result (λ k. 0 < length piece.now → 0 < k) }
+        ensures empty { length piece.now ≡ 0 → result ≡ Ok 0 }
+        ensures given { IfOk result (λ k. self.new.given ≡ self.old.given ++ take k piece.now) }
+        ensures refused { OnErr result (self.new.given ≡ self.old.given) }
+
+        ensures made { self.old.made ≢ last_count → self.new.made ≡ self.old.made + 1 }
+        ensures chosen { self.old.made ≢ last_count → 0 < length piece.now → Contains self.old.fail self.new.made → IsErr result }
+        ensures fails { OnErr result ((self.old.room ≡ 0) ⊎ Contains self.old.fail self.new.made) }
+        ensures most { IfOk result (λ k. k ≡ min (length piece.now) (min self.old.most self.old.room)) }
+        ensures room { IfOk result (λ k. self.old.room ≡ k + self.new.room) }
+        ensures keeps { OnErr result (self.new.room ≡ self.old.room) }
+        ensures stays { (self.new.most ≡ self.old.most) × (self.new.fail ≡ self.old.fail) }
+    {
         let fails = self.calls.next_fails();
         if piece.is_empty() {
             return Ok(0);
