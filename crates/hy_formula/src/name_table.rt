@@ -61,7 +61,7 @@ impl Model for NameTable {
 impl NameTable {
     /// The table without names. Takes no memory.
     pub fn new(alloc: Global) -> M<NameTable>
-        ensures { IfOk result (λ table. table ≡ []) }
+        ensures { result ≡ Ok [] }
     {
         Ok(NameTable {
             names: IndexSet::new(alloc),
