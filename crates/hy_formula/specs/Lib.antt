@@ -1,2 +1,3 @@
+pub mod KeptNames
 pub mod Names
 pub mod Trees

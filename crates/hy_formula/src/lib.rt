@@ -4,9 +4,11 @@
 mod atom;
 mod body;
 mod formula;
+mod name_table;
 mod prefix;
 
 pub use atom::Atom;
 pub use body::Body;
 pub use formula::Formula;
+pub use name_table::{NameError, NameTable};
 pub use prefix::{Prefix, Quant};

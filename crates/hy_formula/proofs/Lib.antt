@@ -1,0 +1,2 @@
+pub mod KeptNames
+pub mod Names
