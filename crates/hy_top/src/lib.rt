@@ -2,12 +2,15 @@
 #![tactic(auto)]
 
 mod answer;
-mod output;
 mod bytes;
 mod finite;
+mod host;
+mod output;
 mod read;
 mod refusal;
-mod run;
+mod runs;
 mod words;
 
 pub use answer::{Answer, Done, Tool, Tuple};
+pub use host::run_here;
+pub use runs::run;

@@ -1,7 +1,7 @@
 use Rattle.std.proofs.Common.{◌≡◌, ◌∙◌, length, ◌<◌}
 use Rattle.hy_top.specs.Outputs.{out_text}
-use Rattle.hy_top.proofs.Runs.{verdict_text}
-use Rattle.hy_top.proofs.run.write_answer.Goals as goal
+use Rattle.hy_top.proofs.RightAnswers.{verdict_text}
+use Rattle.hy_top.proofs.runs.write_answer.Goals as goal
 
 pub returns-in-Err-write_all-clause-kept : goal.returns-in-Err-write_all-clause-kept
 returns-in-Err-write_all-clause-kept g c =

@@ -1,0 +1,9 @@
+//! `rvhyper SPECS TRACES` monitors a file of finite traces.
+#![tactic(auto)]
+
+use hy_top::{Tool, run_here};
+use std::process::ExitCode;
+
+fn main(rt: HostRuntime) -> ExitCode {
+    run_here(&rt, Tool::RvHyper)
+}
