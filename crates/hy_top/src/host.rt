@@ -32,7 +32,14 @@ pub fn run_here(rt: &HostRuntime, tool: Tool) -> ExitCode {
     match command_words(rt) {
         Ok(words) => {
             let mut shelf = DiskShelf::new(rt);
-            let done = run(rt.alloc(), tool, words.as_slice(), &mut shelf, &mut out, &mut err);
+            let done = run(
+                rt.alloc(),
+                tool,
+                words.as_slice(),
+                &mut shelf,
+                &mut out,
+                &mut err,
+            );
             ExitCode::from(done.status)
         }
         Err(Memory) => {

@@ -20,14 +20,14 @@ fn kind_text(kind: Kind) -> &'static [u8]
 }
 
 /// Writes a line that ends in a word.
-fn write_with_word<E: Sink>(err: &mut E, front: &[u8], word: &[u8]) -> Result<(), SinkFailed>
+fn write_with_word<E: Sink>(err: &mut E, front: &[u8], word: &str) -> Result<(), SinkFailed>
     ensures tells { E.tells err.old → E.tells err.new }
     ensures faults { E.faults err.old ≤ E.faults err.new }
     ensures counted { OnErr result (Rose (E.faults err.old) (E.faults err.new)) }
     ensures given { E.tells err.old → OnOk result (E.given err.new ≡ E.given err.old ++ (front.now ++ word.now ++ codes "\n")) }
     ensures refused { E.tells err.old → OnErr result (GaveFront (E.given err.old) (E.given err.new) (front.now ++ word.now ++ codes "\n")) }
 {
-    write_pieces(err, &[front, word, b"\n"])
+    write_pieces(err, &[front, word.as_bytes(), b"\n"])
 }
 
 /// Writes the line of a limit.
@@ -54,12 +54,12 @@ fn write_line<E: Sink>(answer: &Answer, words: &[String], err: &mut E) -> Result
     match answer {
         Answer::NoViolation { .. } | Answer::Violation { .. } => write_all(err, b""),
         Answer::Words => write_all(err, b"error E1: words\n"),
-        Answer::OpenFault { file } => write_with_word(err, b"error E7 ", file_word(words, *file).as_bytes()),
-        Answer::ReadFault { file } => write_with_word(err, b"error E6 ", file_word(words, *file).as_bytes()),
+        Answer::OpenFault { file } => write_with_word(err, b"error E7 ", file_word(words, *file)),
+        Answer::ReadFault { file } => write_with_word(err, b"error E6 ", file_word(words, *file)),
         Answer::WriteFault => write_all(err, b"error E8\n"),
         Answer::Limit { kind, limit } => write_limit(err, *kind, *limit),
         Answer::Unbuilt { file } => {
-            write_with_word(err, b"error: unbuilt ", file_word(words, *file).as_bytes())
+            write_with_word(err, b"error: unbuilt ", file_word(words, *file))
         }
         Answer::Memory => write_all(err, b"error: memory\n"),
     }

@@ -17,7 +17,9 @@ use crate::read::error::ReadError;
 use crate::read::formula::read_formula;
 use crate::refusal::write_error;
 use crate::words::{file_word, is_command};
-use hy_base::{FileError, Kind, Memory, NumList, Shelf, Sink, SinkFailed, Text, read_all, write_all};
+use hy_base::{
+    FileError, Kind, Memory, NumList, Shelf, Sink, SinkFailed, Text, read_all, write_all,
+};
 use hy_formula::{Formula, NameTable};
 use std::alloc::Global;
 
@@ -102,7 +104,12 @@ fn judge_file(alloc: Global, specs: &Specs, bytes: &[u8]) -> Answer
 }
 
 /// The bytes of file `file` of the command.
-fn read_file<S: Shelf>(alloc: Global, words: &[String], file: u8, shelf: &mut S) -> Result<Text, FileError>
+fn read_file<S: Shelf>(
+    alloc: Global,
+    words: &[String],
+    file: u8,
+    shelf: &mut S,
+) -> Result<Text, FileError>
     ensures tells { S.tells shelf.old → S.tells shelf.new }
     ensures files { S.file shelf.new ≡ S.file shelf.old }
     ensures sound { S.is_sound shelf.old → S.is_sound shelf.new }

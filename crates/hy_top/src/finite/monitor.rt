@@ -1,11 +1,11 @@
+ghost use Rattle.std.specs.Prelude.{◌≡◌, ◌≤◌, ◌<◌, ◌^◌, List, ℕ, IfOk, IsErrOf, length, MatchOption, IsTrue};
+ghost use Rattle.hy_formula.specs.Trees.{tree_of, vars_below};
+ghost use Rattle.hy_top.specs.Finite.{AllSatisfy, FirstViolation};
+
 use crate::finite::trace::TraceList;
 use hy_base::{M, Memory, NumList};
 use hy_formula::Body;
 use std::alloc::Global;
-
-ghost use Rattle.std.specs.Prelude.{◌≡◌, ◌≤◌, ◌<◌, ◌^◌, List, ℕ, IfOk, IsErrOf, length, MatchOption, IsTrue};
-ghost use Rattle.hy_formula.specs.Trees.{tree_of, vars_below};
-ghost use Rattle.hy_top.specs.Finite.{AllSatisfy, FirstViolation};
 
 #[derive(Drop)]
 pub struct Violation {
@@ -13,7 +13,12 @@ pub struct Violation {
     pub tuple: NumList,
 }
 
-pub fn first_violation(_alloc: Global, body: &Body, vars: usize, traces: &TraceList) -> M<Option<Violation>>
+pub fn first_violation(
+    _alloc: Global,
+    body: &Body,
+    vars: usize,
+    traces: &TraceList,
+) -> M<Option<Violation>>
     requires some { 1 ≤ vars }
     requires bound { IsTrue (vars_below vars (tree_of body.now)) }
     requires countable { length traces.now < 2 ^ 32 }

@@ -8,21 +8,24 @@ pub returns-in-Err-clause-right : goal.returns-in-Err-clause-right
 returns-in-Err-clause-right g c = λ tells.
     rw c.fault_answer.ensures
     (right_fault _ _ 0 _ c.in-Err.error
-      (reached_first _ _ _ _ c.if-not-is_command.ensures.command)
-      (λ e. c.in-Err.ensures.too_long tells (ap Err e)))
+    (reached_first _ _ _ _ c.if-not-is_command.ensures.command)
+    (λ e. c.in-Err.ensures.too_long tells (ap Err e)))
 
 pub returns-in-Err-Unbuilt-clause-right : goal.returns-in-Err-Unbuilt-clause-right
 returns-in-Err-Unbuilt-clause-right g c = λ tells.
-    inl (refl, refuses_specs _ _ _ _ _ _ c.if-not-is_command.ensures.command (c.in-Ok.ensures.has tells) c.as_slice.ensures
-      (c.in-Err-Unbuilt.ensures.unbuilt (ap Err c.in-Err-Unbuilt.field-0-is)))
+    inl (
+      refl,
+      refuses_specs _ _ _ _ _ _ c.if-not-is_command.ensures.command (c.in-Ok.ensures.has tells) c.as_slice.ensures
+          (c.in-Err-Unbuilt.ensures.unbuilt (ap Err c.in-Err-Unbuilt.field-0-is)),
+    )
 
 pub returns-in-Ok-read_file-clause-right : goal.returns-in-Ok-read_file-clause-right
 returns-in-Ok-read_file-clause-right g c = λ tells.
     let later = c.read_file.ensures.tells tells in
     let formula = has_formula _ _ _ _ _ _ _ (c.in-Ok.ensures.has tells) c.as_slice.ensures c.in-Ok-read_specs.ensures.ok in
     right_judged _ _ _ _ _ _ _ _ _ c.if-not-is_command.ensures.command formula
-      (rw c.read_file.ensures.files at (c.in-Ok-read_file.ensures.has later))
-      (rw c.as_slice-in-Ok-read_file.ensures at c.judge_file.ensures)
+    (rw c.read_file.ensures.files at (c.in-Ok-read_file.ensures.has later))
+    (rw c.as_slice-in-Ok-read_file.ensures at c.judge_file.ensures)
 
 pub returns-clause-right : goal.returns-clause-right
 returns-clause-right g c = λ tells.
@@ -30,8 +33,8 @@ returns-clause-right g c = λ tells.
     let formula = has_formula _ _ _ _ _ _ _ (c.in-Ok.ensures.has tells) c.as_slice.ensures c.in-Ok-read_specs.ensures.ok in
     rw c.fault_answer-in-Err-read_file.ensures
     (right_fault _ _ 1 _ c.in-Err-read_file.error
-      (reached_second _ _ _ _ c.if-not-is_command.ensures.command (takes_specs _ _ _ _ _ formula))
-      (λ e. rw c.read_file.ensures.files at (c.in-Err-read_file.ensures.too_long later (ap Err e))))
+    (reached_second _ _ _ _ c.if-not-is_command.ensures.command (takes_specs _ _ _ _ _ formula))
+    (λ e. rw c.read_file.ensures.files at (c.in-Err-read_file.ensures.too_long later (ap Err e))))
 
 pub returns-clause-lacks : goal.returns-clause-lacks
 returns-clause-lacks g c = λ sound.
