@@ -3,3 +3,4 @@ pub mod Examples
 pub mod Texts
 pub mod Suffixes
 pub mod Splitting
+pub mod TraceSets

@@ -1,4 +1,5 @@
 //! Finite traces: what a body means on them, and the first violation.
 
 mod names;
+mod sets;
 mod trace;

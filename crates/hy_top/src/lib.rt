@@ -2,9 +2,9 @@
 #![tactic(auto)]
 
 mod answer;
-mod output;
 mod bytes;
 mod finite;
+mod output;
 mod read;
 mod refusal;
 mod words;

@@ -1,11 +1,11 @@
 //! The parts of a trace line: blanks, single bytes and names.
 
-use crate::bytes::{self, Class};
-
 ghost use Rattle.std.specs.Prelude.{◌≡◌, ◌≢◌, ◌<◌, ◌≤◌, List, ℕ, ◌∷◌, length, MatchOption, IfSome};
 ghost use Rattle.std.specs.Option.{option_map};
 ghost use Rattle.hy_top.specs.TraceTexts.{past_blanks, plain_name_at, quoted_name_at, name_at};
 ghost use Rattle.hy_top.specs.TraceParts.{plain_pair};
+
+use crate::bytes::{self, Class};
 
 /// The text behind the blanks at its front.
 pub fn past_blanks(text: &[u8]) -> &[u8]
@@ -18,7 +18,8 @@ pub fn past_blanks(text: &[u8]) -> &[u8]
 
 /// The text behind its first byte, where that is `byte`.
 pub fn past_byte(text: &[u8], byte: u8) -> Option<&[u8]>
-    ensures { MatchOption result ((rest : List ℕ) → text.now ≢ byte ∷ rest) (λ rest. text.now ≡ byte ∷ rest.now) }
+    ensures found { MatchOption result ((rest : List ℕ) → text.now ≢ byte ∷ rest) (λ rest. text.now ≡ byte ∷ rest.now) }
+    ensures within { IfSome result (λ rest. length rest.now < length text.now) }
 {
     match text {
         [first, rest @ ..] if *first == byte => Some(rest),
