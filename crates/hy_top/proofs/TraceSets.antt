@@ -4,6 +4,7 @@ use Rattle.std.specs.List.{fold}
 use Rattle.hy_bits.specs.Letter.{Letter}
 use denote.Ref.{Bor}
 use Rattle.hy_top.specs.TraceParts.{IsSetFound, IsMembersFound}
+use Rattle.hy_top.specs.declared.finite.sets.SetRead.{SetRead}
 use Rattle.hy_top.specs.TraceTexts.{past_blanks, name_at, SpellsNames, SpellsMembers, SpellsSet, with_member, letter_of}
 
 -- From the first name on to `here`, `letter` has been made of the names.
@@ -27,10 +28,10 @@ same_name here x b name behind one two =
     (ap (λ p. p.0) pair, ap (λ p. p.1) pair)
 
 -- one place has one byte
-apart : (a b : ℕ) (text xs ys : List ℕ) → a ≢ b → text ≡ a ∷ xs → text ≡ b ∷ ys → ⊥
+pub apart : (a b : ℕ) (text xs ys : List ℕ) → a ≢ b → text ≡ a ∷ xs → text ≡ b ∷ ys → ⊥
 apart a b text xs ys differ one two = let same : a ≡ b = cc in differ same
 
-behind_byte : (a : ℕ) (text xs ys : List ℕ) → text ≡ a ∷ xs → text ≡ a ∷ ys → xs ≡ ys
+pub behind_byte : (a : ℕ) (text xs ys : List ℕ) → text ≡ a ∷ xs → text ≡ a ∷ ys → xs ≡ ys
 behind_byte a text xs ys one two = cc
 
 -- a name, a comma, and more names
@@ -126,9 +127,9 @@ some_members text inner brace [] rest spelled = absurd spelled
 some_members text inner brace (x ∷ names) rest spelled = (inner, brace, spelled)
 
 -- Behind the opening brace the set is not empty, and its names are found or not.
-pub set_found : (table : List (List ℕ)) (text inner : List ℕ) (found : Option (Letter × Bor (List ℕ))) → text ≡ 123 ∷ inner → ((rest : List ℕ) → past_blanks inner ≢ 125 ∷ rest) → IsMembersFound table (past_blanks inner) found → IsSetFound table text found
+pub set_found : (table : List (List ℕ)) (text inner : List ℕ) (found : Option (SetRead)) → text ≡ 123 ∷ inner → ((rest : List ℕ) → past_blanks inner ≢ 125 ∷ rest) → IsMembersFound table (past_blanks inner) found → IsSetFound table text found
 set_found table text inner None brace not_empty none = no_members text inner brace not_empty none
-set_found table text inner (Some found) brace not_empty (names, spelled, e) = (names, some_members text inner brace names found.1.now spelled, e)
+set_found table text inner (Some found) brace not_empty (names, spelled, e) = (names, some_members text inner brace names found.rest.now spelled, e)
 
 -- A text has one set at its front.
 pub same_set : (text : List ℕ) (names others : List (List ℕ)) (rest end : List ℕ) → SpellsSet text names rest → SpellsSet text others end → rest ≡ end

@@ -14,7 +14,7 @@ use Rattle.std.specs.List.{fold, prefix_len, take_while, slice_split, starts_wit
 use Rattle.std.specs.FinSet as set
 use Rattle.hy_bits.specs.Letter.{Letter}
 use Rattle.hy_formula.specs.Names.{place_of}
-use Rattle.hy_top.specs.Bytes.{is_line_blank, is_word_byte, is_quotable, begins_with_letter}
+use Rattle.hy_top.specs.Bytes.{is_line_blank, is_word_byte, is_quotable, is_line_feed, begins_with_letter}
 
 -- the text behind the blanks at its front
 abbrev pub past_blanks : List ℕ → List ℕ
@@ -80,11 +80,14 @@ letter_of table names = fold (with_member table) set.empty names
 abbrev pub most_letters : ℕ
 most_letters = 1024
 
+-- The whole text is sets with these letters, not too many.
+abbrev pub IsTraceWord : List (List ℕ) → List ℕ → List Letter → Type 0
+IsTraceWord table text trace =
+    (sets : List (List (List ℕ))) × SpellsWord text sets × (trace ≡ map (letter_of table) sets) × (length trace ≤ most_letters)
+
 -- The line is a trace with these letters.
 abbrev pub IsTraceLine : List (List ℕ) → List ℕ → List Letter → Type 0
-IsTraceLine table line trace =
-    (sets : List (List (List ℕ))) × SpellsWord (past_blanks line) sets × (trace ≡ map (letter_of table) sets)
-    × (length trace ≤ most_letters)
+IsTraceLine table line trace = IsTraceWord table (past_blanks line) trace
 
 -- The line is blank, or a comment.
 abbrev pub SaysNothing : List ℕ → Type 0
@@ -99,4 +102,4 @@ SpellsTraces table (line ∷ lines) traces =
 
 -- A line ends at a line feed or at the end of the file.
 abbrev pub IsTraceFile : List (List ℕ) → List ℕ → List (List Letter) → Type 0
-IsTraceFile table bytes traces = SpellsTraces table (slice_split (λ b. nat_eq b 10) bytes) traces
+IsTraceFile table bytes traces = SpellsTraces table (slice_split is_line_feed bytes) traces

@@ -8,26 +8,34 @@ use crate::finite::names::{past_blanks, past_byte, read_name};
 use hy_bits::LetterMask;
 use hy_formula::NameTable;
 
+/// A set that has been read, and what stands behind it.
+#[derive(Clone, Copy)]
+pub struct SetRead<'a> {
+    pub letter: LetterMask,
+    pub rest: &'a [u8],
+}
+
 /// The set at the front and what stands behind it, in time linear in the set. Names that the table
 /// lacks are passed over. `None` where no set stands there.
-pub fn read_set<'a>(text: &'a [u8], names: &NameTable) -> Option<(LetterMask, &'a [u8])>
+pub fn read_set<'a>(text: &'a [u8], names: &NameTable) -> Option<SetRead<'a>>
     ensures found { IsSetFound names.now text.now result }
-    ensures within { IfSome result (λ p. length p.1.now < length text.now) }
+    ensures within { IfSome result (λ p. length p.rest.now < length text.now) }
 {
     let Some(inner) = past_byte(text, b'{') else {
         return None;
     };
     let members = past_blanks(inner);
     if let Some(rest) = past_byte(members, b'}') {
-        return Some((LetterMask::empty(), rest));
+        let letter = LetterMask::empty();
+        return Some(SetRead { letter, rest });
     }
     read_members(members, names)
 }
 
 /// The names at the front that end with a closing brace, as `read_set`.
-fn read_members<'a>(text: &'a [u8], names: &NameTable) -> Option<(LetterMask, &'a [u8])>
+fn read_members<'a>(text: &'a [u8], names: &NameTable) -> Option<SetRead<'a>>
     ensures found { IsMembersFound names.now text.now result }
-    ensures within { IfSome result (λ p. length p.1.now < length text.now) }
+    ensures within { IfSome result (λ p. length p.rest.now < length text.now) }
 {
     let mut letter = LetterMask::empty();
     let mut here = text;
@@ -38,7 +46,7 @@ fn read_members<'a>(text: &'a [u8], names: &NameTable) -> Option<(LetterMask, &'
         letter = with_member(letter, name, names);
         let tail = past_blanks(behind);
         if let Some(rest) = past_byte(tail, b'}') {
-            return Some((letter, rest));
+            return Some(SetRead { letter, rest });
         }
         let Some(next) = past_byte(tail, b',') else {
             return None;
