@@ -1,7 +1,7 @@
 -- Reading the lines of a file one after another: what is read so far, and what is left to read.
-use Rattle.std.proofs.Common.{◌≡◌, ℕ, ◌<◌, ◌≤◌, ◌⊎◌, inl, inr, List, [], ◌∷◌, ◌++◌, length, drop, Err, sym, refl, ap, ◌∙◌, subst, arith, append_assoc, append-nil}
+use Rattle.std.proofs.Common.{◌≡◌, ℕ, inl, inr, List, [], ◌∷◌, ◌++◌, Err, sym, refl, ◌∙◌, subst, arith, append_assoc, append-nil}
 use Rattle.hy_bits.specs.Letter.{Letter}
-use Rattle.hy_top.specs.TraceTexts.{past_blanks, SpellsSet, SpellsWord, IsTraceLine, SaysNothing, SpellsTraces}
+use Rattle.hy_top.specs.TraceTexts.{past_blanks, SpellsWord, IsTraceLine, SaysNothing, SpellsTraces}
 use Rattle.std.specs.List.{slice_split}
 use Rattle.hy_top.specs.Bytes.{is_line_feed}
 use Rattle.hy_top.specs.TraceParts.{IsLineAnswer, IsFileAnswer}
@@ -34,39 +34,39 @@ pub file_none : (table : List (List ℕ)) (lines : List (List ℕ)) (traces : Li
 file_none table lines traces e = record {
   onward = λ all spelled. (all, spelled);
   back = λ more spelled.
-    let P : List (List Letter) → Type 0 = λ t. SpellsTraces table lines (t ++ more) in
-    subst P (sym e) spelled;
+      let P : List (List Letter) → Type 0 = λ t. SpellsTraces table lines (t ++ more) in
+      subst P (sym e) spelled;
 }
 
 -- A line that says nothing has been read.
 pub file_passed : (table : List (List ℕ)) (lines left : List (List ℕ)) (traces : List (List Letter)) (line : List ℕ) (rest : List (List ℕ)) → FileRead table lines left traces → left ≡ line ∷ rest → SaysNothing line → FileRead table lines rest traces
 file_passed table lines left traces line rest read first nothing = record {
   onward = λ all spelled.
-    let here = read.onward all spelled in
-    let P : List (List ℕ) → Type 0 = λ ls. SpellsTraces table ls here.0 in
-    elim (subst P first here.1) [
-      | inl passed ↦ (here.0, passed.1)
-      | inr trace ↦ absurd (says_one table line trace.0 nothing trace.3)
-    ];
+      let here = read.onward all spelled in
+      let P : List (List ℕ) → Type 0 = λ ls. SpellsTraces table ls here.0 in
+      elim (subst P first here.1) [
+        | inl passed ↦ (here.0, passed.1)
+        | inr trace ↦ absurd (says_one table line trace.0 nothing trace.3)
+      ];
   back = λ more spelled.
-    let P : List (List ℕ) → Type 0 = λ ls. SpellsTraces table ls more in
-    read.back more (subst P (sym first) (inl (nothing, spelled)));
+      let P : List (List ℕ) → Type 0 = λ ls. SpellsTraces table ls more in
+      read.back more (subst P (sym first) (inl (nothing, spelled)));
 }
 
 -- A line that is a trace has been read.
 pub file_more : (table : List (List ℕ)) (lines left : List (List ℕ)) (traces : List (List Letter)) (line : List ℕ) (rest : List (List ℕ)) (trace : List Letter) → FileRead table lines left traces → left ≡ line ∷ rest → IsTraceLine table line trace → FileRead table lines rest (traces ++ trace ∷ [])
 file_more table lines left traces line rest trace read first is = record {
   onward = λ all spelled.
-    let here = read.onward all spelled in
-    let P : List (List ℕ) → Type 0 = λ ls. SpellsTraces table ls here.0 in
-    elim (subst P first here.1) [
-      | inl passed ↦ absurd (says_one table line trace passed.0 is)
-      | inr other ↦ (other.1, other.4)
-    ];
+      let here = read.onward all spelled in
+      let P : List (List ℕ) → Type 0 = λ ls. SpellsTraces table ls here.0 in
+      elim (subst P first here.1) [
+        | inl passed ↦ absurd (says_one table line trace passed.0 is)
+        | inr other ↦ (other.1, other.4)
+      ];
   back = λ more spelled.
-    let P : List (List ℕ) → Type 0 = λ ls. SpellsTraces table ls (trace ∷ more) in
-    let Q : List (List Letter) → Type 0 = λ ts. SpellsTraces table lines ts in
-    subst Q (sym (append_assoc traces (trace ∷ []) more)) (read.back (trace ∷ more) (subst P (sym first) (inr (trace, more, refl, is, spelled))));
+      let P : List (List ℕ) → Type 0 = λ ls. SpellsTraces table ls (trace ∷ more) in
+      let Q : List (List Letter) → Type 0 = λ ts. SpellsTraces table lines ts in
+      subst Q (sym (append_assoc traces (trace ∷ []) more)) (read.back (trace ∷ more) (subst P (sym first) (inr (trace, more, refl, is, spelled))));
 }
 
 -- All lines have been read.

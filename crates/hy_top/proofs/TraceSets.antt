@@ -2,10 +2,9 @@
 use Rattle.std.proofs.Common.{◌≡◌, ◌≢◌, ℕ, List, [], ◌∷◌, Option, Some, None, unwrap_or, sym, refl, ap, ◌∙◌, subst, arith}
 use Rattle.std.specs.List.{fold}
 use Rattle.hy_bits.specs.Letter.{Letter}
-use denote.Ref.{Bor}
 use Rattle.hy_top.specs.TraceParts.{IsSetFound, IsMembersFound}
 use Rattle.hy_top.specs.declared.finite.sets.SetRead.{SetRead}
-use Rattle.hy_top.specs.TraceTexts.{past_blanks, name_at, SpellsNames, SpellsMembers, SpellsSet, with_member, letter_of}
+use Rattle.hy_top.specs.TraceTexts.{past_blanks, name_at, SpellsNames, SpellsSet, with_member, letter_of}
 
 -- From the first name on to `here`, `letter` has been made of the names.
 pub record NamesRead (table : List (List ℕ)) (start here : List ℕ) (letter : Letter) : Type 0 where

@@ -1,11 +1,11 @@
 -- Reading the sets of a word one after another: what is read so far, and what is left to read.
-use Rattle.std.proofs.Common.{◌≡◌, ◌≢◌, ℕ, ◌+◌, ◌≤◌, List, [], ◌∷◌, ◌++◌, length, map, Option, Result, Err, sym, refl, ap, ◌∙◌, subst, arith, append_assoc, length-append, append-nil}
+use Rattle.std.proofs.Common.{◌≡◌, ◌≢◌, ℕ, ◌+◌, ◌≤◌, List, [], ◌∷◌, ◌++◌, length, map, Err, sym, ap, ◌∙◌, subst, arith, append_assoc, length-append}
 use Rattle.hy_bits.specs.Letter.{Letter}
 use Rattle.hy_top.specs.TraceTexts.{past_blanks, SpellsSet, SpellsWord, letter_of, most_letters, IsTraceWord, SaysNothing}
 use Rattle.hy_top.specs.TraceParts.{IsWordAnswer, IsLineAnswer}
 use Rattle.hy_top.specs.declared.finite.lines.LineError.{LineError}
 use Rattle.hy_top.specs.declared.finite.lines.LineError.TheVariants.{Unbuilt, Memory}
-use Rattle.hy_top.proofs.TraceSets.{same_set, apart, behind_byte}
+use Rattle.hy_top.proofs.TraceSets.{same_set, behind_byte}
 
 -- From the first set on to `here`, these letters have been read.
 pub record WordRead (table : List (List ℕ)) (start here : List ℕ) (letters : List Letter) : Type 0 where
@@ -37,9 +37,9 @@ next_set here names behind next found semicolon (x ∷ y ∷ others) (rest, afte
 pub word_more : (table : List (List ℕ)) (start here : List ℕ) (letters : List Letter) (names : List (List ℕ)) (letter : Letter) (behind next : List ℕ) → WordRead table start here letters → SpellsSet here names behind → letter ≡ letter_of table names → past_blanks behind ≡ 59 ∷ next → WordRead table start (past_blanks next) (letters ++ letter ∷ [])
 word_more table start here letters names letter behind next read found is semicolon = record {
   onward = λ sets spelled.
-    let left = read.onward sets spelled in
-    let more = next_set here names behind next found semicolon left.0 left.1 in
-    (more.0, more.1, omega (arith, left.2, more.2, length-append letters (letter ∷ [])));
+      let left = read.onward sets spelled in
+      let more = next_set here names behind next found semicolon left.0 left.1 in
+      (more.0, more.1, omega (arith, left.2, more.2, length-append letters (letter ∷ [])));
   back = λ more spelled. word_back more spelled;
 }
   where

@@ -1,5 +1,5 @@
 -- What the reader of trace lines answers, without where its texts lie in memory.
-use Rattle.std.specs.Prelude.{◌≡◌, ℕ, List, Option, Some, None, Result, Ok, Err, ◌∷◌, [], suc, length}
+use Rattle.std.specs.Prelude.{◌≡◌, ℕ, List, Option, Some, None, Result, Ok, Err, [], suc, length}
 use Rattle.std.specs.List.{slice_split}
 use Rattle.hy_top.specs.Bytes.{is_line_feed}
 use denote.Ref.{Bor}

@@ -9,7 +9,7 @@
 --
 -- The reader: `read_traces(alloc, bytes, names) -> Result<TraceList, ..>` gives `traces` exactly where
 -- `IsTraceFile names bytes traces`, and refuses exactly where no list of traces is such.
-use Rattle.std.specs.Prelude.{◌≡◌, ℕ, ◌+◌, ◌≤◌, ◌⊎◌, Bool, ◌&&◌, nat_eq, nat_lt, if◌then◌else◌, List, [], ◌∷◌, length, drop, map, Option, Some, None, codes}
+use Rattle.std.specs.Prelude.{◌≡◌, ℕ, ◌≤◌, ◌⊎◌, ◌&&◌, nat_eq, nat_lt, if◌then◌else◌, List, [], ◌∷◌, length, drop, map, Option, Some, None, codes}
 use Rattle.std.specs.List.{fold, prefix_len, take_while, slice_split, starts_with}
 use Rattle.std.specs.FinSet as set
 use Rattle.hy_bits.specs.Letter.{Letter}

@@ -1,5 +1,10 @@
 //! The lines of a trace file, one trace each.
 
+ghost use Rattle.std.specs.Prelude.{◌≡◌, ◌≤◌, ◌↔◌, IsTrue, IfOk, length};
+ghost use Rattle.hy_top.specs.declared.finite.lines.LineError.TheVariants.{Memory as OutOfMemory};
+ghost use Rattle.hy_top.specs.TraceTexts.{SaysNothing};
+ghost use Rattle.hy_top.specs.TraceParts.{IsWordAnswer, IsLineAnswer};
+
 use crate::finite::names::{past_blanks, past_byte};
 use crate::finite::sets::read_set;
 use crate::finite::trace::{MOST_LETTERS, Trace};
@@ -9,11 +14,6 @@ use hy_formula::NameTable;
 use std::alloc::Global;
 use std::error::Error;
 use std::fmt;
-
-ghost use Rattle.std.specs.Prelude.{◌≡◌, ◌≤◌, ◌↔◌, IsTrue, IfOk, length};
-ghost use Rattle.hy_top.specs.declared.finite.lines.LineError.TheVariants.{Memory as OutOfMemory};
-ghost use Rattle.hy_top.specs.TraceTexts.{SaysNothing};
-ghost use Rattle.hy_top.specs.TraceParts.{IsWordAnswer, IsLineAnswer};
 
 /// A trace file was not read.
 #[derive(Clone, Copy, Debug, PartialEq, Eq)]

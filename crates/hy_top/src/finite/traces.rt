@@ -1,17 +1,17 @@
 //! A file of traces, one on a line.
 
+ghost use Rattle.std.specs.Prelude.{◌≡◌, ◌<◌, ◌∷◌, length};
+ghost use Rattle.std.specs.List.{slice_split};
+ghost use Rattle.std.specs.Option.{option_copied};
+ghost use Rattle.hy_top.specs.Bytes.{is_line_feed};
+ghost use Rattle.hy_top.specs.TraceParts.{IsFileAnswer, lines_of, left_of};
+
 use crate::bytes::Class;
 use crate::finite::lines::{LineError, read_line};
 use crate::finite::trace::TraceList;
 use hy_base::List;
 use hy_formula::NameTable;
 use std::alloc::Global;
-
-ghost use Rattle.std.specs.Prelude.{◌≡◌, ◌<◌, ◌∷◌, length};
-ghost use Rattle.std.specs.List.{slice_split};
-ghost use Rattle.std.specs.Option.{option_copied};
-ghost use Rattle.hy_top.specs.Bytes.{is_line_feed};
-ghost use Rattle.hy_top.specs.TraceParts.{IsFileAnswer, lines_of, left_of};
 
 /// The traces of a file, in the order of its lines. Names that the table lacks are passed over. In
 /// time and memory linear in the file. Unbuilt where a line is no trace of at most 1,024 letters, no
@@ -43,4 +43,27 @@ fn split_line(text: &[u8]) -> (&[u8], Option<&[u8]>)
     }
     let (_, rest) = behind.split_at(1);
     (line, Some(rest))
+}
+
+#[cfg(test)]
+mod tests {
+    use super::*;
+    use hy_bits::LetterMask;
+    use std::test::Fail;
+
+    #[test]
+    fn reads_lines(rt: HostRuntime) -> Result<(), Fail> {
+        let mut names = NameTable::new(rt.alloc())?;
+        names.add(rt.alloc(), b"a_1")?;
+        names.add(rt.alloc(), b"b c")?;
+        let file = b" # none\n{a_1};{ \"b c\" ,a_1, other };{}\t\r\n\n{\"a_1\"}";
+        let traces = read_traces(rt.alloc(), file, &names)?;
+        let a = LetterMask::empty().with(0);
+        let wanted: [&[LetterMask]; 2] = [&[a, a.with(1), LetterMask::empty()], &[a]];
+        assert_eq!(rt; traces.len(), wanted.len());
+        for (trace, letters) in traces.as_slice().iter().zip(wanted) {
+            assert_eq!(rt; trace.as_slice(), letters);
+        }
+        Ok(())
+    }
 }

@@ -1,7 +1,5 @@
-use Rattle.std.proofs.Common.{ℕ, List, ◌≡◌, sym, ap, ◌∙◌, subst, arith}
-use Rattle.hy_bits.specs.Letter.{Letter}
-use Rattle.hy_top.specs.TraceTexts.{past_blanks, with_member}
-use Rattle.hy_top.proofs.TraceSets.{NamesRead, names_more, names_all, names_lack, names_break}
+use Rattle.std.proofs.Common.{sym, ◌∙◌, arith}
+use Rattle.hy_top.proofs.TraceSets.{names_more, names_all, names_lack, names_break}
 use Rattle.hy_top.proofs.finite.sets.read_members.Goals as goal
 
 -- no name stands here

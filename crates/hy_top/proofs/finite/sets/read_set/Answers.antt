@@ -1,4 +1,4 @@
-use Rattle.std.proofs.Common.{◌≡◌, ◌∙◌, sym, subst, ℕ, List}
+use Rattle.std.proofs.Common.{◌∙◌, subst, ℕ, List}
 use Rattle.hy_top.specs.TraceParts.{IsMembersFound}
 use Rattle.hy_top.proofs.TraceSets.{set_found}
 use Rattle.hy_top.proofs.finite.sets.read_set.Goals as goal

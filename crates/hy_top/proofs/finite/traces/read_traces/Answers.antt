@@ -1,11 +1,11 @@
-use Rattle.std.proofs.Common.{◌≡◌, ◌∙◌, sym, ap, subst, List, ℕ, ◌∷◌, Option, Ok, Err}
+use Rattle.std.proofs.Common.{◌∙◌, ap, subst, List, Option, Ok}
 use Rattle.std.proofs.lemmas.Result.{err_from_is_err_and}
 use Rattle.std.specs.Option.{option_copied}
 use Rattle.std.specs.List.{slice_split}
 use Rattle.hy_bits.specs.Letter.{Letter}
 use Rattle.hy_top.specs.Bytes.{is_line_feed}
 use Rattle.hy_top.specs.TraceParts.{IsLineAnswer, lines_of}
-use Rattle.hy_top.proofs.TraceFiles.{FileRead, file_passed, file_more, file_all, file_refused}
+use Rattle.hy_top.proofs.TraceFiles.{file_passed, file_more, file_all, file_refused}
 use Rattle.hy_top.proofs.finite.traces.read_traces.Goals as goal
 
 -- a line at fault

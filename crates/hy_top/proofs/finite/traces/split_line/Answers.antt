@@ -1,4 +1,4 @@
-use Rattle.std.proofs.Common.{◌≡◌, ◌<◌, ◌∙◌, sym, ap, arith, length, List, ℕ, ◌∷◌}
+use Rattle.std.proofs.Common.{◌<◌, ◌∙◌, sym, ap, arith, length, ◌∷◌}
 use Rattle.std.specs.List.{slice_split}
 use Rattle.hy_top.specs.Bytes.{is_line_feed}
 use Rattle.std.proofs.lemmas.Bool.{eqb-true, eqb-false}
