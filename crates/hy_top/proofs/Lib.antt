@@ -4,3 +4,7 @@ pub mod Texts
 pub mod Suffixes
 pub mod Splitting
 pub mod RightAnswers
+pub mod TraceSets
+pub mod TraceWords
+pub mod TraceFiles
+pub mod Lines

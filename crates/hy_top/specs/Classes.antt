@@ -1,8 +1,8 @@
 -- Which bytes are of which class.
 use Rattle.std.specs.Prelude.{ℕ, Bool}
 use Rattle.hy_top.specs.declared.bytes.Class.{Class}
-use Rattle.hy_top.specs.declared.bytes.Class.TheVariants.{Blank, LineBlank, LetterOrDigit, WordByte, Quotable}
-use Rattle.hy_top.specs.Bytes.{is_blank, is_line_blank, is_letter_or_digit, is_word_byte, is_quotable}
+use Rattle.hy_top.specs.declared.bytes.Class.TheVariants.{Blank, LineBlank, LetterOrDigit, WordByte, Quotable, InLine}
+use Rattle.hy_top.specs.Bytes.{is_blank, is_line_blank, is_letter_or_digit, is_word_byte, is_quotable, is_in_line}
 
 abbrev pub is_of : Class → ℕ → Bool
 is_of Blank = is_blank
@@ -10,3 +10,4 @@ is_of LineBlank = is_line_blank
 is_of LetterOrDigit = is_letter_or_digit
 is_of WordByte = is_word_byte
 is_of Quotable = is_quotable
+is_of InLine = is_in_line

@@ -9,5 +9,6 @@ pub mod Parses
 pub mod Scans
 pub mod Symbols
 pub mod Tokens
+pub mod TraceParts
 pub mod TraceTexts
 pub mod Words

@@ -55,6 +55,8 @@ pub enum Class {
     LetterOrDigit,
     WordByte,
     Quotable,
+    /// All but the line feed.
+    InLine,
 }
 
 impl Class {
@@ -69,6 +71,7 @@ impl Class {
             Class::LetterOrDigit => is_letter_or_digit(b),
             Class::WordByte => is_word_byte(b),
             Class::Quotable => is_quotable(b),
+            Class::InLine => b != b'\n',
         }
     }
 

@@ -3,3 +3,8 @@
 pub mod monitor;
 pub mod trace;
 pub mod traces;
+mod lines;
+mod names;
+mod sets;
+mod trace;
+mod traces;
