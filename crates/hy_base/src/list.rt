@@ -1,4 +1,4 @@
-ghost use Rattle.std.specs.Prelude.{◌≡◌, ◌+◌, ◌<◌, ◌≤◌, [], ◌∷◌, ◌++◌, length, OnOk, OnErr, IfOk, slice_get, Some, nat_eq};
+ghost use Rattle.std.specs.Prelude.{◌≡◌, ◌+◌, ◌<◌, ◌≤◌, [], ◌∷◌, ◌++◌, length, OnOk, OnErr, IfOk, slice_get, slice_set, Some, nat_eq};
 
 use crate::memory::M;
 use std::alloc::Global;
@@ -80,6 +80,16 @@ impl<T> List<T> {
         ensures { result.now ≡ self.now }
     {
         self.items.as_slice()
+    }
+
+    /// Puts `x` at place `i`, counted from 0.
+    pub fn set(&mut self, i: usize, x: T)
+    where
+        T: Drop,
+        requires { i < length self.old }
+        ensures { self.new ≡ slice_set self.old i x }
+    {
+        self.items[i] = x;
     }
 
     /// Adds `x` last, in constant time but for growth. Refused for memory it changes nothing.

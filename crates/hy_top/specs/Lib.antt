@@ -6,6 +6,7 @@ pub mod Formulas
 pub mod Grammar
 pub mod Outputs
 pub mod Parses
+pub mod Rows
 pub mod Scans
 pub mod Symbols
 pub mod Tokens
