@@ -1,7 +1,9 @@
+pub mod CommonLength
 pub mod Deriving
 pub mod Examples
-pub mod Texts
-pub mod Suffixes
-pub mod Splitting
+pub mod Meaning
 pub mod Rows
+pub mod Splitting
+pub mod Suffixes
+pub mod Texts
 pub mod Truth

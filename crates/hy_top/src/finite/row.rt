@@ -31,72 +31,105 @@ fn value(row: &Row, i: usize) -> bool
 }
 
 /// Negates each value.
-pub fn negate(row: &mut Row)
-    ensures long { length row.new ≡ length row.old }
-    ensures values { EachIndex row.old (λ i. value_at row.new i ≡ not (value_at row.old i)) }
+pub fn negate(mut row: Row) -> Row
+    ensures long { length result ≡ length row }
+    ensures values { EachIndex row (λ i. value_at result i ≡ not (value_at row i)) }
 {
     for i in 0..row.len() {
-        let here = !value(row, i);
+        let here = !value(&row, i);
         row.set(i, here);
     }
+    row
 }
 
 /// What holds at each place where both hold.
-pub fn and(left: &mut Row, right: &Row)
-    requires { length left.old ≡ length right.now }
-    ensures long { length left.new ≡ length left.old }
-    ensures values { EachIndex left.old (λ i. value_at left.new i ≡ (value_at left.old i && value_at right.now i)) }
+pub fn and(mut left: Row, right: &Row) -> Row
+    requires { length left ≡ length right.now }
+    ensures long { length result ≡ length left }
+    ensures values { EachIndex left (λ i. value_at result i ≡ (value_at left i && value_at right.now i)) }
 {
     for i in 0..left.len() {
-        let here = value(left, i) && value(right, i);
+        let here = value(&left, i) && value(right, i);
         left.set(i, here);
     }
+    left
 }
 
 /// What holds at each place where either holds.
-pub fn or(left: &mut Row, right: &Row)
-    requires { length left.old ≡ length right.now }
-    ensures long { length left.new ≡ length left.old }
-    ensures values { EachIndex left.old (λ i. value_at left.new i ≡ (value_at left.old i || value_at right.now i)) }
+pub fn or(mut left: Row, right: &Row) -> Row
+    requires { length left ≡ length right.now }
+    ensures long { length result ≡ length left }
+    ensures values { EachIndex left (λ i. value_at result i ≡ (value_at left i || value_at right.now i)) }
 {
     for i in 0..left.len() {
-        let here = value(left, i) || value(right, i);
+        let here = value(&left, i) || value(right, i);
         left.set(i, here);
     }
+    left
 }
 
 /// What holds at each place where both hold or neither does.
-pub fn iff(left: &mut Row, right: &Row)
-    requires { length left.old ≡ length right.now }
-    ensures long { length left.new ≡ length left.old }
-    ensures values { EachIndex left.old (λ i. value_at left.new i ≡ beq (value_at left.old i) (value_at right.now i)) }
+pub fn iff(mut left: Row, right: &Row) -> Row
+    requires { length left ≡ length right.now }
+    ensures long { length result ≡ length left }
+    ensures values { EachIndex left (λ i. value_at result i ≡ beq (value_at left i) (value_at right.now i)) }
 {
     for i in 0..left.len() {
-        let here = value(left, i) == value(right, i);
+        let here = value(&left, i) == value(right, i);
         left.set(i, here);
     }
+    left
 }
 
 /// Strong next: each value is the one at the next place, and the last is false.
-pub fn next(row: &mut Row)
-    ensures { Tells (length row.old) row.new (λ i. (i + 1 < length row.old) × IsTrue (value_at row.old (i + 1))) }
+pub fn next(mut row: Row) -> Row
+    ensures { Tells (length row) result (λ i. (i + 1 < length row) × IsTrue (value_at row (i + 1))) }
 {
     let places = row.len();
     for i in 0..places {
-        let here = i + 1 < places && value(row, i + 1);
+        let here = i + 1 < places && value(&row, i + 1);
         row.set(i, here);
     }
+    row
 }
 
-/// Until: `right` holds at some place from here on, and `left` at each place before it. From the last
-/// place to the first.
-pub fn until(left: &Row, right: &mut Row)
-    requires { length left.now ≡ length right.old }
-    ensures { Tells (length right.old) right.new (IsUntil (length right.old) (λ k. IsTrue (value_at left.now k)) (λ k. IsTrue (value_at right.old k))) }
+/// Until: `right` holds at some place from here on, and `left` at each place before that one. Goes from
+/// the last place to the first.
+pub fn until(left: &Row, mut right: Row) -> Row
+    requires { length left.now ≡ length right }
+    ensures { Tells (length right) result (IsUntil (length right) (λ k. IsTrue (value_at left.now k)) (λ k. IsTrue (value_at right k))) }
 {
     let mut later = false;
     for i in (0..right.len()).rev() {
-        later = value(right, i) || (value(left, i) && later);
+        later = value(&right, i) || (value(left, i) && later);
         right.set(i, later);
     }
+    right
+}
+
+/// Release: not until of the negations.
+pub fn release(left: Row, right: Row) -> Row
+    requires { length left ≡ length right }
+    ensures { Tells (length right) result (IsRelease (length right) (λ k. IsTrue (value_at left k)) (λ k. IsTrue (value_at right k))) }
+{
+    negate(until(&negate(left), negate(right)))
+}
+
+/// Finally: until of what always holds.
+pub fn finally(mut row: Row) -> Row
+    ensures { Tells (length row) result (IsUntil (length row) (λ k. Unit {0}) (λ k. IsTrue (value_at row k))) }
+{
+    let mut later = false;
+    for i in (0..row.len()).rev() {
+        later = value(&row, i) || later;
+        row.set(i, later);
+    }
+    row
+}
+
+/// Globally: release of what never holds.
+pub fn globally(row: Row) -> Row
+    ensures { Tells (length row) result (IsRelease (length row) (λ k. ⊥) (λ k. IsTrue (value_at row k))) }
+{
+    negate(finally(negate(row)))
 }
