@@ -1,4 +1,4 @@
-ghost use Rattle.std.specs.Prelude.{◌≡◌, ◌+◌, ◌<◌, ◌≤◌, [], ◌∷◌, ◌++◌, length, OnOk, OnErr, IfOk, slice_get, slice_set, Some, nat_eq};
+ghost use Rattle.std.specs.Prelude.{◌≡◌, ◌+◌, ◌<◌, ◌≤◌, [], ◌∷◌, ◌++◌, length, OnOk, OnErr, IfOk, slice_get, slice_set, take, Some, nat_eq};
 
 use crate::memory::M;
 use std::alloc::Global;
@@ -101,6 +101,15 @@ impl<T> List<T> {
     {
         self.items.push(x)?;
         Ok(())
+    }
+
+    /// Keeps the first `n` values.
+    pub fn truncate(&mut self, n: usize)
+    where
+        T: Drop,
+        ensures { self.new ≡ take n self.old }
+    {
+        self.items.truncate(n);
     }
 }
 

@@ -3,6 +3,7 @@ pub mod Deriving
 pub mod Examples
 pub mod Meaning
 pub mod Rows
+pub mod Searches
 pub mod Splitting
 pub mod Suffixes
 pub mod Texts

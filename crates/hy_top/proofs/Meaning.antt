@@ -72,8 +72,8 @@ pub row-implies : (tuple : List Trace) (m : ℕ) (f g : Tree) (left failing righ
 row-implies tuple m f g left failing right new l r short negated long values =
     record {
       told = tells-by m new _ _ (long ∙ short ∙ l.told.long)
-      (λ i lt. values i (omega (arith, l.told.long)) ∙ ap (λ b. b || value_at right i) (negated i (omega (arith, l.told.long))))
-      (λ i lt. decides-implies _ _ (l.told.right i lt) (r.told.right i lt));
+          (λ i lt. values i (omega (arith, l.told.long)) ∙ ap (λ b. b || value_at right i) (negated i (omega (arith, l.told.long))))
+          (λ i lt. decides-implies _ _ (l.told.right i lt) (r.told.right i lt));
     }
 
 pub row-iff : (tuple : List Trace) (m : ℕ) (f g : Tree) (left right new : List Bool) → IsRowOf f tuple m left → IsRowOf g tuple m right → length new ≡ length left → EachIndex left (λ i. value_at new i ≡ beq (value_at left i) (value_at right i)) → IsRowOf (iff f g) tuple m new
@@ -90,16 +90,16 @@ pub row-finally : (tuple : List Trace) (m : ℕ) (f : Tree) (old new : List Bool
 row-finally tuple m f old new r t =
     record {
       told = tells-like m new _ _ (rw r.told.long at t)
-      (λ i lt. until-like m i _ _ _ _ (λ k within h. tt) (λ k within. (r.told.right k within).0))
-      (λ i lt. until-like m i _ _ _ _ (λ k within h. tt) (λ k within. (r.told.right k within).1));
+          (λ i lt. until-like m i _ _ _ _ (λ k within h. tt) (λ k within. (r.told.right k within).0))
+          (λ i lt. until-like m i _ _ _ _ (λ k within h. tt) (λ k within. (r.told.right k within).1));
     }
 
 pub row-globally : (tuple : List Trace) (m : ℕ) (f : Tree) (old new : List Bool) → IsRowOf f tuple m old → Tells (length old) new (IsRelease (length old) (λ k. ⊥) (Says old)) → IsRowOf (globally f) tuple m new
 row-globally tuple m f old new r t =
     record {
       told = tells-like m new _ _ (rw r.told.long at t)
-      (λ i lt not_until u. not_until (until-like m i _ _ _ _ (λ k within h. h) (λ k within h e. h ((r.told.right k within).0 e)) u))
-      (λ i lt not_until u. not_until (until-like m i _ _ _ _ (λ k within h. h) (λ k within h p. h ((r.told.right k within).1 p)) u));
+          (λ i lt not_until u. not_until (until-like m i _ _ _ _ (λ k within h. h) (λ k within h e. h ((r.told.right k within).0 e)) u))
+          (λ i lt not_until u. not_until (until-like m i _ _ _ _ (λ k within h. h) (λ k within h p. h ((r.told.right k within).1 p)) u));
     }
 
 pub row-weak : (tuple : List Trace) (m : ℕ) (f g : Tree) (left right either new : List Bool) → IsRowOf f tuple m left → IsRowOf g tuple m right → length either ≡ length left → EachIndex left (λ i. value_at either i ≡ (value_at left i || value_at right i)) → Tells (length either) new (IsRelease (length either) (Says right) (Says either)) → IsRowOf (weak f g) tuple m new
@@ -128,8 +128,8 @@ tells-push n row P b t d = record { long = length-append row (b ∷ []) ∙ ap (
 pub names-push : (n : ℕ) (row : List Bool) (trace : Trace) (letter : Letter) (name : ℕ) (b : Bool) → Tells n row (λ i. IsSomeAnd (slice_get trace i) (λ x. HasName x name)) → slice_get trace n ≡ Some letter → b ≡ contains letter name → Tells (n + 1) (row ++ b ∷ []) (λ i. IsSomeAnd (slice_get trace i) (λ x. HasName x name))
 names-push n row trace letter name b t there e =
     tells-push n row _ b t (
-      let P : Option Letter → Type 0 = λ o. Decides b (IsSomeAnd o (λ x. HasName x name)) in
-      subst P (sym there) (λ is. sym e ∙ is, λ is. e ∙ is)
+    let P : Option Letter → Type 0 = λ o. Decides b (IsSomeAnd o (λ x. HasName x name)) in
+    subst P (sym there) (λ is. sym e ∙ is, λ is. e ∙ is)
     )
 
 pub row-atom : (tuple : List Trace) (m name v : ℕ) (trace : Trace) (row : List Bool) → slice_get tuple v ≡ Some trace → Tells m row (λ i. IsSomeAnd (slice_get trace i) (λ x. HasName x name)) → IsRowOf (atom name v) tuple m row

@@ -28,6 +28,7 @@ told-write P Q old new later v i t lt d = record { long = length-set new i v ∙
   where
     below : (k : ℕ) → k < i → value_at (set new i v) k ≡ value_at old k
     below k within = get_or-set_other new i k v false (λ same. absurd (omega arith)) ∙ t.below k (omega arith)
+
     told : (k : ℕ) → i ≤ k → k < length old → Decides (value_at (set new i v) k) (IsUntil (length old) P Q k)
     told k le within =
         elim (cases_eq k i) [
@@ -41,11 +42,11 @@ told-write P Q old new later v i t lt d = record { long = length-set new i v ∙
 pub finally-more : (old new result : List Bool) (later here v : Bool) (j i : ℕ) → UntilTold (λ k. Unit {0}) (λ k. IsTrue (value_at old k)) old new later j → suc i ≡ j → i < length new → here ≡ value_at new i → v ≡ (here || later) → result ≡ set new i v → UntilTold (λ k. Unit {0}) (λ k. IsTrue (value_at old k)) old result v i
 finally-more old new result later here v j i t next lt read told written =
     rw (written, told, read) (
-      told-write _ _ old new later (value_at new i || later) i (rw (sym next) at t) lt (
-        until-step (length old) i _ _ true (value_at new i) later (omega (arith, t.long)) (λ _. tt, λ _. refl)
-        (Decides-at _ _ (t.below i (omega arith)) (decides-itself (value_at old i)))
-        (rw (sym next) at t.here)
-      )
+    told-write _ _ old new later (value_at new i || later) i (rw (sym next) at t) lt (
+    until-step (length old) i _ _ true (value_at new i) later (omega (arith, t.long)) (λ _. tt, λ _. refl)
+    (Decides-at _ _ (t.below i (omega arith)) (decides-itself (value_at old i)))
+    (rw (sym next) at t.here)
+    )
     )
 
 -- globally is finally between two negations
@@ -54,11 +55,13 @@ globally-told row failing some new short negated t long values = record { long =
   where
     fails : (k : ℕ) → k < length row → Decides (value_at failing k) (¬ IsTrue (value_at row k))
     fails k lt = Decides-at _ _ (negated k lt) (Decides-not _ (decides-itself (value_at row k)))
+
     at : (i : ℕ) → i < length row → Decides (value_at some i) (IsUntil (length row) (λ k. ¬ ⊥) (λ k. ¬ IsTrue (value_at row k)) i)
     at i lt =
         Decides-like _
         (λ u. until-like (length row) i _ _ _ _ (λ k within h e. e) (λ k within. (fails k within).0) (rw short at u))
         (λ u. rw short (until-like (length row) i _ _ _ _ (λ k within h. tt) (λ k within. (fails k within).1) u))
         (t.right i (omega arith))
+
     right : (i : ℕ) → i < length row → Decides (value_at new i) (IsRelease (length row) (λ k. ⊥) (λ k. IsTrue (value_at row k)) i)
     right i lt = Decides-at _ _ (values i (omega (arith, t.long))) (Decides-not _ (at i lt))

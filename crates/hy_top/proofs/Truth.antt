@@ -46,10 +46,6 @@ until-step m i P Q true false later lt dp dq dl =
 until-step m i P Q false false later lt dp dq dl =
     (λ e. absurd (cc), λ u. dp.1 ((until-first m i P Q (λ h. let e : false ≡ true = dq.1 h in cc) u).0))
 
--- until past the last place
-pub until-past : (m i : ℕ) (P Q : ℕ → Type 0) → m ≤ i → Decides false (IsUntil m P Q i)
-until-past m i P Q le = (λ e. absurd (cc), λ (j, from, below, q, all). absurd (omega arith))
-
 -- until of facts that hold at the same places
 pub until-like : (m i : ℕ) (P Q P' Q' : ℕ → Type 0) → ((k : ℕ) → k < m → P k → P' k) → ((k : ℕ) → k < m → Q k → Q' k) → IsUntil m P Q i → IsUntil m P' Q' i
 until-like m i P Q P' Q' f g (j, from, below, q, all) = (j, from, below, g j below q, λ k le lt. f k (omega arith) (all k le lt))

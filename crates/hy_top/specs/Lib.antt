@@ -8,6 +8,7 @@ pub mod Outputs
 pub mod Parses
 pub mod Rows
 pub mod Scans
+pub mod Searches
 pub mod Symbols
 pub mod Tokens
 pub mod TraceTexts

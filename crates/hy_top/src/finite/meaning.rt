@@ -1,14 +1,15 @@
-use crate::finite::row::{Row, and, constant, finally, globally, iff, negate, next, or, release, until};
-use crate::finite::trace::TraceList;
-
-use hy_base::{List, M};
-use hy_formula::{Atom, Body};
-use std::alloc::Global;
-
 ghost use Rattle.std.specs.Prelude.{◌≡◌, ℕ, ◌<◌, ◌≤◌, ◌↔◌, [], length, IfOk, IsTrue, All, slice_index_or};
 ghost use Rattle.hy_formula.specs.Trees.{tree_of, vars_below, atom};
 ghost use Rattle.hy_top.specs.Finite.{Satisfies, common_length, picked};
 ghost use Rattle.hy_top.specs.Rows.{IsRowOf};
+
+use crate::finite::row::{
+    Row, and, constant, finally, globally, iff, negate, next, or, release, until,
+};
+use crate::finite::trace::TraceList;
+use hy_base::{List, M};
+use hy_formula::{Atom, Body};
+use std::alloc::Global;
 
 /// Whether the body holds of the picked traces, at their first place. `pick` has for each variable of
 /// the body the number of a trace of the list. In time the size of the body times the least length of
