@@ -1,4 +1,4 @@
-ghost use Rattle.std.specs.Prelude.{◌≡◌, ◌+◌, ◌<◌, ◌≤◌, [], ◌∷◌, ◌++◌, length, OnOk, OnErr, IfOk, slice_get, Some, nat_eq};
+ghost use Rattle.std.specs.Prelude.{◌≡◌, ◌+◌, ◌<◌, ◌≤◌, [], ◌∷◌, ◌++◌, length, OnOk, OnErr, IfOk, slice_get, slice_set, take, Some, nat_eq};
 
 use crate::memory::M;
 use std::alloc::Global;
@@ -82,6 +82,16 @@ impl<T> List<T> {
         self.items.as_slice()
     }
 
+    /// Puts `x` at place `i`, counted from 0.
+    pub fn set(&mut self, i: usize, x: T)
+    where
+        T: Drop,
+        requires { i < length self.old }
+        ensures { self.new ≡ slice_set self.old i x }
+    {
+        self.items[i] = x;
+    }
+
     /// Adds `x` last, in constant time but for growth. Refused for memory it changes nothing.
     pub fn push(&mut self, x: T) -> M<()>
     where
@@ -91,6 +101,15 @@ impl<T> List<T> {
     {
         self.items.push(x)?;
         Ok(())
+    }
+
+    /// Keeps the first `n` values.
+    pub fn truncate(&mut self, n: usize)
+    where
+        T: Drop,
+        ensures { self.new ≡ take n self.old }
+    {
+        self.items.truncate(n);
     }
 }
 

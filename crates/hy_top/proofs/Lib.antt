@@ -1,10 +1,15 @@
+pub mod CommonLength
 pub mod Deriving
 pub mod Examples
-pub mod Texts
-pub mod Suffixes
+pub mod Meaning
+pub mod Rows
+pub mod Searches
 pub mod Splitting
 pub mod RightAnswers
 pub mod TraceSets
 pub mod TraceWords
 pub mod TraceFiles
 pub mod Lines
+pub mod Suffixes
+pub mod Texts
+pub mod Truth

@@ -6,7 +6,9 @@ pub mod Formulas
 pub mod Grammar
 pub mod Outputs
 pub mod Parses
+pub mod Rows
 pub mod Scans
+pub mod Searches
 pub mod Symbols
 pub mod Tokens
 pub mod TraceParts

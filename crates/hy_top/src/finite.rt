@@ -6,5 +6,8 @@ pub mod traces;
 mod lines;
 mod names;
 mod sets;
+mod meaning;
+mod monitor;
+mod row;
 mod trace;
 mod traces;
