@@ -13,3 +13,4 @@ pub mod Lines
 pub mod Suffixes
 pub mod Texts
 pub mod Truth
+pub mod TraceCounts

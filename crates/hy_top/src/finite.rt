@@ -1,13 +1,10 @@
 //! Finite traces: what a body means on them, and the first violation.
 
+pub mod lines;
+mod meaning;
 pub mod monitor;
+mod names;
+mod row;
+mod sets;
 pub mod trace;
 pub mod traces;
-mod lines;
-mod names;
-mod sets;
-mod meaning;
-mod monitor;
-mod row;
-mod trace;
-mod traces;

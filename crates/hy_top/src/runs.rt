@@ -9,6 +9,7 @@ ghost use Rattle.hy_top.specs.Formulas.{IsFirstFormula};
 ghost use Rattle.hy_top.specs.Outputs.{error_line, out_text, status_of, file_word, Received};
 
 use crate::answer::{Answer, Done, Tool};
+use crate::finite::lines::LineError;
 use crate::finite::monitor::first_violation;
 use crate::finite::trace::TraceList;
 use crate::finite::traces::read_traces;
@@ -98,8 +99,8 @@ fn judge_file(alloc: Global, specs: &Specs, bytes: &[u8]) -> Answer
 {
     match read_traces(alloc, bytes, &specs.names) {
         Ok(traces) => judge(alloc, &specs.formula, &traces),
-        Err(ReadError::Unbuilt) => Answer::Unbuilt { file: 1 },
-        Err(ReadError::Memory) => Answer::Memory,
+        Err(LineError::Unbuilt) => Answer::Unbuilt { file: 1 },
+        Err(LineError::Memory) => Answer::Memory,
     }
 }
 
