@@ -13,14 +13,14 @@ no_token_in_nothing text token n e h = let h' = rw e at h in cc
 -- the tokens behind the first, where the first is known
 pub splits_behind : (text : List ℕ) (token : Token) (n : ℕ) (tokens : List Token) → token_at (behind_blanks text) ≡ Some (token, n) → Splits text tokens → (more : List Token) × (tokens ≡ token ∷ more) × Splits (drop n (behind_blanks text)) more
 splits_behind text token n [] h s = absurd (no_token_in_nothing (behind_blanks text) token n s h)
-splits_behind text token n (t ∷ ts) h (m, e, s) =
+splits_behind text token n (t ∷ ts) h (m , e , s) =
     let same = parts_of_some (token_at (behind_blanks text)) (t, m) (token, n) e h in
     (ts, ap (λ x. x ∷ ts) same.0, subst (λ x. Splits (drop x (behind_blanks text)) ts) same.1 s)
 
 pub splits_once : (a b : List Token) (text : List ℕ) → Splits text a → Splits text b → a ≡ b
 splits_once [] [] text s t = refl
-splits_once [] (y ∷ ys) text s (m, e, t) = absurd (no_token_in_nothing (behind_blanks text) y m s e)
-splits_once (x ∷ xs) ys text (n, e, s) t =
+splits_once [] (y ∷ ys) text s (m , e , t) = absurd (no_token_in_nothing (behind_blanks text) y m s e)
+splits_once (x ∷ xs) ys text (n , e , s) t =
     let behind = splits_behind text x n ys e t in
     let same = splits_once xs behind.0 (drop n (behind_blanks text)) s behind.2 in
     ap (λ r. x ∷ r) same ∙ sym behind.1

@@ -126,7 +126,7 @@ some_members text inner brace [] rest spelled = absurd spelled
 some_members text inner brace (x ∷ names) rest spelled = (inner, brace, spelled)
 
 -- Behind the opening brace the set is not empty, and its names are found or not.
-pub set_found : (table : List (List ℕ)) (text inner : List ℕ) (found : Option (SetRead)) → text ≡ 123 ∷ inner → ((rest : List ℕ) → past_blanks inner ≢ 125 ∷ rest) → IsMembersFound table (past_blanks inner) found → IsSetFound table text found
+pub set_found : (table : List (List ℕ)) (text inner : List ℕ) (found : Option SetRead) → text ≡ 123 ∷ inner → ((rest : List ℕ) → past_blanks inner ≢ 125 ∷ rest) → IsMembersFound table (past_blanks inner) found → IsSetFound table text found
 set_found table text inner None brace not_empty none = no_members text inner brace not_empty none
 set_found table text inner (Some found) brace not_empty (names, spelled, e) = (names, some_members text inner brace names found.rest.now spelled, e)
 

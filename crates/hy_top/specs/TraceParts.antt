@@ -13,12 +13,12 @@ abbrev pub plain_pair : Bor (List ℕ) × Bor (List ℕ) → List ℕ × List �
 plain_pair pair = (pair.0.now, pair.1.now)
 
 -- A set stands at the front of the text, and this is its letter and what stands behind it, or none does.
-abbrev pub IsSetFound : List (List ℕ) → List ℕ → Option (SetRead) → Type 0
+abbrev pub IsSetFound : List (List ℕ) → List ℕ → Option SetRead → Type 0
 IsSetFound table text None = (names : List (List ℕ)) (rest : List ℕ) → ¬ SpellsSet text names rest
 IsSetFound table text (Some found) = (names : List (List ℕ)) × SpellsSet text names found.rest.now × (found.letter ≡ letter_of table names)
 
 -- The same of the names of a set that is not empty, behind its opening brace.
-abbrev pub IsMembersFound : List (List ℕ) → List ℕ → Option (SetRead) → Type 0
+abbrev pub IsMembersFound : List (List ℕ) → List ℕ → Option SetRead → Type 0
 IsMembersFound table text None = (names : List (List ℕ)) (rest : List ℕ) → ¬ SpellsNames text names rest
 IsMembersFound table text (Some found) = (names : List (List ℕ)) × SpellsNames text names found.rest.now × (found.letter ≡ letter_of table names)
 
