@@ -1,5 +1,7 @@
+pub mod Binding
 pub mod Deriving
 pub mod Examples
-pub mod Texts
-pub mod Suffixes
+pub mod Parsing
 pub mod Splitting
+pub mod Suffixes
+pub mod Texts
