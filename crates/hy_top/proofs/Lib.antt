@@ -1,7 +1,9 @@
 pub mod Binding
 pub mod Deriving
 pub mod Examples
+pub mod Naming
 pub mod Parsing
+pub mod Quantifying
 pub mod Splitting
 pub mod Suffixes
 pub mod Texts

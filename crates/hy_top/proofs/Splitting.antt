@@ -1,5 +1,5 @@
 -- A text splits into tokens in one way.
-use Rattle.std.proofs.Common.{◌≡◌, ℕ, List, [], ◌∷◌, drop, Option, Some, None, refl, ap, sym, subst, ◌∙◌}
+use Rattle.std.proofs.Common.{◌≡◌, ℕ, List, [], ◌∷◌, ◌++◌, drop, Option, Some, None, refl, ap, sym, subst, ◌∙◌, append_assoc}
 use Rattle.hy_top.specs.Scans.{StandsFirst}
 use Rattle.hy_top.specs.Tokens.{Token, token_at, behind_blanks, Splits}
 
@@ -50,3 +50,25 @@ no_fault o token n h k = cc
 pub fault_splits_not : (here : List ℕ) (tokens : List Token) → (behind_blanks here ≡ [] → ⊥) → token_at (behind_blanks here) ≡ None → Splits here tokens → ⊥
 fault_splits_not here [] some none s = some s
 fault_splits_not here (t ∷ ts) some none (n, e, s) = no_fault (token_at (behind_blanks here)) t n none e
+
+-- The tokens of the text are these, and what stands from this place on.
+pub record Passes (text : List ℕ) (front : List Token) (at : ℕ) : Type 0 where
+  pub joins : (rest : List Token) → Splits (drop at text) rest → Splits text (front ++ rest)
+  pub parts : (tokens : List Token) → Splits text tokens → (rest : List Token) × (tokens ≡ front ++ rest) × Splits (drop at text) rest
+
+pub passes_nothing : (text : List ℕ) → Passes text [] 0
+passes_nothing text = record {
+  joins = λ rest s. s;
+  parts = λ tokens s. (tokens, refl, s);
+}
+
+pub passes_more : (text : List ℕ) (front : List Token) (at behind : ℕ) (token : Token) → Passes text front at → StandsFirst (drop at text) token (drop behind text) → Passes text (front ++ token ∷ []) behind
+passes_more text front at behind token passed stands = record {
+  joins = λ rest s.
+      subst (λ x. Splits text x) (sym (append_assoc front (token ∷ []) rest))
+      (passed.joins (token ∷ rest) (token_joins (drop at text) (drop behind text) token rest stands s));
+  parts = λ tokens s.
+      let (rest, is, split) = passed.parts tokens s in
+      let (more, begins, split2) = token_stands (drop at text) (drop behind text) token rest stands split in
+      (more, is ∙ ap (λ x. front ++ x) begins ∙ sym (append_assoc front (token ∷ []) more), split2);
+}

@@ -4,6 +4,7 @@ pub mod Classes
 pub mod Finite
 pub mod Formulas
 pub mod Grammar
+pub mod Headings
 pub mod Operators
 pub mod Outputs
 pub mod Parses

@@ -1,10 +1,12 @@
 //! Formula texts.
 
 mod error;
+mod names;
 mod operator;
 mod parse;
 mod parsed;
 mod parser;
+mod quantifiers;
 mod scan;
 mod symbol;
 mod token;

@@ -2,6 +2,7 @@ ghost use Rattle.std.specs.Prelude.{◌≡◌};
 ghost use Rattle.hy_top.specs.declared.read.error.ReadError.TheVariants.{Memory as OfMemory};
 
 use hy_base::Memory;
+use std::alloc::AllocFailed;
 use std::error::Error;
 use std::fmt;
 
@@ -29,6 +30,14 @@ impl From<Memory> for ReadError {
     ghost from_gives = { λ _ e. e ≡ OfMemory };
 
     fn from(_e: Memory) -> ReadError {
+        ReadError::Memory
+    }
+}
+
+impl<T: Drop> From<AllocFailed<T>> for ReadError {
+    ghost from_gives = { λ _ e. e ≡ OfMemory };
+
+    fn from(_e: AllocFailed<T>) -> ReadError {
         ReadError::Memory
     }
 }
