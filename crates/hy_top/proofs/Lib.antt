@@ -4,6 +4,7 @@ pub mod Examples
 pub mod Naming
 pub mod Parsing
 pub mod Quantifying
+pub mod Reading
 pub mod Splitting
 pub mod Suffixes
 pub mod Texts

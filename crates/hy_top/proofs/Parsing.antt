@@ -85,6 +85,11 @@ closed_there text (follows.Symbol s behind) rest (more, e, split) unclosed =
     unclosed behind (ap (λ x. follows.Symbol x behind) (sym same.0))
 closed_there text follows.Other rest h unclosed = h.1 signs.CloseParen rest refl
 
+ends_there : (text : List ℕ) (follow : Follow) → IsFollowed text follow [] → (follow ≡ follows.End → ⊥) → ⊥
+ends_there text follows.End h goes_on = goes_on refl
+ends_there text (follows.Symbol s behind) (more, e, split) goes_on = cc
+ends_there text follows.Other h goes_on = h.0 refl
+
 module _ (Means : List ℕ → List ℕ → Tree → Type 0) (text : List ℕ) where
   pub parsed_operand : (n : ℕ) (tokens rest : List Token) (tree : Tree) (p : Parsed) → Derives Means n 0 tokens tree rest → tree ≡ tree_of p.body → IsFollowed text p.follow rest → IsParsed Means text n 0 tokens p
   parsed_operand n tokens rest tree p d e follow = record {
@@ -192,6 +197,11 @@ module _ (Means : List ℕ → List ℕ → Tree → Type 0) where
         let taller = height_joined o (suc rank) join2 left2 right k in
         let equal : height left2 ≡ height l = ap height same.0 in
         omega arith
+
+    pub none_to_end : {n rank : ℕ} {text : List ℕ} {tokens : List Token} {tree : Tree} {p : Parsed} → IsParsed Means text n rank tokens p → (p.follow ≡ follows.End → ⊥) → Derives Means n rank tokens tree [] → ⊥
+    none_to_end {rank = rank} {text = text} {p = p} h goes_on d =
+        let same = derives_once Means once d h.derived tt h.stops in
+        ends_there text p.follow (subst (λ x. IsFollowed text p.follow x) (sym same.1) h.followed) goes_on
 
     pub none_unclosed : {n : ℕ} {text : List ℕ} {tokens rest : List Token} {tree : Tree} {inner : Parsed} → IsParsed Means text n loosest tokens inner → ((behind : ℕ) → inner.follow ≡ follows.Symbol signs.CloseParen behind → ⊥) → Derives Means (suc n) 0 (symbol signs.OpenParen ∷ tokens) tree rest → ⊥
     none_unclosed h unclosed (constant k) = cc

@@ -62,7 +62,7 @@ pub none_broken : (more : List Quantifier) (rest body : List Token) → IsBroken
 none_broken [] rest body broken h e = broken.word (subst (λ x. HasNoWord x) (sym e) h)
 none_broken (q ∷ more) rest body broken h e = broken.no_quantifier q.quant q.bound (quantifier_tokens more ++ body) e
 
-no_more : (more : List Quantifier) (rest body : List Token) → HasNoWord rest → rest ≡ quantifier_tokens more ++ body → length more ≡ 0
+pub no_more : (more : List Quantifier) (rest body : List Token) → HasNoWord rest → rest ≡ quantifier_tokens more ++ body → length more ≡ 0
 no_more [] rest body h e = refl
 no_more (q ∷ more) rest body h e = absurd (not_body q.quant _ rest e h)
 

@@ -1,4 +1,5 @@
 pub mod Answers
+pub mod Bodies
 pub mod Bytes
 pub mod Classes
 pub mod Finite

@@ -1,6 +1,7 @@
 //! Formula texts.
 
 mod error;
+mod formula;
 mod names;
 mod operator;
 mod parse;

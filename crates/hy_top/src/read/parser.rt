@@ -4,6 +4,7 @@ use hy_formula::NameTable;
 use std::alloc::Global;
 
 /// What the parser reads, and what the atoms mean.
+#[derive(Drop)]
 pub struct Parser<'a> {
     pub alloc: Global,
     pub text: &'a [u8],
