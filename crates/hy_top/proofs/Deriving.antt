@@ -1,10 +1,10 @@
 -- The tokens begin with one derivation of a rank behind which the rest does not go on.
-use Rattle.std.proofs.Common.{◌≡◌, ℕ, zero, suc, ◌<◌, ◌≤◌, List, [], ◌∷◌, Option, Some, None, refl, ap, sym, subst, arith, rules}
-use Rattle.hy_formula.specs.Trees.{Tree, height}
+use Rattle.std.proofs.Common.{◌≡◌, ℕ, suc, ◌<◌, List, [], ◌∷◌, Option, Some, None, refl, sym, subst, arith}
+use Rattle.hy_formula.specs.Trees.{Tree}
 use Rattle.hy_top.specs.declared.read.symbol.Symbol.{Symbol}
 use Rattle.hy_top.specs.declared.read.symbol.Symbol.TheVariants as signs
 use Rattle.hy_top.specs.Tokens.{Token, symbol, variable, atom}
-use Rattle.hy_top.specs.Grammar.{Derives, alone, joined, constant, prefixed, named, grouped, constant_of, unary_of, binary_of, loosest}
+use Rattle.hy_top.specs.Grammar.{Derives, alone, joined, constant, prefixed, named, grouped, constant_of, unary_of, binary_of}
 use Rattle.hy_top.proofs.Splitting.{parts_of_some}
 use Rattle.hy_top.specs.Parses.{IsLooser, Stops}
 
@@ -32,10 +32,10 @@ constant_or_unary signs.True tree make h k = cc
 constant_or_unary signs.False tree make h k = cc
 constant_or_unary _ tree make h k = cc
 
-same_after : (a b : List Token) (s r : Symbol) → symbol s ∷ a ≡ symbol r ∷ b → (s ≡ r) × (a ≡ b)
+pub same_after : (a b : List Token) (s r : Symbol) → symbol s ∷ a ≡ symbol r ∷ b → (s ≡ r) × (a ≡ b)
 same_after a b s r e = (cc, cc)
 
-same_join : (s r : Symbol) (rank : ℕ) (f g : Tree → Tree → Tree) → s ≡ r → binary_of s ≡ Some (rank, f) → binary_of r ≡ Some (rank, g) → f ≡ g
+pub same_join : (s r : Symbol) (rank : ℕ) (f g : Tree → Tree → Tree) → s ≡ r → binary_of s ≡ Some (rank, f) → binary_of r ≡ Some (rank, g) → f ≡ g
 same_join s r rank f g e h k = (parts_of_some (binary_of r) (rank, f) (rank, g) (subst (λ x. binary_of x ≡ Some (rank, f)) e h) k).1
 
 same_joined : (f g : Tree → Tree → Tree) (a b c d : Tree) → f ≡ g → a ≡ c → b ≡ d → f a b ≡ g c d

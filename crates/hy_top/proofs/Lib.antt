@@ -14,3 +14,13 @@ pub mod Suffixes
 pub mod Texts
 pub mod Truth
 pub mod TraceCounts
+pub mod Binding
+pub mod Deriving
+pub mod Examples
+pub mod Naming
+pub mod Parsing
+pub mod Quantifying
+pub mod Reading
+pub mod Splitting
+pub mod Suffixes
+pub mod Texts

@@ -1,9 +1,12 @@
 pub mod Answers
+pub mod Bodies
 pub mod Bytes
 pub mod Classes
 pub mod Finite
 pub mod Formulas
 pub mod Grammar
+pub mod Headings
+pub mod Operators
 pub mod Outputs
 pub mod Parses
 pub mod Rows
