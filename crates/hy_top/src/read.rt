@@ -2,8 +2,6 @@
 
 pub mod error;
 pub mod formula;
-mod error;
-mod formula;
 mod names;
 mod operator;
 mod parse;
