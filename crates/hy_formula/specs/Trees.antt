@@ -1,6 +1,5 @@
 -- A body as a plain tree, without where its parts lie in memory. Meanings and grammars speak of these trees.
-use Rattle.std.specs.Prelude.{ℕ, suc, ◌<◌, max, Bool, true, ◌&&◌, nat_lt, IsTrue}
-use Rattle.hy_formula.specs.declared.atom.Atom.{Atom as NumberedAtom}
+use Rattle.std.specs.Prelude.{ℕ, suc, max, Bool, true, ◌&&◌, nat_lt}
 use Rattle.hy_formula.specs.declared.body.Body.{Body, True, False, Atom, Not', Next', Finally', Globally', And', Or', Implies', Iff', Until', Release', Weak'}
 
 pub data Tree : Type 0 where

@@ -1,8 +1,8 @@
+ghost use Rattle.std.specs.Prelude.{◌≡◌, ◌≤◌, ◌<◌, length, IfOk, slice_get, Some};
+
 use hy_base::{List, M};
 use std::alloc::Global;
 use std::marker::Model;
-
-ghost use Rattle.std.specs.Prelude.{◌≡◌, ◌≤◌, ◌<◌, length, IfOk, slice_get, Some};
 
 /// A quantifier over the traces of a list.
 #[derive(Clone, Copy, Debug, PartialEq, Eq)]
