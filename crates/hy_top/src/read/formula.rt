@@ -71,41 +71,54 @@ mod tests {
     use super::*;
     use hy_base::M;
 
-    /// Writes a body with all its parentheses, an atom as its two numbers.
-    fn show(out: &mut String, body: &Body) -> M<()> {
-        match body {
-            Body::True => out.push_str("true")?,
-            Body::False => out.push_str("false")?,
-            Body::Atom(atom) => {
-                out.push((b'0' + atom.name % 10) as char)?;
-                out.push((b'0' + atom.var % 10) as char)?;
+    /// Writes a body, each operator before its operands, and an atom as its two numbers.
+    fn show(rt: HostRuntime, body: &Body) -> M<String> {
+        let mut out = String::new(rt.alloc());
+        let mut left: Vec<&Body> = Vec::new(rt.alloc());
+        left.push(body)?;
+        for _ in 0..1000 {
+            let Some(body) = left.pop() else {
+                return Ok(out);
+            };
+            match body {
+                Body::True => out.push('1')?,
+                Body::False => out.push('0')?,
+                Body::Atom(atom) => {
+                    out.push((b'a' + atom.name % 26) as char)?;
+                    out.push((b'1' + atom.var % 8) as char)?;
+                }
+                Body::Not(f) => unary(&mut out, &mut left, '!', f)?,
+                Body::Next(f) => unary(&mut out, &mut left, 'X', f)?,
+                Body::Finally(f) => unary(&mut out, &mut left, 'F', f)?,
+                Body::Globally(f) => unary(&mut out, &mut left, 'G', f)?,
+                Body::And(f, g) => binary(&mut out, &mut left, '&', f, g)?,
+                Body::Or(f, g) => binary(&mut out, &mut left, '|', f, g)?,
+                Body::Implies(f, g) => binary(&mut out, &mut left, '>', f, g)?,
+                Body::Iff(f, g) => binary(&mut out, &mut left, '=', f, g)?,
+                Body::Until(f, g) => binary(&mut out, &mut left, 'U', f, g)?,
+                Body::Release(f, g) => binary(&mut out, &mut left, 'R', f, g)?,
+                Body::Weak(f, g) => binary(&mut out, &mut left, 'W', f, g)?,
             }
-            Body::Not(operand) => show_unary(out, "!", operand)?,
-            Body::Next(operand) => show_unary(out, "X", operand)?,
-            Body::Finally(operand) => show_unary(out, "F", operand)?,
-            Body::Globally(operand) => show_unary(out, "G", operand)?,
-            Body::And(left, right) => show_binary(out, "&", left, right)?,
-            Body::Or(left, right) => show_binary(out, "|", left, right)?,
-            Body::Implies(left, right) => show_binary(out, ">", left, right)?,
-            Body::Iff(left, right) => show_binary(out, "=", left, right)?,
-            Body::Until(left, right) => show_binary(out, "U", left, right)?,
-            Body::Release(left, right) => show_binary(out, "R", left, right)?,
-            Body::Weak(left, right) => show_binary(out, "W", left, right)?,
         }
+        Ok(out)
+    }
+
+    fn unary<'a>(out: &mut String, left: &mut Vec<&'a Body>, sign: char, f: &'a Body) -> M<()> {
+        out.push(sign)?;
+        left.push(f)?;
         Ok(())
     }
 
-    fn show_unary(out: &mut String, sign: &str, operand: &Body) -> M<()> {
-        out.push_str(sign)?;
-        show(out, operand)
-    }
-
-    fn show_binary(out: &mut String, sign: &str, left: &Body, right: &Body) -> M<()> {
-        out.push_str("(")?;
-        show(out, left)?;
-        out.push_str(sign)?;
-        show(out, right)?;
-        out.push_str(")")?;
+    fn binary<'a>(
+        out: &mut String,
+        left: &mut Vec<&'a Body>,
+        sign: char,
+        f: &'a Body,
+        g: &'a Body,
+    ) -> M<()> {
+        out.push(sign)?;
+        left.push(g)?;
+        left.push(f)?;
         Ok(())
     }
 
@@ -113,29 +126,27 @@ mod tests {
     fn read(rt: HostRuntime, text: &[u8]) -> Result<String, ReadError> {
         let mut names = NameTable::new(rt.alloc())?;
         let formula = read_formula(rt.alloc(), text, &mut names)?;
-        let mut out = String::new(rt.alloc());
-        show(&mut out, &formula.body)?;
-        Ok(out)
+        Ok(show(rt, &formula.body)?)
     }
 
     #[test]
     fn groups_by_rank_and_to_the_right(rt: HostRuntime) {
         let texts = [
-            (b"forall p. a_p".as_slice(), "00"),
+            (b"forall p. a_p".as_slice(), "a1"),
             (
-                b"forall p.a_p U b_p&a_p|b_p->a_p<->b_p",
-                "(((((00U10)&00)|10)>00)=10)",
+                b"forall p.a_p U b_p&c_p|d_p->e_p<->f_p",
+                "=>|&Ua1b1c1d1e1f1",
             ),
             (
-                b"forall p. a_p <-> b_p -> a_p | b_p & a_p U b_p",
-                "(00=(10>(00|(10&(00U10)))))",
+                b"forall p. a_p <-> b_p -> c_p | d_p & e_p U f_p",
+                "=a1>b1|c1&d1Ue1f1",
             ),
-            (b"forall p. a_p -> b_p -> c_p", "(00>(10>20))"),
-            (b"forall p. a_p U b_p W c_p R a_p", "(00U(10W(20R00)))"),
-            (b"forall p. (a_p -> b_p) -> c_p", "((00>10)>20)"),
-            (b"forall p. !X F G a_p U true", "(!XFG00Utrue)"),
-            (b"forall p. forall q. G (\"a\"_p <-> a_q)\n", "G(00=01)"),
-            (b"forall p. forall p. a_p", "01"),
+            (b"forall p. a_p -> b_p -> c_p", ">a1>b1c1"),
+            (b"forall p. a_p U b_p W c_p R d_p", "Ua1Wb1Rc1d1"),
+            (b"forall p. (a_p -> b_p) -> c_p", ">>a1b1c1"),
+            (b"forall p. !X F G a_p U true", "U!XFGa11"),
+            (b"forall p. forall q. G (\"a\"_p <-> a_q)\n", "G=a1a2"),
+            (b"forall p. forall p. a_p", "a2"),
         ];
         for (text, want) in texts {
             match read(rt, text) {
@@ -163,5 +174,35 @@ mod tests {
         for text in texts {
             assert!(rt; matches!(read(rt, text), Err(ReadError::Unbuilt)));
         }
+    }
+
+    /// A text with this many parentheses, and with this many operators before its atom.
+    fn nested(rt: HostRuntime, parens: u32, signs: u32) -> M<Vec<u8>> {
+        let mut text = Vec::new(rt.alloc());
+        text.extend_from_slice(b"forall p. ")?;
+        for _ in 0..parens {
+            text.push(b'(')?;
+        }
+        for _ in 0..signs {
+            text.push(b'!')?;
+        }
+        text.extend_from_slice(b"a_p")?;
+        for _ in 0..parens {
+            text.push(b')')?;
+        }
+        Ok(text)
+    }
+
+    #[test]
+    fn reads_up_to_the_limits(rt: HostRuntime) -> M<()> {
+        for (parens, signs, reads) in [(200, 199, true), (201, 0, false), (0, 200, false)] {
+            let text = nested(rt, parens, signs)?;
+            assert_eq!(rt;
+                read(rt, text.as_slice()).is_ok(),
+                reads,
+                "at {parens} and {signs}"
+            );
+        }
+        Ok(())
     }
 }
