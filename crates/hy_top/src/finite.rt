@@ -3,4 +3,6 @@
 mod meaning;
 mod monitor;
 mod row;
+#[cfg(test)]
+mod tests;
 mod trace;
