@@ -8,3 +8,6 @@ mod row;
 mod sets;
 pub mod trace;
 pub mod traces;
+#[cfg(test)]
+mod tests;
+mod trace;
