@@ -6,8 +6,7 @@ pub mod monitor;
 mod names;
 mod row;
 mod sets;
-pub mod trace;
-pub mod traces;
 #[cfg(test)]
 mod tests;
-mod trace;
+pub mod trace;
+pub mod traces;
