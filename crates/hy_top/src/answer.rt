@@ -29,15 +29,24 @@ pub enum Answer {
     /// The words are no command.
     Words,
     /// A file did not open.
-    OpenFault { file: u8 },
+    OpenFault {
+        file: u8,
+    },
     /// A file could not be read.
-    ReadFault { file: u8 },
+    ReadFault {
+        file: u8,
+    },
     /// The output could not be written.
     WriteFault,
     /// A count is past its limit.
-    Limit { kind: Kind, limit: u64 },
+    Limit {
+        kind: Kind,
+        limit: u64,
+    },
     /// A file holds what is not taken yet, or is no text.
-    Unbuilt { file: u8 },
+    Unbuilt {
+        file: u8,
+    },
     /// Memory ran out.
     Memory,
 }
