@@ -1,5 +1,5 @@
 -- Names that are collected from the front of the tokens to their end.
-use Rattle.std.proofs.Common.{◌≡◌, ℕ, ◌+◌, ◌<◌, ◌≤◌, List, [], ◌∷◌, ◌++◌, length, Option, Some, None, refl, ap, sym, subst, ◌∙◌, arith, append_assoc, append-nil, length-append}
+use Rattle.std.proofs.Common.{◌≡◌, ℕ, ◌<◌, ◌≤◌, List, [], ◌∷◌, ◌++◌, length, Option, Some, None, refl, ap, sym, ◌∙◌, arith, append_assoc, append-nil, length-append}
 use Rattle.hy_formula.specs.Names.{place_of, with_name, added_unless}
 use Rattle.hy_top.specs.Tokens.{Token, symbol, variable, atom}
 use Rattle.hy_top.specs.Formulas.{names_of}

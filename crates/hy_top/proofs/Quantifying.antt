@@ -1,5 +1,5 @@
 -- The head of a text is read in one way.
-use Rattle.std.proofs.Common.{◌≡◌, ℕ, ◌+◌, ◌<◌, ◌≤◌, List, [], ◌∷◌, ◌++◌, length, drop, map, Some, refl, ap, sym, subst, ◌∙◌, arith, append_assoc, append-nil, length-append}
+use Rattle.std.proofs.Common.{◌≡◌, ℕ, ◌≤◌, List, [], ◌∷◌, ◌++◌, length, drop, map, Some, refl, ap, sym, subst, ◌∙◌, arith, length-append}
 use Rattle.std.specs.List.{All}
 use Rattle.std.proofs.lemmas.List.{map-append, length-map}
 use Rattle.std.proofs.lemmas.List.Elements.{All-head, All-tail, All-push}
@@ -12,7 +12,7 @@ use Rattle.hy_top.specs.Grammar.{Derives, alone, joined, constant, prefixed, nam
 use Rattle.hy_formula.specs.Trees.{Tree}
 use Rattle.hy_top.specs.Headings.{IsNoWord, HasNoWord, IsBroken, IsFirst, Heads}
 use Rattle.hy_top.specs.Scans.{StandsFirst}
-use Rattle.hy_top.specs.Tokens.{Token, symbol, variable, atom, Splits}
+use Rattle.hy_top.specs.Tokens.{Token, symbol, variable, Splits}
 use Rattle.hy_top.proofs.Splitting.{token_stands}
 
 is_word : (q : Quant) → IsNoWord (quantifier_word q) → ⊥

@@ -1,5 +1,5 @@
 -- What is read from names, quantifiers and a body is the formula of the text, and no other is.
-use Rattle.std.proofs.Common.{◌≡◌, ℕ, suc, ◌+◌, ◌<◌, ◌≤◌, List, [], ◌∷◌, ◌++◌, length, drop, map, Option, Some, None, Bool, true, false, ◌&&◌, nat_lt, IsTrue, if◌then◌else◌, refl, ap, sym, subst, ◌∙◌, arith, rules, append-nil}
+use Rattle.std.proofs.Common.{◌≡◌, ℕ, suc, ◌<◌, ◌≤◌, List, [], ◌∷◌, ◌++◌, length, map, Option, Some, None, Bool, true, false, ◌&&◌, IsTrue, if◌then◌else◌, refl, ap, sym, subst, ◌∙◌, arith, rules, append-nil}
 use Rattle.std.specs.List.{All}
 use Rattle.std.specs.Str.{bytes_eq}
 use Rattle.std.proofs.lemmas.List.{length-map}
@@ -11,11 +11,11 @@ use Rattle.hy_formula.specs.Trees as trees
 use Rattle.hy_top.specs.declared.read.quantifiers.Heading.{Heading}
 use Rattle.hy_top.specs.declared.read.symbol.Symbol.{Symbol}
 use Rattle.hy_top.specs.declared.read.symbol.Symbol.TheVariants as signs
-use Rattle.hy_top.specs.Bodies.{IsBehind, IsBodyOf, HasNoBody}
-use Rattle.hy_top.specs.Formulas.{IsBound, IsText, IsFirstFormula, names_of, variables_of, quants_of, last_place_of, later_or, most_parens, most_height}
+use Rattle.hy_top.specs.Bodies.{IsBodyOf, HasNoBody}
+use Rattle.hy_top.specs.Formulas.{IsBound, IsFirstFormula, names_of, variables_of, quants_of, last_place_of, later_or, most_parens}
 use Rattle.hy_top.specs.Grammar.{Derives, alone, joined, constant, prefixed, named, grouped, constant_of, unary_of, binary_of, loosest, Quantifier, quantifier_tokens}
-use Rattle.hy_top.specs.Headings.{HasNoWord, IsHeading, HasNoHeading, IsFirst}
-use Rattle.hy_top.specs.Tokens.{Token, symbol, variable, atom, Splits}
+use Rattle.hy_top.specs.Headings.{IsHeading, HasNoHeading, IsFirst}
+use Rattle.hy_top.specs.Tokens.{Token, Splits}
 use Rattle.hy_top.proofs.Quantifying.{heads_left, derives_no_word, no_more}
 use Rattle.hy_top.proofs.Splitting.{splits_once, parts_of_some}
 

@@ -1,4 +1,4 @@
-use Rattle.std.proofs.Common.{◌≡◌, ℕ, List, [], drop, map, sym, subst}
+use Rattle.std.proofs.Common.{[], map, sym, subst}
 use Rattle.hy_top.specs.Formulas.{IsBound, most_parens}
 use Rattle.hy_top.specs.Grammar.{Derives, loosest}
 use Rattle.hy_top.proofs.Binding.{bound_once}

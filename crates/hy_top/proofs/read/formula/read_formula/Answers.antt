@@ -1,7 +1,7 @@
 use Rattle.std.proofs.Common.{◌∙◌, rules}
-use Rattle.hy_top.specs.Headings.{HasNoHeading, IsHeading}
+use Rattle.hy_top.specs.Headings.{HasNoHeading}
 use Rattle.hy_top.specs.Bodies.{HasNoBody}
-use Rattle.hy_top.proofs.Reading.{none_of_heading, none_of_body, body_below}
+use Rattle.hy_top.proofs.Reading.{formula_read, none_of_heading, none_of_body, body_below}
 use Rattle.hy_top.proofs.read.formula.read_formula.Goals as goal
 
 pub returns-in_err-heading-clause-unbuilt : goal.returns-in_err-heading-clause-unbuilt
@@ -21,3 +21,8 @@ invariant_of-result c =
     record {
       bound = body_below c.args.text.now c.in_ok-heading.heading c.collect_names.new.names tokens c.in_ok-body.body c.in_ok-prefix.prefix split c.in_ok-heading.ensures.found c.in_ok-body.ensures.read (c.in_ok-prefix.ensures ∙ c.as_slice.ensures.value);
     }
+
+pub returns-clause-read : goal.returns-clause-read
+returns-clause-read c =
+    let (tokens, split, are) = c.in_ok-collect_names.ensures.split in
+    formula_read c.args.names.now c.collect_names.new.names c.args.text.now c.in_ok-heading.heading tokens c.in_ok-body.body c.in_ok-prefix.prefix split are c.in_ok-collect_names.ensures.few c.in_ok-heading.ensures.found c.in_ok-body.ensures.read (c.in_ok-prefix.ensures ∙ c.as_slice.ensures.value)

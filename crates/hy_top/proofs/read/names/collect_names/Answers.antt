@@ -1,9 +1,9 @@
-use Rattle.std.proofs.Common.{◌≡◌, ◌≤◌, ◌<◌, ◌++◌, ◌∷◌, [], ℕ, List, length, drop, sym, subst, ap, refl, ◌∙◌, append-nil, arith, rules, Err}
+use Rattle.std.proofs.Common.{◌≡◌, ◌<◌, ◌++◌, ◌∷◌, [], length, drop, sym, subst, ap, ◌∙◌, append-nil, rules}
 use Rattle.hy_top.specs.Formulas.{names_of}
 use Rattle.hy_top.specs.Scans.{plain}
-use Rattle.hy_top.specs.Tokens.{Token, Splits}
+use Rattle.hy_top.specs.Tokens.{Splits}
 use Rattle.hy_top.proofs.Naming.{names_kept, names_of_append, too_many}
-use Rattle.hy_top.proofs.Splitting.{Passes, passes_more, token_stands, fault_splits_not}
+use Rattle.hy_top.proofs.Splitting.{passes_more, token_stands, fault_splits_not}
 use Rattle.hy_top.proofs.read.names.collect_names.Goals as goal
 
 pub returns-in-End-clause-split : goal.returns-in-End-clause-split

@@ -1,4 +1,4 @@
-use Rattle.std.proofs.Common.{◌≡◌, ◌<◌, drop, sym, arith, rules}
+use Rattle.std.proofs.Common.{drop, arith}
 use Rattle.hy_top.proofs.Quantifying.{quantifier_stands}
 use Rattle.hy_top.proofs.read.quantifiers.read_head.Goals as goal
 

@@ -1,8 +1,6 @@
-use Rattle.std.proofs.Common.{◌≡◌, ◌≢◌, ◌≤◌, ◌<◌, ◌++◌, ◌∷◌, [], ℕ, List, length, drop, map, sym, subst, ap, refl, ◌∙◌, arith, rules, length-append}
-use Rattle.std.proofs.lemmas.List.{map-append, length-map}
-use Rattle.std.proofs.lemmas.List.Elements.{All-push}
+use Rattle.std.proofs.Common.{◌≡◌, ◌≢◌, ◌++◌, ◌∷◌, [], length, map, ap, ◌∙◌, arith, rules, length-append}
+use Rattle.std.proofs.lemmas.List.{map-append}
 use Rattle.hy_formula.specs.declared.prefix.Quant.TheVariants.{Exists, Forall}
-use Rattle.hy_top.specs.Formulas.{quants_of, variables_of}
 use Rattle.hy_top.specs.Grammar.{Quantifier}
 use Rattle.hy_top.proofs.Quantifying.{counted, one_of_two, quants_more, variables_more, universal_more, heads_left, heads_more, none_broken, none_there, some_there, none_existential, none_past}
 use Rattle.hy_top.proofs.read.quantifiers.read_quantifiers.Goals as goal
