@@ -9,7 +9,7 @@ use Rattle.std.proofs.lemmas.List.{get_or-replicate, length-replicate, length-ap
 use Rattle.std.proofs.lemmas.Grind.{common_steps}
 use Rattle.hy_bits.specs.Letter.{Letter, HasName}
 use Rattle.hy_formula.specs.Trees.{Tree, always, never, atom, not as no, next, finally, globally, and, or, implies, iff, until, release, weak}
-use Rattle.hy_top.specs.Finite.{Trace, IsUntil, IsRelease}
+use Rattle.hy_top.specs.Finite.{Trace, SatisfiesAt, IsUntil, IsRelease}
 use Rattle.hy_top.specs.Rows.{value_at, Tells, IsRowOf}
 use Rattle.hy_top.proofs.CommonLength.{picked-get, common_length-least}
 use Rattle.hy_top.proofs.Truth.{decides-implies, decides-iff, until-like}
@@ -102,9 +102,21 @@ row-globally tuple m f old new r t =
           (λ i lt not_until u. not_until (until-like m i _ _ _ _ (λ k within h. h) (λ k within h p. h ((r.told.right k within).1 p)) u));
     }
 
-pub row-weak : (tuple : List Trace) (m : ℕ) (f g : Tree) (left right either new : List Bool) → IsRowOf f tuple m left → IsRowOf g tuple m right → length either ≡ length left → EachIndex left (λ i. value_at either i ≡ (value_at left i || value_at right i)) → Tells (length either) new (IsRelease (length either) (Says right) (Says either)) → IsRowOf (weak f g) tuple m new
-row-weak tuple m f g left right either new l r long values t =
-    record { told = tells-release m right either new _ _ r.told (tells-or m left right either _ _ l.told r.told long values) (rw (long, l.told.long) at t) }
+pub row-weak : (tuple : List Trace) (m : ℕ) (f g : Tree) (left right new : List Bool) → IsRowOf f tuple m left → IsRowOf g tuple m right → Tells (length right) new (IsRelease (length right) (Says right) (λ k. Says left k ⊎ Says right k)) → IsRowOf (weak f g) tuple m new
+row-weak tuple m f g left right new l r t =
+    record {
+      told = tells-like m new _ _ (rw r.told.long at t)
+          (λ i lt not_until u. not_until (until-like m i _ _ _ _ (λ k within h e. h ((r.told.right k within).0 e)) (λ k within h e. h (facts k within e)) u))
+          (λ i lt not_until u. not_until (until-like m i _ _ _ _ (λ k within h p. h ((r.told.right k within).1 p)) (λ k within h e. h (values k within e)) u));
+    }
+  where
+    facts : (k : ℕ) → k < m → Says left k ⊎ Says right k → SatisfiesAt f tuple m k ⊎ SatisfiesAt g tuple m k
+    facts k within (inl e) = inl ((l.told.right k within).0 e)
+    facts k within (inr e) = inr ((r.told.right k within).0 e)
+
+    values : (k : ℕ) → k < m → SatisfiesAt f tuple m k ⊎ SatisfiesAt g tuple m k → Says left k ⊎ Says right k
+    values k within (inl h) = inl ((l.told.right k within).1 h)
+    values k within (inr h) = inr ((r.told.right k within).1 h)
 
 -- ---- the row of an atom
 

@@ -1,5 +1,5 @@
 -- Loops that rewrite a row place by place.
-use Rattle.std.proofs.Common.{◌≡◌, ℕ, suc, ◌<◌, ◌≤◌, Bool, true, false, not, ◌||◌, IsTrue, List, length, set, EachIndex, refl, sym, ◌∙◌, inl, inr, subst, arith}
+use Rattle.std.proofs.Common.{◌≡◌, ℕ, suc, ◌<◌, ◌≤◌, Bool, false, not, ◌&&◌, ◌||◌, IsTrue, List, length, set, EachIndex, sym, ◌∙◌, inl, inr, subst, arith}
 use Rattle.std.specs.Bool.{Decides}
 use Rattle.std.proofs.lemmas.Bool.{cases_eq}
 use Rattle.std.proofs.lemmas.Bool.Decides.{Decides-at, Decides-like, Decides-not}
@@ -38,12 +38,12 @@ told-write P Q old new later v i t lt d = record { long = length-set new i v ∙
           | inr apart ↦ Decides-at _ _ (get_or-set_other new i k v false apart) (t.told k (omega arith) within)
         ]
 
--- finally, one place more
-pub finally-more : (old new result : List Bool) (later here v : Bool) (j i : ℕ) → UntilTold (λ k. Unit {0}) (λ k. IsTrue (value_at old k)) old new later j → suc i ≡ j → i < length new → here ≡ value_at new i → v ≡ (here || later) → result ≡ set new i v → UntilTold (λ k. Unit {0}) (λ k. IsTrue (value_at old k)) old result v i
-finally-more old new result later here v j i t next lt read told written =
-    rw (written, told, read) (
-    told-write _ _ old new later (value_at new i || later) i (rw (sym next) at t) lt (
-    until-step (length old) i _ _ true (value_at new i) later (omega (arith, t.long)) (λ _. tt, λ _. refl)
+-- one place more, where p says whether P holds there
+pub told-more : (P : ℕ → Type 0) (old new result : List Bool) (p later v : Bool) (j i : ℕ) → UntilTold P (λ k. IsTrue (value_at old k)) old new later j → suc i ≡ j → i < length new → Decides p (P i) → v ≡ (value_at new i || (p && later)) → result ≡ set new i v → UntilTold P (λ k. IsTrue (value_at old k)) old result v i
+told-more P old new result p later v j i t next lt here told written =
+    rw (written, told) (
+    told-write _ _ old new later (value_at new i || (p && later)) i (rw (sym next) at t) lt (
+    until-step (length old) i _ _ p (value_at new i) later (omega (arith, t.long)) here
     (Decides-at _ _ (t.below i (omega arith)) (decides-itself (value_at old i)))
     (rw (sym next) at t.here)
     )

@@ -4,7 +4,7 @@ ghost use Rattle.hy_top.specs.Finite.{Satisfies, common_length, picked};
 ghost use Rattle.hy_top.specs.Rows.{IsRowOf};
 
 use crate::finite::row::{
-    Row, and, constant, finally, globally, iff, negate, next, or, release, until,
+    Row, and, constant, finally, globally, iff, negate, next, or, release, until, weak,
 };
 use crate::finite::trace::TraceList;
 use hy_base::{List, M};
@@ -65,8 +65,8 @@ struct Picked<'a> {
 }
 
 impl Picked<'_> {
-    #[tactic(auto, using(crate::proofs::Meaning::rows))]
     /// Whether the body holds at each place, from its parts upwards.
+    #[tactic(auto, using(crate::proofs::Meaning::rows))]
     fn row_of(&self, alloc: Global, body: &Body) -> M<Row>
         requires { IsTrue (vars_below (length self.now.pick.now) (tree_of body.now)) }
         ensures { IfOk result (λ row. IsRowOf (tree_of body.now) (picked self.now.traces.now self.now.pick.now) self.now.places row) }
@@ -87,17 +87,12 @@ impl Picked<'_> {
             Body::Iff(f, g) => Ok(iff(self.row_of(alloc, f)?, &self.row_of(alloc, g)?)),
             Body::Until(f, g) => Ok(until(&self.row_of(alloc, f)?, self.row_of(alloc, g)?)),
             Body::Release(f, g) => Ok(release(self.row_of(alloc, f)?, self.row_of(alloc, g)?)),
-            Body::Weak(f, g) => {
-                let left = self.row_of(alloc, f)?;
-                let right = self.row_of(alloc, g)?;
-                let either = or(left, &right);
-                Ok(release(right, either))
-            }
+            Body::Weak(f, g) => Ok(weak(self.row_of(alloc, f)?, self.row_of(alloc, g)?)),
         }
     }
 
-    #[tactic(auto, using(crate::proofs::Meaning::atoms))]
     /// Whether the atom holds at each place.
+    #[tactic(auto, using(crate::proofs::Meaning::atoms))]
     fn atom_row(&self, alloc: Global, a: Atom) -> M<Row>
         requires { a.var < length self.now.pick.now }
         ensures { IfOk result (λ row. IsRowOf (atom a.name a.var) (picked self.now.traces.now self.now.pick.now) self.now.places row) }

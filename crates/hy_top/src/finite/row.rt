@@ -1,4 +1,4 @@
-ghost use Rattle.std.specs.Prelude.{◌≡◌, ℕ, suc, ◌+◌, ◌<◌, not, ◌&&◌, ◌||◌, length, replicate, IfOk, IsTrue, EachIndex};
+ghost use Rattle.std.specs.Prelude.{◌≡◌, ℕ, suc, ◌+◌, ◌<◌, not, ◌&&◌, ◌||◌, ◌⊎◌, length, replicate, IfOk, IsTrue, EachIndex};
 ghost use Rattle.std.specs.Bool.{beq};
 ghost use Rattle.hy_top.specs.Rows.{value_at, Tells};
 ghost use Rattle.hy_top.specs.Finite.{IsUntil, IsRelease};
@@ -113,6 +113,15 @@ pub fn release(left: Row, right: Row) -> Row
     ensures { Tells (length right) result (IsRelease (length right) (λ k. IsTrue (value_at left k)) (λ k. IsTrue (value_at right k))) }
 {
     negate(until(&negate(left), negate(right)))
+}
+
+/// Weak until: release of either, by `right`.
+pub fn weak(left: Row, right: Row) -> Row
+    requires { length left ≡ length right }
+    ensures { Tells (length right) result (IsRelease (length right) (λ k. IsTrue (value_at right k)) (λ k. IsTrue (value_at left k) ⊎ IsTrue (value_at right k))) }
+{
+    let either = or(left, &right);
+    release(right, either)
 }
 
 /// Finally: until of what always holds.
