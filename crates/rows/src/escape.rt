@@ -35,7 +35,7 @@ pub fn text_of(alloc: Global, text: &str) -> Result<Text> {
     }
     ensure!(
         place == Place::Plain,
-        "the text ends in a backslash that it cuts"
+        "the text ends within an escape"
     );
     Ok(bytes)
 }

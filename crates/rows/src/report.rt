@@ -11,8 +11,9 @@ use std::io;
 /// received. A stream that received nothing has no line.
 pub fn report(rt: &HostRuntime, case: Case) -> Result<()> {
     let alloc = rt.alloc();
+    let name = case.name;
     let Some(tool) = case.tool else {
-        bail!("the case names no tool");
+        bail!("the case {name:?} names no tool");
     };
     let mut shelf = MemShelf::new(case.files, case.fail_shelf);
     let mut out = MemSink::new(alloc, case.room, case.most.get(), case.fail_out)?;
@@ -25,7 +26,6 @@ pub fn report(rt: &HostRuntime, case: Case) -> Result<()> {
         &mut out,
         &mut err,
     );
-    let name = case.name;
     println!(rt; "{name}")?;
     println!(rt; "status {}", done.status)?;
     print_text(rt, "out", out.bytes())?;
