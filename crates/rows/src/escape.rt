@@ -81,8 +81,12 @@ pub fn word_of(alloc: Global, text: &str) -> Result<String> {
     Ok(String::from_str(alloc, word)?)
 }
 
-/// The text that stands for these bytes.
+/// The text that stands for these bytes. A space at its end is written `\x20`, since it would not show.
 pub fn escaped(alloc: Global, bytes: &[u8]) -> Result<String, AllocError> {
+    let (bytes, end) = match bytes {
+        [front @ .., b' '] => (front, "\\x20"),
+        _ => (bytes, ""),
+    };
     let mut text = String::new(alloc);
     for byte in bytes {
         match byte {
@@ -94,5 +98,6 @@ pub fn escaped(alloc: Global, bytes: &[u8]) -> Result<String, AllocError> {
             _ => write!(text, "\\x{byte:02x}")?,
         }
     }
+    text.push_str(end)?;
     Ok(text)
 }
