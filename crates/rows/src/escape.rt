@@ -33,10 +33,7 @@ pub fn text_of(alloc: Global, text: &str) -> Result<Text> {
             }
         };
     }
-    ensure!(
-        place == Place::Plain,
-        "the text ends within an escape"
-    );
+    ensure!(place == Place::Plain, "the text ends within an escape");
     Ok(bytes)
 }
 
