@@ -1,0 +1,89 @@
+//! Cases, and how their lines are read.
+
+use crate::escape::{text_of, word_of};
+use anyhow::{Context, Result, bail, ensure};
+use hy_base::{File, FileList, NumList};
+use hy_top::Tool;
+use std::alloc::Global;
+use std::num::NonZeroU32;
+
+/// How many bytes a sink has room for where its case does not say.
+const ROOM: u32 = 65_536;
+
+/// A command, the files that it finds, and the calls that fail.
+#[derive(Drop)]
+pub struct Case {
+    pub name: String,
+    /// `None` until the line that names the tool.
+    pub tool: Option<Tool>,
+    pub words: Vec<String>,
+    pub files: FileList,
+    pub fail_shelf: NumList,
+    pub fail_out: NumList,
+    pub fail_err: NumList,
+    /// How many bytes each sink has room for.
+    pub room: u32,
+    /// How many bytes one put takes at most.
+    pub most: NonZeroU32,
+}
+
+impl Case {
+    /// The case that this line begins, which says nothing more yet.
+    pub fn begin(alloc: Global, directive: &str, text: &str) -> Result<Case> {
+        ensure!(directive == "case", "no case is open");
+        ensure!(!text.is_empty(), "a case has a name");
+        Ok(Case {
+            name: String::from_str(alloc, text)?,
+            tool: None,
+            words: Vec::new(alloc),
+            files: FileList::new(alloc),
+            fail_shelf: NumList::new(alloc),
+            fail_out: NumList::new(alloc),
+            fail_err: NumList::new(alloc),
+            room: ROOM,
+            most: NonZeroU32::MAX,
+        })
+    }
+
+    /// Takes one more line of the case.
+    pub fn take(&mut self, alloc: Global, directive: &str, text: &str) -> Result<()> {
+        match directive {
+            "tool" => self.set_tool(text)?,
+            "word" => self.words.push(word_of(alloc, text)?)?,
+            "file" => self.files.push(file_of(alloc, text)?)?,
+            "fail-shelf" => add_numbers(&mut self.fail_shelf, text)?,
+            "fail-out" => add_numbers(&mut self.fail_out, text)?,
+            "fail-err" => add_numbers(&mut self.fail_err, text)?,
+            "room" => self.room = text.parse::<u32>().context("no number")?,
+            "most" => self.most = text.parse::<NonZeroU32>().context("no number from 1")?,
+            _ => bail!("no line of a case begins with {directive:?}"),
+        }
+        Ok(())
+    }
+
+    fn set_tool(&mut self, text: &str) -> Result<()> {
+        ensure!(self.tool.is_none(), "a case names one tool");
+        self.tool = match text {
+            "rvhyper" => Some(Tool::RvHyper),
+            _ => bail!("no tool is {text:?}"),
+        };
+        Ok(())
+    }
+}
+
+/// The file of a line: its name up to the first space, and then its bytes.
+fn file_of(alloc: Global, text: &str) -> Result<File> {
+    let (name, bytes) = text.split_once(' ').unwrap_or((text, ""));
+    Ok(File {
+        name: text_of(alloc, name)?,
+        bytes: text_of(alloc, bytes)?,
+    })
+}
+
+/// Adds the numbers of a line, which has one at least.
+fn add_numbers(list: &mut NumList, text: &str) -> Result<()> {
+    for number in text.split(' ') {
+        list.push(number.parse::<u32>().context("no number")?)?;
+    }
+    Ok(())
+}
