@@ -1,7 +1,7 @@
 -- Texts whose tokens were worked out by hand.
-use Rattle.std.proofs.Common.{◌≡◌, ℕ, List, [], ◌∷◌, Some, None, codes, refl}
+use Rattle.std.proofs.Common.{◌≡◌, Some, None, codes, refl}
 use Rattle.hy_top.specs.declared.read.symbol.Symbol.TheVariants as signs
-use Rattle.hy_top.specs.Tokens.{Token, symbol, variable, atom, token_at, Splits, behind_blanks}
+use Rattle.hy_top.specs.Tokens.{symbol, variable, atom, token_at}
 
 plain_atom : token_at (codes "a_p & b") ≡ Some (atom (codes "a") (codes "p"), 3)
 plain_atom = refl

@@ -1,5 +1,5 @@
 -- That the answers of a run are right, from what its steps found.
-use Rattle.std.proofs.Common.{◌≡◌, ℕ, ◌≤◌, ◌<◌, List, [], Some, refl, ap, sym, ◌∙◌, inl, inr, length, arith}
+use Rattle.std.proofs.Common.{◌≡◌, ℕ, ◌<◌, List, [], refl, inl, inr, length, arith}
 use Rattle.hy_base.specs.declared.reading.FileError.{FileError}
 use Rattle.hy_base.specs.declared.reading.FileError.TheVariants as errors
 use Rattle.hy_top.specs.declared.answer.Answer.{Answer}
@@ -9,7 +9,7 @@ use Rattle.hy_formula.specs.Trees.{Tree}
 use Rattle.hy_top.specs.Formulas.{IsFirstFormula}
 use Rattle.hy_top.specs.Outputs.{out_text}
 use Rattle.hy_top.specs.Words.{IsCommand}
-use Rattle.hy_top.specs.Answers.{Files, HasBytes, IsTooLong, IsReached, TakesSpecs, HasFormula, most_bytes, RefusesSpecs, IsVerdict, IsRight, IfOpenFault, IfReadFault, fault_answer, OrMemory, IsFileJudged}
+use Rattle.hy_top.specs.Answers.{Files, HasBytes, IsTooLong, IsReached, TakesSpecs, HasFormula, RefusesSpecs, IsVerdict, IsRight, IfOpenFault, IfReadFault, fault_answer, OrMemory, IsFileJudged}
 
 -- A file whose turn came was not read.
 pub right_fault : (words : List (List ℕ)) (files : Files) (file : ℕ) (name : List ℕ) (error : FileError) → IsReached words files file name → (error ≡ errors.Limit → IsTooLong files name) → IsRight words files (fault_answer error file)

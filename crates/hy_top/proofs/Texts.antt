@@ -1,5 +1,5 @@
 -- Numbers joined by spaces are the first one, and each other one behind a space.
-use Rattle.std.proofs.Common.{◌≡◌, ℕ, List, [], ◌∷◌, ◌++◌, map, decimal, refl, ap, sym, ◌∙◌, append-nil}
+use Rattle.std.proofs.Common.{◌≡◌, ℕ, List, [], ◌∷◌, ◌++◌, map, decimal, ap, sym, append-nil}
 use Rattle.std.specs.List.{join_with_byte}
 use Rattle.hy_top.specs.Outputs.{spaced}
 

@@ -1,9 +1,9 @@
 -- A file has no more traces than bytes, but for one.
-use Rattle.std.proofs.Common.{◌≡◌, ℕ, suc, ◌+◌, ◌≤◌, Bool, true, false, cond, List, [], ◌∷◌, length, ap, refl, arith, inl, inr, ◌⊎◌}
+use Rattle.std.proofs.Common.{ℕ, ◌+◌, ◌≤◌, Bool, true, false, cond, List, [], ◌∷◌, length, arith, inl, inr}
 use Rattle.std.specs.List.{slice_split, onto_first}
 use Rattle.hy_bits.specs.Letter.{Letter}
 use Rattle.hy_top.specs.Bytes.{is_line_feed}
-use Rattle.hy_top.specs.TraceTexts.{SpellsTraces, IsTraceFile, SaysNothing, IsTraceLine}
+use Rattle.hy_top.specs.TraceTexts.{SpellsTraces, IsTraceFile}
 
 length-onto_first : (x : ℕ) (parts : List (List ℕ)) → length (onto_first x parts) ≤ length parts + 1
 length-onto_first x [] = omega arith

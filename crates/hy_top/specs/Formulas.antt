@@ -1,13 +1,12 @@
 -- Which bytes are a formula that is taken, and which formula they are.
 use Rattle.std.specs.Prelude.{◌≡◌, ℕ, suc, ◌≤◌, List, [], ◌∷◌, length, map, Option, Some, None, if◌then◌else◌, All}
-use Rattle.std.specs.Option.{option_map}
 use Rattle.std.specs.Str.{bytes_eq}
 use Rattle.hy_formula.specs.declared.prefix.Quant.{Quant}
 use Rattle.hy_formula.specs.declared.prefix.Quant.TheVariants.{Forall}
 use Rattle.hy_formula.specs.Names.{place_of, with_name}
 use Rattle.hy_formula.specs.Trees.{Tree, atom as atom_tree, height}
 use Rattle.hy_top.specs.Tokens.{Token, symbol, variable, atom, Splits}
-use Rattle.hy_top.specs.Grammar.{Derives, IsFormula, Quantifier, quantifier_word}
+use Rattle.hy_top.specs.Grammar.{IsFormula, Quantifier}
 
 -- The names of the atoms, in the order of their first occurrence, behind those that are there.
 abbrev pub names_of : List (List ℕ) → List Token → List (List ℕ)

@@ -1,7 +1,5 @@
-use Rattle.std.proofs.Common.{◌≡◌, ap, sym, ◌∙◌, Ok, Err, Some, refl, inl}
-use Rattle.hy_base.specs.declared.reading.FileError.TheVariants as errors
-use Rattle.hy_top.specs.Answers.{HasBytes, HasFormula, TakesSpecs}
-use Rattle.hy_top.proofs.RightAnswers.{right_fault, reached_first, reached_second, right_judged, refuses_specs, has_formula, takes_specs, open_fault, read_fault}
+use Rattle.std.proofs.Common.{ap, Err, refl, inl}
+use Rattle.hy_top.proofs.RightAnswers.{right_fault, reached_first, reached_second, right_judged, refuses_specs, has_formula, takes_specs, open_fault}
 use Rattle.hy_top.proofs.runs.monitor.Goals as goal
 
 pub returns-in-Err-clause-right : goal.returns-in-Err-clause-right

@@ -1,5 +1,3 @@
-use Rattle.std.proofs.Common.{◌≡◌, ◌∙◌, length, ◌<◌}
-use Rattle.hy_top.specs.Outputs.{out_text}
 use Rattle.hy_top.proofs.RightAnswers.{verdict_text}
 use Rattle.hy_top.proofs.runs.write_answer.Goals as goal
 
