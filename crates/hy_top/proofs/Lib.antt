@@ -5,6 +5,7 @@ pub mod Examples
 pub mod Lines
 pub mod Meaning
 pub mod Naming
+pub mod OneAnswer
 pub mod OneFormula
 pub mod OneTraceFile
 pub mod Parsing
