@@ -5,6 +5,9 @@ pub mod Examples
 pub mod Lines
 pub mod Meaning
 pub mod Naming
+pub mod OneAnswer
+pub mod OneFormula
+pub mod OneTraceFile
 pub mod Parsing
 pub mod Quantifying
 pub mod Reading

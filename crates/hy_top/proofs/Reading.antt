@@ -71,7 +71,7 @@ pub none_of_heading : (old names : List (List ℕ)) (text : List ℕ) (prefix : 
 none_of_heading old names text prefix tree none f =
     none f.text.tokens f.text.formula.body f.text.quantifiers f.text.split f.text.formula.split (derives_no_word f.text.formula.derived) (is_first old names text prefix tree f)
 
-empty_rest : (more : List Quantifier) (qs quantifiers : List Quantifier) (rest body : List Token) → length more ≡ 0 → quantifiers ≡ qs ++ more → rest ≡ quantifier_tokens more ++ body → (quantifiers ≡ qs) × (rest ≡ body)
+pub empty_rest : (more : List Quantifier) (qs quantifiers : List Quantifier) (rest body : List Token) → length more ≡ 0 → quantifiers ≡ qs ++ more → rest ≡ quantifier_tokens more ++ body → (quantifiers ≡ qs) × (rest ≡ body)
 empty_rest [] qs quantifiers rest body none longer stands = (longer ∙ append-nil qs, stands)
 empty_rest (q ∷ more) qs quantifiers rest body none longer stands = absurd (omega arith)
 

@@ -44,7 +44,7 @@ completions-tried n tree traces newest fresh begin first k short other le past t
 
 -- ---- arrivals
 
-picked-take : (traces : List Trace) (m : ℕ) (pick : List ℕ) → All (λ x. x < m) pick → picked (take m traces) pick ≡ picked traces pick
+pub picked-take : (traces : List Trace) (m : ℕ) (pick : List ℕ) → All (λ x. x < m) pick → picked (take m traces) pick ≡ picked traces pick
 picked-take traces m [] within = refl
 picked-take traces m (x ∷ pick) within =
     let here : get_or (take m traces) x [] ≡ get_or traces x [] = get_or-take m traces x [] (within 0 0 (omega arith)) in

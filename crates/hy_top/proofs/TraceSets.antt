@@ -20,7 +20,7 @@ names_none table start letter e = record {
 }
 
 -- two names at one place are one
-same_name : (here x b name behind : List ℕ) → name_at here ≡ Some (x, b) → name_at here ≡ Some (name, behind) → (x ≡ name) × (b ≡ behind)
+pub same_name : (here x b name behind : List ℕ) → name_at here ≡ Some (x, b) → name_at here ≡ Some (name, behind) → (x ≡ name) × (b ≡ behind)
 same_name here x b name behind one two =
     let found : Option (List ℕ × List ℕ) → List ℕ × List ℕ = λ o. unwrap_or o (x, b) in
     let pair = ap found (sym one ∙ two) in
@@ -94,7 +94,7 @@ names_break table start here letter name behind read named no_close no_comma nam
 no_brace_name : (rest : List ℕ) → name_at (125 ∷ rest) ≡ None
 no_brace_name rest = refl
 
-no_brace : (here rest : List ℕ) → here ≡ 125 ∷ rest → (names : List (List ℕ)) (end : List ℕ) → ¬ SpellsNames here names end
+pub no_brace : (here rest : List ℕ) → here ≡ 125 ∷ rest → (names : List (List ℕ)) (end : List ℕ) → ¬ SpellsNames here names end
 no_brace here rest brace = no_names here (ap name_at brace ∙ no_brace_name rest)
 
 same_names : (here : List ℕ) (names others : List (List ℕ)) (rest end : List ℕ) → SpellsNames here names rest → SpellsNames here others end → rest ≡ end

@@ -188,3 +188,20 @@ abbrev pub IsAnswerFor : Answer → Answer → Type 0
 IsAnswerFor due WriteFault = IsVerdict due
 IsAnswerFor due Memory = Unit {0}
 IsAnswerFor due answer = answer ≡ due
+
+-- An answer that the words and the bytes of the files decide: one that tells of no fault and no want of memory.
+abbrev pub IsDecided : Answer → Type 0
+IsDecided (OpenFault file) = ⊥
+IsDecided (ReadFault file) = ⊥
+IsDecided WriteFault = ⊥
+IsDecided Memory = ⊥
+IsDecided _ = Unit {0}
+
+-- Two answers say the same. Two violations may name different tuples of the same arrival.
+abbrev pub Agree : Answer → Answer → Type 0
+Agree Words Words = Unit {0}
+Agree (NoViolation traces kept live) (NoViolation traces' kept' live') = (traces ≡ traces') × (kept ≡ kept') × (live ≡ live')
+Agree (Violation spec trace tuple) (Violation spec' trace' tuple') = (spec ≡ spec') × (trace ≡ trace')
+Agree (Limit kind limit) (Limit kind' limit') = (kind ≡ kind') × (limit ≡ limit')
+Agree (Unbuilt file) (Unbuilt file') = file ≡ file'
+Agree _ _ = ⊥

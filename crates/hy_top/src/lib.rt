@@ -5,6 +5,7 @@ mod answer;
 mod bytes;
 mod finite;
 mod host;
+mod laws;
 mod output;
 mod read;
 mod refusal;
@@ -13,4 +14,5 @@ mod words;
 
 pub use answer::{Answer, Done, Tool, Tuple};
 pub use host::run_here;
+pub use laws::{one_answer, one_answer_to_words, one_formula, one_trace_file};
 pub use runs::run;
