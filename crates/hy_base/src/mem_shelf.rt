@@ -6,8 +6,10 @@ ghost use Rattle.hy_base.specs.Calls.{NoneFailsAfter};
 ghost use Rattle.hy_base.specs.Files.{has_name, file_of};
 
 use crate::calls::{Calls, one_more};
-use crate::list::{List, NumList, Text};
+use crate::list::{List, NumList, Remake, Text};
+use crate::memory::M;
 use crate::shelf::{Shelf, ShelfFailed};
+use std::alloc::Global;
 use std::marker::Model;
 
 /// A file in memory.
@@ -15,6 +17,15 @@ use std::marker::Model;
 pub struct File {
     pub name: Text,
     pub bytes: Text,
+}
+
+impl Remake for File {
+    fn remake(&self, alloc: Global) -> M<Self> {
+        Ok(File {
+            name: self.name.copy(alloc)?,
+            bytes: self.bytes.copy(alloc)?,
+        })
+    }
 }
 
 /// Files, of which the first of a name counts.

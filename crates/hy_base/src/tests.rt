@@ -29,7 +29,7 @@ fn shelf_of(alloc: Global, fail: &[u32]) -> crate::M<MemShelf> {
             bytes: text_of(alloc, bytes.as_bytes())?,
         })?;
     }
-    Ok(MemShelf::new(files, numbers_of(alloc, fail)?))
+    Ok(MemShelf::new(files.copy(alloc)?, numbers_of(alloc, fail)?))
 }
 
 #[test]

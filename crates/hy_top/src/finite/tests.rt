@@ -36,7 +36,7 @@ fn traces(alloc: Global, texts: &[&[u8]]) -> Result<TraceList, Fail> {
     for text in texts {
         list.push(trace(alloc, text)?)?;
     }
-    Ok(list)
+    Ok(list.copy(alloc)?)
 }
 
 /// Atom 0, of variable `var`.

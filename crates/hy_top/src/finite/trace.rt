@@ -1,7 +1,8 @@
 ghost use Rattle.std.specs.Prelude.{◌≡◌, ◌<◌, ◌≤◌, length, slice_get, Some, None, IfSome, IfNone, ◌⊎◌};
 
-use hy_base::List;
+use hy_base::{List, M, Remake};
 use hy_bits::{LetterMask, Letters};
+use std::alloc::Global;
 use std::marker::Model;
 
 /// Most letters of a trace.
@@ -26,6 +27,15 @@ impl Model for Trace {
     ghost view = { λ t. t.letters };
 
     ghost invariant = { λ t. (1 ≤ length t.letters) × (length t.letters ≤ 1024) };
+}
+
+impl Remake for Trace {
+    fn remake(&self, alloc: Global) -> M<Self> {
+        let letters = &self.letters;
+        Ok(Trace {
+            letters: letters.copy(alloc)?,
+        })
+    }
 }
 
 /// Traces, in the order of their arrival.
