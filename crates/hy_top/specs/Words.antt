@@ -1,5 +1,10 @@
 -- Which lists of words are a command.
-use Rattle.std.specs.Prelude.{◌≡◌, ℕ, Bool, false, not, ◌||◌, nat_eq, List, [], ◌∷◌, IsTrue, length}
+use Rattle.std.specs.Prelude.{◌≡◌, ℕ, Bool, false, not, ◌||◌, nat_eq, List, [], ◌∷◌, IsTrue, length, map, String}
+use Rattle.std.specs.String.{string_bytes}
+
+-- the words as bytes
+abbrev pub texts : {Z : Type 0} → List (String Z) → List (List ℕ)
+texts words = map string_bytes words
 
 -- A word names a file where it is not empty, and begins with a dash only where it is one.
 abbrev pub is_file_word : List ℕ → Bool

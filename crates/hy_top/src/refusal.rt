@@ -1,8 +1,9 @@
 //! Error lines. They are written without taking memory.
 
-ghost use Rattle.std.specs.Prelude.{◌≡◌, ◌++◌, ◌≤◌, ◌⊎◌, List, [], ◌∷◌, ℕ, OnOk, OnErr, map, string_bytes, codes};
+ghost use Rattle.std.specs.Prelude.{◌≡◌, ◌++◌, ◌≤◌, ◌⊎◌, List, [], ◌∷◌, ℕ, OnOk, OnErr, codes};
 ghost use Rattle.hy_base.specs.Counts.{Rose};
 ghost use Rattle.hy_base.specs.Pieces.{GaveFront};
+ghost use Rattle.hy_top.specs.Words.{texts};
 ghost use Rattle.hy_top.specs.Outputs.{error_line, kind_text, Received};
 
 use crate::answer::Answer;
@@ -24,8 +25,11 @@ fn write_with_word<E: Sink>(err: &mut E, front: &[u8], word: &str) -> Result<(),
     ensures tells { E.tells err.old → E.tells err.new }
     ensures faults { E.faults err.old ≤ E.faults err.new }
     ensures counted { OnErr result (Rose (E.faults err.old) (E.faults err.new)) }
-    ensures given { E.tells err.old → OnOk result (E.given err.new ≡ E.given err.old ++ (front.now ++ word.now ++ codes "\n")) }
-    ensures refused { E.tells err.old → OnErr result (GaveFront (E.given err.old) (E.given err.new) (front.now ++ word.now ++ codes "\n")) }
+    ensures given { E.tells err.old
+        → OnOk result (E.given err.new ≡ E.given err.old ++ (front.now ++ word.now ++ codes "\n")) }
+    ensures refused { E.tells err.old
+        → OnErr result (GaveFront (E.given err.old) (E.given err.new)
+        (front.now ++ word.now ++ codes "\n")) }
 {
     write_pieces(err, &[front, word.as_bytes(), b"\n"])
 }
@@ -35,8 +39,12 @@ fn write_limit<E: Sink>(err: &mut E, kind: Kind, limit: u64) -> Result<(), SinkF
     ensures tells { E.tells err.old → E.tells err.new }
     ensures faults { E.faults err.old ≤ E.faults err.new }
     ensures counted { OnErr result (Rose (E.faults err.old) (E.faults err.new)) }
-    ensures given { E.tells err.old → OnOk result (E.given err.new ≡ E.given err.old ++ error_line [] (Answer.Limit kind limit)) }
-    ensures refused { E.tells err.old → OnErr result (GaveFront (E.given err.old) (E.given err.new) (error_line [] (Answer.Limit kind limit))) }
+    ensures given { E.tells err.old
+        → OnOk result (E.given err.new
+        ≡ E.given err.old ++ error_line [] (Answer.Limit kind limit)) }
+    ensures refused { E.tells err.old
+        → OnErr result (GaveFront (E.given err.old) (E.given err.new)
+        (error_line [] (Answer.Limit kind limit))) }
 {
     let mut buffer = Buffer::new();
     let number = buffer.format(limit).as_bytes();
@@ -48,8 +56,12 @@ fn write_line<E: Sink>(answer: &Answer, words: &[String], err: &mut E) -> Result
     ensures tells { E.tells err.old → E.tells err.new }
     ensures faults { E.faults err.old ≤ E.faults err.new }
     ensures counted { OnErr result (Rose (E.faults err.old) (E.faults err.new)) }
-    ensures given { E.tells err.old → OnOk result (E.given err.new ≡ E.given err.old ++ error_line (map string_bytes words.now) answer.now) }
-    ensures refused { E.tells err.old → OnErr result (GaveFront (E.given err.old) (E.given err.new) (error_line (map string_bytes words.now) answer.now)) }
+    ensures given { E.tells err.old
+        → OnOk result (E.given err.new
+        ≡ E.given err.old ++ error_line (texts words.now) answer.now) }
+    ensures refused { E.tells err.old
+        → OnErr result (GaveFront (E.given err.old) (E.given err.new)
+        (error_line (texts words.now) answer.now)) }
 {
     match answer {
         Answer::NoViolation { .. } | Answer::Violation { .. } => write_all(err, b""),
@@ -69,7 +81,9 @@ fn write_line<E: Sink>(answer: &Answer, words: &[String], err: &mut E) -> Result
 pub fn write_error<E: Sink>(answer: &Answer, words: &[String], err: &mut E)
     ensures tells { E.tells err.old → E.tells err.new }
     ensures faults { E.faults err.old ≤ E.faults err.new }
-    ensures received { E.tells err.old → Received (error_line (map string_bytes words.now) answer.now) (E.given err.old) (E.given err.new) (E.faults err.old) (E.faults err.new) }
+    ensures received { E.tells err.old
+        → Received (error_line (texts words.now) answer.now) (E.given err.old) (E.given err.new)
+        (E.faults err.old) (E.faults err.new) }
 {
     let _ = write_line(answer, words, err);
 }

@@ -1,11 +1,12 @@
 //! A run: from words and files to an answer, a text and a status.
 
-ghost use Rattle.std.specs.Prelude.{◌≡◌, ◌≢◌, ◌≤◌, ◌<◌, ◌++◌, ◌^◌, ◌⊎◌, ◌∷◌, List, [], ℕ, None, Some, IfOk, OnOk, IsErrOf, IfErr, map, length, string_bytes, IsTrue, All};
+ghost use Rattle.std.specs.Prelude.{◌≡◌, ◌≢◌, ◌≤◌, ◌<◌, ◌++◌, ◌^◌, ◌⊎◌, ◌∷◌, List, [], ℕ, None, Some, IfOk, OnOk, IsErrOf, IfErr, length, IsTrue, All};
 ghost use Rattle.hy_base.specs.Counts.{Rose};
 ghost use Rattle.hy_formula.specs.declared.prefix.Quant.{Quant};
 ghost use Rattle.hy_formula.specs.Trees.{Tree, tree_of};
 ghost use Rattle.hy_top.specs.Answers.{IsRight, IsRightVerdict, FitsWords, IsJudged, IsFileJudged, OrMemory, HasBytes, IsTooLong, IsReached, TakesSpecs, HasFormula, fault_answer, IfOpenFault, IfReadFault, OnWriteFault, OnVerdict, IsVerdict, IsAnswerFor, IsWritten};
 ghost use Rattle.hy_top.specs.Formulas.{IsFirstFormula};
+ghost use Rattle.hy_top.specs.Words.{texts};
 ghost use Rattle.hy_top.specs.Outputs.{error_line, out_text, status_of, file_word, Received};
 
 use crate::answer::{Answer, Done, Tool};
@@ -19,7 +20,8 @@ use crate::read::formula::read_formula;
 use crate::refusal::write_error;
 use crate::words::{file_word, is_command};
 use hy_base::{
-    FileError, Kind, Memory, NumList, Shelf, Sink, SinkFailed, Text, read_all, write_all,
+    BYTES_LIMIT, FileError, Kind, Memory, NumList, Shelf, Sink, SinkFailed, Text, read_all,
+    write_all,
 };
 use hy_formula::{Formula, NameTable};
 use std::alloc::Global;
@@ -33,7 +35,7 @@ fn fault_answer(error: FileError, file: u8) -> Answer
         FileError::ReadFailed => Answer::ReadFault { file },
         FileError::Limit => Answer::Limit {
             kind: Kind::Bytes,
-            limit: 67_108_864,
+            limit: BYTES_LIMIT as u64,
         },
         FileError::Memory => Answer::Memory,
     }
@@ -48,8 +50,11 @@ struct Specs {
 
 /// The formula of a specification file.
 fn read_specs(alloc: Global, text: &[u8]) -> Result<Specs, ReadError>
-    ensures ok { IfOk result (λ s. IsFirstFormula [] text.now s.formula.prefix (tree_of s.formula.body) s.names) }
-    ensures unbuilt { IsErrOf result ReadError.Unbuilt → (prefix : List Quant) (tree : Tree) (table : List (List ℕ)) → IsFirstFormula [] text.now prefix tree table → ⊥ }
+    ensures ok { IfOk result (λ s. IsFirstFormula [] text.now s.formula.prefix (tree_of s.formula.body)
+        s.names) }
+    ensures unbuilt { IsErrOf result ReadError.Unbuilt
+        → (prefix : List Quant) (tree : Tree) (table : List (List ℕ))
+        → IsFirstFormula [] text.now prefix tree table → ⊥ }
 {
     let mut names = match NameTable::new(alloc) {
         Ok(names) => names,
@@ -64,7 +69,8 @@ fn read_specs(alloc: Global, text: &[u8]) -> Result<Specs, ReadError>
 /// The answer for traces that arrive in order.
 fn judge(alloc: Global, formula: &Formula, traces: &TraceList) -> Answer
     requires few { length traces.now < 2 ^ 32 }
-    ensures { OrMemory result (IsJudged (length formula.now.prefix) (tree_of formula.now.body) traces.now result) }
+    ensures { OrMemory result (IsJudged (length formula.now.prefix) (tree_of formula.now.body)
+        traces.now result) }
 {
     match first_violation(alloc, &formula.body, formula.prefix.len(), traces) {
         Err(Memory) => Answer::Memory,
@@ -79,7 +85,8 @@ fn judge(alloc: Global, formula: &Formula, traces: &TraceList) -> Answer
 
 /// The answer that `count` traces met no violation.
 fn clean_answer(alloc: Global, count: u32) -> Answer
-    ensures { result ≡ Answer.Memory ⊎ ((kept : List ℕ) × (kept ≡ count ∷ []) × (result ≡ Answer.NoViolation count kept 0)) }
+    ensures { result ≡ Answer.Memory ⊎
+        ((kept : List ℕ) × (kept ≡ count ∷ []) × (result ≡ Answer.NoViolation count kept 0)) }
 {
     let mut kept = NumList::new(alloc);
     match kept.push(count) {
@@ -94,8 +101,9 @@ fn clean_answer(alloc: Global, count: u32) -> Answer
 
 /// The answer for the bytes of a trace file.
 fn judge_file(alloc: Global, specs: &Specs, bytes: &[u8]) -> Answer
-    requires few { length bytes.now ≤ 67108864 }
-    ensures { OrMemory result (IsFileJudged (length specs.now.formula.prefix) (tree_of specs.now.formula.body) specs.now.names bytes.now result) }
+    requires few { length bytes.now ≤ BYTES_LIMIT }
+    ensures { OrMemory result (IsFileJudged (length specs.now.formula.prefix)
+        (tree_of specs.now.formula.body) specs.now.names bytes.now result) }
 {
     match read_traces(alloc, bytes, &specs.names) {
         Ok(traces) => judge(alloc, &specs.formula, &traces),
@@ -117,17 +125,24 @@ fn read_file<S: Shelf>(
     ensures open_faults { S.open_faults shelf.old ≤ S.open_faults shelf.new }
     ensures read_faults { S.read_faults shelf.old ≤ S.read_faults shelf.new }
 
-    ensures has { S.tells shelf.old → IfOk result (λ text. HasBytes (S.file shelf.old) (file_word (map string_bytes words.now) file) text) }
+    ensures has { S.tells shelf.old → IfOk result
+        (λ text. HasBytes (S.file shelf.old) (file_word (texts words.now) file) text) }
     ensures few { IfOk result (λ text. length text ≤ 67108864) }
-    ensures opened { S.tells shelf.old → OnOk result (S.open_name shelf.new ≡ Some (file_word (map string_bytes words.now) file)) }
+    ensures opened { S.tells shelf.old
+        → OnOk result (S.open_name shelf.new ≡ Some (file_word (texts words.now) file)) }
     ensures ended { S.tells shelf.old → OnOk result (S.rest shelf.new ≡ []) }
 
-    ensures open_failed { IsErrOf result FileError.OpenFailed → Rose (S.open_faults shelf.old) (S.open_faults shelf.new) }
-    ensures lacks { S.is_sound shelf.old → IsErrOf result FileError.OpenFailed → S.file shelf.old (file_word (map string_bytes words.now) file) ≡ None }
-    ensures read_failed { IsErrOf result FileError.ReadFailed → Rose (S.read_faults shelf.old) (S.read_faults shelf.new) }
-    ensures in_file { S.tells shelf.old → IsErrOf result FileError.ReadFailed → S.open_name shelf.new ≡ Some (file_word (map string_bytes words.now) file) }
+    ensures open_failed { IsErrOf result FileError.OpenFailed
+        → Rose (S.open_faults shelf.old) (S.open_faults shelf.new) }
+    ensures lacks { S.is_sound shelf.old → IsErrOf result FileError.OpenFailed
+        → S.file shelf.old (file_word (texts words.now) file) ≡ None }
+    ensures read_failed { IsErrOf result FileError.ReadFailed
+        → Rose (S.read_faults shelf.old) (S.read_faults shelf.new) }
+    ensures in_file { S.tells shelf.old → IsErrOf result FileError.ReadFailed
+        → S.open_name shelf.new ≡ Some (file_word (texts words.now) file) }
     ensures reads { S.is_sound shelf.old → result ≢ Err FileError.ReadFailed }
-    ensures too_long { S.tells shelf.old → IsErrOf result FileError.Limit → IsTooLong (S.file shelf.old) (file_word (map string_bytes words.now) file) }
+    ensures too_long { S.tells shelf.old → IsErrOf result FileError.Limit
+        → IsTooLong (S.file shelf.old) (file_word (texts words.now) file) }
 {
     read_all(alloc, shelf, file_word(words, file))
 }
@@ -141,15 +156,18 @@ fn monitor<S: Shelf>(alloc: Global, words: &[String], shelf: &mut S) -> Answer
     ensures open_faults { S.open_faults shelf.old ≤ S.open_faults shelf.new }
     ensures read_faults { S.read_faults shelf.old ≤ S.read_faults shelf.new }
 
-    ensures command { FitsWords (map string_bytes words.now) result }
-    ensures right { S.tells shelf.old → IsRight (map string_bytes words.now) (S.file shelf.old) result }
+    ensures command { FitsWords (texts words.now) result }
+    ensures right { S.tells shelf.old → IsRight (texts words.now) (S.file shelf.old) result }
     ensures not_open { IfOpenFault result (λ file. Rose (S.open_faults shelf.old) (S.open_faults shelf.new)) }
-    ensures lacks { S.is_sound shelf.old → IfOpenFault result (λ file. S.file shelf.old (file_word (map string_bytes words.now) file) ≡ None) }
+    ensures lacks { S.is_sound shelf.old
+        → IfOpenFault result (λ file. S.file shelf.old (file_word (texts words.now) file) ≡ None) }
     ensures not_read { IfReadFault result (λ file. Rose (S.read_faults shelf.old) (S.read_faults shelf.new)) }
-    ensures in_file { S.tells shelf.old → IfReadFault result (λ file. S.open_name shelf.new ≡ Some (file_word (map string_bytes words.now) file)) }
+    ensures in_file { S.tells shelf.old → IfReadFault result
+        (λ file. S.open_name shelf.new ≡ Some (file_word (texts words.now) file)) }
     ensures reads { S.is_sound shelf.old → IfReadFault result (λ file. ⊥) }
     ensures writes { OnWriteFault result ⊥ }
-    ensures ended { S.tells shelf.old → OnVerdict result ((S.open_name shelf.new ≡ Some (file_word (map string_bytes words.now) 1)) × (S.rest shelf.new ≡ [])) }
+    ensures ended { S.tells shelf.old → OnVerdict result
+        ((S.open_name shelf.new ≡ Some (file_word (texts words.now) 1)) × (S.rest shelf.new ≡ [])) }
 {
     if !is_command(words) {
         return Answer::Words;
@@ -174,7 +192,9 @@ fn write_answer<O: Sink>(alloc: Global, due: Answer, out: &mut O) -> Answer
     requires { OnWriteFault due ⊥ }
     ensures tells { O.tells out.old → O.tells out.new }
     ensures faults { O.faults out.old ≤ O.faults out.new }
-    ensures written { O.tells out.old → IsWritten result (λ verdict. (verdict ≡ due) × IsVerdict verdict) (O.given out.old) (O.given out.new) }
+    ensures written { O.tells out.old
+        → IsWritten result (λ verdict. (verdict ≡ due) × IsVerdict verdict) (O.given out.old)
+        (O.given out.new) }
     ensures kept { IsAnswerFor due result }
     ensures counted { OnWriteFault result (Rose (O.faults out.old) (O.faults out.new)) }
 {
@@ -202,19 +222,27 @@ pub fn run<S: Shelf, O: Sink, E: Sink>(
 ) -> Done
     ensures status { result.status ≡ status_of result.answer }
 
-    ensures command { FitsWords (map string_bytes words.now) result.answer }
-    ensures right { S.tells shelf.old → IsRight (map string_bytes words.now) (S.file shelf.old) result.answer }
-    ensures ended { S.tells shelf.old → OnVerdict result.answer ((S.open_name shelf.new ≡ Some (file_word (map string_bytes words.now) 1)) × (S.rest shelf.new ≡ [])) }
+    ensures command { FitsWords (texts words.now) result.answer }
+    ensures right { S.tells shelf.old → IsRight (texts words.now) (S.file shelf.old) result.answer }
+    ensures ended { S.tells shelf.old → OnVerdict result.answer
+        ((S.open_name shelf.new ≡ Some (file_word (texts words.now) 1)) × (S.rest shelf.new ≡ [])) }
 
-    ensures not_open { IfOpenFault result.answer (λ file. Rose (S.open_faults shelf.old) (S.open_faults shelf.new)) }
-    ensures lacks { S.is_sound shelf.old → IfOpenFault result.answer (λ file. S.file shelf.old (file_word (map string_bytes words.now) file) ≡ None) }
-    ensures not_read { IfReadFault result.answer (λ file. Rose (S.read_faults shelf.old) (S.read_faults shelf.new)) }
-    ensures in_file { S.tells shelf.old → IfReadFault result.answer (λ file. S.open_name shelf.new ≡ Some (file_word (map string_bytes words.now) file)) }
+    ensures not_open { IfOpenFault result.answer
+        (λ file. Rose (S.open_faults shelf.old) (S.open_faults shelf.new)) }
+    ensures lacks { S.is_sound shelf.old → IfOpenFault result.answer
+        (λ file. S.file shelf.old (file_word (texts words.now) file) ≡ None) }
+    ensures not_read { IfReadFault result.answer
+        (λ file. Rose (S.read_faults shelf.old) (S.read_faults shelf.new)) }
+    ensures in_file { S.tells shelf.old → IfReadFault result.answer
+        (λ file. S.open_name shelf.new ≡ Some (file_word (texts words.now) file)) }
     ensures reads { S.is_sound shelf.old → IfReadFault result.answer (λ file. ⊥) }
     ensures not_written { OnWriteFault result.answer (Rose (O.faults out.old) (O.faults out.new)) }
 
-    ensures out { O.tells out.old → IsWritten result.answer (λ due. S.tells shelf.old → IsRightVerdict (map string_bytes words.now) (S.file shelf.old) due) (O.given out.old) (O.given out.new) }
-    ensures err { E.tells err.old → Received (error_line (map string_bytes words.now) result.answer) (E.given err.old) (E.given err.new) (E.faults err.old) (E.faults err.new) }
+    ensures out { O.tells out.old → IsWritten result.answer
+        (λ due. S.tells shelf.old → IsRightVerdict (texts words.now) (S.file shelf.old) due)
+        (O.given out.old) (O.given out.new) }
+    ensures err { E.tells err.old → Received (error_line (texts words.now) result.answer)
+        (E.given err.old) (E.given err.new) (E.faults err.old) (E.faults err.new) }
 
     ensures shelf_tells { S.tells shelf.old → S.tells shelf.new }
     ensures files { S.file shelf.new ≡ S.file shelf.old }
