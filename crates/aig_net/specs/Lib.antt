@@ -1,1 +1,5 @@
+pub mod Executions
+pub mod Following
 pub mod Nets
+pub mod Rows
+pub mod Simulations

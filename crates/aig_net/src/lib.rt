@@ -1,8 +1,12 @@
 //! Circuits: inputs, latches, ands, constraints and fairness literals, and what they do.
 #![tactic(auto)]
 
+mod gates;
 mod net;
 mod parts;
+mod run;
 
+pub use gates::value_of;
 pub use net::Net;
 pub use parts::{And, AndList, NameList, NetParts, Reset, ResetList};
+pub use run::{Row, RowList, Run, RunList, ValueLasso};

@@ -1,8 +1,10 @@
 //! Nets: parts that fit together.
 
-ghost use Rattle.std.specs.Prelude.{◌≡◌, ◌≤◌, ◌^◌};
-ghost use Rattle.aig_net.specs.Nets.{IsNet, variables};
+ghost use Rattle.std.specs.Prelude.{◌≡◌, ◌≤◌, ◌^◌, length};
+ghost use Rattle.aig_net.specs.Nets.{IsNet, IsRight, variables, row};
+ghost use Rattle.aig_net.specs.Rows.{input_row, latch_row};
 
+use crate::gates::fill;
 use crate::parts::{AndList, NameList, NetParts, ResetList};
 use hy_base::NumList;
 use std::marker::Model;
@@ -105,5 +107,23 @@ impl Net {
         ensures { result.now ≡ self.now.output_names }
     {
         &self.parts.output_names
+    }
+
+    /// Gives each variable its value, in time linear in the net: the constant first, then those of
+    /// the inputs, latches and ands.
+    pub fn step(&self, latches: &[bool], inputs: &[bool], values: &mut [bool])
+        requires latches { length latches.now ≡ length self.now.latches }
+        requires inputs { length inputs.now ≡ self.now.inputs }
+        requires values { length values.old ≡ variables self.now }
+        ensures right { IsRight self.now (row values.new) }
+        ensures inputs { input_row self.now values.new ≡ inputs.now }
+        ensures latches { latch_row self.now values.new ≡ latches.now }
+    {
+        let first_latch = 1 + inputs.len();
+        let first_and = first_latch + latches.len();
+        values[0] = false;
+        values[1..first_latch].copy_from_slice(inputs);
+        values[first_latch..first_and].copy_from_slice(latches);
+        fill(self.parts.ands.as_slice(), first_and, values);
     }
 }
