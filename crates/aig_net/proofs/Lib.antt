@@ -1,2 +1,6 @@
+mod Executing
+mod Follows
 mod GateLemmas
 mod RowLemmas
+mod States
+mod Valuations

@@ -40,11 +40,16 @@ abbrev pub AreFull : Net → List (List Bool) → Type 0
 AreFull net rows = (k : ℕ) → k < length rows → length (row_at rows k) ≡ variables net
 
 -- The literal is true in some row.
-abbrev pub IsSeen : List (List Bool) → ℕ → Type 0
-IsSeen rows literal = (k : ℕ) × (k < length rows) × IsTrue (literal_value (row (row_at rows k)) literal)
+pub record IsSeen (rows : List (List Bool)) (literal : ℕ) : Type 0 where
+  pub place : ℕ
+  pub below : place < length rows
+  pub seen : IsTrue (literal_value (row (row_at rows place)) literal)
+
+abbrev pub AreSeen : List (List Bool) → List ℕ → Type 0
+AreSeen rows literals = (j : ℕ) → j < length literals → IsSeen rows (literal_at literals j)
 
 -- There is a cycle, its end leads to its first latch values, and each fairness literal is true in it.
 pub record IsRound (net : Net) (cycle : List (List Bool)) (last : List Bool) : Type 0 where
   pub some : 0 < length cycle
-  pub back : last ≡ latch_row net (row_at cycle 0)
-  pub fair : (j : ℕ) → j < length net.fairs → IsSeen cycle (literal_at net.fairs j)
+  pub back : latch_row net (row_at cycle 0) ≡ last
+  pub fair : AreSeen cycle net.fairs

@@ -1,5 +1,5 @@
 -- Runs: the rows that are given to a net, and the rows of values that follow from them.
-use Rattle.std.specs.Prelude.{◌≡◌, ℕ, ◌<◌, Bool, List, ◌++◌, map}
+use Rattle.std.specs.Prelude.{◌≡◌, ◌++◌, map}
 use Rattle.aig_net.specs.declared.run.Run.{Run}
 use Rattle.aig_net.specs.declared.run.ValueLasso.{ValueLasso}
 use Rattle.aig_net.specs.Nets.{Net, row}

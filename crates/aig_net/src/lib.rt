@@ -5,8 +5,10 @@ mod gates;
 mod net;
 mod parts;
 mod run;
+mod simulation;
 
 pub use gates::value_of;
 pub use net::Net;
 pub use parts::{And, AndList, NameList, NetParts, Reset, ResetList};
 pub use run::{Row, RowList, Run, RunList, ValueLasso};
+pub use simulation::simulate;

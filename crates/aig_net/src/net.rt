@@ -37,11 +37,19 @@ impl Net {
         Net { parts }
     }
 
-    /// How many inputs there are.
-    pub fn inputs(&self) -> u32
-        ensures inputs { result ≡ self.now.inputs }
+    /// How many variables there are, the constant too.
+    pub fn variables(&self) -> u32
+        ensures count { result ≡ variables self.now }
         ensures net { IsNet self.now }
         ensures room { variables self.now ≤ 2 ^ 31 }
+    {
+        let parts = &self.parts;
+        1 + parts.inputs + parts.latches.len() as u32 + parts.ands.len() as u32
+    }
+
+    /// How many inputs there are.
+    pub fn inputs(&self) -> u32
+        ensures { result ≡ self.now.inputs }
     {
         self.parts.inputs
     }
