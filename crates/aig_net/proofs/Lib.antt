@@ -2,5 +2,6 @@ mod Executing
 mod Follows
 mod GateLemmas
 mod RowLemmas
+mod SignalLemmas
 mod States
 mod Valuations

@@ -5,10 +5,12 @@ mod gates;
 mod net;
 mod parts;
 mod run;
+mod signals;
 mod simulation;
 
 pub use gates::value_of;
 pub use net::Net;
 pub use parts::{And, AndList, NameList, NetParts, Reset, ResetList};
 pub use run::{Row, RowList, Run, RunList, ValueLasso};
+pub use signals::{Signal, Signals};
 pub use simulation::simulate;
