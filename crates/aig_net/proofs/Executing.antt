@@ -206,3 +206,16 @@ no_round net good run m last stem cycle f g none values is =
 
 pub follows_full : (net : Net) (l m : List Bool) (inputs rows : List (List Bool)) → Follows net l inputs rows m → AreFull net rows
 follows_full net l m inputs rows f k lt = ((follows-linked net l m inputs rows f).good k lt).full
+
+-- a run has one lasso of values
+pub one_of_run : (net : Net) → IsNet net → (run : Run) (a b : ValueLasso) → IsExecutionOf net run a → IsExecutionOf net run b → a ≡ b
+one_of_run net good run a b is is' =
+    let c = comes net good run a is in
+    let d = comes net good run b is' in
+    let (stems, middles) = follows-only net good.ordered run.first c.middle d.middle run.stem a.stem b.stem c.stem d.stem in
+    let P : List Bool → Type 0 = λ x. Follows net x run.cycle a.cycle c.last in
+    let (cycles, _) = follows-only net good.ordered d.middle c.last d.last run.cycle a.cycle b.cycle (subst P middles c.cycle) d.cycle in
+    let V : Type 0 = ValueLasso in
+    let from : List (List Bool) → V = λ x. record { stem = x; cycle = a.cycle } in
+    let to : List (List Bool) → V = λ x. record { stem = b.stem; cycle = x } in
+    ap from stems ∙ ap to cycles

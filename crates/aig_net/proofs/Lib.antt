@@ -1,6 +1,9 @@
+mod Closings
 mod Executing
 mod Follows
 mod GateLemmas
+mod Looping
+mod Rounds
 mod RowLemmas
 mod SignalLemmas
 mod States

@@ -2,6 +2,7 @@
 #![tactic(auto)]
 
 mod gates;
+mod laws;
 mod net;
 mod parts;
 mod run;
@@ -9,6 +10,7 @@ mod signals;
 mod simulation;
 
 pub use gates::value_of;
+pub use laws::{lassos_repeat, one_execution, one_valuation};
 pub use net::Net;
 pub use parts::{And, AndList, NameList, NetParts, Reset, ResetList};
 pub use run::{Row, RowList, Run, RunList, ValueLasso};
