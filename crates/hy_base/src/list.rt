@@ -37,6 +37,12 @@ impl Remake for u8 {
     }
 }
 
+impl Remake for bool {
+    fn remake(&self, _alloc: Global) -> M<Self> {
+        Ok(*self)
+    }
+}
+
 impl Remake for u32 {
     fn remake(&self, _alloc: Global) -> M<Self> {
         Ok(*self)
@@ -51,6 +57,13 @@ impl<T> List<T> {
         List {
             items: Vec::new(alloc),
         }
+    }
+
+    /// The values of a vector. Takes no memory.
+    pub fn from_vec(items: Vec<T>) -> Self
+        ensures { result ≡ items.items }
+    {
+        List { items }
     }
 
     /// How many values there are.
