@@ -2,6 +2,7 @@
 
 ghost use Rattle.std.specs.Prelude.{◌≡◌, ◌≢◌, ◌≤◌, ◌<◌, ◌++◌, ℕ, List, [], length, Option, Some, None, IsErrOf, OnOk, OnErr, IfOk};
 ghost use Rattle.hy_base.specs.Counts.{Rose};
+ghost use Rattle.hy_base.specs.Shelf.{KeepsShelf, ReadsWhole, FailsToOpen, FailsToRead, IsTooLong};
 ghost use Rattle.hy_base.specs.declared.reading.FileError.TheVariants.{Memory as OfMemory};
 
 use crate::list::Text;
@@ -58,25 +59,14 @@ impl From<Memory> for FileError {
 /// with the file open. `Limit` comes for a file of more than `BYTES_LIMIT` bytes, once one more
 /// than that were read or could have been.
 pub fn read_all<S: Shelf>(alloc: Global, shelf: &mut S, name: &str) -> Result<Text, FileError>
-    ensures tells { S.tells shelf.old → S.tells shelf.new }
-    ensures files { S.file shelf.new ≡ S.file shelf.old }
-    ensures sound { S.is_sound shelf.old → S.is_sound shelf.new }
-    ensures open_faults { S.open_faults shelf.old ≤ S.open_faults shelf.new }
-    ensures read_faults { S.read_faults shelf.old ≤ S.read_faults shelf.new }
-
-    ensures whole { S.tells shelf.old → IfOk result (λ text. S.file shelf.old name.now ≡ Some text) }
-    ensures within { IfOk result (λ text. length text ≤ BYTES_LIMIT) }
-    ensures opened { S.tells shelf.old → OnOk result (S.open_name shelf.new ≡ Some name.now) }
-    ensures ended { S.tells shelf.old → OnOk result (S.rest shelf.new ≡ []) }
-
-    ensures open_failed { IsErrOf result FileError.OpenFailed → Rose (S.open_faults shelf.old) (S.open_faults shelf.new) }
-    ensures lacks { S.is_sound shelf.old → IsErrOf result FileError.OpenFailed → S.file shelf.old name.now ≡ None }
-
-    ensures read_failed { IsErrOf result FileError.ReadFailed → Rose (S.read_faults shelf.old) (S.read_faults shelf.new) }
-    ensures in_file { S.tells shelf.old → IsErrOf result FileError.ReadFailed → S.open_name shelf.new ≡ Some name.now }
-    ensures reads { S.is_sound shelf.old → result ≢ Err FileError.ReadFailed }
-
-    ensures too_long { S.tells shelf.old → IsErrOf result FileError.Limit → (bytes : List ℕ) × (S.file shelf.old name.now ≡ Some bytes) × (BYTES_LIMIT < length bytes) }
+    ensures keeps { KeepsShelf S.Shelf shelf.old shelf.new }
+    ensures whole { IfOk result (ReadsWhole S.Shelf shelf.old shelf.new name.now) }
+    ensures open_failed { IsErrOf result FileError.OpenFailed
+        → FailsToOpen S.Shelf shelf.old shelf.new name.now }
+    ensures read_failed { IsErrOf result FileError.ReadFailed
+        → FailsToRead S.Shelf shelf.old shelf.new name.now }
+    ensures too_long { S.tells shelf.old → IsErrOf result FileError.Limit
+        → IsTooLong (S.file shelf.old) name.now }
 {
     match shelf.open_file(name) {
         Err(ShelfFailed) => Err(FileError::OpenFailed),
@@ -86,12 +76,9 @@ pub fn read_all<S: Shelf>(alloc: Global, shelf: &mut S, name: &str) -> Result<Te
 
 /// What is left of the open file.
 fn read_rest<S: Shelf>(alloc: Global, shelf: &mut S) -> Result<Text, FileError>
-    ensures tells { S.tells shelf.old → S.tells shelf.new }
-    ensures files { S.file shelf.new ≡ S.file shelf.old }
-    ensures sound { S.is_sound shelf.old → S.is_sound shelf.new }
+    ensures keeps { KeepsShelf S.Shelf shelf.old shelf.new }
     ensures opened { S.tells shelf.old → S.open_name shelf.new ≡ S.open_name shelf.old }
     ensures open_faults { S.open_faults shelf.new ≡ S.open_faults shelf.old }
-    ensures read_faults { S.read_faults shelf.old ≤ S.read_faults shelf.new }
 
     ensures whole { S.tells shelf.old → IfOk result (λ text. S.rest shelf.old ≡ text) }
     ensures within { IfOk result (λ text. length text ≤ BYTES_LIMIT) }

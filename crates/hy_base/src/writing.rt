@@ -2,6 +2,7 @@
 
 ghost use Rattle.std.specs.Prelude.{◌≡◌, ◌≤◌, ◌<◌, ◌++◌, ℕ, List, OnOk, OnErr, length};
 ghost use Rattle.hy_base.specs.Counts.{Rose};
+ghost use Rattle.hy_base.specs.Sink.{KeepsSink, GivesWhole, FailsToGive};
 ghost use Rattle.hy_base.specs.Pieces.{IsProperPrefix, GaveFront, joined};
 
 use crate::sink::{Sink, SinkFailed};
@@ -10,12 +11,10 @@ use crate::sink::{Sink, SinkFailed};
 ///
 /// `SinkFailed` comes where a put failed; the sink has then received less than all of them.
 pub fn write_all<O: Sink>(sink: &mut O, bytes: &[u8]) -> Result<(), SinkFailed>
-    ensures tells { O.tells sink.old → O.tells sink.new }
-    ensures faults { O.faults sink.old ≤ O.faults sink.new }
-    ensures counted { OnErr result (Rose (O.faults sink.old) (O.faults sink.new)) }
+    ensures keeps { KeepsSink O.Sink sink.old sink.new }
+    ensures given { OnOk result (GivesWhole O.Sink sink.old sink.new bytes.now) }
+    ensures refused { OnErr result (FailsToGive O.Sink sink.old sink.new bytes.now) }
     ensures some { OnErr result (0 < length bytes.now) }
-    ensures given { O.tells sink.old → OnOk result (O.given sink.new ≡ O.given sink.old ++ bytes.now) }
-    ensures refused { O.tells sink.old → OnErr result (GaveFront (O.given sink.old) (O.given sink.new) bytes.now) }
 {
     let mut sent = 0;
     while sent < bytes.len() {
@@ -28,11 +27,9 @@ pub fn write_all<O: Sink>(sink: &mut O, bytes: &[u8]) -> Result<(), SinkFailed>
 ///
 /// `SinkFailed` comes where a put failed; the sink has then received less than all of them.
 pub fn write_pieces<O: Sink>(sink: &mut O, pieces: &[&[u8]]) -> Result<(), SinkFailed>
-    ensures tells { O.tells sink.old → O.tells sink.new }
-    ensures faults { O.faults sink.old ≤ O.faults sink.new }
-    ensures counted { OnErr result (Rose (O.faults sink.old) (O.faults sink.new)) }
-    ensures given { O.tells sink.old → OnOk result (O.given sink.new ≡ O.given sink.old ++ joined pieces.now) }
-    ensures refused { O.tells sink.old → OnErr result (GaveFront (O.given sink.old) (O.given sink.new) (joined pieces.now)) }
+    ensures keeps { KeepsSink O.Sink sink.old sink.new }
+    ensures given { OnOk result (GivesWhole O.Sink sink.old sink.new (joined pieces.now)) }
+    ensures refused { OnErr result (FailsToGive O.Sink sink.old sink.new (joined pieces.now)) }
 {
     for piece in pieces {
         write_all(sink, piece)?;

@@ -152,8 +152,3 @@ number-ones n =
 
 -- ---- `==` compares the numbers
 
-pub same_from_numbers : (s t : Letter) → nat_eq (number s) (number t) ≡ true → s ≡ t
-same_from_numbers s t e = sym (ones-number s) ∙ ap ones (eqb-true _ _ e) ∙ ones-number t
-
-pub numbers_differ : (s t : Letter) → nat_eq (number s) (number t) ≡ false → s ≢ t
-numbers_differ s t e same = eqb-false _ _ e (ap number same)

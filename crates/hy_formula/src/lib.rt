@@ -4,6 +4,7 @@
 mod atom;
 mod body;
 mod formula;
+pub mod laws;
 mod name_table;
 mod prefix;
 

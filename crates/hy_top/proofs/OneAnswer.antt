@@ -7,7 +7,8 @@ use Rattle.hy_formula.specs.declared.prefix.Quant.{Quant}
 use Rattle.hy_formula.specs.Trees.{Tree}
 use Rattle.hy_top.specs.declared.answer.Answer.{Answer}
 use Rattle.hy_top.specs.declared.answer.Answer.TheVariants as answers
-use Rattle.hy_top.specs.Answers.{Files, HasBytes, IsTooLong, HasFormula, HasTraces, Monitors, IsJudged, IsRightVerdict, IsLimited, RefusesSpecs, RefusesTraces, IsRight, FitsWords, IsDecided, Agree}
+use Rattle.hy_top.specs.Answers.{HasFormula, HasTraces, Monitors, IsJudged, IsRightVerdict, IsLimited, RefusesSpecs, RefusesTraces, IsRight, FitsWords, IsDecided, Agree}
+use Rattle.hy_base.specs.Shelf.{Files, HasBytes, IsTooLong}
 use Rattle.hy_top.specs.Finite.{Trace, Satisfies, AllSatisfy, ViolatesBy, FirstViolation}
 use Rattle.hy_top.specs.Formulas.{IsFirstFormula}
 use Rattle.hy_top.specs.TraceTexts.{IsTraceFile}

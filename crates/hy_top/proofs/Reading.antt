@@ -1,7 +1,8 @@
 -- What is read from names, quantifiers and a body is the formula of the text, and no other is.
-use Rattle.std.proofs.Common.{◌≡◌, ℕ, suc, ◌<◌, ◌≤◌, List, [], ◌∷◌, ◌++◌, length, map, Option, Some, None, Bool, true, false, ◌&&◌, IsTrue, if◌then◌else◌, refl, ap, sym, subst, ◌∙◌, arith, rules, append-nil}
+use Rattle.std.proofs.Common.{◌≡◌, ℕ, suc, ◌<◌, ◌≤◌, List, [], ◌∷◌, ◌++◌, length, map, Option, Some, None, Bool, true, false, IsTrue, if◌then◌else◌, refl, ap, sym, subst, ◌∙◌, arith, rules, append-nil}
 use Rattle.std.specs.List.{All}
 use Rattle.std.specs.Str.{bytes_eq}
+use Rattle.std.proofs.lemmas.Bool.{and_from}
 use Rattle.std.proofs.lemmas.List.{length-map}
 use Rattle.hy_formula.specs.declared.body.Body.{Body}
 use Rattle.hy_formula.specs.declared.prefix.Quant.{Quant}
@@ -49,13 +50,6 @@ formula_read old names text h tokens body prefix split numbered few heading is_b
     }
 
 -- no text has what was not found
-
-pub none_of_names : (old names : List (List ℕ)) (text : List ℕ) (prefix : List Quant) (tree : Tree) → ((tokens : List Token) → Splits text tokens → 64 < length (names_of old tokens)) → IsFirstFormula old text prefix tree names → ⊥
-none_of_names old names text prefix tree many f =
-    let more = many f.text.tokens f.text.split in
-    let few = f.text.few in
-    let same = ap length f.text.numbered in
-    omega (arith, more, few, same)
 
 is_first : (old names : List (List ℕ)) (text : List ℕ) (prefix : List Quant) (tree : Tree) → (f : IsFirstFormula old text prefix tree names) → IsFirst f.text.quantifiers
 is_first old names text prefix tree f =
@@ -114,21 +108,17 @@ below_unary n signs.Finally make tree h k = let e : trees.finally ≡ make = cc 
 below_unary n signs.Globally make tree h k = let e : trees.globally ≡ make = cc in subst (λ f. IsTrue (vars_below n (f tree))) e k
 below_unary n _ make tree h k = cc
 
-both : (a b : Bool) → IsTrue a → IsTrue b → IsTrue (a && b)
-both true b h k = k
-both false b h k = h
-
 below_made : (n k rank : ℕ) (f join : Tree → Tree → Tree) (a b : Tree) → ◌≡◌ {A = Option (ℕ × (Tree → Tree → Tree))} (Some (k, f)) (Some (rank, join)) → IsTrue (vars_below n (f a b)) → IsTrue (vars_below n (join a b))
 below_made n k rank f join a b e h = subst (λ g. IsTrue (vars_below n (g a b))) (parts_of_some (Some (k, f)) (k, f) (rank, join) refl e).1 h
 
 below_binary : (n : ℕ) (s : Symbol) (rank : ℕ) (join : Tree → Tree → Tree) (a b : Tree) → binary_of s ≡ Some (rank, join) → IsTrue (vars_below n a) → IsTrue (vars_below n b) → IsTrue (vars_below n (join a b))
-below_binary n signs.Until rank join a b h k l = below_made n 1 rank trees.until join a b h (both (vars_below n a) (vars_below n b) k l)
-below_binary n signs.Weak rank join a b h k l = below_made n 1 rank trees.weak join a b h (both (vars_below n a) (vars_below n b) k l)
-below_binary n signs.Release rank join a b h k l = below_made n 1 rank trees.release join a b h (both (vars_below n a) (vars_below n b) k l)
-below_binary n signs.And rank join a b h k l = below_made n 2 rank trees.and join a b h (both (vars_below n a) (vars_below n b) k l)
-below_binary n signs.Or rank join a b h k l = below_made n 3 rank trees.or join a b h (both (vars_below n a) (vars_below n b) k l)
-below_binary n signs.Implies rank join a b h k l = below_made n 4 rank trees.implies join a b h (both (vars_below n a) (vars_below n b) k l)
-below_binary n signs.Iff rank join a b h k l = below_made n 5 rank trees.iff join a b h (both (vars_below n a) (vars_below n b) k l)
+below_binary n signs.Until rank join a b h k l = below_made n 1 rank trees.until join a b h (and_from (vars_below n a) (vars_below n b) k l)
+below_binary n signs.Weak rank join a b h k l = below_made n 1 rank trees.weak join a b h (and_from (vars_below n a) (vars_below n b) k l)
+below_binary n signs.Release rank join a b h k l = below_made n 1 rank trees.release join a b h (and_from (vars_below n a) (vars_below n b) k l)
+below_binary n signs.And rank join a b h k l = below_made n 2 rank trees.and join a b h (and_from (vars_below n a) (vars_below n b) k l)
+below_binary n signs.Or rank join a b h k l = below_made n 3 rank trees.or join a b h (and_from (vars_below n a) (vars_below n b) k l)
+below_binary n signs.Implies rank join a b h k l = below_made n 4 rank trees.implies join a b h (and_from (vars_below n a) (vars_below n b) k l)
+below_binary n signs.Iff rank join a b h k l = below_made n 5 rank trees.iff join a b h (and_from (vars_below n a) (vars_below n b) k l)
 below_binary n _ rank join a b h k l = cc
 
 below_atom : (n number place : ℕ) (tree : Tree) → tree ≡ atom_tree number place → place < n → IsTrue (vars_below n tree)

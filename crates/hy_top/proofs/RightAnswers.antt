@@ -9,7 +9,8 @@ use Rattle.hy_formula.specs.Trees.{Tree}
 use Rattle.hy_top.specs.Formulas.{IsFirstFormula}
 use Rattle.hy_top.specs.Outputs.{out_text}
 use Rattle.hy_top.specs.Words.{IsCommand}
-use Rattle.hy_top.specs.Answers.{Files, HasBytes, IsTooLong, IsReached, TakesSpecs, HasFormula, RefusesSpecs, IsVerdict, IsRight, IfOpenFault, IfReadFault, fault_answer, OrMemory, IsFileJudged}
+use Rattle.hy_top.specs.Answers.{IsReached, TakesSpecs, HasFormula, RefusesSpecs, IsVerdict, IsRight, IfOpenFault, fault_answer, OrMemory, IsFileJudged}
+use Rattle.hy_base.specs.Shelf.{Files, HasBytes, IsTooLong}
 
 -- A file whose turn came was not read.
 pub right_fault : (words : List (List ℕ)) (files : Files) (file : ℕ) (name : List ℕ) (error : FileError) → IsReached words files file name → (error ≡ errors.Limit → IsTooLong files name) → IsRight words files (fault_answer error file)
@@ -50,12 +51,6 @@ open_fault errors.OpenFailed file P cause = cause refl
 open_fault errors.ReadFailed file P cause = tt
 open_fault errors.Limit file P cause = tt
 open_fault errors.Memory file P cause = tt
-
-pub read_fault : (error : FileError) (file : ℕ) (P : ℕ → Type 0) → (error ≡ errors.ReadFailed → P file) → IfReadFault (fault_answer error file) P
-read_fault errors.OpenFailed file P cause = tt
-read_fault errors.ReadFailed file P cause = cause refl
-read_fault errors.Limit file P cause = tt
-read_fault errors.Memory file P cause = tt
 
 -- The first file is no formula.
 pub refuses_specs : (words : List (List ℕ)) (files : Files) (specs traces bytes read : List ℕ) → IsCommand words specs traces → HasBytes files specs bytes → read ≡ bytes → ((prefix : List Quant) (tree : Tree) (names : List (List ℕ)) → IsFirstFormula [] read prefix tree names → ⊥) → RefusesSpecs words files

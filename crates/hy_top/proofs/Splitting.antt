@@ -56,12 +56,6 @@ pub record Passes (text : List ℕ) (front : List Token) (at : ℕ) : Type 0 whe
   pub joins : (rest : List Token) → Splits (drop at text) rest → Splits text (front ++ rest)
   pub parts : (tokens : List Token) → Splits text tokens → (rest : List Token) × (tokens ≡ front ++ rest) × Splits (drop at text) rest
 
-pub passes_nothing : (text : List ℕ) → Passes text [] 0
-passes_nothing text = record {
-  joins = λ rest s. s;
-  parts = λ tokens s. (tokens, refl, s);
-}
-
 pub passes_more : (text : List ℕ) (front : List Token) (at behind : ℕ) (token : Token) → Passes text front at → StandsFirst (drop at text) token (drop behind text) → Passes text (front ++ token ∷ []) behind
 passes_more text front at behind token passed stands = record {
   joins = λ rest s.

@@ -30,14 +30,6 @@ pub record FileRead (table : List (List ℕ)) (lines left : List (List ℕ)) (tr
   -- what goes on here begins at the first line
   pub back : (more : List (List Letter)) → SpellsTraces table left more → SpellsTraces table lines (traces ++ more)
 
-pub file_none : (table : List (List ℕ)) (lines : List (List ℕ)) (traces : List (List Letter)) → traces ≡ [] → FileRead table lines lines traces
-file_none table lines traces e = record {
-  onward = λ all spelled. (all, spelled);
-  back = λ more spelled.
-      let P : List (List Letter) → Type 0 = λ t. SpellsTraces table lines (t ++ more) in
-      subst P (sym e) spelled;
-}
-
 -- A line that says nothing has been read.
 pub file_passed : (table : List (List ℕ)) (lines left : List (List ℕ)) (traces : List (List Letter)) (line : List ℕ) (rest : List (List ℕ)) → FileRead table lines left traces → left ≡ line ∷ rest → SaysNothing line → FileRead table lines rest traces
 file_passed table lines left traces line rest read first nothing = record {

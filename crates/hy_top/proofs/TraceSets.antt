@@ -13,12 +13,6 @@ pub record NamesRead (table : List (List ℕ)) (start here : List ℕ) (letter :
   -- what goes on here begins at the start
   pub back : (more : List (List ℕ)) (rest : List ℕ) → SpellsNames here more rest → (names : List (List ℕ)) × SpellsNames start names rest × (fold (with_member table) letter more ≡ letter_of table names)
 
-pub names_none : (table : List (List ℕ)) (start : List ℕ) (letter : Letter) → letter ≡ letter_of table [] → NamesRead table start start letter
-names_none table start letter e = record {
-  onward = λ names rest spelled. (names, spelled);
-  back = λ more rest spelled. (more, spelled, ap (λ l. fold (with_member table) l more) e);
-}
-
 -- two names at one place are one
 pub same_name : (here x b name behind : List ℕ) → name_at here ≡ Some (x, b) → name_at here ≡ Some (name, behind) → (x ≡ name) × (b ≡ behind)
 same_name here x b name behind one two =

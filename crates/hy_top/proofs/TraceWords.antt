@@ -14,12 +14,6 @@ pub record WordRead (table : List (List ℕ)) (start here : List ℕ) (letters :
   -- what goes on here begins at the start
   pub back : (more : List (List (List ℕ))) → SpellsWord here more → (sets : List (List (List ℕ))) × SpellsWord start sets × (letters ++ map (letter_of table) more ≡ map (letter_of table) sets)
 
-pub word_none : (table : List (List ℕ)) (start : List ℕ) (letters : List Letter) → letters ≡ [] → WordRead table start start letters
-word_none table start letters e = record {
-  onward = λ sets spelled. (sets, spelled, omega (arith, ap length e));
-  back = λ more spelled. (more, spelled, ap (λ l. l ++ map (letter_of table) more) e);
-}
-
 -- a set, a semicolon, and more sets
 next_set : (here : List ℕ) (names : List (List ℕ)) (behind next : List ℕ) → SpellsSet here names behind → past_blanks behind ≡ 59 ∷ next → (more : List (List (List ℕ))) → SpellsWord here more → (others : List (List (List ℕ))) × SpellsWord (past_blanks next) others × (length more ≡ 1 + length others)
 next_set here names behind next found semicolon [] spelled = absurd spelled

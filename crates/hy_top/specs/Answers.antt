@@ -1,6 +1,8 @@
 -- When each answer of `rvhyper` is right, for the words and the bytes of the files.
-use Rattle.std.specs.Prelude.{◌≡◌, ℕ, ◌<◌, ◌≤◌, ◌⊎◌, List, [], ◌∷◌, ◌++◌, length, Option, Some}
+use Rattle.std.specs.Prelude.{◌≡◌, ℕ, ◌⊎◌, List, [], ◌∷◌, ◌++◌, length}
 use Rattle.hy_base.specs.Pieces.{GaveFront}
+use Rattle.hy_base.specs.Shelf.{Files, HasBytes, IsTooLong}
+use Rattle.hy_base.specs.declared.reading.TheConstants.{BYTES_LIMIT}
 use Rattle.hy_base.specs.declared.limit.Kind.{Kind}
 use Rattle.hy_base.specs.declared.limit.Kind.TheVariants.{Bytes}
 use Rattle.hy_base.specs.declared.reading.FileError.{FileError}
@@ -14,25 +16,6 @@ use Rattle.hy_top.specs.Formulas.{IsFirstFormula}
 use Rattle.hy_top.specs.Outputs.{out_text}
 use Rattle.hy_top.specs.TraceTexts.{IsTraceFile}
 use Rattle.hy_top.specs.Words.{IsCommand}
-
--- the bytes of each file, by its name
-abbrev pub Files : Type 0
-Files = List ℕ → Option (List ℕ)
-
--- most bytes of a file
-abbrev pub most_bytes : ℕ
-most_bytes = 67108864
-
--- The file has these bytes, within the limit.
-pub record HasBytes (files : Files) (name bytes : List ℕ) : Type 0 where
-  pub told : files name ≡ Some bytes
-  pub few : length bytes ≤ most_bytes
-
--- The file has more bytes than the limit.
-pub record IsTooLong (files : Files) (name : List ℕ) : Type 0 where
-  pub bytes : List ℕ
-  pub told : files name ≡ Some bytes
-  pub many : most_bytes < length bytes
 
 -- The specification file is this formula, and these are its names.
 pub record HasFormula (files : Files) (name : List ℕ) (prefix : List Quant) (tree : Tree) (names : List (List ℕ)) : Type 0 where
@@ -91,7 +74,7 @@ pub record IsLimited (words : List (List ℕ)) (files : Files) (kind : Kind) (li
   pub name : List ℕ
   pub reached : IsReached words files file name
   pub of_bytes : kind ≡ Bytes
-  pub number : limit ≡ most_bytes
+  pub number : limit ≡ BYTES_LIMIT
   pub long : IsTooLong files name
 
 -- The first file is no formula that is taken.
@@ -150,7 +133,7 @@ OrMemory _ P = P
 abbrev pub fault_answer : FileError → ℕ → Answer
 fault_answer errors.OpenFailed file = OpenFault file
 fault_answer errors.ReadFailed file = ReadFault file
-fault_answer errors.Limit file = Limit Bytes most_bytes
+fault_answer errors.Limit file = Limit Bytes BYTES_LIMIT
 fault_answer errors.Memory file = Memory
 
 abbrev pub IfOpenFault : Answer → (ℕ → Type 0) → Type 0

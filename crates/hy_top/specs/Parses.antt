@@ -1,5 +1,7 @@
 -- What is parsed from the front of a list of tokens.
-use Rattle.std.specs.Prelude.{◌≡◌, ◌≢◌, ℕ, ◌<◌, ◌≤◌, List, [], ◌∷◌, drop, map, Option, Some, None}
+use Rattle.std.specs.Prelude.{◌≡◌, ◌≢◌, ℕ, ◌<◌, ◌≤◌, List, [], ◌∷◌, ◌++◌, drop, map, Option, Some, None, Result, Err, IfOk}
+use Rattle.hy_top.specs.declared.read.error.ReadError.{ReadError}
+use Rattle.hy_top.specs.declared.read.error.ReadError.TheVariants.{Unbuilt}
 use Rattle.hy_formula.specs.Trees.{Tree, tree_of, height}
 use Rattle.hy_top.specs.declared.read.symbol.Symbol.{Symbol}
 use Rattle.hy_top.specs.declared.read.operator.Binary.{Binary}
@@ -69,3 +71,15 @@ abbrev pub HasNoOperator : ℕ → Follow → Type 0
 HasNoOperator rank follows.End = Unit {0}
 HasNoOperator rank (follows.Symbol s behind) = (join : Tree → Tree → Tree) → binary_of s ≢ Some (rank, join)
 HasNoOperator rank follows.Other = Unit {0}
+
+-- What is parsed from place `at` on, where these tokens stand before it, is an expression of this rank.
+abbrev pub ParsesAt : Parser → List Token → ℕ → ℕ → ℕ → Result Parsed ReadError → Type 0
+ParsesAt p front at parens rank result =
+    (tokens : List Token) → Splits (drop at p.text.now) tokens
+    → IfOk result (λ found. IsParsed (means p) p.text.now parens rank (front ++ tokens) found)
+
+-- Where nothing is parsed, no expression of this rank and this height begins with these tokens and goes on at `at`.
+abbrev pub LacksAt : Parser → List Token → ℕ → ℕ → ℕ → ℕ → Result Parsed ReadError → Type 0
+LacksAt p front at parens rank high result =
+    result ≡ Err Unbuilt → (tokens : List Token) → Splits (drop at p.text.now) tokens
+    → HasNone (means p) parens rank high (front ++ tokens)

@@ -3,7 +3,8 @@
 ghost use Rattle.std.specs.Prelude.{◌≡◌, ◌⊎◌, ℕ, List};
 ghost use Rattle.hy_formula.specs.declared.prefix.Quant.{Quant};
 ghost use Rattle.hy_formula.specs.Trees.{Tree};
-ghost use Rattle.hy_top.specs.Answers.{Files, IsRight, FitsWords, IsDecided, Agree};
+ghost use Rattle.hy_top.specs.Answers.{IsRight, FitsWords, IsDecided, Agree};
+ghost use Rattle.hy_base.specs.Shelf.{Files};
 ghost use Rattle.hy_top.specs.Finite.{Trace};
 ghost use Rattle.hy_top.specs.Formulas.{IsFirstFormula};
 ghost use Rattle.hy_top.specs.TraceTexts.{IsTraceFile};

@@ -2,9 +2,11 @@
 
 ghost use Rattle.std.specs.Prelude.{◌≡◌, ◌≢◌, ◌≤◌, ◌<◌, ◌++◌, ◌^◌, ◌⊎◌, ◌∷◌, List, [], ℕ, None, Some, IfOk, OnOk, IsErrOf, IfErr, length, IsTrue, All};
 ghost use Rattle.hy_base.specs.Counts.{Rose};
+ghost use Rattle.hy_base.specs.Shelf.{KeepsShelf, FailsToOpen, FailsToRead};
+ghost use Rattle.hy_base.specs.Sink.{KeepsSink};
 ghost use Rattle.hy_formula.specs.declared.prefix.Quant.{Quant};
 ghost use Rattle.hy_formula.specs.Trees.{Tree, tree_of};
-ghost use Rattle.hy_top.specs.Answers.{IsRight, IsRightVerdict, FitsWords, IsJudged, IsFileJudged, OrMemory, HasBytes, IsTooLong, IsReached, TakesSpecs, HasFormula, fault_answer, IfOpenFault, IfReadFault, OnWriteFault, OnVerdict, IsVerdict, IsAnswerFor, IsWritten};
+ghost use Rattle.hy_top.specs.Answers.{IsRight, IsRightVerdict, FitsWords, IsJudged, IsFileJudged, OrMemory, IsReached, TakesSpecs, HasFormula, fault_answer, IfOpenFault, IfReadFault, OnWriteFault, OnVerdict, IsVerdict, IsAnswerFor, IsWritten};
 ghost use Rattle.hy_top.specs.Formulas.{IsFirstFormula};
 ghost use Rattle.hy_top.specs.Words.{texts};
 ghost use Rattle.hy_top.specs.Outputs.{error_line, out_text, status_of, file_word, Received};
@@ -112,59 +114,17 @@ fn judge_file(alloc: Global, specs: &Specs, bytes: &[u8]) -> Answer
     }
 }
 
-/// The bytes of file `file` of the command.
-fn read_file<S: Shelf>(
-    alloc: Global,
-    words: &[String],
-    file: u8,
-    shelf: &mut S,
-) -> Result<Text, FileError>
-    ensures tells { S.tells shelf.old → S.tells shelf.new }
-    ensures files { S.file shelf.new ≡ S.file shelf.old }
-    ensures sound { S.is_sound shelf.old → S.is_sound shelf.new }
-    ensures open_faults { S.open_faults shelf.old ≤ S.open_faults shelf.new }
-    ensures read_faults { S.read_faults shelf.old ≤ S.read_faults shelf.new }
-
-    ensures has { S.tells shelf.old → IfOk result
-        (λ text. HasBytes (S.file shelf.old) (file_word (texts words.now) file) text) }
-    ensures few { IfOk result (λ text. length text ≤ 67108864) }
-    ensures opened { S.tells shelf.old
-        → OnOk result (S.open_name shelf.new ≡ Some (file_word (texts words.now) file)) }
-    ensures ended { S.tells shelf.old → OnOk result (S.rest shelf.new ≡ []) }
-
-    ensures open_failed { IsErrOf result FileError.OpenFailed
-        → Rose (S.open_faults shelf.old) (S.open_faults shelf.new) }
-    ensures lacks { S.is_sound shelf.old → IsErrOf result FileError.OpenFailed
-        → S.file shelf.old (file_word (texts words.now) file) ≡ None }
-    ensures read_failed { IsErrOf result FileError.ReadFailed
-        → Rose (S.read_faults shelf.old) (S.read_faults shelf.new) }
-    ensures in_file { S.tells shelf.old → IsErrOf result FileError.ReadFailed
-        → S.open_name shelf.new ≡ Some (file_word (texts words.now) file) }
-    ensures reads { S.is_sound shelf.old → result ≢ Err FileError.ReadFailed }
-    ensures too_long { S.tells shelf.old → IsErrOf result FileError.Limit
-        → IsTooLong (S.file shelf.old) (file_word (texts words.now) file) }
-{
-    read_all(alloc, shelf, file_word(words, file))
-}
-
 /// The answer of `rvhyper` for its words and the files of the shelf, each of which is read whole and
 /// judged before the next is opened.
 fn monitor<S: Shelf>(alloc: Global, words: &[String], shelf: &mut S) -> Answer
-    ensures tells { S.tells shelf.old → S.tells shelf.new }
-    ensures files { S.file shelf.new ≡ S.file shelf.old }
-    ensures sound { S.is_sound shelf.old → S.is_sound shelf.new }
-    ensures open_faults { S.open_faults shelf.old ≤ S.open_faults shelf.new }
-    ensures read_faults { S.read_faults shelf.old ≤ S.read_faults shelf.new }
+    ensures keeps { KeepsShelf S.Shelf shelf.old shelf.new }
 
     ensures command { FitsWords (texts words.now) result }
     ensures right { S.tells shelf.old → IsRight (texts words.now) (S.file shelf.old) result }
-    ensures not_open { IfOpenFault result (λ file. Rose (S.open_faults shelf.old) (S.open_faults shelf.new)) }
-    ensures lacks { S.is_sound shelf.old
-        → IfOpenFault result (λ file. S.file shelf.old (file_word (texts words.now) file) ≡ None) }
-    ensures not_read { IfReadFault result (λ file. Rose (S.read_faults shelf.old) (S.read_faults shelf.new)) }
-    ensures in_file { S.tells shelf.old → IfReadFault result
-        (λ file. S.open_name shelf.new ≡ Some (file_word (texts words.now) file)) }
-    ensures reads { S.is_sound shelf.old → IfReadFault result (λ file. ⊥) }
+    ensures not_open { IfOpenFault result
+        (λ file. FailsToOpen S.Shelf shelf.old shelf.new (file_word (texts words.now) file)) }
+    ensures not_read { IfReadFault result
+        (λ file. FailsToRead S.Shelf shelf.old shelf.new (file_word (texts words.now) file)) }
     ensures writes { OnWriteFault result ⊥ }
     ensures ended { S.tells shelf.old → OnVerdict result
         ((S.open_name shelf.new ≡ Some (file_word (texts words.now) 1)) × (S.rest shelf.new ≡ [])) }
@@ -172,7 +132,7 @@ fn monitor<S: Shelf>(alloc: Global, words: &[String], shelf: &mut S) -> Answer
     if !is_command(words) {
         return Answer::Words;
     }
-    let text = match read_file(alloc, words, 0, shelf) {
+    let text = match read_all(alloc, shelf, file_word(words, 0)) {
         Ok(text) => text,
         Err(error) => return fault_answer(error, 0),
     };
@@ -181,7 +141,7 @@ fn monitor<S: Shelf>(alloc: Global, words: &[String], shelf: &mut S) -> Answer
         Err(ReadError::Unbuilt) => return Answer::Unbuilt { file: 0 },
         Err(ReadError::Memory) => return Answer::Memory,
     };
-    match read_file(alloc, words, 1, shelf) {
+    match read_all(alloc, shelf, file_word(words, 1)) {
         Ok(bytes) => judge_file(alloc, &specs, bytes.as_slice()),
         Err(error) => fault_answer(error, 1),
     }
@@ -190,8 +150,7 @@ fn monitor<S: Shelf>(alloc: Global, words: &[String], shelf: &mut S) -> Answer
 /// Writes the text of an answer to `out`, and gives the answer that then stands.
 fn write_answer<O: Sink>(alloc: Global, due: Answer, out: &mut O) -> Answer
     requires { OnWriteFault due ⊥ }
-    ensures tells { O.tells out.old → O.tells out.new }
-    ensures faults { O.faults out.old ≤ O.faults out.new }
+    ensures keeps { KeepsSink O.Sink out.old out.new }
     ensures written { O.tells out.old
         → IsWritten result (λ verdict. (verdict ≡ due) × IsVerdict verdict) (O.given out.old)
         (O.given out.new) }
@@ -228,14 +187,9 @@ pub fn run<S: Shelf, O: Sink, E: Sink>(
         ((S.open_name shelf.new ≡ Some (file_word (texts words.now) 1)) × (S.rest shelf.new ≡ [])) }
 
     ensures not_open { IfOpenFault result.answer
-        (λ file. Rose (S.open_faults shelf.old) (S.open_faults shelf.new)) }
-    ensures lacks { S.is_sound shelf.old → IfOpenFault result.answer
-        (λ file. S.file shelf.old (file_word (texts words.now) file) ≡ None) }
+        (λ file. FailsToOpen S.Shelf shelf.old shelf.new (file_word (texts words.now) file)) }
     ensures not_read { IfReadFault result.answer
-        (λ file. Rose (S.read_faults shelf.old) (S.read_faults shelf.new)) }
-    ensures in_file { S.tells shelf.old → IfReadFault result.answer
-        (λ file. S.open_name shelf.new ≡ Some (file_word (texts words.now) file)) }
-    ensures reads { S.is_sound shelf.old → IfReadFault result.answer (λ file. ⊥) }
+        (λ file. FailsToRead S.Shelf shelf.old shelf.new (file_word (texts words.now) file)) }
     ensures not_written { OnWriteFault result.answer (Rose (O.faults out.old) (O.faults out.new)) }
 
     ensures out { O.tells out.old → IsWritten result.answer
@@ -244,15 +198,9 @@ pub fn run<S: Shelf, O: Sink, E: Sink>(
     ensures err { E.tells err.old → Received (error_line (texts words.now) result.answer)
         (E.given err.old) (E.given err.new) (E.faults err.old) (E.faults err.new) }
 
-    ensures shelf_tells { S.tells shelf.old → S.tells shelf.new }
-    ensures files { S.file shelf.new ≡ S.file shelf.old }
-    ensures sound { S.is_sound shelf.old → S.is_sound shelf.new }
-    ensures open_faults { S.open_faults shelf.old ≤ S.open_faults shelf.new }
-    ensures read_faults { S.read_faults shelf.old ≤ S.read_faults shelf.new }
-    ensures out_tells { O.tells out.old → O.tells out.new }
-    ensures out_faults { O.faults out.old ≤ O.faults out.new }
-    ensures err_tells { E.tells err.old → E.tells err.new }
-    ensures err_faults { E.faults err.old ≤ E.faults err.new }
+    ensures keeps_shelf { KeepsShelf S.Shelf shelf.old shelf.new }
+    ensures keeps_out { KeepsSink O.Sink out.old out.new }
+    ensures keeps_err { KeepsSink E.Sink err.old err.new }
 {
     let due = match tool {
         Tool::RvHyper => monitor(alloc, words, shelf),

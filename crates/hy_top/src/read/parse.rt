@@ -1,12 +1,12 @@
 //! The parser of bodies: recursive descent over the ranks of the grammar. Each token is scanned
 //! once, and what may still be opened and how high the body may be bounds the recursion.
 
-ghost use Rattle.std.specs.Prelude.{◌≡◌, ◌≤◌, ◌<◌, ℕ, suc, List, ◌∷◌, length, drop, Some, map, IfOk};
+ghost use Rattle.std.specs.Prelude.{◌≡◌, ◌≤◌, ◌<◌, ℕ, suc, List, [], ◌∷◌, length, drop, Some, map, IfOk};
 ghost use Rattle.hy_top.specs.Tokens.{Token as PlainToken, symbol as symbol_token, atom as atom_token, Splits};
 ghost use Rattle.hy_top.specs.Grammar.{unary_of};
 ghost use Rattle.hy_top.specs.Operators.{rank_number, makes};
 ghost use Rattle.hy_top.specs.declared.read.symbol.Symbol.{Symbol as PlainSymbol};
-ghost use Rattle.hy_top.specs.Parses.{means, HasNone, IsFollowed, IsParsed, IsSized, IsWithin};
+ghost use Rattle.hy_top.specs.Parses.{means, HasNone, IsFollowed, IsParsed, IsSized, IsWithin, ParsesAt, LacksAt};
 
 use crate::read::error::ReadError;
 use crate::read::operator::{Binary, Rank, Unary};
@@ -31,8 +31,8 @@ impl<'a> Parser<'a> {
     ) -> Result<Parsed, ReadError>
         requires { at ≤ length self.now.text.now }
         ensures sized { IfOk result (λ p. IsSized (length self.now.text.now) high p) }
-        ensures parsed { (tokens : List PlainToken) → Splits (drop at self.now.text.now) tokens → IfOk result (λ p. IsParsed (means self.now) self.now.text.now parens (rank_number rank) tokens p) }
-        ensures unbuilt { result ≡ Err ReadError.Unbuilt → (tokens : List PlainToken) → Splits (drop at self.now.text.now) tokens → HasNone (means self.now) parens (rank_number rank) high tokens }
+        ensures parsed { ParsesAt self.now [] at parens (rank_number rank) result }
+        ensures unbuilt { LacksAt self.now [] at parens (rank_number rank) high result }
     {
         match rank.tighter() {
             None => self.operand(at, parens, high),
@@ -75,8 +75,8 @@ impl<'a> Parser<'a> {
     fn operand(&self, at: usize, parens: u32, high: u32) -> Result<Parsed, ReadError>
         requires { at ≤ length self.now.text.now }
         ensures sized { IfOk result (λ p. IsSized (length self.now.text.now) high p) }
-        ensures parsed { (tokens : List PlainToken) → Splits (drop at self.now.text.now) tokens → IfOk result (λ p. IsParsed (means self.now) self.now.text.now parens 0 tokens p) }
-        ensures unbuilt { result ≡ Err ReadError.Unbuilt → (tokens : List PlainToken) → Splits (drop at self.now.text.now) tokens → HasNone (means self.now) parens 0 high tokens }
+        ensures parsed { ParsesAt self.now [] at parens 0 result }
+        ensures unbuilt { LacksAt self.now [] at parens 0 high result }
     {
         if high == 0 {
             return Err(ReadError::Unbuilt);
@@ -106,8 +106,8 @@ impl<'a> Parser<'a> {
         requires within { behind ≤ length self.now.text.now }
         requires high { 0 < high }
         ensures sized { IfOk result (λ p. IsSized (length self.now.text.now) high p) }
-        ensures parsed { (tokens : List PlainToken) → Splits (drop behind self.now.text.now) tokens → IfOk result (λ p. IsParsed (means self.now) self.now.text.now parens 0 (symbol_token symbol ∷ tokens) p) }
-        ensures unbuilt { result ≡ Err ReadError.Unbuilt → (tokens : List PlainToken) → Splits (drop behind self.now.text.now) tokens → HasNone (means self.now) parens 0 high (symbol_token symbol ∷ tokens) }
+        ensures parsed { ParsesAt self.now (symbol_token symbol ∷ []) behind parens 0 result }
+        ensures unbuilt { LacksAt self.now (symbol_token symbol ∷ []) behind parens 0 high result }
     {
         match symbol {
             Symbol::OpenParen => self.group(behind, parens, high),
@@ -132,8 +132,10 @@ impl<'a> Parser<'a> {
         requires within { at ≤ length self.now.text.now }
         requires high { 0 < high }
         ensures sized { IfOk result (λ p. IsSized (length self.now.text.now) high p) }
-        ensures parsed { (s : PlainSymbol) (tokens : List PlainToken) → unary_of s ≡ Some (makes operator) → Splits (drop at self.now.text.now) tokens → IfOk result (λ p. IsParsed (means self.now) self.now.text.now parens 0 (symbol_token s ∷ tokens) p) }
-        ensures unbuilt { result ≡ Err ReadError.Unbuilt → (s : PlainSymbol) (tokens : List PlainToken) → unary_of s ≡ Some (makes operator) → Splits (drop at self.now.text.now) tokens → HasNone (means self.now) parens 0 high (symbol_token s ∷ tokens) }
+        ensures parsed { (s : PlainSymbol) → unary_of s ≡ Some (makes operator)
+            → ParsesAt self.now (symbol_token s ∷ []) at parens 0 result }
+        ensures unbuilt { (s : PlainSymbol) → unary_of s ≡ Some (makes operator)
+            → LacksAt self.now (symbol_token s ∷ []) at parens 0 high result }
     {
         let operand = self.operand(at, parens, high - 1)?;
         let body = operator.make(self.alloc, operand.body)?;
@@ -149,8 +151,8 @@ impl<'a> Parser<'a> {
     fn group(&self, at: usize, parens: u32, high: u32) -> Result<Parsed, ReadError>
         requires { at ≤ length self.now.text.now }
         ensures sized { IfOk result (λ p. IsSized (length self.now.text.now) high p) }
-        ensures parsed { (tokens : List PlainToken) → Splits (drop at self.now.text.now) tokens → IfOk result (λ p. IsParsed (means self.now) self.now.text.now parens 0 (symbol_token Symbol.OpenParen ∷ tokens) p) }
-        ensures unbuilt { result ≡ Err ReadError.Unbuilt → (tokens : List PlainToken) → Splits (drop at self.now.text.now) tokens → HasNone (means self.now) parens 0 high (symbol_token Symbol.OpenParen ∷ tokens) }
+        ensures parsed { ParsesAt self.now (symbol_token Symbol.OpenParen ∷ []) at parens 0 result }
+        ensures unbuilt { LacksAt self.now (symbol_token Symbol.OpenParen ∷ []) at parens 0 high result }
     {
         if parens == 0 {
             return Err(ReadError::Unbuilt);
@@ -185,8 +187,10 @@ impl<'a> Parser<'a> {
     fn atom(&self, name: &[u8], variable: &[u8], behind: usize) -> Result<Parsed, ReadError>
         requires within { behind ≤ length self.now.text.now }
         ensures sized { IfOk result (λ p. IsSized (length self.now.text.now) 1 p) }
-        ensures parsed { (parens : ℕ) (tokens : List PlainToken) → Splits (drop behind self.now.text.now) tokens → IfOk result (λ p. IsParsed (means self.now) self.now.text.now parens 0 (atom_token name.now variable.now ∷ tokens) p) }
-        ensures unbuilt { result ≡ Err ReadError.Unbuilt → (parens high : ℕ) (tokens : List PlainToken) → HasNone (means self.now) parens 0 high (atom_token name.now variable.now ∷ tokens) }
+        ensures parsed { (parens : ℕ)
+            → ParsesAt self.now (atom_token name.now variable.now ∷ []) behind parens 0 result }
+        ensures unbuilt { (parens high : ℕ)
+            → LacksAt self.now (atom_token name.now variable.now ∷ []) behind parens 0 high result }
     {
         let Some(name) = self.names.find(name) else {
             return Err(ReadError::Unbuilt);

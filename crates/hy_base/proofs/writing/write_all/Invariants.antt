@@ -1,12 +1,12 @@
 use Rattle.std.proofs.Common.{length, take, ◌-◌, ◌≡◌, ◌≤◌, ◌++◌}
+use Rattle.hy_base.specs.Sink.{KeepsSink}
 use Rattle.hy_base.proofs.writing.write_all.Given as goal
 
 -- the front was given
 abbrev pub invariant-loop-sent : goal.invariant-loop-sent
 invariant-loop-sent g l = record {
   within : l.sent ≤ length l.bytes;
-  tells : g.O.Sink.tells l.initial.sink → g.O.Sink.tells l.sink;
-  faults : g.O.Sink.faults l.initial.sink ≤ g.O.Sink.faults l.sink;
+  keeps : KeepsSink g.O.Sink l.initial.sink l.sink;
   given : g.O.Sink.tells l.initial.sink → g.O.Sink.given l.sink ≡ g.O.Sink.given l.initial.sink ++ take l.sent l.bytes;
 }
 

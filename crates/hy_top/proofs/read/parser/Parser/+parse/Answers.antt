@@ -77,7 +77,7 @@ operand-returns-in-Token-Atom-default-clause-unbuilt t c = λ e.
     by_first_token
     (λ x. HasNone (means c.args.self.now) c.args.parens 0 c.args.high x)
     (drop c.args.at c.args.self.now.text.now) (drop c.in-Token-Atom-default.behind c.args.self.now.text.now)
-    (atom c.in-Token-Atom-default.name.now c.in-Token-Atom-default.variable.now) is.2 (λ more split. c.atom.ensures.unbuilt e c.args.parens c.args.high more)
+    (atom c.in-Token-Atom-default.name.now c.in-Token-Atom-default.variable.now) is.2 (λ more split. c.atom.ensures.unbuilt c.args.parens c.args.high e more split)
 
 pub operand-returns-in-Token-Variable-default-clause-unbuilt : goal.operand-returns-in-Token-Variable-default-clause-unbuilt
 operand-returns-in-Token-Variable-default-clause-unbuilt t c = λ e.
@@ -99,11 +99,11 @@ behind_symbol-returns-in-False-clause-parsed t c = λ tokens s.
     (constant (rw c.in-False.is)) (rw c.leaf-in-False.ensures.body) (c.leaf-in-False.ensures.followed tokens s)
 
 pub prefixed-returns-clause-parsed : goal.prefixed-returns-clause-parsed
-prefixed-returns-clause-parsed t c = λ s tokens u split.
+prefixed-returns-clause-parsed t c = λ s u tokens split.
     parsed_prefixed (means c.args.self.now) c.args.self.now.text.now c.args.parens tokens s (makes c.args.operator) c.in_ok-operand.operand _ u c.in_ok-body.ensures refl (c.in_ok-operand.ensures.parsed tokens split)
 
 pub prefixed-returns-in_err-operand-clause-unbuilt : goal.prefixed-returns-in_err-operand-clause-unbuilt
-prefixed-returns-in_err-operand-clause-unbuilt t c = λ e s tokens u split tree rest d low stops.
+prefixed-returns-in_err-operand-clause-unbuilt t c = λ s u e tokens split tree rest d low stops.
     let none : HasNone (means c.args.self.now) c.args.parens 0 (c.args.high - 1) tokens = search rules in
     none_prefixed (means c.args.self.now) u none d low
 

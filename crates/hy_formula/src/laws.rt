@@ -1,0 +1,46 @@
+//! Laws of the meaning of bodies and of their normal forms.
+
+ghost use Rattle.std.specs.Prelude.{◌↔◌, ℕ, Bool};
+ghost use Rattle.hy_formula.specs.Trees.{Tree};
+ghost use Rattle.hy_formula.specs.Temporal.{Span, Words, Within, below, endless, SatisfiesAt, IsDecided, Repeats};
+ghost use Rattle.hy_formula.specs.Normals.{Normal, normal_form, HoldsAt, Signed, until, release, or, and, next, weak_next};
+ghost use Rattle.hy_formula.specs.Renamed.{renamed, with_variables};
+
+/// On finite words each body is decided: it holds at a position, or it does not.
+#[tactic(auto, using(crate::proofs::LawRules::laws))]
+pub fn decided_below()
+    ensures { (m : ℕ) (words : Words) → IsDecided (below m) words }
+{}
+
+/// On endless words that repeat, as those of lassos do, each body is decided.
+pub fn decided_repeating()
+    ensures { (s c : ℕ) (words : Words) → Repeats words s c → IsDecided endless words }
+{}
+
+/// The normal form says what its body says, or that the body does not hold.
+#[tactic(auto, using(crate::proofs::LawRules::laws))]
+pub fn normal_form_right()
+    ensures { (span : Span) (words : Words) → IsDecided span words
+        → (b : Bool) (f : Tree) (i : ℕ)
+        → HoldsAt span words (normal_form b f) i ↔ Signed b (SatisfiesAt span words f i) }
+{}
+
+/// Until and release at a position, by what they say at the next.
+#[tactic(auto, using(crate::proofs::LawRules::laws))]
+pub fn unrolled()
+    ensures until { (span : Span) (words : Words) → IsDecided span words
+        → (f g : Normal) (i : ℕ) → Within span i
+        → HoldsAt span words (until f g) i
+        ↔ HoldsAt span words (or g (and f (next (until f g)))) i }
+    ensures release { (span : Span) (words : Words) → IsDecided span words
+        → (f g : Normal) (i : ℕ) → Within span i
+        → HoldsAt span words (release f g) i
+        ↔ HoldsAt span words (and g (or f (weak_next (release f g)))) i }
+{}
+
+/// A renamed body says of words what the body says of the words with these variables.
+pub fn renaming()
+    ensures { (span : Span) (words : Words) (map : ℕ → ℕ) (f : Tree) (i : ℕ)
+        → SatisfiesAt span words (renamed map f) i
+        ↔ SatisfiesAt span (with_variables map words) f i }
+{}
