@@ -9,6 +9,7 @@ pub mod Heights
 pub mod Proved
 pub mod Once
 pub mod Parens
+pub mod Passing
 pub mod Rebinding
 pub mod Running
 pub mod Spanning
