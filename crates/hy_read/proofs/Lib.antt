@@ -15,5 +15,6 @@ pub mod Running
 pub mod Spanning
 pub mod Stepping
 pub mod Suffixes
+pub mod Surveying
 pub mod TokenKinds
 pub mod Viable

@@ -9,6 +9,7 @@ pub mod Results
 pub mod Scanning
 pub mod Scans
 pub mod Scopes
+pub mod Surveys
 pub mod Symbols
 pub mod Tokens
 pub mod Within

@@ -7,6 +7,7 @@ mod laws;
 mod operator;
 mod scan;
 mod scope;
+mod survey;
 mod symbol;
 mod table;
 mod token;

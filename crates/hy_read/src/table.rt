@@ -1,7 +1,7 @@
 //! The table of places: which tokens may stand next in a formula text, and where the reader is then.
 
-ghost use Rattle.std.specs.Prelude.{◌≡◌, option_map, IfSome};
-ghost use Rattle.hy_read.specs.Places.{next_place};
+ghost use Rattle.std.specs.Prelude.{◌≡◌, ◌≢◌, zero, true, false, option_map, IfSome};
+ghost use Rattle.hy_read.specs.Places.{next_place, operator};
 ghost use Rattle.hy_read.specs.Counting.{opened_by};
 ghost use Rattle.hy_read.specs.Moves.{IsPlaced, is_allowed, kind_of, place_of, stage_behind};
 
@@ -88,5 +88,16 @@ pub fn next_stage(many: bool, stage: Stage, parens: u32, kind: Kind) -> Option<S
         Kind::CloseParen if parens == 0 => None,
         Kind::Semicolon if !many || parens > 0 => None,
         _ => Some(stage_behind(kind)),
+    }
+}
+
+/// Whether the end may stand at this place with so many parentheses open.
+pub fn may_end(stage: Stage, parens: u32) -> bool
+    ensures yes { result ≡ true → place_of stage parens ≡ operator zero }
+    ensures no { result ≡ false → place_of stage parens ≢ operator zero }
+{
+    match stage {
+        Stage::Operator => parens == 0,
+        _ => false,
     }
 }
