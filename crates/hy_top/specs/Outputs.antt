@@ -5,7 +5,7 @@ use Rattle.std.specs.Borrow.{Bor}
 use Rattle.hy_base.specs.Sink.{GivesWhole, FailsToGive}
 use Rattle.hy_base.specs.declared.sink.Sink.{Ghosts}
 use Rattle.hy_base.specs.declared.limit.Kind.{Kind}
-use Rattle.hy_base.specs.declared.limit.Kind.TheVariants.{Bytes}
+use Rattle.hy_base.specs.declared.limit.Kind.TheVariants.{Bytes, Specs, Quantifiers, Parens, Height, Names}
 use Rattle.hy_top.specs.declared.answer.Answer.{Answer}
 use Rattle.hy_top.specs.declared.answer.Answer.TheVariants.{NoViolation, Violation, Words, OpenFault, ReadFault, WriteFault, Limit, Unbuilt, Memory}
 
@@ -33,6 +33,11 @@ out_text Memory = []
 
 abbrev pub kind_text : Kind → List ℕ
 kind_text Bytes = codes "bytes"
+kind_text Specs = codes "specs"
+kind_text Quantifiers = codes "quantifiers"
+kind_text Parens = codes "parens"
+kind_text Height = codes "height"
+kind_text Names = codes "names"
 
 -- the name of a file of the command, as its words have it
 abbrev pub name_of_file : List (List ℕ) → ℕ → List ℕ
