@@ -13,6 +13,8 @@ pub enum Kind {
     Height,
     /// Names of a command's formulas.
     Names,
+    /// Positions of the longest stem and of the common cycle of lassos.
+    Joint,
 }
 
 /// A count of `kind` is past its number `limit`.
