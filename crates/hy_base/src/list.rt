@@ -1,4 +1,4 @@
-ghost use Rattle.std.specs.Prelude.{◌≡◌, ◌+◌, ◌<◌, ◌≤◌, [], ◌∷◌, ◌++◌, length, OnOk, OnErr, IfOk, slice_get, slice_set, take, Some, nat_eq};
+ghost use Rattle.std.specs.Prelude.{◌≡◌, ◌+◌, ◌<◌, ◌≤◌, [], ◌∷◌, ◌++◌, length, OnOk, OnErr, IfOk, slice_get, slice_set, take, Some, None, IfSome, nat_eq};
 
 use crate::memory::M;
 use std::alloc::Global;
@@ -101,6 +101,16 @@ impl<T> List<T> {
     {
         self.items.push(x)?;
         Ok(())
+    }
+
+    /// Takes the last value off, in constant time.
+    pub fn pop(&mut self) -> Option<T>
+    where
+        T: Drop,
+        ensures taken { IfSome result (λ x. self.old ≡ self.new ++ x ∷ []) }
+        ensures none { result ≡ None → self.old ≡ [] }
+    {
+        self.items.pop()
     }
 
     /// Keeps the first `n` values.

@@ -18,6 +18,11 @@ fn kind_text(kind: Kind) -> &'static [u8]
 {
     match kind {
         Kind::Bytes => b"bytes",
+        Kind::Specs => b"specs",
+        Kind::Quantifiers => b"quantifiers",
+        Kind::Parens => b"parens",
+        Kind::Height => b"height",
+        Kind::Names => b"names",
     }
 }
 

@@ -1,0 +1,10 @@
+pub mod Answers
+pub mod Grammar
+pub mod Operators
+pub mod Places
+pub mod Results
+pub mod Scanning
+pub mod Scans
+pub mod Symbols
+pub mod Tokens
+pub mod Within
