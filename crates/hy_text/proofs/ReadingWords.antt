@@ -43,6 +43,7 @@ letter_kept most read letters xs letter = elim (cases_lt read most) [ inl less �
         let test : nat_lt read most ≡ true = grind (arith, nat_tests) in
         let left : most - read ≡ suc (most - (read + 1)) = omega arith in
         rw (test, left) (append_assoc letters (letter ∷ []) (take (most - (read + 1)) xs))
+
     passed : most ≤ read → (letters ++ (if nat_lt read most then letter ∷ [] else [])) ++ take (most - (read + 1)) xs ≡ letters ++ take (most - read) (letter ∷ xs)
     passed enough =
         let test : nat_lt read most ≡ false = grind (arith, nat_tests) in

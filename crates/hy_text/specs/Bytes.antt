@@ -14,8 +14,12 @@ is_line_blank b = nat_eq b 32 || nat_eq b 9 || nat_eq b 13
 abbrev pub is_letter : ℕ → Bool
 is_letter b = (nat_le 65 b && nat_le b 90) || (nat_le 97 b && nat_le b 122)
 
+-- 0 to 9
+abbrev pub is_digit : ℕ → Bool
+is_digit b = nat_le 48 b && nat_le b 57
+
 abbrev pub is_letter_or_digit : ℕ → Bool
-is_letter_or_digit b = is_letter b || (nat_le 48 b && nat_le b 57)
+is_letter_or_digit b = is_letter b || is_digit b
 
 abbrev pub is_underscore : ℕ → Bool
 is_underscore b = nat_eq b 95

@@ -2,7 +2,7 @@
 
 ghost use Rattle.std.specs.Prelude.{◌≡◌, ◌≢◌, ◌≤◌, ◌<◌, List, ℕ, ◌∷◌, length, MatchOption, IfSome};
 ghost use Rattle.std.specs.List.{list_all};
-ghost use Rattle.hy_text.specs.Bytes.{is_blank, is_line_blank, is_letter, is_letter_or_digit, is_word_byte, is_quotable, is_variable, begins_with_letter, is_plain, past_blanks};
+ghost use Rattle.hy_text.specs.Bytes.{is_blank, is_line_blank, is_letter, is_digit, is_letter_or_digit, is_word_byte, is_quotable, is_variable, begins_with_letter, is_plain, past_blanks};
 
 use crate::class::Class;
 
@@ -27,11 +27,18 @@ pub fn is_letter(b: u8) -> bool
     (b'A' <= b && b <= b'Z') || (b'a' <= b && b <= b'z')
 }
 
+/// 0 to 9.
+pub fn is_digit(b: u8) -> bool
+    ensures { result ≡ is_digit b }
+{
+    b'0' <= b && b <= b'9'
+}
+
 /// Letters and digits.
 pub fn is_letter_or_digit(b: u8) -> bool
     ensures { result ≡ is_letter_or_digit b }
 {
-    is_letter(b) || (b'0' <= b && b <= b'9')
+    is_letter(b) || is_digit(b)
 }
 
 /// Letters, digits and the underscore.

@@ -4,13 +4,16 @@ ghost use Rattle.std.specs.Prelude.{◌≡◌, ◌+◌, ◌≤◌, length, drop}
 ghost use Rattle.std.specs.List.{prefix_len, take_while};
 ghost use Rattle.hy_text.specs.Classes.{is_of};
 
-use crate::bytes::{is_blank, is_letter_or_digit, is_line_blank, is_quotable, is_word_byte};
+use crate::bytes::{
+    is_blank, is_digit, is_letter_or_digit, is_line_blank, is_quotable, is_word_byte,
+};
 
 /// A class of bytes.
 #[derive(Clone, Copy)]
 pub enum Class {
     Blank,
     LineBlank,
+    Digit,
     LetterOrDigit,
     WordByte,
     Quotable,
@@ -27,6 +30,7 @@ impl Class {
         match self {
             Class::Blank => is_blank(b),
             Class::LineBlank => is_line_blank(b),
+            Class::Digit => is_digit(b),
             Class::LetterOrDigit => is_letter_or_digit(b),
             Class::WordByte => is_word_byte(b),
             Class::Quotable => is_quotable(b),

@@ -14,4 +14,4 @@ pub use bytes::{begins_with_letter, is_variable, is_word_byte, past_blanks, past
 pub use class::Class;
 pub use names::{push_name, read_name};
 pub use sets::{SetRead, push_set, read_set};
-pub use words::{WordRead, push_word, read_word};
+pub use words::{WordRead, push_word, read_word, skip_word};

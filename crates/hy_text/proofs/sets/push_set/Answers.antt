@@ -11,13 +11,14 @@ pub loop-i-preserved : goal.loop-i-preserved
 loop-i-preserved c =
     let all = c.push.new.self ++ pieces true 44 (map spelled (members_of c.args.names.now c.args.letter.now)) in
     elim c.if-has.branch [
-      then-has+in_ok-push_member w ↦
-        let printed = name_printed c.args.names.now c.args.letter.now all c.loop-i.i c.loop-i.is_first c.loop-i.out w.at.result.now c.loop-i.invariant w.at.ensures (sym c.has.ensures ∙ w.if-has.true) in
-        rw (w.out-is, w.is_first-is, w.in_ok-push_member.ensures) printed
-    | else-has w ↦
-        let less : c.loop-i.i < length c.args.names.now = omega arith in
-        let passed = name_passed c.args.names.now c.args.letter.now all c.loop-i.i c.loop-i.is_first c.loop-i.out c.loop-i.invariant less (sym c.has.ensures ∙ w.if-has.false) in
-        rw (w.out-is, w.is_first-is) passed ]
+      | then-has+in_ok-push_member w ↦
+          let printed = name_printed c.args.names.now c.args.letter.now all c.loop-i.i c.loop-i.is_first c.loop-i.out w.at.result.now c.loop-i.invariant w.at.ensures (sym c.has.ensures ∙ w.if-has.true) in
+          rw (w.out-is, w.is_first-is, w.in_ok-push_member.ensures) printed
+      | else-has w ↦
+          let less : c.loop-i.i < length c.args.names.now = omega arith in
+          let passed = name_passed c.args.names.now c.args.letter.now all c.loop-i.i c.loop-i.is_first c.loop-i.out c.loop-i.invariant less (sym c.has.ensures ∙ w.if-has.false) in
+          rw (w.out-is, w.is_first-is) passed
+    ]
 
 pub returns : goal.returns
 returns c =
