@@ -5,7 +5,7 @@ use Rattle.std.specs.Borrow.{Bor}
 use Rattle.hy_base.specs.Sink.{GivesWhole, FailsToGive}
 use Rattle.hy_base.specs.declared.sink.Sink.{Ghosts}
 use Rattle.hy_base.specs.declared.limit.Kind.{Kind}
-use Rattle.hy_base.specs.declared.limit.Kind.TheVariants.{Bytes, Specs, Quantifiers, Parens, Height, Names}
+use Rattle.hy_base.specs.declared.limit.Kind.TheVariants as kinds
 use Rattle.hy_top.specs.declared.answer.Answer.{Answer}
 use Rattle.hy_top.specs.declared.answer.Answer.TheVariants.{NoViolation, Violation, Words, OpenFault, ReadFault, WriteFault, Limit, Unbuilt, Memory}
 
@@ -32,12 +32,23 @@ out_text (Unbuilt file) = []
 out_text Memory = []
 
 abbrev pub kind_text : Kind → List ℕ
-kind_text Bytes = codes "bytes"
-kind_text Specs = codes "specs"
-kind_text Quantifiers = codes "quantifiers"
-kind_text Parens = codes "parens"
-kind_text Height = codes "height"
-kind_text Names = codes "names"
+kind_text kinds.Bytes = codes "bytes"
+kind_text kinds.Specs = codes "specs"
+kind_text kinds.Quantifiers = codes "quantifiers"
+kind_text kinds.Parens = codes "parens"
+kind_text kinds.Height = codes "height"
+kind_text kinds.Names = codes "names"
+kind_text kinds.Instances = codes "instances"
+kind_text kinds.Closure = codes "closure"
+kind_text kinds.Joint = codes "joint"
+kind_text kinds.Atoms = codes "atoms"
+kind_text kinds.Table = codes "table"
+kind_text kinds.Length = codes "length"
+kind_text kinds.Sessions = codes "sessions"
+kind_text kinds.Saves = codes "saves"
+kind_text kinds.Variables = codes "variables"
+kind_text kinds.CnfVariables = codes "cnf-variables"
+kind_text kinds.CnfLiterals = codes "cnf-literals"
 
 -- the name of a file of the command, as its words have it
 abbrev pub name_of_file : List (List ℕ) → ℕ → List ℕ

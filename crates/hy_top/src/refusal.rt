@@ -21,6 +21,17 @@ fn kind_text(kind: Kind) -> &'static [u8]
         Kind::Parens => b"parens",
         Kind::Height => b"height",
         Kind::Names => b"names",
+        Kind::Instances => b"instances",
+        Kind::Closure => b"closure",
+        Kind::Joint => b"joint",
+        Kind::Atoms => b"atoms",
+        Kind::Table => b"table",
+        Kind::Length => b"length",
+        Kind::Sessions => b"sessions",
+        Kind::Saves => b"saves",
+        Kind::Variables => b"variables",
+        Kind::CnfVariables => b"cnf-variables",
+        Kind::CnfLiterals => b"cnf-literals",
     }
 }
 
