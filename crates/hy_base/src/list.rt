@@ -1,4 +1,4 @@
-ghost use Rattle.std.specs.Prelude.{◌≡◌, ◌+◌, ◌<◌, ◌≤◌, [], ◌∷◌, ◌++◌, length, OnOk, OnErr, IfOk, slice_get, slice_set, take, replicate, Some, nat_eq};
+ghost use Rattle.std.specs.Prelude.{◌≡◌, ◌+◌, ◌<◌, ◌≤◌, [], ◌∷◌, ◌++◌, length, OnOk, OnErr, IfOk, slice_get, slice_set, take, replicate, reverse, Some, nat_eq};
 
 use crate::memory::M;
 use std::alloc::Global;
@@ -101,6 +101,15 @@ impl<T> List<T> {
     {
         self.items.push(x)?;
         Ok(())
+    }
+
+    /// Turns the order round, in time linear in the length.
+    pub fn reverse(&mut self)
+    where
+        T: Drop,
+        ensures { self.new ≡ reverse self.old }
+    {
+        self.items.reverse();
     }
 
     /// Keeps the first `n` values.
