@@ -1,4 +1,4 @@
-ghost use Rattle.std.specs.Prelude.{◌≡◌, ◌+◌, ◌<◌, ◌≤◌, [], ◌∷◌, ◌++◌, length, OnOk, OnErr, IfOk, slice_get, slice_set, take, Some, None, IfSome, nat_eq};
+ghost use Rattle.std.specs.Prelude.{◌≡◌, ◌+◌, ◌<◌, ◌≤◌, [], ◌∷◌, ◌++◌, length, OnOk, OnErr, IfOk, slice_get, slice_set, take, replicate, reverse, Some, None, IfSome, nat_eq};
 
 use crate::memory::M;
 use std::alloc::Global;
@@ -126,6 +126,15 @@ impl<T> List<T> {
         self.items.pop()
     }
 
+    /// Turns the order round, in time linear in the length.
+    pub fn reverse(&mut self)
+    where
+        T: Drop,
+        ensures { self.new ≡ reverse self.old }
+    {
+        self.items.reverse();
+    }
+
     /// Keeps the first `n` values.
     pub fn truncate(&mut self, n: usize)
     where
@@ -150,6 +159,19 @@ impl<T: Remake + Drop> List<T> {
         let mut made = List::new(alloc);
         for x in self.as_slice() {
             made.push(x.remake(alloc)?)?;
+        }
+        Ok(made)
+    }
+}
+
+impl<T: Copy + Drop> List<T> {
+    /// `n` times `x`, in time linear in `n`.
+    pub fn filled(alloc: Global, x: T, n: usize) -> M<Self>
+        ensures { IfOk result (λ made. made ≡ replicate n x) }
+    {
+        let mut made = List::new(alloc);
+        for _copy in 0..n {
+            made.push(x)?;
         }
         Ok(made)
     }

@@ -1,7 +1,7 @@
 //! The check of ranks, and what a yes says.
 
 ghost use Rattle.std.specs.Prelude.{◌≡◌, ◌↔◌, ℕ, ◌<◌, ◌≤◌, length, List, Some, None, IsTrue, IsSome, IsSomeAnd, All};
-ghost use Rattle.rank_check.specs.Graphs.{Shape, Postpones, IsWalk, IsFair};
+ghost use Rattle.rank_check.specs.Graphs.{Shape, IsWalk, IsFair};
 ghost use Rattle.rank_check.specs.Ranking.{rank_of, reason_of, Follows, IsRanked};
 
 use crate::graph::Graph;
@@ -73,18 +73,10 @@ fn follows(g: &Graph, r: &Ranks, node: u32) -> bool
             let next = g.members(g.group_of(node));
             match r.reason(rank) {
                 None => are_below(next, r, rank),
-                Some(until) => postpones(g, node, until) && are_at_most(next, r, rank),
+                Some(until) => g.postpones(node, until) && are_at_most(next, r, rank),
             }
         }
     }
-}
-
-/// Whether a node postpones an until.
-fn postpones(g: &Graph, node: u32, until: u32) -> bool
-    requires { node < length g.now.nodes }
-    ensures { IsTrue result ↔ Postpones g.now node until }
-{
-    g.postponed(node).as_slice().iter().any(|u| *u == until)
 }
 
 /// Whether each of the nodes has a rank below this one.

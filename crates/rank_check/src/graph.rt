@@ -1,6 +1,6 @@
 //! Graphs whose nodes lead to groups of nodes and postpone untils.
 
-ghost use Rattle.std.specs.Prelude.{◌≡◌, ℕ, ◌+◌, ◌-◌, ◌<◌, ◌^◌, [], ◌∷◌, ◌++◌, length, slice_index, slice_index_or, slice_set, OnOk, OnErr, IfOk, replicate};
+ghost use Rattle.std.specs.Prelude.{◌≡◌, ℕ, ◌+◌, ◌-◌, ◌<◌, ◌^◌, [], ◌∷◌, ◌++◌, length, slice_index, slice_index_or, slice_set, OnOk, OnErr, IfOk, IsTrue, ◌↔◌, replicate};
 
 use hy_base::{List, M, NumList, Steps};
 use std::alloc::Global;
@@ -34,7 +34,7 @@ impl Model for Graph {
 }
 
 impl Graph {
-    ghost use Rattle.rank_check.specs.Graphs.{IsWhole, members_of, node_of};
+    ghost use Rattle.rank_check.specs.Graphs.{IsWhole, Postpones, members_of, node_of};
 
     /// A graph with no node, of as many groups, which have no member. In time linear in `groups`.
     pub fn new(alloc: Global, groups: u32) -> M<Graph>
@@ -110,6 +110,17 @@ impl Graph {
         ensures { result.now ≡ (node_of self.now node).postponed }
     {
         &self.nodes[node as usize].postponed
+    }
+
+    /// Whether a node postpones an until, in time linear in the untils that it postpones.
+    pub fn postpones(&self, node: u32, until: u32) -> bool
+        requires { node < length self.now.nodes }
+        ensures { IsTrue result ↔ Postpones self.now node until }
+    {
+        self.postponed(node)
+            .as_slice()
+            .iter()
+            .any(|u| *u == until)
     }
 
     /// How many members a group has.

@@ -1,0 +1,3 @@
+pub mod Paths
+pub mod Passing
+pub mod Verdicts
