@@ -1,0 +1,4 @@
+pub mod Closing
+pub mod Inserting
+pub mod Marking
+pub mod Visiting
