@@ -156,7 +156,7 @@ grown-form (release f g) members closed =
     let x = grown-form f members closed in
     grown-two members (with_form f members) _ f g (release f g) x (grown-form g (with_form f members) x.closed) (λ p q. (p, q))
 
-closed-forms : (forms members : List Normal) → Closed members → Closed (with_forms forms members)
+pub closed-forms : (forms members : List Normal) → Closed members → Closed (with_forms forms members)
 closed-forms [] members closed = closed
 closed-forms (f ∷ fs) members closed = closed-forms fs (with_form f members) (grown-form f members closed).closed
 

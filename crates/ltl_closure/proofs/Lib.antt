@@ -2,3 +2,5 @@ pub mod Closing
 pub mod Inserting
 pub mod Marking
 pub mod Visiting
+pub mod Tasks
+pub mod Roots

@@ -49,11 +49,18 @@ task_nodes tasks = nodes_of (closure (forms_of tasks))
 abbrev pub task_roots : List Task → List ℕ
 task_roots tasks = map (number_in (closure (forms_of tasks))) (forms_of tasks)
 
+-- nodes, and the numbers of some of them
+pub record Rooted : Type 0 where
+  pub nodes : List Node
+  pub roots : List ℕ
+
+-- the closure of the tasks
+abbrev pub closure_of : List Task → Rooted
+closure_of tasks = record { nodes = task_nodes tasks; roots = task_roots tasks }
+
 -- Each variable of a job's body is below the length of each of its maps.
-abbrev pub AreMapped : List Job → Type 0
-AreMapped [] = Unit {0}
-AreMapped (job ∷ jobs) =
-    All (λ m. IsTrue (vars_below (length m) (tree_of job.body))) job.maps × AreMapped jobs
+abbrev pub IsMapped : Job → Type 0
+IsMapped job = All (λ m. IsTrue (vars_below (length m) (tree_of job.body))) job.maps
 
 -- Each variable of each body stands for one below n.
 abbrev pub AreMappedBelow : ℕ → List Task → Type 0

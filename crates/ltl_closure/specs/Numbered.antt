@@ -1,5 +1,5 @@
 -- What a numbering under way stands for: the forms that have been visited.
-use Rattle.std.specs.Prelude.{◌≡◌, ℕ, ◌<◌, Bool, true, false, not, ◌&&◌, ◌||◌, nat_eq, List, map, length, Option, Some, None}
+use Rattle.std.specs.Prelude.{◌≡◌, ℕ, ◌<◌, ◌≤◌, Bool, true, false, not, ◌&&◌, ◌||◌, nat_eq, List, map, length, Option, Some, None, All}
 use Rattle.std.specs.List.{list_any}
 use Rattle.hy_formula.specs.Normals.{Normal, always, never, literal, and, or, next, weak_next, until, release}
 use Rattle.ltl_closure.specs.declared.node.Node.{Node as Kept}
@@ -7,8 +7,9 @@ use Rattle.ltl_closure.specs.declared.numbering.Numbering.{Numbering}
 use Rattle.ltl_closure.specs.declared.numbering.Operands.{Operands}
 use Rattle.ltl_closure.specs.declared.numbering.Sides.{Sides}
 use Rattle.ltl_closure.specs.Nodes as node
-use Rattle.ltl_closure.specs.Nodes.{Node, node_at}
-use Rattle.ltl_closure.specs.Closures.{with_new, with_form, number_in, form_in, node_of, nodes_of}
+use Rattle.ltl_closure.specs.Nodes.{Node, node_at, PartsBelow}
+use Rattle.ltl_closure.specs.Closures.{with_new, with_form, closure, number_in, form_in, node_of, nodes_of}
+use Rattle.ltl_closure.specs.Jobs.{Task, forms_of, task_roots}
 use Rattle.ltl_closure.specs.Plain.{plain_node, same_node}
 
 -- The form stands below a place.
@@ -92,3 +93,15 @@ VisitsSides old left right new k =
     → IsNumber forms old right.0 h → IsNumber forms old right.1 l
     → Stands (with_form (or (and f g) (and h l)) forms) new
     × IsNumber (with_form (or (and f g) (and h l)) forms) new k (or (and f g) (and h l))
+
+-- The tasks are visited, their roots are these numbers, and there is room.
+pub record Visited (tasks : List Task) (numbering : Numbering) (roots : List ℕ) : Type 0 where
+  pub stands : Stands (closure (forms_of tasks)) numbering
+  pub room : numbering.full ≡ false
+  pub roots_are : roots ≡ task_roots tasks
+
+-- Each node stands after its operands, each root is the number of a node, and there are at most 1,024.
+pub record IsClosure (nodes : List Node) (roots : List ℕ) : Type 0 where
+  pub few : length nodes ≤ 1024
+  pub operands : (k : ℕ) → k < length nodes → PartsBelow k (node_at nodes k)
+  pub within : All (λ k. k < length nodes) roots
