@@ -1,4 +1,4 @@
-ghost use Rattle.std.specs.Prelude.{◌≡◌, ◌+◌, ◌<◌, ◌≤◌, [], ◌∷◌, ◌++◌, length, OnOk, OnErr, IfOk, slice_get, slice_set, take, Some, nat_eq};
+ghost use Rattle.std.specs.Prelude.{◌≡◌, ◌+◌, ◌<◌, ◌≤◌, [], ◌∷◌, ◌++◌, length, OnOk, OnErr, IfOk, slice_get, slice_set, take, Some, None, IfSome, nat_eq};
 
 use crate::memory::M;
 use std::alloc::Global;
@@ -37,6 +37,12 @@ impl Remake for u8 {
     }
 }
 
+impl Remake for bool {
+    fn remake(&self, _alloc: Global) -> M<Self> {
+        Ok(*self)
+    }
+}
+
 impl Remake for u32 {
     fn remake(&self, _alloc: Global) -> M<Self> {
         Ok(*self)
@@ -51,6 +57,13 @@ impl<T> List<T> {
         List {
             items: Vec::new(alloc),
         }
+    }
+
+    /// The values of a vector. Takes no memory.
+    pub fn from_vec(items: Vec<T>) -> Self
+        ensures { result ≡ items.items }
+    {
+        List { items }
     }
 
     /// How many values there are.
@@ -101,6 +114,16 @@ impl<T> List<T> {
     {
         self.items.push(x)?;
         Ok(())
+    }
+
+    /// Takes the last value off, in constant time.
+    pub fn pop(&mut self) -> Option<T>
+    where
+        T: Drop,
+        ensures taken { IfSome result (λ x. self.old ≡ self.new ++ x ∷ []) }
+        ensures none { result ≡ None → self.old ≡ [] }
+    {
+        self.items.pop()
     }
 
     /// Keeps the first `n` values.

@@ -2,7 +2,6 @@
 --     contains-insert_same, contains-insert_other      whether a set with one more member has a number
 --     contains-ones, has_one-number, bit_at-number      the members of a number's ones, and the ones of a set's number
 --     ones-number, number-ones, same_members      the two are inverse; sets with the same members are equal
---     same_from_numbers      what `==` of two sets says
 use Rattle.std.proofs.Common.{◌≡◌, ◌≢◌, ℕ, zero, suc, ◌^◌, ◌<◌, ◌≤◌, Bool, true, false, cond, ◌||◌, ◌&&◌, not, List, [], ◌∷◌, max, nat_eq, refl, sym, ap, ◌∙◌, inl, inr, subst}
 use Rattle.std.specs.Int.{bit_at}
 use Rattle.std.specs.List.{list_any}
@@ -155,8 +154,3 @@ bit_is (suc (suc b)) lt = absurd (not-suc-le-zero (le_of_suc-le-suc (le_of_suc-l
 pub number-ones : (n : ℕ) → number (ones n) ≡ n
 number-ones n =
     same_from_bits _ _ (λ q. bit_at-number (ones n) q ∙ ap (λ b. cond b 1 0) (contains-ones n q) ∙ bit_is (bit_at n q) (bit_at-lt n q))
-
--- ---- `==` compares the numbers
-
-pub same_from_numbers : (s t : NumberSet) → nat_eq (number s) (number t) ≡ true → s ≡ t
-same_from_numbers s t e = sym (ones-number s) ∙ ap ones (eqb-true _ _ e) ∙ ones-number t

@@ -1,3 +1,4 @@
+pub mod Choices
 pub mod Deciding
 pub mod KeptNames
 pub mod LawRules
@@ -5,4 +6,5 @@ pub mod Names
 pub mod Normalising
 pub mod Renaming
 pub mod Repeating
+pub mod Shapes
 pub mod Unrolling

@@ -1,3 +1,4 @@
+pub mod Classes
 pub mod KeptNames
 pub mod Lassos
 pub mod Names

@@ -1,8 +1,13 @@
 //! Laws of the meaning of bodies and of their normal forms.
 
-ghost use Rattle.std.specs.Prelude.{◌↔◌, ℕ, Bool};
-ghost use Rattle.hy_formula.specs.Trees.{Tree};
+ghost use Rattle.std.specs.Prelude.{◌≡◌, ◌↔◌, ◌<◌, ◌++◌, ℕ, Bool, List, map};
+ghost use Rattle.hy_formula.specs.Trees.{Tree, not};
 ghost use Rattle.hy_formula.specs.Temporal.{Span, Words, Within, below, endless, SatisfiesAt, IsDecided, Repeats};
+ghost use Rattle.hy_formula.specs.declared.prefix.Quant.{Quant};
+ghost use Rattle.hy_formula.specs.Quantifiers.{Quantified, turned, repeated};
+ghost use Rattle.hy_formula.specs.declared.prefix.Quant.TheVariants as quant;
+ghost use Rattle.hy_formula.specs.declared.classes.Class.TheVariants as class;
+ghost use Rattle.hy_formula.specs.Classes.{class_of};
 ghost use Rattle.hy_formula.specs.Normals.{Normal, normal_form, HoldsAt, Signed, until, release, or, and, next, weak_next};
 ghost use Rattle.hy_formula.specs.Renamed.{renamed, with_variables};
 
@@ -43,4 +48,25 @@ pub fn renaming()
     ensures { (span : Span) (words : Words) (map : ℕ → ℕ) (f : Tree) (i : ℕ)
         → SatisfiesAt span words (renamed map f) i
         ↔ SatisfiesAt span (with_variables map words) f i }
+{}
+
+/// Over a finite list, whose members go by their numbers, the turned quantifiers with the negated
+/// body say that the formula is not satisfied, where bodies are decided.
+pub fn negating()
+    ensures { (count : ℕ) (span : Span) (words : List ℕ → Words)
+        → ((tuple : List ℕ) → IsDecided span (words tuple))
+        → (prefix : List Quant) (body : Tree)
+        → Quantified (λ k. k < count) (λ tuple. SatisfiesAt span (words tuple) (not body) 0) (map turned prefix)
+        ↔ (¬ Quantified (λ k. k < count) (λ tuple. SatisfiesAt span (words tuple) body 0) prefix) }
+{}
+
+/// What a class says of the quantifiers.
+#[tactic(auto, using(crate::proofs::LawRules::laws))]
+pub fn class_shapes()
+    ensures exists { (prefix : List Quant) → class_of prefix ≡ class.Exists
+        → (n : ℕ) × (prefix ≡ repeated quant.Exists n) }
+    ensures forall { (prefix : List Quant) → class_of prefix ≡ class.Forall
+        → (n : ℕ) × (prefix ≡ repeated quant.Forall n) }
+    ensures exists_forall { (prefix : List Quant) → class_of prefix ≡ class.ExistsForall
+        → (n k : ℕ) × (0 < n) × (0 < k) × (prefix ≡ repeated quant.Exists n ++ repeated quant.Forall k) }
 {}

@@ -3,13 +3,15 @@
 
 mod atom;
 mod body;
+mod classes;
 mod formula;
 pub mod laws;
 mod name_table;
 mod prefix;
 
 pub use atom::Atom;
-pub use body::Body;
-pub use formula::Formula;
+pub use body::{Body, conjoin, rename};
+pub use classes::Class;
+pub use formula::{Formula, class, negate};
 pub use name_table::{NameError, NameTable};
 pub use prefix::{Prefix, Quant};

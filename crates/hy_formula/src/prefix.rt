@@ -1,4 +1,5 @@
-ghost use Rattle.std.specs.Prelude.{◌≡◌, ◌≤◌, ◌<◌, length, IfOk, slice_get, Some};
+ghost use Rattle.std.specs.Prelude.{◌≡◌, ◌≤◌, ◌<◌, length, IfOk, slice_get, Some, map};
+ghost use Rattle.hy_formula.specs.Quantifiers.{turned};
 
 use hy_base::{List, M};
 use std::alloc::Global;
@@ -9,6 +10,18 @@ use std::marker::Model;
 pub enum Quant {
     Exists,
     Forall,
+}
+
+impl Quant {
+    /// The other quantifier.
+    pub fn turned(self) -> Quant
+        ensures { result ≡ turned self }
+    {
+        match self {
+            Quant::Exists => Quant::Forall,
+            Quant::Forall => Quant::Exists,
+        }
+    }
 }
 
 /// One to eight quantifiers, the outermost first; contracts see them as a list.
@@ -42,6 +55,18 @@ impl Prefix {
         Ok(Prefix { quants: list })
     }
 
+    /// Each quantifier turned.
+    pub fn turned(&self, alloc: Global) -> M<Prefix>
+        ensures { IfOk result (λ p. p ≡ map turned self.now) }
+    {
+        let quants = &self.quants;
+        let mut list = List::new(alloc);
+        for quant in quants.as_slice() {
+            list.push(quant.turned())?;
+        }
+        Ok(Prefix { quants: list })
+    }
+
     /// How many quantifiers there are: 1 to 8.
     pub fn len(&self) -> usize
         ensures len { result ≡ length self.now }
@@ -50,6 +75,14 @@ impl Prefix {
     {
         let quants = &self.quants;
         quants.len()
+    }
+
+    /// The quantifiers as a slice.
+    pub fn as_slice(&self) -> &[Quant]
+        ensures { result.now ≡ self.now }
+    {
+        let quants = &self.quants;
+        quants.as_slice()
     }
 
     /// The quantifier at place `i`, counted from 0.

@@ -1,58 +1,21 @@
--- The causes of the answers exclude one another.
-use Rattle.std.proofs.Common.{◌≡◌, ℕ, suc, ◌<◌, ◌⊎◌, List, [], ◌∷◌, length, take, All, Some, inl, inr, ap, sym, subst, ◌∙◌, arith}
+-- The first stage that is met gives one answer.
+use Rattle.std.proofs.Common.{◌≡◌, ℕ, zero, suc, ◌<◌, List, [], ◌∷◌, length, take, All, Ok, inl, inr, ap, sym, subst, ◌∙◌, arith, refl}
 use Rattle.std.proofs.lemmas.Bool.{cases_lt}
 use Rattle.std.proofs.lemmas.List.{length-take}
-use Rattle.hy_base.specs.declared.limit.Kind.{Kind}
 use Rattle.hy_formula.specs.declared.prefix.Quant.{Quant}
 use Rattle.hy_formula.specs.Trees.{Tree}
 use Rattle.hy_top.specs.declared.answer.Answer.{Answer}
-use Rattle.hy_top.specs.declared.answer.Answer.TheVariants as answers
-use Rattle.hy_top.specs.Answers.{HasFormula, HasTraces, Monitors, IsJudged, IsRightVerdict, IsLimited, RefusesSpecs, RefusesTraces, IsRight, FitsWords, IsDecided, Agree}
-use Rattle.hy_base.specs.Shelf.{Files, HasBytes, IsTooLong}
+use Rattle.hy_top.specs.declared.answer.Answer.TheVariants.{NoViolation, Violation}
+use Rattle.hy_top.specs.Commands.{Command, monitor}
 use Rattle.hy_top.specs.Finite.{Trace, Satisfies, AllSatisfy, ViolatesBy, FirstViolation}
 use Rattle.hy_top.specs.Formulas.{IsFirstFormula}
+use Rattle.hy_top.specs.Monitoring.{HasFormula, IsJudged, is_clean, is_violated, Judges}
+use Rattle.hy_top.specs.Stages.{Stage, opening, reading, size, text, work, Given, Came, Met, First, here, later, Agree}
 use Rattle.hy_top.specs.TraceTexts.{IsTraceFile}
-use Rattle.hy_top.specs.Words.{IsCommand}
 use Rattle.hy_top.proofs.OneFormula.{formula_once}
 use Rattle.hy_top.proofs.OneTraceFile.{traces_once}
 use Rattle.hy_top.proofs.Searches.{picked-take}
-
--- ---- what the words and the files are
-
-same_words : (words : List (List ℕ)) (a b c d : List ℕ) → words ≡ a ∷ b ∷ [] → words ≡ c ∷ d ∷ [] → (a ≡ c) × (b ≡ d)
-same_words words a b c d e f = (cc, cc)
-
-commands_agree : {words : List (List ℕ)} {specs traces first second : List ℕ} → IsCommand words specs traces → IsCommand words first second → (specs ≡ first) × (traces ≡ second)
-commands_agree {words = words} {specs = specs} {traces = traces} {first = first} {second = second} one two =
-    same_words words specs traces first second one.two two.two
-
-same_bytes : (files : Files) (name other bytes read : List ℕ) → name ≡ other → files name ≡ Some bytes → files other ≡ Some read → bytes ≡ read
-same_bytes files name other bytes read e one two =
-    let both : Some bytes ≡ Some read = sym one ∙ ap files e ∙ two in
-    cc
-
-not_long : {files : Files} {name other bytes : List ℕ} → name ≡ other → HasBytes files name bytes → IsTooLong files other → ⊥
-not_long {files = files} {name = name} {other = other} {bytes = bytes} e has long =
-    let same = ap length (same_bytes files name other bytes long.bytes e has.told long.told) in
-    omega (arith, has.few, long.many, same)
-
-formulas_agree : {files : Files} {name other : List ℕ} {p q : List Quant} {s t : Tree} {m n : List (List ℕ)} → name ≡ other → HasFormula files name p s m → HasFormula files other q t n → (p ≡ q) × (s ≡ t) × (m ≡ n)
-formulas_agree {files = files} {name = name} {other = other} {p = p} {q = q} {s = s} {t = t} {m = m} {n = n} e one two =
-    let same = same_bytes files name other one.bytes two.bytes e one.has.told two.has.told in
-    formula_once [] two.bytes p q s t m n (subst (λ x. IsFirstFormula [] x p s m) same one.formula) two.formula
-
--- A file of traces, as the bytes and the names of another reading of it.
-traces_are : (files : Files) (name other : List ℕ) (m n : List (List ℕ)) (bytes : List ℕ) (traces : List Trace) → name ≡ other → m ≡ n → HasTraces files name m traces → HasBytes files other bytes → IsTraceFile n bytes traces
-traces_are files name other m n bytes traces e f one has =
-    let same = same_bytes files name other one.bytes bytes e one.has.told has.told in
-    subst (λ x. IsTraceFile n x traces) same (subst (λ x. IsTraceFile x one.bytes traces) f one.spelled)
-
-monitors_agree : {words : List (List ℕ)} {files : Files} {p q : List Quant} {s t : Tree} {a b : List Trace} → Monitors words files p s a → Monitors words files q t b → (p ≡ q) × (s ≡ t) × (a ≡ b)
-monitors_agree {files = files} {a = a} {b = b} one two =
-    let names = commands_agree one.command two.command in
-    let formulas = formulas_agree names.0 one.specs two.specs in
-    let read = traces_are files one.traces_name two.traces_name one.names two.names two.arrivals.bytes a names.1 formulas.2 one.arrivals two.arrivals.has in
-    (formulas.0, formulas.1, traces_once two.names two.arrivals.bytes a b read two.arrivals.spelled)
+use Rattle.hy_top.proofs.StageOrder.{came_once}
 
 -- ---- two verdicts
 
@@ -91,121 +54,54 @@ one_arrival n tree traces k l pick other one two =
           ]
     ]
 
+same_clean : (n : ℕ) (traces : List Trace) (count : ℕ) (kept : List ℕ) (live : ℕ) (other : ℕ) (left : List ℕ) (open' : ℕ)
+    → count ≡ other → kept ≡ left → live ≡ open' → NoViolation count kept live ≡ NoViolation other left open'
+same_clean n traces count kept live other left open' e f h = cc
+
 judged_agree : (n : ℕ) (tree : Tree) (traces : List Trace) (a b : Answer) → IsJudged n tree traces a → IsJudged n tree traces b → Agree a b
-judged_agree n tree traces (answers.NoViolation count kept live) (answers.NoViolation other left open') (e, f, g, one) (h, i, j, two) =
-    (e ∙ sym h, f ∙ sym i, g ∙ sym j)
-judged_agree n tree traces (answers.NoViolation count kept live) (answers.Violation spec trace tuple) (e, f, g, one) (h, two) =
-    absurd (clean_or_not n tree traces trace tuple one two)
-judged_agree n tree traces (answers.Violation spec trace tuple) (answers.NoViolation other left open') (e, one) (h, i, j, two) =
-    absurd (clean_or_not n tree traces trace tuple two one)
-judged_agree n tree traces (answers.Violation spec trace tuple) (answers.Violation other arrival pick) (e, one) (h, two) =
-    (e ∙ sym h, one_arrival n tree traces trace arrival tuple pick one two)
-judged_agree n tree traces (answers.NoViolation count kept live) _ one two = absurd two
-judged_agree n tree traces (answers.Violation spec trace tuple) _ one two = absurd two
-judged_agree n tree traces _ b one two = absurd one
+judged_agree n tree traces _ _ (is_clean count kept live one) (is_clean other left open' two) =
+    inl (same_clean n traces count kept live other left open' (one.all ∙ sym two.all) (one.kept_all ∙ sym two.kept_all) (one.none_open ∙ sym two.none_open))
+judged_agree n tree traces _ _ (is_clean count kept live one) (is_violated trace tuple two) =
+    absurd (clean_or_not n tree traces trace tuple one.clean two)
+judged_agree n tree traces _ _ (is_violated trace tuple one) (is_clean other left open' two) =
+    absurd (clean_or_not n tree traces trace tuple two.clean one)
+judged_agree n tree traces _ _ (is_violated trace tuple one) (is_violated arrival pick two) =
+    inr (0, trace, tuple, pick, refl, ap (λ t. Violation 0 t pick) (sym (one_arrival n tree traces trace arrival tuple pick one two)))
 
-verdicts_agree : (words : List (List ℕ)) (files : Files) (a b : Answer) → IsRightVerdict words files a → IsRightVerdict words files b → Agree a b
-verdicts_agree words files a b one two =
-    let same = monitors_agree one.monitors two.monitors in
-    let counted = subst (λ p. IsJudged (length p) one.tree one.traces a) same.0 one.judged in
-    let shaped = subst (λ t. IsJudged (length two.prefix) t one.traces a) same.1 counted in
-    judged_agree (length two.prefix) two.tree two.traces a b (subst (λ ts. IsJudged (length two.prefix) two.tree ts a) same.2 shaped) two.judged
+-- ---- one stage, one answer
 
--- ---- two causes of different kinds
+module _ (given : Given) (specs traces : List ℕ) where
+  bytes_once : (k : ℕ) {bytes other : List ℕ} → Came given k (Ok bytes) → Came given k (Ok other) → bytes ≡ other
+  bytes_once k {bytes = bytes} {other = other} one two = let both : Ok bytes ≡ Ok other = came_once (monitor specs traces) given k one two in cc
 
-abbrev IsRefused : List (List ℕ) → Files → ℕ → Type 0
-IsRefused words files file = ((file ≡ 0) × RefusesSpecs words files) ⊎ ((file ≡ 1) × RefusesTraces words files)
+  formulas_agree : {p q : List Quant} {s t : Tree} {m n : List (List ℕ)} → HasFormula given p s m → HasFormula given q t n → (p ≡ q) × (s ≡ t) × (m ≡ n)
+  formulas_agree {p = p} {q = q} {s = s} {t = t} {m = m} {n = n} one two =
+      let P : List ℕ → Type 0 = λ b. IsFirstFormula [] b p s m in
+      formula_once [] two.bytes p q s t m n (subst P (bytes_once 0 one.came two.came) one.formula) two.formula
 
-abbrev HasNoCommand : List (List ℕ) → Type 0
-HasNoCommand words = (specs traces : List ℕ) → ¬ IsCommand words specs traces
+  verdicts_agree : (a b : Answer) → Judges given a → Judges given b → Agree a b
+  verdicts_agree a b one two =
+      let formulas = formulas_agree one.specs two.specs in
+      let P : List ℕ → Type 0 = λ x. IsTraceFile one.names x one.traces in
+      let Q : List (List ℕ) → Type 0 = λ n. IsTraceFile n two.bytes one.traces in
+      let read = traces_once two.names two.bytes one.traces two.traces (subst Q formulas.2 (subst P (bytes_once 1 one.came two.came) one.spelled)) two.spelled in
+      let A : List Quant → Type 0 = λ p. IsJudged (length p) one.tree one.traces a in
+      let B : Tree → Type 0 = λ t. IsJudged (length two.prefix) t one.traces a in
+      let C : List Trace → Type 0 = λ ts. IsJudged (length two.prefix) two.tree ts a in
+      judged_agree (length two.prefix) two.tree two.traces a b (subst C read (subst B formulas.1 (subst A formulas.0 one.judged))) two.judged
 
-module _ {words : List (List ℕ)} {files : Files} where
-  words_or_verdict : {a : Answer} → HasNoCommand words → IsRightVerdict words files a → ⊥
-  words_or_verdict none v = none v.monitors.specs_name v.monitors.traces_name v.monitors.command
+one_stage : (command : Command) (given : Given) (stage : Stage) (a b : Answer) → Met command given stage a → Met command given stage b → Agree a b
+one_stage command given (opening k) a b e f = inl (e.1 ∙ sym f.1)
+one_stage command given (reading k) a b e f = inl (e.1 ∙ sym f.1)
+one_stage command given (size k) a b e f = inl (e.1 ∙ sym f.1)
+one_stage (monitor specs traces) given (text zero) a b e f = inl (e.answered ∙ sym f.answered)
+one_stage (monitor specs traces) given (text (suc zero)) a b e f = inl (e.answered ∙ sym f.answered)
+one_stage (monitor specs traces) given (text (suc (suc k))) a b e f = absurd e
+one_stage (monitor specs traces) given work a b e f = verdicts_agree given specs traces a b e f
 
-  words_or_limit : {kind : Kind} {limit : ℕ} → HasNoCommand words → IsLimited words files kind limit → ⊥
-  words_or_limit none l = none l.reached.specs_name l.reached.traces_name l.reached.command
-
-  words_or_refused : {file : ℕ} → HasNoCommand words → IsRefused words files file → ⊥
-  words_or_refused none (inl (e, r)) = none r.specs_name r.traces_name r.command
-  words_or_refused none (inr (e, r)) = none r.specs_name r.traces_name r.command
-
-  -- A first file that is refused is no formula.
-  refused_or_taken : {specs traces : List ℕ} {prefix : List Quant} {tree : Tree} {names : List (List ℕ)} → RefusesSpecs words files → IsCommand words specs traces → HasFormula files specs prefix tree names → ⊥
-  refused_or_taken {specs = specs} {prefix = prefix} {tree = tree} {names = names} r command f =
-      let same = same_bytes files specs r.specs_name f.bytes r.bytes (commands_agree command r.command).0 f.has.told r.has.told in
-      r.none prefix tree names (subst (λ x. IsFirstFormula [] x prefix tree names) same f.formula)
-
-  verdict_or_limit : {a : Answer} {kind : Kind} {limit : ℕ} → IsRightVerdict words files a → IsLimited words files kind limit → ⊥
-  verdict_or_limit v l =
-      let named = commands_agree v.monitors.command l.reached.command in
-      elim l.reached.turn [
-        | inl first ↦ not_long (named.0 ∙ sym first.1) v.monitors.specs.has l.long
-        | inr second ↦ not_long (named.1 ∙ sym second.1) v.monitors.arrivals.has l.long
-      ]
-
-  verdict_or_refused : {a : Answer} {file : ℕ} → IsRightVerdict words files a → IsRefused words files file → ⊥
-  verdict_or_refused v (inl (e, r)) = refused_or_taken r v.monitors.command v.monitors.specs
-  verdict_or_refused v (inr (e, r)) =
-      let named = commands_agree v.monitors.command r.command in
-      let formulas = formulas_agree named.0 v.monitors.specs r.specs in
-      r.none v.traces (traces_are files v.monitors.traces_name r.traces_name v.monitors.names r.names r.bytes v.traces named.1 formulas.2 v.monitors.arrivals r.has)
-
-  limit_or_refused : {kind : Kind} {limit file : ℕ} → IsLimited words files kind limit → IsRefused words files file → ⊥
-  limit_or_refused l (inl (e, r)) =
-      elim l.reached.turn [
-        | inl first ↦ not_long ((commands_agree r.command l.reached.command).0 ∙ sym first.1) r.has l.long
-        | inr second ↦ refused_or_taken r l.reached.command second.2.taken
-      ]
-  limit_or_refused l (inr (e, r)) =
-      elim l.reached.turn [
-        | inl first ↦ not_long ((commands_agree r.command l.reached.command).0 ∙ sym first.1) r.specs.has l.long
-        | inr second ↦ not_long ((commands_agree r.command l.reached.command).1 ∙ sym second.1) r.has l.long
-      ]
-
-  same_refused : {file other : ℕ} → IsRefused words files file → IsRefused words files other → file ≡ other
-  same_refused (inl one) (inl two) = one.0 ∙ sym two.0
-  same_refused (inl one) (inr two) = absurd (refused_or_taken one.1 two.1.command two.1.specs)
-  same_refused (inr one) (inl two) = absurd (refused_or_taken two.1 one.1.command one.1.specs)
-  same_refused (inr one) (inr two) = one.0 ∙ sym two.0
-
--- ---- all answers
-
--- Two answers that are right agree, where the words and the files decide both.
-pub answers_agree : (words : List (List ℕ)) (files : Files) (a b : Answer) → IsDecided a → IsDecided b → IsRight words files a → IsRight words files b → Agree a b
-answers_agree words files answers.Words answers.Words d e one two = tt
-answers_agree words files answers.Words (answers.NoViolation count kept live) d e one two = words_or_verdict one two
-answers_agree words files answers.Words (answers.Violation spec trace tuple) d e one two = words_or_verdict one two
-answers_agree words files answers.Words (answers.Limit kind limit) d e one two = words_or_limit one two
-answers_agree words files answers.Words (answers.Unbuilt file) d e one two = words_or_refused one two
-answers_agree words files (answers.NoViolation count kept live) answers.Words d e one two = words_or_verdict two one
-answers_agree words files (answers.NoViolation count kept live) (answers.NoViolation other left open') d e one two = verdicts_agree words files _ _ one two
-answers_agree words files (answers.NoViolation count kept live) (answers.Violation spec trace tuple) d e one two = verdicts_agree words files _ _ one two
-answers_agree words files (answers.NoViolation count kept live) (answers.Limit kind limit) d e one two = verdict_or_limit one two
-answers_agree words files (answers.NoViolation count kept live) (answers.Unbuilt file) d e one two = verdict_or_refused one two
-answers_agree words files (answers.Violation spec trace tuple) answers.Words d e one two = words_or_verdict two one
-answers_agree words files (answers.Violation spec trace tuple) (answers.NoViolation other left open') d e one two = verdicts_agree words files _ _ one two
-answers_agree words files (answers.Violation spec trace tuple) (answers.Violation other arrival pick) d e one two = verdicts_agree words files _ _ one two
-answers_agree words files (answers.Violation spec trace tuple) (answers.Limit kind limit) d e one two = verdict_or_limit one two
-answers_agree words files (answers.Violation spec trace tuple) (answers.Unbuilt file) d e one two = verdict_or_refused one two
-answers_agree words files (answers.Limit kind limit) answers.Words d e one two = words_or_limit two one
-answers_agree words files (answers.Limit kind limit) (answers.NoViolation other left open') d e one two = verdict_or_limit two one
-answers_agree words files (answers.Limit kind limit) (answers.Violation spec trace tuple) d e one two = verdict_or_limit two one
-answers_agree words files (answers.Limit kind limit) (answers.Limit other bound) d e one two = (one.of_bytes ∙ sym two.of_bytes, one.number ∙ sym two.number)
-answers_agree words files (answers.Limit kind limit) (answers.Unbuilt file) d e one two = limit_or_refused one two
-answers_agree words files (answers.Unbuilt file) answers.Words d e one two = words_or_refused two one
-answers_agree words files (answers.Unbuilt file) (answers.NoViolation other left open') d e one two = verdict_or_refused two one
-answers_agree words files (answers.Unbuilt file) (answers.Violation spec trace tuple) d e one two = verdict_or_refused two one
-answers_agree words files (answers.Unbuilt file) (answers.Limit kind limit) d e one two = limit_or_refused two one
-answers_agree words files (answers.Unbuilt file) (answers.Unbuilt other) d e one two = same_refused one two
-answers_agree words files (answers.OpenFault file) b d e one two = absurd d
-answers_agree words files (answers.ReadFault file) b d e one two = absurd d
-answers_agree words files answers.WriteFault b d e one two = absurd d
-answers_agree words files answers.Memory b d e one two = absurd d
-answers_agree words files _ _ d e one two = absurd e
-
--- Words that are no command have one answer beside want of memory.
-pub words_decide : (words : List (List ℕ)) (answer : Answer) → FitsWords words answers.Words → FitsWords words answer → (answer ≡ answers.Words) ⊎ (answer ≡ answers.Memory)
-words_decide words answers.Words none fits = inl cc
-words_decide words answers.Memory none fits = inr cc
-words_decide words _ none fits = absurd (none fits.0 fits.1 fits.2)
+pub first_once : (command : Command) (given : Given) (stages : List Stage) (a b : Answer) → First command given stages a → First command given stages b → Agree a b
+first_once command given [] a b one two = elim one [ ]
+first_once command given (stage ∷ stages) a b (here met) (here other) = one_stage command given stage a b met other
+first_once command given (stage ∷ stages) a b (here met) (later passed two) = absurd (passed a met)
+first_once command given (stage ∷ stages) a b (later passed one) (here met) = absurd (passed b met)
+first_once command given (stage ∷ stages) a b (later passed one) (later again two) = first_once command given stages a b one two

@@ -10,9 +10,9 @@ mod output;
 mod read;
 mod refusal;
 mod runs;
-mod words;
+mod rvhyper;
 
 pub use answer::{Answer, Done, Tool, Tuple};
 pub use host::run_here;
-pub use laws::{one_answer, one_answer_to_words, one_formula, one_trace_file};
+pub use laws::{one_answer, one_formula, one_trace_file, verdict};
 pub use runs::run;

@@ -1,0 +1,10 @@
+mod Closings
+mod Executing
+mod Follows
+mod GateLemmas
+mod Looping
+mod Rounds
+mod RowLemmas
+mod SignalLemmas
+mod States
+mod Valuations

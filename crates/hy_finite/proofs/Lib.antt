@@ -1,0 +1,4 @@
+pub mod JudgedLength
+pub mod RowLoops
+pub mod RowMeanings
+pub mod Truth

@@ -1,0 +1,4 @@
+pub mod LassoWords
+pub mod Negating
+pub mod Places
+pub mod Rows

@@ -1,0 +1,3 @@
+pub mod Joint
+pub mod Rows
+pub mod Words

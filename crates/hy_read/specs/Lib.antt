@@ -1,0 +1,15 @@
+pub mod Answers
+pub mod Contract
+pub mod Counting
+pub mod Grammar
+pub mod Moves
+pub mod Operators
+pub mod Places
+pub mod Results
+pub mod Scanning
+pub mod Scans
+pub mod Scopes
+pub mod Surveys
+pub mod Symbols
+pub mod Tokens
+pub mod Within

@@ -1,0 +1,21 @@
+//! Formula texts: the reader, which says where a text that is no formula goes wrong, and the printer.
+#![tactic(auto)]
+
+mod counts;
+mod error;
+mod laws;
+mod operator;
+mod scan;
+mod scope;
+mod survey;
+mod symbol;
+mod table;
+mod token;
+mod variable;
+mod word;
+
+pub use error::ReadError;
+pub use laws::{
+    allowed_is_derived, fault_answered, fault_fits, fault_found, height_without_names, one_answer,
+    one_answer_to_bytes, one_fault, one_reading, parens_are_counted, viable_begins_text,
+};

@@ -1,0 +1,56 @@
+-- Printing the names of a set, and the sets of a word, one after another: what is printed so far and what is left.
+use Rattle.std.proofs.Common.{◌≡◌, ℕ, zero, suc, get_or, ◌+◌, ◌<◌, ◌≤◌, Bool, true, false, if◌then◌else◌, List, [], ◌∷◌, ◌++◌, length, map, drop, slice_get, Option, Some, None, refl, sym, ap, ◌∙◌, arith, append_assoc, append-nil, add-one}
+use Rattle.std.specs.List.{join_with_byte}
+use Rattle.std.proofs.lemmas.Grind.{common_steps}
+use Rattle.std.proofs.lemmas.Option.{slice_get-get_or}
+use Rattle.std.specs.FinSet as set
+use Rattle.hy_bits.specs.Letter.{Letter}
+use Rattle.hy_text.specs.Joined.{piece, pieces}
+use Rattle.hy_text.specs.Names.{spelled}
+use Rattle.hy_text.specs.Sets.{members_from}
+
+pub joined_pieces : (b : ℕ) (xs : List (List ℕ)) → join_with_byte b xs ≡ pieces true b xs
+joined_pieces b [] = refl
+joined_pieces b (x ∷ []) = sym (append-nil x)
+joined_pieces b (x ∷ y ∷ xs) = ap (λ l. x ++ b ∷ l) (joined_pieces b (y ∷ xs))
+
+left_behind : {A : Type 0} (xs : List A) (i : ℕ) (x : A) → slice_get xs i ≡ Some x → drop i xs ≡ x ∷ drop (suc i) xs
+left_behind {A = A} [] i x e = cc
+left_behind {A = A} (y ∷ ys) zero x e = cc
+left_behind {A = A} (y ∷ ys) (suc i) x e = left_behind ys i x e
+
+-- what is left from a place on is what stands there, and what is left behind it
+pub left_at : {A : Type 0} (xs : List A) (i : ℕ) (x : A) → slice_get xs i ≡ Some x → drop i xs ≡ x ∷ drop (i + 1) xs
+left_at xs i x e = rw add-one (left_behind xs i x e)
+
+-- a name that is in the letter, and one that is not
+pub member_at : (table : List (List ℕ)) (letter : Letter) (i : ℕ) (name : List ℕ) → slice_get table i ≡ Some name → set.contains letter i ≡ true → members_from i letter (drop i table) ≡ name ∷ members_from (i + 1) letter (drop (i + 1) table)
+member_at table letter i name e has = rw (left_at table i name e) (rw has (rw add-one refl))
+
+pub member_not_at : (table : List (List ℕ)) (letter : Letter) (i : ℕ) → i < length table → set.contains letter i ≡ false → members_from i letter (drop i table) ≡ members_from (i + 1) letter (drop (i + 1) table)
+member_not_at table letter i less lacks = rw (left_at table i (get_or table i []) (slice_get-get_or table i [] less)) (rw lacks (rw add-one refl))
+
+-- Nothing is left behind the last place.
+pub left_none : {A : Type 0} (xs : List A) (i : ℕ) → length xs ≤ i → drop i xs ≡ []
+left_none xs i past = grind (arith, common_steps)
+
+-- What is printed makes, with the names that are left from a place on, the whole.
+abbrev pub NamesLeft : List (List ℕ) → Letter → List ℕ → ℕ → Bool → List ℕ → Type 0
+NamesLeft table letter all i first front = front ++ pieces first 44 (map spelled (members_from i letter (drop i table))) ≡ all
+
+pub name_printed : (table : List (List ℕ)) (letter : Letter) (all : List ℕ) (i : ℕ) (first : Bool) (front name : List ℕ) → NamesLeft table letter all i first front → slice_get table i ≡ Some name → set.contains letter i ≡ true → NamesLeft table letter all (i + 1) false (front ++ piece first 44 (spelled name))
+name_printed table letter all i first front name left e has =
+    append_assoc front (piece first 44 (spelled name)) (pieces false 44 (map spelled (members_from (i + 1) letter (drop (i + 1) table))))
+    ∙ ap (λ l. front ++ pieces first 44 (map spelled l)) (sym (member_at table letter i name e has)) ∙ left
+
+pub name_passed : (table : List (List ℕ)) (letter : Letter) (all : List ℕ) (i : ℕ) (first : Bool) (front : List ℕ) → NamesLeft table letter all i first front → i < length table → set.contains letter i ≡ false → NamesLeft table letter all (i + 1) first front
+name_passed table letter all i first front left less lacks =
+    ap (λ l. front ++ pieces first 44 (map spelled l)) (sym (member_not_at table letter i less lacks)) ∙ left
+
+pub names_printed : (table : List (List ℕ)) (letter : Letter) (all : List ℕ) (i : ℕ) (first : Bool) (front : List ℕ) → length table ≤ i → NamesLeft table letter all i first front → front ≡ all
+names_printed table letter all i first front past left =
+    sym (append-nil front) ∙ ap (λ l. front ++ pieces first 44 (map spelled (members_from i letter l))) (sym (left_none table i past)) ∙ left
+
+pub sets_printed : (f : Letter → List ℕ) (letters : List Letter) (i : ℕ) (first : Bool) (front all : List ℕ) → length letters ≤ i → front ++ pieces first 59 (map f (drop i letters)) ≡ all → front ≡ all
+sets_printed f letters i first front all past left =
+    sym (append-nil front) ∙ ap (λ l. front ++ pieces first 59 (map f l)) (sym (left_none letters i past)) ∙ left
