@@ -13,9 +13,13 @@ use crate::job::{Job, JobList};
 use crate::node::Node;
 use crate::numbering::Numbering;
 use hy_base::NumList;
+use hy_bits::BitRow;
 use indexmap::IndexSet;
 use std::alloc::Global;
 use std::marker::Model;
+
+/// A set of members of a closure, by their numbers.
+pub type Obl<const W: usize> = BitRow<W>;
 
 /// The distinct parts of the normal forms of some jobs, numbered from 0 at their first visits: the
 /// jobs in order, the maps of a job in order, and of a form its left operand, its right operand,
@@ -77,7 +81,8 @@ impl Closure {
     /// The member with number `i`.
     pub fn node(&self, i: u16) -> Node
         requires { i < length self.now.nodes }
-        ensures { plain_node result ≡ node_at self.now.nodes i }
+        ensures node { plain_node result ≡ node_at self.now.nodes i }
+        ensures operands { PartsBelow i (plain_node result) }
     {
         self.members.as_slice()[usize::from(i)]
     }

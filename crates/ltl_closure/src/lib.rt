@@ -7,8 +7,10 @@ mod job;
 pub mod laws;
 mod node;
 mod numbering;
+#[cfg(test)]
+mod tests;
 
-pub use closure::Closure;
+pub use closure::{Closure, Obl};
 pub use closure_error::ClosureError;
 pub use job::{Job, JobList, MapList, VariableMap};
 pub use node::Node;
