@@ -16,7 +16,6 @@ use Rattle.ltl_closure.specs.Plain.{plain_node, same_node}
 use Rattle.ltl_closure.specs.Numbered.{Below, PartsIn, Closed, Stands, IsNumber, Inserts}
 use Rattle.ltl_closure.proofs.Closing.{Grown, grown-new, equal-form, form-itself, number-found, form-there}
 
-
 -- kept nodes are compared as plain ones
 pub same-kept : (x y : Kept) → ghosts.eq x y ≡ same_node (plain_node x) (plain_node y)
 same-kept True True = refl
@@ -46,11 +45,11 @@ module _ (members : List Normal) where
       step true is = let same : f ≡ g = equal-form f g is in eq-eqb _ _ (ap (number_in members) same)
       step false is =
           false_from_ne_true _ (λ t.
-              let same : number_in members f ≡ number_in members g = eqb-true _ _ t in
-              let one : f ≡ g = sym at ∙ ap (form_in members) same ∙ at' in
-              let P : Normal → Type 0 = λ h. same_form f h ≡ true in
-              let itself : same_form f g ≡ true = subst P one (form-itself f) in
-              cc)
+          let same : number_in members f ≡ number_in members g = eqb-true _ _ t in
+          let one : f ≡ g = sym at ∙ ap (form_in members) same ∙ at' in
+          let P : Normal → Type 0 = λ h. same_form f h ≡ true in
+          let itself : same_form f g ≡ true = subst P one (form-itself f) in
+          cc)
 
   two-same : (f g h k : Normal) → Below members (length members) f → Below members (length members) g → Below members (length members) h → Below members (length members) k
       → (nat_eq (number_in members f) (number_in members h) && nat_eq (number_in members g) (number_in members k)) ≡ (same_form f h && same_form g k)
@@ -108,9 +107,10 @@ module _ (test : Kept → Bool) (x : Node) (tests : (k : Kept) → test k ≡ sa
   tells-nodes (k ∷ ks) [] e all = absurd (cc)
   tells-nodes (k ∷ ks) (g ∷ fs) e all =
       let here : plain_node k ≡ node_of members g = cc in
-      let rest : map plain_node ks ≡ map (node_of members) fs = cc in
-      (tests k ∙ ap (same_node x) here ∙ ap (λ y. same_node y (node_of members g)) node ∙ same-nodes members f g parts (all 0 (omega arith)),
-       tells-nodes ks fs rest (λ q lt. all (suc q) (omega arith)))
+      let rest : map plain_node ks ≡ map (node_of members) fs = cc in (
+        tests k ∙ ap (same_node x) here ∙ ap (λ y. same_node y (node_of members g)) node ∙ same-nodes members f g parts (all 0 (omega arith)),
+        tells-nodes ks fs rest (λ q lt. all (suc q) (omega arith)),
+      )
 
 -- ---- numbers and nodes as the forms grow
 
@@ -228,8 +228,8 @@ module _ (old : Numbering) (kept : Kept) (forms : List Normal) (f : Normal) (sta
       ∙ ap (λ ns. ns ++ plain_node kept ∷ []) (stands.nodes e)
       ∙ ap (λ n. map (node_of forms) forms ++ n ∷ []) (is e)
       ∙ sym (map-append (node_of (forms ++ f ∷ [])) forms (f ∷ [])
-             ∙ ap (λ ns. ns ++ node_of (forms ++ f ∷ []) f ∷ []) (map-like (node_of (forms ++ f ∷ [])) (node_of forms) forms (λ k lt. node-grown forms (forms ++ f ∷ []) f more (form_in forms k) (parts-there forms stands.closed k lt)))
-             ∙ ap (λ n. map (node_of forms) forms ++ n ∷ []) (node-grown forms (forms ++ f ∷ []) f more f parts))
+      ∙ ap (λ ns. ns ++ node_of (forms ++ f ∷ []) f ∷ []) (map-like (node_of (forms ++ f ∷ [])) (node_of forms) forms (λ k lt. node-grown forms (forms ++ f ∷ []) f more (form_in forms k) (parts-there forms stands.closed k lt)))
+      ∙ ap (λ n. map (node_of forms) forms ++ n ∷ []) (node-grown forms (forms ++ f ∷ []) f more f parts))
 
   pub inserted-room : (by : Kept → Bool) → ((k : Kept) → by k ≡ test k) → (new : Numbering) (place : ℕ) → new.full ≡ old.full → (old.full ≡ true → ⊥)
       → new.members.keys ≡ (if list_any by old.members.keys then old.members.keys else old.members.keys ++ kept ∷ []) → place ≡ position_or_len by old.members.keys

@@ -61,4 +61,3 @@ module _ (nodes : List Node) (form : ℕ → Normal) (numbers : Numbers nodes fo
 
 pub marks-hold : (nodes : List Node) (form : ℕ → Normal) (words : Words) (marks : ℕ → ℕ → Bool) → Numbers nodes form → AreMarks nodes words marks → (k i : ℕ) → k < length nodes → IsTrue (marks k i) → HoldsAt endless words (form k) i
 marks-hold nodes form words marks numbers are k i lt here = marked nodes form numbers words (λ q j. IsTrue (marks q j)) are.local are.ends k lt i here
-

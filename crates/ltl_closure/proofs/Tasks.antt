@@ -121,10 +121,10 @@ module _ (tasks : List Task) (body : Tree) (b : Bool) (maps : List (List ℕ)) (
         let most : 1024 < length (with_form (form_of_task task) (closure (forms_of so_far))) = v.0.full full in
         let here : length (closure (forms_of (so_far ++ task ∷ []))) ≡ length (with_form (form_of_task task) (closure (forms_of so_far))) = ap length (closure-push so_far task) in
         let whole : tasks ++ tasks_by body b maps ≡ (so_far ++ task ∷ []) ++ tasks_by body b (drop (i + 1) maps) =
-            ap (λ ms. tasks ++ tasks_by body b ms) (sym (take-append-drop (i + 1) maps))
-            ∙ ap (λ ts. tasks ++ ts) (tasks_by-append body b (take (i + 1) maps) (drop (i + 1) maps))
-            ∙ sym (append_assoc tasks (tasks_by body b (take (i + 1) maps)) (tasks_by body b (drop (i + 1) maps)))
-            ∙ ap (λ ts. ts ++ tasks_by body b (drop (i + 1) maps)) one-more
+        ap (λ ms. tasks ++ tasks_by body b ms) (sym (take-append-drop (i + 1) maps))
+        ∙ ap (λ ts. tasks ++ ts) (tasks_by-append body b (take (i + 1) maps) (drop (i + 1) maps))
+        ∙ sym (append_assoc tasks (tasks_by body b (take (i + 1) maps)) (tasks_by body b (drop (i + 1) maps)))
+        ∙ ap (λ ts. ts ++ tasks_by body b (drop (i + 1) maps)) one-more
         in
         let le = closure-longer (so_far ++ task ∷ []) (tasks_by body b (drop (i + 1) maps)) in
         omega (arith, ap (λ ts. length (closure (forms_of ts))) whole)
@@ -148,7 +148,7 @@ module _ (jobs : List Job) (i : ℕ) (job : Job) (lt : i < length jobs) (at : jo
   pub too-many_jobs : 1024 < length (closure (forms_of (tasks_of (take i jobs) ++ of_job job))) → 1024 < length (task_nodes (tasks_of jobs))
   too-many_jobs many =
       let whole : tasks_of jobs ≡ (tasks_of (take i jobs) ++ of_job job) ++ tasks_of (drop (i + 1) jobs) =
-          ap tasks_of (sym (take-append-drop (i + 1) jobs)) ∙ tasks_of-append (take (i + 1) jobs) (drop (i + 1) jobs) ∙ ap (λ ts. ts ++ tasks_of (drop (i + 1) jobs)) one-more_job
+      ap tasks_of (sym (take-append-drop (i + 1) jobs)) ∙ tasks_of-append (take (i + 1) jobs) (drop (i + 1) jobs) ∙ ap (λ ts. ts ++ tasks_of (drop (i + 1) jobs)) one-more_job
       in
       let le = closure-longer (tasks_of (take i jobs) ++ of_job job) (tasks_of (drop (i + 1) jobs)) in
       let same : length (closure (forms_of (tasks_of jobs))) ≡ length (closure (forms_of ((tasks_of (take i jobs) ++ of_job job) ++ tasks_of (drop (i + 1) jobs)))) = ap (λ ts. length (closure (forms_of ts))) whole in

@@ -151,7 +151,7 @@ module _ (forms : List Normal) (n : Numbering) (stands : Stands forms n) where
   pair-known p f g (Some k) ops is known =
       let parts = parts-pair p forms _ f g (parts-of forms stands.closed (pair-form p f g) known.there) in
       let at : n.full ≡ false → ops ≡ record { first = Some (number_in forms f); second = Some (number_in forms g) } =
-          λ room. is ∙ ap operands_of (node-known forms n stands k (pair-form p f g) known room ∙ pair-of p forms f g) ∙ pair-operands p _ _
+      λ room. is ∙ ap operands_of (node-known forms n stands k (pair-form p f g) known room ∙ pair-of p forms f g) ∙ pair-operands p _ _
       in (
         known-of forms n ops.first f (to-end forms _ f parts.0) (λ room. ap (λ (x : Operands). x.first) (at room)),
         known-of forms n ops.second g (to-end forms _ g parts.1) (λ room. ap (λ (x : Operands). x.second) (at room)),

@@ -9,10 +9,7 @@ pub enum Node {
     True,
     False,
     /// The atom holds where `positive`, and does not hold otherwise.
-    Lit {
-        atom: Atom,
-        positive: bool,
-    },
+    Lit { atom: Atom, positive: bool },
     And(u16, u16),
     Or(u16, u16),
     Next(u16),

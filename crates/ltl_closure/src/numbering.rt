@@ -131,13 +131,7 @@ impl Numbering {
     /// Each part is visited at most once with each sign, and gone into at most twice: where both
     /// signs are wanted, as below an equivalence, the second visit finds the parts of the first by
     /// its number.
-    pub fn visit(
-        &mut self,
-        body: &Body,
-        map: &[u8],
-        positive: bool,
-        other: Option<u16>,
-    ) -> M<u16>
+    pub fn visit(&mut self, body: &Body, map: &[u8], positive: bool, other: Option<u16>) -> M<u16>
         requires bound { IsTrue (vars_below (length map.now) (tree_of body.now)) }
         requires few { length self.old.members.keys ≤ 1024 }
         ensures few { length self.new.members.keys ≤ 1024 }

@@ -1,13 +1,9 @@
-// A library with one function.
+//! The tableau of a closure: branches of sets of members, and what walks of branches say of words.
 #![tactic(auto)]
 
-ghost use Rattle.std.specs.Prelude.{◌≡◌};
-ghost use Rattle.ltl_tableau.specs.Echo.{echo_of};
+mod branch;
+mod collect;
+pub mod laws;
 
-// The `ensures` clause is the contract: what `echo` returns is `echo_of` of its argument, a definition
-// in `specs/Echo.antt`, which a caller's clause can cite too.
-pub fn echo(x: usize) -> usize
-    ensures { result ≡ echo_of x }
-{
-    x
-}
+pub use branch::{Branch, BranchList, postpones};
+pub use collect::branches;

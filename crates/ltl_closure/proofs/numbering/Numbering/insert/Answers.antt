@@ -18,7 +18,7 @@ returns-clause-few c =
     let keys : List Kept = c.args.self.now.members.keys in
     few-left c.args.self.now.full (list_any (λ k. ghosts.eq c.args.node k) keys) keys _ c.args.node
     (ap (λ test. c.args.self.now.full || (nat_eq (length keys) 1024 && not (list_any test keys))) (λ i k. same-kept c.args.node k i)
-     ∙ sym c.refuses.ensures ∙ c.if-refuses.false)
+    ∙ sym c.refuses.ensures ∙ c.if-refuses.false)
     c.requires.few
     c.in_ok-place.ensures.keys
 
