@@ -1,0 +1,6 @@
+pub mod Branches
+pub mod Collected
+pub mod Ranks
+pub mod Tasks
+pub mod WalkWords
+pub mod Walks
