@@ -3,12 +3,8 @@ use Rattle.std.proofs.Common.{◌≡◌, ℕ, ◌+◌, ◌/◌, ◌<◌, ◌≤�
 use Rattle.std.proofs.lemmas.Bool.{cases_eq}
 use Rattle.std.proofs.lemmas.List.{take-set-le}
 use Rattle.aig_net.specs.declared.parts.And.{And}
+use Rattle.aig_net.proofs.Literals.{value-same}
 use Rattle.aig_net.specs.Nets.{and_at, Valuation, Below, literal_value, and_value, is_even, AreOrdered, row}
-
--- The value of a literal looks at its variable alone.
-pub value-same : (v w : Valuation) (l : ℕ) → v (l / 2) ≡ w (l / 2) →
-    literal_value v l ≡ literal_value w l
-value-same v w l e = ap (λ b. cond (is_even l) b (not b)) e
 
 pub and-same : (v w : Valuation) (a : And) → v (a.left / 2) ≡ w (a.left / 2) →
     v (a.right / 2) ≡ w (a.right / 2) → and_value v a ≡ and_value w a

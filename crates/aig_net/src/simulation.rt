@@ -23,7 +23,7 @@ pub fn simulate(alloc: Global, net: &Net, run: &Run) -> M<Option<ValueLasso>>
     ensures none { IfOk result (λ found. IfNone found (
         (values : ValueLasso) → ¬ IsExecutionOf net.now run.now values)) }
 {
-    net.variables();
+    net.variables(); // what each net keeps
     if !is_start(net.resets().as_slice(), run.first.as_slice()) {
         return Ok(None);
     }
@@ -32,7 +32,7 @@ pub fn simulate(alloc: Global, net: &Net, run: &Run) -> M<Option<ValueLasso>>
 }
 
 /// The values in each step of a run whose first latch values are these and may stand at the start.
-#[tactic(auto, using(crate::proofs::Executing::no_cycle, crate::proofs::Executing::no_round, crate::proofs::Executing::follows_full,))]
+#[tactic(auto, using(crate::proofs::Executing::no_cycle, crate::proofs::Executing::no_round))]
 fn execute(alloc: Global, net: &Net, run: &Run, latches: &mut [bool]) -> M<Option<ValueLasso>>
     requires net { IsNet net.now }
     requires first { latches.old ≡ run.now.first }
