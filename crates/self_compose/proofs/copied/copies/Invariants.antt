@@ -1,0 +1,12 @@
+use Rattle.std.proofs.Common.{◌≡◌, ◌++◌, take}
+use Rattle.self_compose.specs.Copies.{copies_from, copied}
+use Rattle.self_compose.proofs.copied.copies.Given as goal
+
+-- the copies of the items so far
+abbrev pub invariant-loop-item : goal.invariant-loop-item
+invariant-loop-item g l = l.made ≡ copied l.n (g.T.Copied.in_copy l.n) (take l.item-index l.items)
+
+-- and of this item in the copies so far
+abbrev pub invariant-loop-c : goal.invariant-loop-c
+invariant-loop-c g l = l.made ≡ l.initial.made
+    ++ copies_from 0 l.c (λ c. g.T.Copied.in_copy l.n c l.item)
