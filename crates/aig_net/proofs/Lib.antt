@@ -2,6 +2,7 @@ pub mod Closings
 mod Executing
 mod Follows
 mod GateLemmas
+pub mod Listed
 pub mod Literals
 pub mod Looping
 pub mod Rounds
@@ -9,3 +10,4 @@ mod RowLemmas
 mod SignalLemmas
 mod States
 pub mod Valuations
+pub mod Wiring

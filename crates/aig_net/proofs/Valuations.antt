@@ -83,16 +83,22 @@ pub valuation-only : (net : Net) (v w : Valuation) → AreOrdered (first_and net
 valuation-only net v w good rv rw' same u lt =
     right-same (first_and net) net.ands v w good rv.gates rw'.gates same (suc u) u (omega arith) lt
 
+pub valuation-right : (net : Net) (given : Valuation) → AreOrdered (first_and net) net.ands →
+    given 0 ≡ false → IsRight net (filled (first_and net) net.ands given)
+valuation-right net given good constant = record {
+  constant = filled-below (first_and net) net.ands given 0 (omega arith) ∙ constant;
+  gates = filled-right (first_and net) net.ands given good;
+}
+
+pub valuation-given : (net : Net) (given : Valuation) (u : ℕ) → u < first_and net →
+    filled (first_and net) net.ands given u ≡ given u
+valuation-given net given = filled-below (first_and net) net.ands given
+
 pub valuation-some : (net : Net) (given : Valuation) → AreOrdered (first_and net) net.ands →
-    given 0 ≡ false → (v : Valuation) × IsRight net v
-    × ((u : ℕ) → u < first_and net → v u ≡ given u)
-valuation-some net given good constant =
-    let first : ℕ = first_and net in (
-      filled first net.ands given,
-      record {
-        constant = filled-below first net.ands given 0 (omega arith) ∙ constant;
-        gates =
-            filled-right first net.ands given good;
-      },
-      filled-below first net.ands given,
-    )
+    given 0 ≡ false → (v : Valuation) × IsRight net v ×
+    ((u : ℕ) → u < first_and net → v u ≡ given u)
+valuation-some net given good constant = (
+  filled (first_and net) net.ands given,
+  valuation-right net given good constant,
+  valuation-given net given,
+)

@@ -1,47 +1,36 @@
 -- Lists of copies by their places: what each item has, the copies have.
-use Rattle.std.proofs.Common.{◌≡◌, ℕ, zero, suc, ◌+◌, ◌*◌, ◌/◌, ◌%◌, ◌<◌, ◌≤◌, List, [], ◌∷◌, ◌++◌, length, get_or, take, inl, inr, refl, sym, ap, ◌∙◌, subst, arith, append_assoc, append-nil, length-append}
+use Rattle.std.proofs.Common.{◌≡◌, ℕ, zero, suc, ◌+◌, ◌*◌, ◌/◌, ◌%◌, ◌<◌, ◌≤◌, List, [], ◌∷◌, ◌++◌, length, get_or, take, inl, inr, sym, ap, ◌∙◌, subst, arith, append_assoc, append-nil, length-append}
 use Rattle.std.proofs.Math.Nat.{mod-lt, mod-add-div', mul-le-mul_left}
 use Rattle.std.proofs.lemmas.Bool.{cases_lt}
 use Rattle.std.proofs.lemmas.List.{get_or_append_left, get_or-append-add, take_more}
-use Rattle.self_compose.specs.Copies.{copies_from, copied}
-
--- ---- copied lists
-
-pub length-copies : {B : Type 0} (c n : ℕ) (f : ℕ → B) → length (copies_from c n f) ≡ n
-length-copies c zero f = refl
-length-copies c (suc n) f = ap suc (length-copies (suc c) n f)
-
-pub at-copies : {B : Type 0} (c n : ℕ) (f : ℕ → B) (d : B) (k : ℕ) → k < n →
-    get_or (copies_from c n f) k d ≡ f (c + k)
-at-copies c zero f d k lt = absurd (omega arith)
-at-copies c (suc n) f d zero lt = let e : c ≡ c + 0 = omega arith in ap f e
-at-copies c (suc n) f d (suc k) lt = let e : suc c + k ≡ c + suc k = omega arith in
-    at-copies (suc c) n f d k (omega arith) ∙ ap f e
+use Rattle.aig_net.specs.Wires.{listed}
+use Rattle.aig_net.proofs.Listed.{length-listed, at-listed, listed-last}
+use Rattle.self_compose.specs.Copies.{copied}
 
 module _ {A B : Type 0} (n : ℕ) (f : ℕ → A → B) where
   pub length-copied : (xs : List A) → length (copied n f xs) ≡ length xs * n
   length-copied [] = omega arith
   length-copied (x ∷ xs) =
       let rest : length (copied n f xs) ≡ length xs * n = length-copied xs in
-      let first : length (copies_from 0 n (λ c. f c x)) ≡ n = length-copies 0 n (λ c. f c x) in
-      length-append (copies_from 0 n (λ c. f c x)) (copied n f xs) ∙ omega arith
+      let first : length (listed 0 n (λ c. f c x)) ≡ n = length-listed 0 n (λ c. f c x) in
+      length-append (listed 0 n (λ c. f c x)) (copied n f xs) ∙ omega arith
 
   pub at-copied : (xs : List A) (d : B) (e : A) (j c : ℕ) → j < length xs → c < n →
       get_or (copied n f xs) (j * n + c) d ≡ f c (get_or xs j e)
   at-copied [] d e j c lt few = absurd (omega arith)
   at-copied (x ∷ xs) d e zero c lt few =
-      let first : length (copies_from 0 n (λ c. f c x)) ≡ n = length-copies 0 n (λ c. f c x) in
+      let first : length (listed 0 n (λ c. f c x)) ≡ n = length-listed 0 n (λ c. f c x) in
       let here : 0 * n + c ≡ c = omega arith in
       let plain : 0 + c ≡ c = omega arith in
       ap (λ k. get_or (copied n f (x ∷ xs)) k d) here
-      ∙ get_or_append_left (copies_from 0 n (λ c. f c x)) (copied n f xs) d c (omega arith)
-      ∙ at-copies 0 n (λ c. f c x) d c few ∙ ap (λ k. f k x) plain
+      ∙ get_or_append_left (listed 0 n (λ c. f c x)) (copied n f xs) d c (omega arith)
+      ∙ at-listed 0 n (λ c. f c x) d c few ∙ ap (λ k. f k x) plain
   at-copied (x ∷ xs) d e (suc j) c lt few =
-      let first : length (copies_from 0 n (λ c. f c x)) ≡ n = length-copies 0 n (λ c. f c x) in
-      let there : suc j * n + c ≡ length (copies_from 0 n (λ c. f c x)) + (j * n + c) =
+      let first : length (listed 0 n (λ c. f c x)) ≡ n = length-listed 0 n (λ c. f c x) in
+      let there : suc j * n + c ≡ length (listed 0 n (λ c. f c x)) + (j * n + c) =
       omega arith in
       ap (λ k. get_or (copied n f (x ∷ xs)) k d) there
-      ∙ get_or-append-add (copies_from 0 n (λ c. f c x)) (copied n f xs) (j * n + c) d
+      ∙ get_or-append-add (listed 0 n (λ c. f c x)) (copied n f xs) (j * n + c) d
       ∙ at-copied xs d e j c (omega arith) few
 
 -- a place below m * n is one of a copy
@@ -89,39 +78,32 @@ copied-each n f xs d e P all c j few row =
 
 -- ---- one more copy, and the copies of one more item
 
-copies-last : {B : Type 0} (c n : ℕ) (f : ℕ → B) →
-    copies_from c (suc n) f ≡ copies_from c n f ++ f (c + n) ∷ []
-copies-last c zero f = let e : c ≡ c + 0 = omega arith in ap (λ x. f x ∷ []) e
-copies-last c (suc n) f =
-    let e : suc c + n ≡ c + suc n = omega arith in
-    ap (λ l. f c ∷ l) (copies-last (suc c) n f ∙ ap (λ x. copies_from (suc c) n f ++ f x ∷ []) e)
-
 copied-last : {A B : Type 0} (n : ℕ) (f : ℕ → A → B) (xs : List A) (x : A) →
-    copied n f (xs ++ x ∷ []) ≡ copied n f xs ++ copies_from 0 n (λ c. f c x)
-copied-last n f [] x = append-nil (copies_from 0 n (λ c. f c x))
+    copied n f (xs ++ x ∷ []) ≡ copied n f xs ++ listed 0 n (λ c. f c x)
+copied-last n f [] x = append-nil (listed 0 n (λ c. f c x))
 copied-last n f (y ∷ xs) x =
-    let first = copies_from 0 n (λ c. f c y) in
+    let first = listed 0 n (λ c. f c y) in
     ap (λ l. first ++ l) (copied-last n f xs x)
-    ∙ sym (append_assoc first (copied n f xs) (copies_from 0 n (λ c. f c x)))
+    ∙ sym (append_assoc first (copied n f xs) (listed 0 n (λ c. f c x)))
 
 pub one_copy : {B : Type 0} (f : ℕ → B) (start items more : List B) (c : ℕ) (y : B) →
-    items ≡ start ++ copies_from 0 c f → y ≡ f c → more ≡ items ++ y ∷ [] →
-    more ≡ start ++ copies_from 0 (c + 1) f
+    items ≡ start ++ listed 0 c f → y ≡ f c → more ≡ items ++ y ∷ [] →
+    more ≡ start ++ listed 0 (c + 1) f
 one_copy f start items more c y e h m =
     let up : c + 1 ≡ suc c = omega arith in
     let plain : 0 + c ≡ c = omega arith in
-    m ∙ ap (λ l. l ++ y ∷ []) e ∙ append_assoc start (copies_from 0 c f) (y ∷ [])
-    ∙ ap (λ x. start ++ (copies_from 0 c f ++ x ∷ [])) (h ∙ ap f (sym plain))
-    ∙ ap (λ l. start ++ l) (sym (copies-last 0 c f)) ∙ ap (λ n. start ++ copies_from 0 n f) (sym up)
+    m ∙ ap (λ l. l ++ y ∷ []) e ∙ append_assoc start (listed 0 c f) (y ∷ [])
+    ∙ ap (λ x. start ++ (listed 0 c f ++ x ∷ [])) (h ∙ ap f (sym plain))
+    ∙ ap (λ l. start ++ l) (sym (listed-last 0 c f)) ∙ ap (λ n. start ++ listed 0 n f) (sym up)
 
 pub one_item : {A B : Type 0} (n : ℕ) (f : ℕ → A →
     B) (xs : List A) (y : A) (start items : List B) (i c : ℕ) → i < length xs → y ≡ get_or xs i y →
-    start ≡ copied n f (take i xs) → items ≡ start ++ copies_from 0 c (λ k. f k y) → n ≤ c →
+    start ≡ copied n f (take i xs) → items ≡ start ++ listed 0 c (λ k. f k y) → n ≤ c →
     c ≤ n → items ≡ copied n f (take (i + 1) xs)
 one_item n f xs y start items i c lt at s e above below =
     let same : c ≡ n = omega arith in
     let front : take (i + 1) xs ≡ take i xs ++ y ∷ [] =
     take_more xs i y lt ∙ ap (λ x. take i xs ++ x ∷ []) (sym at) in
-    e ∙ ap (λ l. l ++ copies_from 0 c (λ k. f k y)) s
-    ∙ ap (λ m. copied n f (take i xs) ++ copies_from 0 m (λ k. f k y)) same
+    e ∙ ap (λ l. l ++ listed 0 c (λ k. f k y)) s
+    ∙ ap (λ m. copied n f (take i xs) ++ listed 0 m (λ k. f k y)) same
     ∙ sym (copied-last n f (take i xs) y) ∙ ap (copied n f) (sym front)

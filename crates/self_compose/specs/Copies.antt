@@ -4,16 +4,12 @@ use Rattle.aig_net.specs.declared.parts.And.{And}
 use Rattle.aig_net.specs.declared.parts.Reset.{Reset}
 use Rattle.aig_net.specs.Nets.{Net, under}
 use Rattle.aig_net.specs.Executions.{Word}
-
--- f of c, c + 1 and so on, n in all
-abbrev pub copies_from : {B : Type 0} → ℕ → ℕ → (ℕ → B) → List B
-copies_from c zero f = []
-copies_from c (suc n) f = f c ∷ copies_from (suc c) n f
+use Rattle.aig_net.specs.Wires.{listed}
 
 -- the copies of the first item, then those of the next
 abbrev pub copied : {A B : Type 0} → ℕ → (ℕ → A → B) → List A → List B
 copied n f [] = []
-copied n f (x ∷ xs) = copies_from 0 n (λ c. f c x) ++ copied n f xs
+copied n f (x ∷ xs) = listed 0 n (λ c. f c x) ++ copied n f xs
 
 -- the variable of copy c of n
 abbrev pub place : ℕ → ℕ → ℕ → ℕ

@@ -1,5 +1,6 @@
 use Rattle.std.proofs.Common.{◌≡◌, ◌++◌, take}
-use Rattle.self_compose.specs.Copies.{copies_from, copied}
+use Rattle.aig_net.specs.Wires.{listed}
+use Rattle.self_compose.specs.Copies.{copied}
 use Rattle.self_compose.proofs.copied.copies.Given as goal
 
 -- the copies of the items so far
@@ -9,4 +10,4 @@ invariant-loop-item g l = l.made ≡ copied l.n (g.T.Copied.in_copy l.n) (take l
 -- and of this item in the copies so far
 abbrev pub invariant-loop-c : goal.invariant-loop-c
 invariant-loop-c g l = l.made ≡ l.initial.made
-    ++ copies_from 0 l.c (λ c. g.T.Copied.in_copy l.n c l.item)
+    ++ listed 0 l.c (λ c. g.T.Copied.in_copy l.n c l.item)
