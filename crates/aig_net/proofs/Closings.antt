@@ -102,8 +102,7 @@ module _ (net : Net) (lasso : Lasso) where
   fair-round : 0 < length lasso.cycle → IsFair net (gone lasso) → FairRound
   fair-round some fair j lt =
       let (k, from, here) = fair j lt (length lasso.stem) in
-      let P : Valuation → Type 0 = λ v. IsTrue (literal_value v (literal_at net.fairs j)) in
-      (
+      let P : Valuation → Type 0 = λ v. IsTrue (literal_value v (literal_at net.fairs j)) in (
         (k - length lasso.stem) % length lasso.cycle,
         mod-lt (k - length lasso.stem) some,
         subst P (in-cycle lasso k from) here,

@@ -36,7 +36,7 @@ each-append d xs ys P left right j lt =
           let R : ℕ → Type 0 = λ j. P j (get_or (xs ++ ys) j d) in
           let S : _ → Type 0 = P (length xs + (j - length xs)) in
           subst R at (subst S (sym (get_or-append-add xs ys (j - length xs) d))
-              (right (j - length xs) (omega arith)))
+          (right (j - length xs) (omega arith)))
     ]
 
 pub at-map : {A B : Type 0} (f : A → B) (d : A) (e : B) (xs : List A) (j : ℕ) → j < length xs →

@@ -21,7 +21,7 @@ right-last : (first : ℕ) (ands : List And) (a : And) (v : Valuation) →
 right-last first ands a v right =
     let l : length (ands ++ a ∷ []) ≡ suc (length ands) = length-last ands a in
     right (length ands) (omega arith)
-        ∙ ap (and_value v) (get_or_at ands a [] no_and (length ands) refl)
+    ∙ ap (and_value v) (get_or_at ands a [] no_and (length ands) refl)
 
 ordered-last : (first : ℕ) (ands : List And) (a : And) → AreOrdered first ands →
     Below (first + length ands) a.left → Below (first + length ands) a.right →
@@ -33,7 +33,7 @@ ordered-last first ands a good l r j lt =
       | inl e ↦
           let here : get_or (ands ++ a ∷ []) j no_and ≡ a = get_or_at ands a [] no_and j (sym e) in
           subst P (sym here) (let Q : ℕ → Type 0 =
-              λ n. Below (first + n) a.left × Below (first + n) a.right in subst Q (sym e) (l, r))
+          λ n. Below (first + n) a.left × Below (first + n) a.right in subst Q (sym e) (l, r))
       | inr apart ↦
           let small : j < length ands = omega arith in
           subst P (sym (get_or_append_left ands (a ∷ []) no_and j small)) (good j small)
@@ -53,26 +53,32 @@ and-of-value v a b =
           let l : max a b ≡ b = omega arith in
           let r : min a b ≡ a = omega arith in
           ap (λ x. literal_value v x && literal_value v (min a b)) l
-              ∙ ap (λ x. literal_value v b && literal_value v x) r
-              ∙ and-comm (literal_value v b) (literal_value v a)
+          ∙ ap (λ x. literal_value v b && literal_value v x) r
+          ∙ and-comm (literal_value v b) (literal_value v a)
       | inr le ↦
           let l : max a b ≡ a = omega arith in
           let r : min a b ≡ b = omega arith in
           ap (λ x. literal_value v x && literal_value v (min a b)) l
-              ∙ ap (λ x. literal_value v a && literal_value v x) r
+          ∙ ap (λ x. literal_value v a && literal_value v x) r
     ]
 
 pub below-max : (n a b : ℕ) → Below n a → Below n b → Below n (max a b)
 below-max n a b p q =
     let P : ℕ → Type 0 = Below n in
-    elim (cases_lt a b) [ inl lt ↦ let e : b ≡ max a b = omega arith in
-        subst P e q | inr le ↦ let e : a ≡ max a b = omega arith in subst P e p ]
+    elim (cases_lt a b) [
+      | inl lt ↦ let e : b ≡ max a b = omega arith in
+          subst P e q
+      | inr le ↦ let e : a ≡ max a b = omega arith in subst P e p
+    ]
 
 pub below-min : (n a b : ℕ) → Below n a → Below n b → Below n (min a b)
 below-min n a b p q =
     let P : ℕ → Type 0 = Below n in
-    elim (cases_lt a b) [ inl lt ↦ let e : a ≡ min a b = omega arith in
-        subst P e p | inr le ↦ let e : b ≡ min a b = omega arith in subst P e q ]
+    elim (cases_lt a b) [
+      | inl lt ↦ let e : a ≡ min a b = omega arith in
+          subst P e p
+      | inr le ↦ let e : b ≡ min a b = omega arith in subst P e q
+    ]
 
 pub below-more : (n m l : ℕ) → n ≤ m → Below n l → Below m l
 below-more n m l le lt = omega (arith, lt)
@@ -89,7 +95,7 @@ grows first ands (both x y) =
     let a = grows first ands x in
     let b = grows first (made first ands x).ands y in
     let l = length-last (made first (made first ands x).ands y).ands
-        (and_of (made first ands x).literal (made first (made first ands x).ands y).literal) in
+    (and_of (made first ands x).literal (made first (made first ands x).ands y).literal) in
     omega (arith, a, b, l)
 
 pub made-right : (first : ℕ) (ands : List And) (w : Wire) (v : Valuation) →
@@ -103,12 +109,14 @@ made-right first ands (both x y) v right =
     let a : Made = made first ands x in
     let b : Made = made first (made first ands x).ands y in
     let (ra, right-y) = made-right first (made first ands x).ands y v
-        (right-first first b.ands (and_of a.literal b.literal ∷ []) v right) in
-    let (rest, right-x) = made-right first ands x v ra in
-    (rest, value-even v (first + length b.ands)
-        ∙ right-last first b.ands (and_of a.literal b.literal) v right
-        ∙ and-of-value v a.literal b.literal ∙ ap (λ c. c && literal_value v b.literal) right-x
-        ∙ ap (λ c. wire_value v x && c) right-y)
+    (right-first first b.ands (and_of a.literal b.literal ∷ []) v right) in
+    let (rest, right-x) = made-right first ands x v ra in (
+      rest,
+      value-even v (first + length b.ands)
+          ∙ right-last first b.ands (and_of a.literal b.literal) v right
+          ∙ and-of-value v a.literal b.literal ∙ ap (λ c. c && literal_value v b.literal) right-x
+          ∙ ap (λ c. wire_value v x && c) right-y,
+    )
 
 pub made-ordered : (first : ℕ) (ands : List And) (w : Wire) → AreOrdered first ands →
     WireBelow (first + length ands) w →
@@ -116,9 +124,11 @@ pub made-ordered : (first : ℕ) (ands : List And) (w : Wire) → AreOrdered fir
     × Below (first + length (made first ands w).ands) (made first ands w).literal
 made-ordered first ands (literal l) good below = (good, below)
 made-ordered first ands (opposed w) good below =
-    let (rest, here) = made-ordered first ands w good below in
-    (rest, below-opposite (first + length (made first ands w).ands)
-        (made first ands w).literal here)
+    let (rest, here) = made-ordered first ands w good below in (
+      rest,
+      below-opposite (first + length (made first ands w).ands)
+          (made first ands w).literal here,
+    )
 made-ordered first ands (both x y) good (p, q) =
     let a : Made = made first ands x in
     let b : Made = made first (made first ands x).ands y in
@@ -126,15 +136,17 @@ made-ordered first ands (both x y) good (p, q) =
     let more' = grows first (made first ands x).ands y in
     let (oa, la) = made-ordered first ands x good p in
     let (ob, lb) = made-ordered first (made first ands x).ands y oa
-        (wire-more (first + length ands) (first + length a.ands) y (omega (arith, more)) q) in
+    (wire-more (first + length ands) (first + length a.ands) y (omega (arith, more)) q) in
     let la' : Below (first + length b.ands) a.literal =
-        below-more (first + length a.ands) (first + length b.ands) a.literal
-        (omega (arith, more')) la in
-    let l = length-last b.ands (and_of a.literal b.literal) in
-    (ordered-last first b.ands (and_of a.literal b.literal) ob
-        (below-max (first + length b.ands) a.literal b.literal la' lb)
-        (below-min (first + length b.ands) a.literal b.literal la' lb), below-even _
-        (first + length b.ands) (omega (arith, l)))
+    below-more (first + length a.ands) (first + length b.ands) a.literal
+    (omega (arith, more')) la in
+    let l = length-last b.ands (and_of a.literal b.literal) in (
+      ordered-last first b.ands (and_of a.literal b.literal) ob
+          (below-max (first + length b.ands) a.literal b.literal la' lb)
+          (below-min (first + length b.ands) a.literal b.literal la' lb),
+      below-even _
+          (first + length b.ands) (omega (arith, l)),
+    )
 
 -- ---- wires one after the other
 
@@ -178,8 +190,8 @@ all-ordered first ands (w ∷ ws) good below =
     let more = grows first ands w in
     let (og, here) = made-ordered first ands w good (below 0 (omega arith)) in
     let (all, later) = all-ordered first (made first ands w).ands ws og
-        (λ j lt. wire-more (first + length ands) _ (wire_at ws j) (omega (arith, more))
-        (below (suc j) (omega arith))) in
+    (λ j lt. wire-more (first + length ands) _ (wire_at ws j) (omega (arith, more))
+    (below (suc j) (omega arith))) in
     (all, at here later)
   where
     at : Below (first + length (made first ands w).ands) (made first ands w).literal →
@@ -191,7 +203,7 @@ all-ordered first ands (w ∷ ws) good below =
     at here later zero lt =
         let more = all-grow first (made first ands w).ands ws in
         below-more _ (first + length (made_all first ands (w ∷ ws)).ands)
-            (made first ands w).literal (omega (arith, more)) here
+        (made first ands w).literal (omega (arith, more)) here
     at here later (suc j) lt = later j (omega arith)
 
 -- ---- wires that use those before
@@ -207,7 +219,7 @@ module _ (first : ℕ) (ands : List And) (wire : (ℕ → ℕ) → ℕ → Wire)
   each-length zero = refl
   each-length (suc n) =
       length-last (stage n).literals (made first (stage n).ands (wire (lit n) n)).literal
-          ∙ ap suc (each-length n)
+      ∙ ap suc (each-length n)
 
   pub each-grow : (n : ℕ) → length ands ≤ length (stage n).ands
   each-grow zero = omega arith
@@ -218,7 +230,7 @@ module _ (first : ℕ) (ands : List And) (wire : (ℕ → ℕ) → ℕ → Wire)
   lit-stays n k lt =
       let l = each-length n in
       get_or_append_left (stage n).literals
-          ((made first (stage n).ands (wire (lit n) n)).literal ∷ []) 0 k (omega (arith, l))
+      ((made first (stage n).ands (wire (lit n) n)).literal ∷ []) 0 k (omega (arith, l))
 
   pub lit-new : (n : ℕ) → lit (suc n) n ≡ (made first (stage n).ands (wire (lit n) n)).literal
   lit-new n = get_or_at (stage n).literals
@@ -251,7 +263,7 @@ module _ (first : ℕ) (ands : List And) (wire : (ℕ → ℕ) → ℕ → Wire)
           elim (cases_eq k n) [
             | inl e ↦
                 let P : ℕ → Type 0 = λ k. literal_value v (lit (suc n) k) ≡ wire_value v
-                    (wire (lit k) k) in
+                (wire (lit k) k) in
                 subst P (sym e) (ap (literal_value v) (lit-new n) ∙ here)
             | inr apart ↦ ap (literal_value v) (lit-stays n k (omega arith))
                 ∙ before k (omega arith)
@@ -266,7 +278,7 @@ module _ (first : ℕ) (ands : List And) (wire : (ℕ → ℕ) → ℕ → Wire)
   each-ordered (suc n) good below =
       let (rest, before) = each-ordered n good (λ k lt. below k (omega arith)) in
       let (all, here) = made-ordered first (stage n).ands (wire (lit n) n) rest
-          (below n (omega arith) before) in
+      (below n (omega arith) before) in
       (all, at before here)
     where
       at : ((k : ℕ) → k < n → Below (first + length (stage n).ands) (lit n k)) →
@@ -280,8 +292,8 @@ module _ (first : ℕ) (ands : List And) (wire : (ℕ → ℕ) → ℕ → Wire)
             | inr apart ↦
                 let more = grows first (stage n).ands (wire (lit n) n) in
                 subst P (sym (lit-stays n k (omega arith)))
-                    (below-more (first + length (stage n).ands) _ (lit n k) (omega (arith, more))
-                    (before k (omega arith)))
+                (below-more (first + length (stage n).ands) _ (lit n k) (omega (arith, more))
+                (before k (omega arith)))
           ]
 
 -- ---- the larger literal stands first
@@ -289,7 +301,7 @@ module _ (first : ℕ) (ands : List And) (wire : (ℕ → ℕ) → ℕ → Wire)
 turned-last : (ands : List And) (a b : ℕ) → AreTurned ands → AreTurned (ands ++ and_of a b ∷ [])
 turned-last ands a b good j lt =
     let many : length (ands ++ and_of a b ∷ []) ≡ suc (length ands) =
-        length-last ands (and_of a b) in
+    length-last ands (and_of a b) in
     let P : And → Type 0 = λ x. x.right ≤ x.left in
     elim (cases_eq j (length ands)) [
       | inl e ↦ subst P (sym (get_or_at ands (and_of a b) [] no_and j (sym e))) (omega arith)
@@ -304,8 +316,8 @@ made-turned first ands (literal l) good = good
 made-turned first ands (opposed w) good = made-turned first ands w good
 made-turned first ands (both x y) good =
     turned-last (made first (made first ands x).ands y).ands (made first ands x).literal
-        (made first (made first ands x).ands y).literal
-        (made-turned first (made first ands x).ands y (made-turned first ands x good))
+    (made first (made first ands x).ands y).literal
+    (made-turned first (made first ands x).ands y (made-turned first ands x good))
 
 pub all-turned : (first : ℕ) (ands : List And) (ws : List Wire) → AreTurned ands →
     AreTurned (made_all first ands ws).ands
