@@ -1,10 +1,13 @@
-mod Closings
+pub mod Closings
 mod Executing
 mod Follows
 mod GateLemmas
-mod Looping
-mod Rounds
+pub mod Listed
+pub mod Literals
+pub mod Looping
+pub mod Rounds
 mod RowLemmas
 mod SignalLemmas
 mod States
-mod Valuations
+pub mod Valuations
+pub mod Wiring

@@ -15,7 +15,8 @@ pub record IsRun (net : Net) (word : Word) : Type 0 where
 -- Each fairness literal is true again and again.
 abbrev pub IsFair : Net → Word → Type 0
 IsFair net word =
-    (j : ℕ) → j < length net.fairs → (i : ℕ) → (k : ℕ) × (i ≤ k) × IsTrue (literal_value (word k) (literal_at net.fairs j))
+    (j : ℕ) → j < length net.fairs → (i : ℕ) →
+    (k : ℕ) × (i ≤ k) × IsTrue (literal_value (word k) (literal_at net.fairs j))
 
 pub record IsExecution (net : Net) (word : Word) : Type 0 where
   pub run : IsRun net word
@@ -52,12 +53,14 @@ pub record IsLassoExecution (net : Net) (lasso : Lasso) : Type 0 where
   pub goes : (i : ℕ) → suc i < steps lasso → IsStep net (step_at lasso i) (step_at lasso (suc i))
   pub back : IsStep net (step_at lasso (steps lasso - 1)) (step_at lasso (length lasso.stem))
   pub fair : (j : ℕ) → j < length net.fairs →
-      (k : ℕ) × (k < length lasso.cycle) × IsTrue (literal_value (value_in lasso.cycle k) (literal_at net.fairs j))
+      (k : ℕ) × (k < length lasso.cycle)
+      × IsTrue (literal_value (value_in lasso.cycle k) (literal_at net.fairs j))
 
 -- the lasso gone round for ever
 abbrev pub gone : Lasso → Word
 gone lasso i =
-    cond (nat_lt i (length lasso.stem)) (value_in lasso.stem i) (value_in lasso.cycle ((i - length lasso.stem) % length lasso.cycle))
+    cond (nat_lt i (length lasso.stem)) (value_in lasso.stem i)
+    (value_in lasso.cycle ((i - length lasso.stem) % length lasso.cycle))
 
 -- the word from s on for n places
 abbrev pub part : Word → ℕ → ℕ → List Valuation

@@ -4,3 +4,4 @@ pub mod Nets
 pub mod Rows
 pub mod Signals
 pub mod Simulations
+pub mod Wires

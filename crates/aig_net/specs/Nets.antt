@@ -55,7 +55,8 @@ AllBelow n literals = (j : ℕ) → j < length literals → Below n (literal_at 
 -- Each and uses lower variables only; the first one's variable is given.
 abbrev pub AreOrdered : ℕ → List And → Type 0
 AreOrdered first ands =
-    (j : ℕ) → j < length ands → Below (first + j) (and_at ands j).left × Below (first + j) (and_at ands j).right
+    (j : ℕ) → j < length ands → Below (first + j) (and_at ands j).left
+    × Below (first + j) (and_at ands j).right
 
 -- The larger literal of each and comes first.
 abbrev pub AreTurned : List And → Type 0
@@ -116,12 +117,15 @@ ResetTo One b = b ≡ true
 ResetTo Free b = Unit {0}
 
 abbrev pub IsStart : Net → Valuation → Type 0
-IsStart net v = (j : ℕ) → j < length net.latches → ResetTo (reset_at net.resets j) (v (latch_variable net j))
+IsStart net v = (j : ℕ) → j < length net.latches →
+    ResetTo (reset_at net.resets j) (v (latch_variable net j))
 
 -- Each latch has next what its next literal has now.
 abbrev pub IsStep : Net → Valuation → Valuation → Type 0
 IsStep net v w =
-    (j : ℕ) → j < length net.latches → w (latch_variable net j) ≡ literal_value v (literal_at net.latches j)
+    (j : ℕ) → j < length net.latches →
+    w (latch_variable net j) ≡ literal_value v (literal_at net.latches j)
 
 abbrev pub AllTrue : List ℕ → Valuation → Type 0
-AllTrue literals v = (j : ℕ) → j < length literals → IsTrue (literal_value v (literal_at literals j))
+AllTrue literals v = (j : ℕ) → j < length literals →
+    IsTrue (literal_value v (literal_at literals j))

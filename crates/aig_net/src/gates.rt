@@ -1,6 +1,6 @@
 //! The values of literals and ands.
 
-ghost use Rattle.std.specs.Prelude.{◌≡◌, ℕ, ◌+◌, ◌/◌, ◌<◌, ◌≤◌, length, take};
+ghost use Rattle.std.specs.Prelude.{◌≡◌, ◌+◌, ◌/◌, ◌<◌, ◌≤◌, length, take};
 ghost use Rattle.aig_net.specs.Nets.{AreOrdered, AreRight, literal_value, row};
 
 use crate::parts::And;

@@ -3,6 +3,7 @@
 
 mod gates;
 mod laws;
+mod maker;
 mod net;
 mod parts;
 mod run;
@@ -11,6 +12,7 @@ mod simulation;
 
 pub use gates::value_of;
 pub use laws::{lassos_repeat, one_execution, one_valuation};
+pub use maker::{Gates, opposite_of};
 pub use net::Net;
 pub use parts::{And, AndList, NameList, NetParts, Reset, ResetList};
 pub use run::{Row, RowList, Run, RunList, ValueLasso};

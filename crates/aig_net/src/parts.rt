@@ -1,7 +1,5 @@
 //! What a net is made of.
 
-ghost use Rattle.std.specs.Prelude.{◌≡◌, IfOk};
-
 use hy_base::{List, M, NumList, Remake, Text};
 use std::alloc::Global;
 

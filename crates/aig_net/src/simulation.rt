@@ -1,7 +1,7 @@
 //! What all variables of a net do in a run.
 
-ghost use Rattle.std.specs.Prelude.{◌≡◌, ℕ, ◌≤◌, ◌<◌, ◌^◌, ◌↔◌, List, Bool, length, IsTrue, IfOk, IfSome, IfNone};
-ghost use Rattle.aig_net.specs.Nets.{AllBelow, AllTrue, Below, IsNet, ResetTo, literal_value, row, variables};
+ghost use Rattle.std.specs.Prelude.{◌≡◌, ℕ, ◌<◌, ◌↔◌, List, Bool, length, IsTrue, IfOk, IfSome, IfNone};
+ghost use Rattle.aig_net.specs.Nets.{AllBelow, AllTrue, Below, IsNet, ResetTo, row, variables};
 ghost use Rattle.aig_net.specs.Rows.{latch_row};
 ghost use Rattle.aig_net.specs.Following.{AreFull, AreSeen, Follows, IsRound, IsSeen, IsStartRow, IsState, row_at, values_of};
 ghost use Rattle.aig_net.specs.Simulations.{IsExecutionOf};
@@ -18,10 +18,12 @@ use std::alloc::Global;
 /// literal; memory is taken for the rows of values and one row of latches.
 #[tactic(auto, using(crate::proofs::Executing::not_started))]
 pub fn simulate(alloc: Global, net: &Net, run: &Run) -> M<Option<ValueLasso>>
-    ensures some { IfOk result (λ found. IfSome found (λ values. IsExecutionOf net.now run.now values)) }
-    ensures none { IfOk result (λ found. IfNone found ((values : ValueLasso) → ¬ IsExecutionOf net.now run.now values)) }
+    ensures some { IfOk result (λ found. IfSome found (λ values.
+        IsExecutionOf net.now run.now values)) }
+    ensures none { IfOk result (λ found. IfNone found (
+        (values : ValueLasso) → ¬ IsExecutionOf net.now run.now values)) }
 {
-    net.variables();
+    net.variables(); // what each net keeps
     if !is_start(net.resets().as_slice(), run.first.as_slice()) {
         return Ok(None);
     }
@@ -30,13 +32,15 @@ pub fn simulate(alloc: Global, net: &Net, run: &Run) -> M<Option<ValueLasso>>
 }
 
 /// The values in each step of a run whose first latch values are these and may stand at the start.
-#[tactic(auto, using(crate::proofs::Executing::no_stem, crate::proofs::Executing::no_cycle, crate::proofs::Executing::no_round, crate::proofs::Executing::follows_full, crate::proofs::Executing::execution))]
+#[tactic(auto, using(crate::proofs::Executing::no_cycle, crate::proofs::Executing::no_round))]
 fn execute(alloc: Global, net: &Net, run: &Run, latches: &mut [bool]) -> M<Option<ValueLasso>>
     requires net { IsNet net.now }
     requires first { latches.old ≡ run.now.first }
     requires starts { IsStartRow net.now.resets run.now.first }
-    ensures some { IfOk result (λ found. IfSome found (λ values. IsExecutionOf net.now run.now values)) }
-    ensures none { IfOk result (λ found. IfNone found ((values : ValueLasso) → ¬ IsExecutionOf net.now run.now values)) }
+    ensures some { IfOk result (λ found. IfSome found (λ values.
+        IsExecutionOf net.now run.now values)) }
+    ensures none { IfOk result (λ found. IfNone found (
+        (values : ValueLasso) → ¬ IsExecutionOf net.now run.now values)) }
 {
     let Some(stem) = follow(alloc, net, latches, run.stem.as_slice())? else {
         return Ok(None);
@@ -83,8 +87,11 @@ fn may_start(reset: Reset, value: bool) -> bool
 fn follow(alloc: Global, net: &Net, latches: &mut [bool], inputs: &[Row]) -> M<Option<RowList>>
     requires net { IsNet net.now }
     requires latches { length latches.old ≡ length net.now.latches }
-    ensures some { IfOk result (λ found. IfSome found (λ rows. Follows net.now latches.old inputs.now rows latches.new)) }
-    ensures none { IfOk result (λ found. IfNone found ((rows : List (List Bool)) (last : List Bool) → ¬ Follows net.now latches.old inputs.now rows last)) }
+    ensures some { IfOk result (λ found. IfSome found (λ rows.
+        Follows net.now latches.old inputs.now rows latches.new)) }
+    ensures none { IfOk result (λ found. IfNone found (
+        (rows : List (List Bool)) (last : List Bool) →
+        ¬ Follows net.now latches.old inputs.now rows last)) }
 {
     let mut rows = List::new(alloc);
     for given in inputs {
@@ -102,8 +109,10 @@ fn follow(alloc: Global, net: &Net, latches: &mut [bool], inputs: &[Row]) -> M<O
 #[tactic(auto, using(crate::proofs::States::no_state))]
 fn state(alloc: Global, net: &Net, latches: &[bool], inputs: &[bool]) -> M<Option<Row>>
     requires { length latches.now ≡ length net.now.latches }
-    ensures some { IfOk result (λ found. IfSome found (λ values. IsState net.now latches.now inputs.now values)) }
-    ensures none { IfOk result (λ found. IfNone found ((values : List Bool) → ¬ IsState net.now latches.now inputs.now values)) }
+    ensures some { IfOk result (λ found. IfSome found (λ values.
+        IsState net.now latches.now inputs.now values)) }
+    ensures none { IfOk result (λ found. IfNone found ((values : List Bool) →
+        ¬ IsState net.now latches.now inputs.now values)) }
 {
     if inputs.len() != net.inputs() as usize {
         return Ok(None);

@@ -4,4 +4,5 @@ use Rattle.aig_net.proofs.simulation.are_true.Given as goal
 
 -- the literals so far are true
 abbrev pub invariant-loop-literal : goal.invariant-loop-literal
-invariant-loop-literal l = (j : ℕ) → j < l.literal-index → IsTrue (literal_value (row l.values) (literal_at l.literals j))
+invariant-loop-literal l = (j : ℕ) → j < l.literal-index →
+    IsTrue (literal_value (row l.values) (literal_at l.literals j))

@@ -5,4 +5,5 @@ use Rattle.aig_net.proofs.simulation.is_seen.Given as goal
 
 -- no row so far has the literal true
 abbrev pub invariant-loop-values : goal.invariant-loop-values
-invariant-loop-values l = (k : ℕ) → k < l.values-index → ¬ IsTrue (literal_value (row (row_at l.rows k)) l.literal)
+invariant-loop-values l = (k : ℕ) → k < l.values-index →
+    ¬ IsTrue (literal_value (row (row_at l.rows k)) l.literal)
