@@ -1,4 +1,5 @@
 pub mod Answering
+pub mod Building
 pub mod Chains
 pub mod Collecting
 pub mod Deriving

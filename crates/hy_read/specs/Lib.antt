@@ -4,6 +4,7 @@ pub mod Counting
 pub mod Grammar
 pub mod Moves
 pub mod Operators
+pub mod Parses
 pub mod Places
 pub mod Results
 pub mod Scanning

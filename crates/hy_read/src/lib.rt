@@ -1,10 +1,14 @@
 //! Formula texts: the reader, which says where a text that is no formula goes wrong, and the printer.
 #![tactic(auto)]
 
+mod build_error;
 mod counts;
 mod error;
 mod laws;
 mod operator;
+mod parse;
+mod parsed;
+mod parser;
 mod scan;
 mod scope;
 mod survey;
