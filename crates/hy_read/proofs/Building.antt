@@ -1,6 +1,6 @@
 -- What the parser builds of an expression, from what it built of its parts.
-use Rattle.std.proofs.Common.{◌≡◌, ◌≢◌, ℕ, zero, suc, max, ◌-◌, ◌<◌, ◌≤◌, ◌⊎◌, inl, inr, List, [], ◌∷◌, Option, Some, None, Result, Ok, Err, refl, ap, sym, subst, ◌∙◌, arith}
-use Rattle.hy_formula.specs.Trees.{Tree, tree_of, height}
+use Rattle.std.proofs.Common.{rules, IsTrue, ◌≡◌, ◌≢◌, ℕ, zero, suc, max, ◌-◌, ◌<◌, ◌≤◌, ◌⊎◌, inl, inr, List, [], ◌∷◌, Option, Some, None, Result, Ok, Err, refl, ap, sym, subst, ◌∙◌, arith}
+use Rattle.hy_formula.specs.Trees.{Tree, tree_of, height, vars_below}
 use Rattle.hy_formula.specs.Trees as trees
 use Rattle.hy_read.specs.declared.symbol.Symbol.{Symbol}
 use Rattle.hy_read.specs.declared.symbol.Symbol.TheVariants as signs
@@ -301,3 +301,8 @@ pub same_atom : (o : Option (List (List ℕ))) (names variables : List (List ℕ
 same_atom o names variables a v tree n k e h found place =
     let b = bound_of o names variables a v tree e h in
     same_parts n b.number k b.place (some_is _ n b.number found b.has_number) (some_is _ k b.place place b.has_place) ∙ sym b.is_atom
+
+-- ---- each variable is the place of a quantifier
+
+pub below_atom : (n number place : ℕ) (tree : Tree) → tree ≡ trees.atom number place → place < n → IsTrue (vars_below n tree)
+below_atom n number place tree e h = subst (λ x. IsTrue (vars_below n x)) (sym e) (search rules)

@@ -6,6 +6,7 @@ pub mod Deriving
 pub mod Examples
 pub mod Faulting
 pub mod Fitting
+pub mod HeadsOfFormulas
 pub mod Heights
 pub mod Proved
 pub mod Once

@@ -7,6 +7,7 @@ use Rattle.hy_read.specs.declared.symbol.Symbol.TheVariants as signs
 use Rattle.hy_formula.specs.Trees.{Tree}
 use Rattle.hy_read.specs.Tokens.{Token, symbol, variable, atom, nothing, Kind, word, leaf, prefix, kind_of, kind_of_symbol}
 use Rattle.hy_read.specs.Grammar.{Derives, alone, joined, constant, prefixed, named, grouped, constant_of, unary_of, binary_of, loosest, quantifier_word, Quantifier, quantifier_tokens, Read, IsFormula, AreFormulas}
+use Rattle.hy_read.specs.Headings.{NoWord}
 use Rattle.hy_read.specs.Parses.{IsLooser, Stops}
 use Rattle.hy_read.proofs.TokenKinds.{prefix-kind, leaf-kind}
 
@@ -79,11 +80,6 @@ module _ (Means : List ℕ → List ℕ → Tree → Type 0) (once : (name bound
   derives_once (grouped d) (grouped e) s t =
       let inside = derives_once d e tt tt in
       (inside.0, (same_after _ _ signs.CloseParen signs.CloseParen inside.1).1)
-
--- The tokens do not begin with a quantifier word.
-abbrev pub NoWord : List Token → Type 0
-NoWord [] = Unit {0}
-NoWord (t ∷ ts) = kind_of t ≡ word → ⊥
 
 not-word : (k l : Kind) → k ≡ leaf → k ≡ l → l ≡ word → ⊥
 not-word k l e f g = cc

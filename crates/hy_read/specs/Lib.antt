@@ -2,6 +2,7 @@ pub mod Answers
 pub mod Contract
 pub mod Counting
 pub mod Grammar
+pub mod Headings
 pub mod Moves
 pub mod Operators
 pub mod Parses

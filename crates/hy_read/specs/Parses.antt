@@ -1,7 +1,7 @@
 -- What the parser builds from the tokens of a body that is known to be one.
-use Rattle.std.specs.Prelude.{◌≡◌, ◌≢◌, ℕ, ◌<◌, ◌≤◌, List, [], ◌∷◌, drop, map, Option, Some, None, Result, Ok, Err}
+use Rattle.std.specs.Prelude.{◌≡◌, ◌≢◌, ℕ, ◌<◌, ◌≤◌, List, [], ◌∷◌, drop, map, Option, Some, None, Result, Ok, Err, IsTrue}
 use Rattle.std.specs.Option.{option_map}
-use Rattle.hy_formula.specs.Trees.{Tree, tree_of, height}
+use Rattle.hy_formula.specs.Trees.{Tree, tree_of, height, vars_below}
 use Rattle.hy_read.specs.declared.symbol.Symbol.{Symbol}
 use Rattle.hy_read.specs.declared.operator.Binary.{Binary}
 use Rattle.hy_read.specs.declared.build_error.BuildError.{BuildError}
@@ -56,10 +56,11 @@ IsWithin end follows.End = Unit {0}
 IsWithin end (follows.Symbol s behind) = behind ≤ end
 IsWithin end follows.Other = Unit {0}
 
--- The height is no more than this.
-pub record IsSized (end high : ℕ) (p : Parsed) : Type 0 where
+-- The height is no more than this, no place is beyond the end, and each variable is below a number.
+pub record IsSized (end high variables : ℕ) (p : Parsed) : Type 0 where
   pub low : p.height ≤ high
   pub within : IsWithin end p.follow
+  pub below : IsTrue (vars_below variables (tree_of p.body))
 
 -- This tree was parsed, and this rest stands behind.
 pub record IsParsed (text : List ℕ) (tree : Tree) (rest : List Token) (p : Parsed) : Type 0 where

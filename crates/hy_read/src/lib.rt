@@ -4,6 +4,7 @@
 mod build_error;
 mod counts;
 mod error;
+mod heading;
 mod laws;
 mod operator;
 mod parse;

@@ -31,7 +31,7 @@ impl<'a> Parser<'a> {
         high: u32,
     ) -> Result<Parsed, BuildError>
         requires { at ≤ length self.now.text.now }
-        ensures sized { IfOk result (λ p. IsSized (length self.now.text.now) high p) }
+        ensures sized { IfOk result (λ p. IsSized (length self.now.text.now) high (length self.now.variables.now) p) }
         ensures built { (tokens : List PlainToken) → AreLeft self.now.text.now at tokens
             → Builds (means self.now) self.now.text.now parens (rank_number rank) high tokens result }
     {
@@ -59,7 +59,7 @@ impl<'a> Parser<'a> {
     #[cycle(parse)]
     fn operand(&self, at: usize, parens: u32, high: u32) -> Result<Parsed, BuildError>
         requires { at ≤ length self.now.text.now }
-        ensures sized { IfOk result (λ p. IsSized (length self.now.text.now) high p) }
+        ensures sized { IfOk result (λ p. IsSized (length self.now.text.now) high (length self.now.variables.now) p) }
         ensures built { (tokens : List PlainToken) → AreLeft self.now.text.now at tokens
             → Builds (means self.now) self.now.text.now parens 0 high tokens result }
     {
@@ -88,7 +88,7 @@ impl<'a> Parser<'a> {
     ) -> Result<Parsed, BuildError>
         requires within { behind ≤ length self.now.text.now }
         requires high { 0 < high }
-        ensures sized { IfOk result (λ p. IsSized (length self.now.text.now) high p) }
+        ensures sized { IfOk result (λ p. IsSized (length self.now.text.now) high (length self.now.variables.now) p) }
         ensures built { (tokens : List PlainToken) → AreLeft self.now.text.now behind tokens
             → Builds (means self.now) self.now.text.now parens 0 high (symbol_token symbol ∷ tokens) result }
     {
@@ -114,7 +114,7 @@ impl<'a> Parser<'a> {
     ) -> Result<Parsed, BuildError>
         requires within { at ≤ length self.now.text.now }
         requires high { 0 < high }
-        ensures sized { IfOk result (λ p. IsSized (length self.now.text.now) high p) }
+        ensures sized { IfOk result (λ p. IsSized (length self.now.text.now) high (length self.now.variables.now) p) }
         ensures built { (s : PlainSymbol) (tokens : List PlainToken) → unary_of s ≡ Some (makes operator) → AreLeft self.now.text.now at tokens
             → Builds (means self.now) self.now.text.now parens 0 high (symbol_token s ∷ tokens) result }
     {
@@ -131,7 +131,7 @@ impl<'a> Parser<'a> {
     #[cycle(parse)]
     fn group(&self, at: usize, parens: u32, high: u32) -> Result<Parsed, BuildError>
         requires { at ≤ length self.now.text.now }
-        ensures sized { IfOk result (λ p. IsSized (length self.now.text.now) high p) }
+        ensures sized { IfOk result (λ p. IsSized (length self.now.text.now) high (length self.now.variables.now) p) }
         ensures built { (tokens : List PlainToken) → AreLeft self.now.text.now at tokens
             → Builds (means self.now) self.now.text.now parens 0 high (symbol_token Symbol.OpenParen ∷ tokens) result }
     {
@@ -167,7 +167,7 @@ impl<'a> Parser<'a> {
     /// The operand that the atom of this name and this variable is, behind which `behind` is.
     fn atom(&self, name: &[u8], variable: &[u8], behind: usize) -> Result<Parsed, BuildError>
         requires within { behind ≤ length self.now.text.now }
-        ensures sized { IfOk result (λ p. IsSized (length self.now.text.now) 1 p) }
+        ensures sized { IfOk result (λ p. IsSized (length self.now.text.now) 1 (length self.now.variables.now) p) }
         ensures built { (parens high : ℕ) (tokens : List PlainToken) → AreLeft self.now.text.now behind tokens
             → Builds (means self.now) self.now.text.now parens 0 high (atom_token name.now variable.now ∷ tokens) result }
     {
