@@ -37,7 +37,7 @@ binary-height signs.Weak r join a b h = joined-as signs.Weak 1 r join Rattle.hy_
 binary-height _ r join a b h = absurd cc
 
 module _ (Means : List ℕ → List ℕ → Tree → Type 0) (low : (n v : List ℕ) (t : Tree) → Means n v t → height t ≡ 1) where
-  flatten : {rank : ℕ} {tokens rest : List Token} {tree : Tree} → Derives Means rank tokens tree rest → (b : Tree) × Derives Flat rank tokens b rest × (height tree ≡ height b)
+  pub flatten : {rank : ℕ} {tokens rest : List Token} {tree : Tree} → Derives Means rank tokens tree rest → (b : Tree) × Derives Flat rank tokens b rest × (height tree ≡ height b)
   flatten (alone d) = let (b, c, e) = flatten d in (b, alone c, e)
   flatten (joined {left = left} {right = right} {s = s} {join = join} h d e) =
       let (a, c, f) = flatten d in

@@ -1,11 +1,14 @@
 pub mod Answering
 pub mod Building
+pub mod BuildingFormulas
 pub mod Chains
 pub mod Collecting
+pub mod CountingFormulas
 pub mod Deriving
 pub mod Examples
 pub mod Faulting
 pub mod Fitting
+pub mod FlatFormulas
 pub mod HeadsOfFormulas
 pub mod Heights
 pub mod Proved

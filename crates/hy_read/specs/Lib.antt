@@ -1,4 +1,5 @@
 pub mod Answers
+pub mod Builds
 pub mod Contract
 pub mod Counting
 pub mod Grammar

@@ -4,8 +4,10 @@
 mod build_error;
 mod counts;
 mod error;
+mod formulas;
 mod heading;
 mod laws;
+mod names;
 mod operator;
 mod parse;
 mod parsed;
@@ -20,6 +22,7 @@ mod variable;
 mod word;
 
 pub use error::ReadError;
+pub use formulas::SpecList;
 pub use laws::{
     allowed_is_derived, fault_answered, fault_fits, fault_found, height_without_names, one_answer,
     one_answer_to_bytes, one_fault, one_reading, parens_are_counted, viable_begins_text,

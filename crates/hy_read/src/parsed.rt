@@ -1,7 +1,8 @@
-ghost use Rattle.std.specs.Prelude.{◌≡◌, ◌≢◌, ◌≤◌, ℕ, List, length, MatchOption, Some};
+ghost use Rattle.std.specs.Prelude.{◌≡◌, ◌≢◌, ◌≤◌, ◌∷◌, ℕ, List, length, MatchOption, Some};
 ghost use Rattle.hy_read.specs.Operators.{rank_number};
 ghost use Rattle.hy_read.specs.Parses.{AreLeft, HasNoOperator, IsFollowed, IsOperator, IsWithin};
-ghost use Rattle.hy_read.specs.Tokens.{Token as PlainToken};
+ghost use Rattle.hy_read.specs.Tokens.{Token as PlainToken, symbol};
+ghost use Rattle.hy_read.specs.declared.symbol.Symbol.{Symbol as PlainSymbol};
 
 use crate::operator::{Binary, Rank};
 use crate::scan::next_token;
@@ -70,6 +71,17 @@ impl Follow {
         match *self {
             Follow::Symbol(Symbol::CloseParen, behind) => Some(behind),
             _ => None,
+        }
+    }
+
+    /// The place just behind the symbol that stands here, and else `at`.
+    pub fn past(&self, at: usize) -> usize
+        ensures past { (text : List ℕ) (s : PlainSymbol) (more : List PlainToken) → IsFollowed text self.now (symbol s ∷ more) → AreLeft text result more }
+        ensures within { (end : ℕ) → at ≤ end → IsWithin end self.now → result ≤ end }
+    {
+        match *self {
+            Follow::Symbol(_, behind) => behind,
+            Follow::End | Follow::Other => at,
         }
     }
 }
