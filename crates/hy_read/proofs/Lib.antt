@@ -15,6 +15,7 @@ pub mod Proved
 pub mod Once
 pub mod Parens
 pub mod Passing
+pub mod Reading
 pub mod Rebinding
 pub mod Running
 pub mod Spanning

@@ -4,6 +4,7 @@ pub mod Contract
 pub mod Counting
 pub mod Grammar
 pub mod Headings
+pub mod Judged
 pub mod Moves
 pub mod Operators
 pub mod Parses
