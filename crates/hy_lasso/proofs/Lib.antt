@@ -1,4 +1,6 @@
 pub mod LassoWords
+pub mod Bodies
 pub mod Negating
+pub mod Periods
 pub mod Places
 pub mod Rows

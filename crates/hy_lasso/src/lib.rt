@@ -1,8 +1,13 @@
 //! Lassos: endless words that repeat, and what formulas say of lists of them.
 #![tactic(auto)]
 
+mod error;
 mod lasso;
 pub mod laws;
+mod meaning;
+mod period;
 mod row;
 
+pub use error::HoldsError;
 pub use lasso::{Lasso, LassoList};
+pub use meaning::holds_body;
