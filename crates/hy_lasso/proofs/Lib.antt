@@ -1,3 +1,4 @@
+pub mod Choosing
 pub mod LassoWords
 pub mod Bodies
 pub mod Negating

@@ -3,8 +3,9 @@ use Rattle.std.proofs.Common.{◌≡◌, ℕ, zero, suc, ◌+◌, ◌-◌, ◌*�
 use Rattle.std.proofs.Math.Nat.{mod-add-div, mod-lt, mul_comm, mul_assoc, mul-mod_left, mul-le-mul_right, mul-sub}
 use Rattle.std.proofs.lemmas.Bool.{cases_eq, cases_lt}
 use Rattle.std.proofs.lemmas.Grind.{common_steps}
-use Rattle.std.proofs.lemmas.List.{get_or_append_left, length-append, append_assoc, take-append-drop, map-append}
-use Rattle.std.proofs.lemmas.Option.{get_or_from_slice_get}
+use Rattle.std.proofs.lemmas.List.{get_or_append_left, length-append, append_assoc, take-append-drop, map-append, length-map}
+use Rattle.std.proofs.lemmas.Option.{get_or_from_slice_get, slice_get-get_or}
+use Rattle.std.specs.List.{All}
 use Rattle.std.proofs.Math.Seq.{take-suc}
 use Rattle.hy_bits.specs.Letter.{Letter}
 use Rattle.hy_formula.specs.Lassos.{Lasso}
@@ -149,15 +150,15 @@ period-front front more t d p =
 
 pub past-common : (tuple : List (Lasso Letter)) (l : Lasso Letter) (more : List (Lasso Letter)) (s c : ℕ) → IsLeastPeriod tuple s c → ((d : ℕ) → IsCommon c (length l.cycle) d → most_positions < d) → ¬ IsJudged (tuple ++ l ∷ more)
 past-common tuple l more s c p past (t, d, q, few) =
-    let all : IsPeriod (tuple ++ l ∷ []) t d = period-front (tuple ++ l ∷ []) more t d (rw (append_assoc tuple (l ∷ []) more) q.period) in
+    let all : IsPeriod (tuple ++ l ∷ []) t d = period-front (tuple ++ l ∷ []) more t d (rw (append_assoc tuple (l ∷ []) more) q) in
     let lt : most_positions < d = past d (common-of tuple l s c t d p all) in
     omega (arith, lt, few)
 
 pub past-together : (tuple : List (Lasso Letter)) (l : Lasso Letter) (more : List (Lasso Letter)) (s c m : ℕ) → IsLeastPeriod tuple s c → IsLeastCommon c (length l.cycle) m → most_positions < max (length l.stem) s + m → ¬ IsJudged (tuple ++ l ∷ more)
 past-together tuple l more s c m p common past (t, d, q, few) =
-    let all : IsPeriod (tuple ++ l ∷ []) t d = period-front (tuple ++ l ∷ []) more t d (rw (append_assoc tuple (l ∷ []) more) q.period) in
+    let all : IsPeriod (tuple ++ l ∷ []) t d = period-front (tuple ++ l ∷ []) more t d (rw (append_assoc tuple (l ∷ []) more) q) in
     let (le, multiple) = (least-more tuple l s c m p common).least t d all in
-    let below = multiple-le d m q.period.some multiple in
+    let below = multiple-le d m q.some multiple in
     omega (arith, le, below, few, past)
 
 pub least-none : IsLeastPeriod [] 0 1
@@ -196,3 +197,28 @@ pub picked-at : (list : List (Lasso Letter)) (pick : List ℕ) (v : ℕ) (l : La
 picked-at list [] v l lt is = absurd (omega arith)
 picked-at list (k ∷ pick) zero l lt is = get_or_from_slice_get list k l no_lasso is
 picked-at list (k ∷ pick) (suc v) l lt is = picked-at list pick v l (omega arith) is
+
+-- Members of a list that is judged are judged.
+pub judged-picked : (list : List (Lasso Letter)) (pick : List ℕ) → All (λ k. k < length list) pick → IsJudged list → IsJudged (picked list pick)
+judged-picked list pick members (s, c, p, few) = (
+  s,
+  c,
+  record {
+    some = p.some;
+    stems = λ v lt. let P : Lasso Letter → Type 0 = λ l. length l.stem ≤ s in subst P (sym (at v lt)) (p.stems (get_or pick v 0) (within v lt));
+    cycles = λ v lt. let P : Lasso Letter → Type 0 = λ l. IsMultiple c (length l.cycle) in subst P (sym (at v lt)) (p.cycles (get_or pick v 0) (within v lt));
+  },
+  few,
+)
+  where
+    same-length : length (picked list pick) ≡ length pick
+    same-length = length-map pick (λ k. get_or list k no_lasso)
+
+    short : (v : ℕ) → v < length (picked list pick) → v < length pick
+    short v lt = omega (arith, lt, same-length)
+
+    within : (v : ℕ) → v < length (picked list pick) → get_or pick v 0 < length list
+    within v lt = members v 0 (short v lt)
+
+    at : (v : ℕ) → v < length (picked list pick) → get_or (picked list pick) v no_lasso ≡ get_or list (get_or pick v 0) no_lasso
+    at v lt = picked-at list pick v _ (short v lt) (slice_get-get_or list (get_or pick v 0) no_lasso (within v lt))

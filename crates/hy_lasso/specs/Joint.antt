@@ -22,9 +22,9 @@ pub record IsLeastPeriod (tuple : List (Lasso Letter)) (s c : ℕ) : Type 0 wher
 abbrev pub most_positions : ℕ
 most_positions = 4194304
 
--- The longest stem and the least common multiple have together at most that many positions.
+-- The longest stem and the least common multiple have together at most that many positions: some period has.
 abbrev pub IsJudged : List (Lasso Letter) → Type 0
-IsJudged tuple = (s c : ℕ) × IsLeastPeriod tuple s c × (s + c ≤ most_positions)
+IsJudged tuple = (s c : ℕ) × IsPeriod tuple s c × (s + c ≤ most_positions)
 
 -- a common multiple of two numbers
 pub record IsCommon (c n d : ℕ) : Type 0 where
