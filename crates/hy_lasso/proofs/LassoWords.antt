@@ -23,6 +23,12 @@ cond-above {A} i n x y le = decide (nat_lt i n) refl
     decide true e = absurd (omega (arith, (Decides-ltb i n).0 e))
     decide false e = refl
 
+-- what is read inside a list, whatever stands for what is missing
+pub any-default : {A : Type 0} (xs : List A) (k : ℕ) → k < length xs → (c d : A) → get_or xs k c ≡ get_or xs k d
+any-default [] k lt c d = absurd (omega arith)
+any-default (x ∷ xs) zero lt c d = refl
+any-default (x ∷ xs) (suc k) lt c d = any-default xs k (omega arith) c d
+
 -- in the stem, and past it
 pub in-stem : {A : Type 0} (none : A) (l : Lasso A) (i : ℕ) → i < length l.stem → lasso_at none l i ≡ get_or l.stem i none
 in-stem none l i lt = cond-below i (length l.stem) _ _ lt

@@ -1,5 +1,5 @@
 -- Whether a list of lassos satisfies a formula is decided, and its negation says that it does not.
-use Rattle.std.proofs.Common.{◌≡◌, ℕ, zero, suc, ◌<◌, ◌⊎◌, ◌↔◌, List, [], ◌∷◌, length, map, inl, inr, refl, sym, subst, arith, get_or}
+use Rattle.std.proofs.Common.{◌≡◌, zero, suc, ◌<◌, ◌⊎◌, ◌↔◌, List, [], ◌∷◌, length, map, inl, inr, refl, sym, subst, arith}
 use Rattle.std.specs.List.{Contains}
 use Rattle.std.proofs.lemmas.List.Elements.{Contains-append_right, Contains-append_cases}
 use Rattle.hy_bits.specs.Letter.{Letter}
@@ -10,7 +10,7 @@ use Rattle.hy_formula.specs.Quantifiers.{turned, Each}
 use Rattle.hy_formula.specs.Lassos.{Lasso}
 use Rattle.hy_formula.proofs.Choices.{IsSearched, decided-quantified, negated}
 use Rattle.hy_lasso.specs.Words.{no_lasso, AreLassos, Meets, Satisfies}
-use Rattle.hy_lasso.proofs.LassoWords.{decided-lassos}
+use Rattle.hy_lasso.proofs.LassoWords.{any-default, decided-lassos}
 
 pub contains-here : {A : Type 0} (x : A) (xs : List A) → Contains (x ∷ xs) x
 contains-here x xs = (0, omega arith, refl)
@@ -40,12 +40,7 @@ searched-list (y ∷ ys) P d = step (d y (contains-here y ys)) (searched-list ys
 are-lassos : (list : List (Lasso Letter)) → AreLassos list → (tuple : List (Lasso Letter)) → Each (Contains list) tuple → AreLassos tuple
 are-lassos list are [] m v lt = absurd (omega arith)
 are-lassos list are (x ∷ xs) ((k, lt', e), m) zero lt =
-    let P : Lasso Letter → Type 0 = λ l. 0 < length l.cycle in subst P e (subst P (other list k lt' no_lasso x) (are k lt'))
-  where
-    other : (l : List (Lasso Letter)) (k : ℕ) → k < length l → (c d : Lasso Letter) → get_or l k c ≡ get_or l k d
-    other [] k lt c d = absurd (omega arith)
-    other (y ∷ ys) zero lt c d = refl
-    other (y ∷ ys) (suc k) lt c d = other ys k (omega arith) c d
+    let P : Lasso Letter → Type 0 = λ l. 0 < length l.cycle in subst P e (subst P (any-default list k lt' no_lasso x) (are k lt'))
 are-lassos list are (x ∷ xs) (_, m) (suc v) lt = are-lassos list are xs m v (omega arith)
 
 module _ (list : List (Lasso Letter)) (are : AreLassos list) (prefix : List Quant) (body : Tree) where

@@ -171,6 +171,9 @@ until-like P Q P' Q' f g i (j, from, within, here, all) = (j, from, within, g j 
 pub tells-like : (s m : ℕ) (row : List Bool) (P Q : ℕ → Type 0) → Tells s m row P → ((i : ℕ) → P i ↔ Q i) → Tells s m row Q
 tells-like s m row P Q t same = record { some = t.some; long = t.long; right = λ i. Decides-like _ (same i).0 (same i).1 (t.right i) }
 
+pub tells-long : (s n m : ℕ) (row : List Bool) (P : ℕ → Type 0) → n ≡ m → Tells s n row P → Tells s m row P
+tells-long s n m row P e t = let lt = t.some in record { some = omega (arith, lt, e); long = t.long ∙ e; right = t.right }
+
 pub around-not : (s : ℕ) (old new : List Bool) → s < length old → length new ≡ length old → EachIndex old (λ i. value_at new i ≡ not (value_at old i)) → (i : ℕ) → around s new i ≡ not (around s old i)
 around-not s old new some long values i =
     ap (λ n. value_at new (place s (n - s) i)) long

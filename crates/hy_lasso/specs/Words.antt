@@ -1,5 +1,5 @@
 -- The endless words of a tuple of lassos, and when a list of lassos satisfies a formula.
-use Rattle.std.specs.Prelude.{ℕ, ◌<◌, List, [], map, length, slice_index_or}
+use Rattle.std.specs.Prelude.{ℕ, ◌<◌, List, [], ◌++◌, map, length, slice_index_or}
 use Rattle.std.specs.FinSet.{empty, contains}
 use Rattle.std.specs.List.{Contains}
 use Rattle.hy_bits.specs.Letter.{Letter}
@@ -31,6 +31,10 @@ picked list pick = map (λ k. slice_index_or list k no_lasso) pick
 -- A tuple satisfies the body: at its first position.
 abbrev pub Meets : Tree → List (Lasso Letter) → Type 0
 Meets body tuple = SatisfiesAt endless (lasso_words tuple) body 0
+
+-- Where these lassos were chosen, the quantifiers that are left hold.
+abbrev pub Remains : List (Lasso Letter) → Tree → List (Lasso Letter) → List Quant → Type 0
+Remains list body chosen prefix = Quantified (Contains list) (λ more. Meets body (chosen ++ more)) prefix
 
 -- A list of lassos satisfies a formula, given by its quantifiers and its body.
 abbrev pub Satisfies : List (Lasso Letter) → List Quant → Tree → Type 0
