@@ -1,4 +1,4 @@
-ghost use Rattle.std.specs.Prelude.{◌≡◌, ◌+◌, ◌<◌, ◌≤◌, [], ◌∷◌, ◌++◌, length, OnOk, OnErr, IfOk, slice_get, slice_set, take, replicate, reverse, Some, None, IfSome, nat_eq};
+ghost use Rattle.std.specs.Prelude.{◌≡◌, ◌+◌, ◌-◌, ◌<◌, ◌≤◌, [], ◌∷◌, ◌++◌, length, OnOk, OnErr, IfOk, slice_get, slice_set, take, drop, replicate, reverse, Some, None, IfSome, nat_eq};
 
 use crate::memory::M;
 use std::alloc::Global;
@@ -133,6 +133,14 @@ impl<T> List<T> {
         ensures { self.new ≡ reverse self.old }
     {
         self.items.reverse();
+    }
+
+    /// Puts the last `n` values before the others, in time linear in the list.
+    pub fn rotate_right(&mut self, n: usize)
+        requires { n ≤ length self.old }
+        ensures { self.new ≡ drop (length self.old - n) self.old ++ take (length self.old - n) self.old }
+    {
+        self.items.rotate_right(n);
     }
 
     /// Keeps the first `n` values.
