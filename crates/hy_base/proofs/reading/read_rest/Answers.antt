@@ -16,8 +16,7 @@ pub returns-then-len-count-clause-said : goal.returns-then-len-count-clause-said
 returns-then-len-count-clause-said g c =
     let said = c.in-Ok.ensures.called (search rules) in
     let count = length-take c.in-Ok.count c.read.new.buf in
-    let within = c.in-Ok.ensures.within in
-    (
+    let within = c.in-Ok.ensures.within in (
       c.loop-text.text ++ take c.in-Ok.count c.read.new.buf,
       more _ _ _ _ c.loop-text.invariant.given said,
       omega (arith, length-append c.loop-text.text (take c.in-Ok.count c.read.new.buf), count, within, c.len.ensures, c.if-len-count.true),
@@ -39,8 +38,14 @@ loop-text-preserved g c = record {
       c.in_ok-extend-in-Ok.ensures.added;
   within =
       omega (
-      arith, ap length c.in_ok-extend-in-Ok.ensures.added, length-append c.loop-text.text (take c.in-Ok.count c.read.new.buf),
-      length-take c.in-Ok.count c.read.new.buf, c.if-len-count.false, c.len.ensures, c.loop-text.invariant.within);
+        arith,
+        ap length c.in_ok-extend-in-Ok.ensures.added,
+        length-append c.loop-text.text (take c.in-Ok.count c.read.new.buf),
+        length-take c.in-Ok.count c.read.new.buf,
+        c.if-len-count.false,
+        c.len.ensures,
+        c.loop-text.invariant.within,
+      );
   front = λ t.
       rest_read _ _ _ _ _ _ (c.loop-text.invariant.front t)
       (c.in-Ok.ensures.moved (c.loop-text.invariant.keeps.tells t)) c.in_ok-extend-in-Ok.ensures.added;
