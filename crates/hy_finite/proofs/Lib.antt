@@ -1,4 +1,10 @@
+pub mod Collecting
+pub mod Decimals
 pub mod JudgedLength
+pub mod LineAnswers
+pub mod Reaching
 pub mod RowLoops
+pub mod Saying
+pub mod Splitting
 pub mod RowMeanings
 pub mod Truth

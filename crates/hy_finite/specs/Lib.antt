@@ -1,2 +1,9 @@
+pub mod EventAnswers
+pub mod EventFiles
+pub mod EventLines
+pub mod LineParts
+pub mod LinesLeft
+pub mod NextEvents
+pub mod Remaining
 pub mod Rows
 pub mod Traces

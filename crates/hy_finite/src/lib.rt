@@ -1,11 +1,25 @@
 //! Finite traces: what a body means on them, and the events that bring them.
 #![tactic(auto)]
 
+mod begun;
+mod checks;
+mod error;
+mod event;
+mod file;
 mod lengths;
+mod line;
+mod lines;
 mod meaning;
+mod number;
 mod row;
+mod sets;
 mod trace;
 
+pub use error::LineError;
+pub use event::{Event, EventList, Placed};
+pub use file::{check_events, read_events};
 pub use lengths::Lengths;
+pub use line::read_event;
+pub use lines::EventLines;
 pub use meaning::finite_holds;
 pub use trace::{MOST_LETTERS, Trace, TraceList};

@@ -1,3 +1,4 @@
+pub mod Once
 pub mod Printing
 pub mod ReadingSets
 pub mod ReadingWords

@@ -4,6 +4,7 @@
 
 mod bytes;
 mod class;
+pub mod laws;
 mod names;
 mod sets;
 #[cfg(test)]

@@ -1,0 +1,11 @@
+use Rattle.std.proofs.Common.{length}
+use Rattle.hy_finite.specs.EventFiles.{lines_of}
+use Rattle.hy_finite.specs.Remaining.{remaining}
+use Rattle.hy_finite.proofs.Collecting.{Collected}
+use Rattle.hy_finite.proofs.file.read_events.Given as goal
+
+abbrev pub invariant-loop-events : goal.invariant-loop-events
+invariant-loop-events l = Collected l.names (lines_of l.bytes) (remaining l.lines) l.events
+
+abbrev pub decreases-loop-events : goal.decreases-loop-events
+decreases-loop-events l = length (remaining l.lines).lines

@@ -1,0 +1,43 @@
+-- Which bytes are a file of events, one event on a line. A line ends at a line feed or at the end of the file; lines
+-- count from 1, those that say nothing too. A name that the table lacks is passed over.
+use Rattle.std.specs.Prelude.{◌≡◌, ℕ, suc, ◌⊎◌, List, [], ◌∷◌, map}
+use Rattle.std.specs.List.{slice_split}
+use Rattle.hy_text.specs.Bytes.{is_line_feed}
+use Rattle.hy_text.specs.Sets.{letter_of}
+use Rattle.hy_finite.specs.declared.event.Event.{Event}
+use Rattle.hy_finite.specs.declared.event.Event.TheVariants.{Whole, Letter, End, Save, Back}
+use Rattle.hy_finite.specs.declared.event.Placed.{Placed}
+use Rattle.hy_finite.specs.EventLines.{Said, word, letter, finish, save, back, SaysNothing, Says, IsFaulty, IsTooLong, IsText}
+
+-- the event that is said, its names by the numbers that a table gives them
+abbrev pub event_of : List (List ℕ) → Said → Event
+event_of table (word sets) = Whole (map (letter_of table) sets)
+event_of table (letter n names) = Letter n (letter_of table names)
+event_of table (finish n) = End n
+event_of table save = Save
+event_of table back = Back
+
+abbrev pub lines_of : List ℕ → List (List ℕ)
+lines_of bytes = slice_split is_line_feed bytes
+
+-- The lines, of which the first has number n, say these events.
+abbrev pub SayEvents : List (List ℕ) → ℕ → List (List ℕ) → List Placed → Type 0
+SayEvents table n [] events = events ≡ []
+SayEvents table n (line ∷ lines) events =
+    (SaysNothing line × SayEvents table (suc n) lines events)
+    ⊎ ((said : Said) × (rest : List Placed) × Says line said × (events ≡ record { line = n; event = event_of table said } ∷ rest)
+    × SayEvents table (suc n) lines rest)
+
+-- The file is these events.
+abbrev pub IsEventFile : List (List ℕ) → List ℕ → List Placed → Type 0
+IsEventFile table bytes events = SayEvents table 1 (lines_of bytes) events
+
+-- Of the lines, of which the first has number n, line k is the first that is no text.
+abbrev pub FirstFault : ℕ → List (List ℕ) → ℕ → Type 0
+FirstFault n [] k = ⊥
+FirstFault n (line ∷ lines) k = (IsFaulty line × (k ≡ n)) ⊎ (IsText line × FirstFault (suc n) lines k)
+
+-- Some line is a trace that is too long.
+abbrev pub SomeTooLong : List (List ℕ) → Type 0
+SomeTooLong [] = ⊥
+SomeTooLong (line ∷ lines) = IsTooLong line ⊎ SomeTooLong lines

@@ -1,0 +1,67 @@
+//! The event of one line.
+
+ghost use Rattle.std.specs.Prelude.{◌↔◌, IsTrue};
+ghost use Rattle.hy_finite.specs.EventLines.{SaysNothing};
+ghost use Rattle.hy_finite.specs.EventAnswers.{IsLineAnswer, IsLetterAnswer};
+
+use crate::begun::{Begun, begin};
+use crate::error::LineError;
+use crate::event::Event;
+use crate::sets::{read_trace, read_whole_set};
+use hy_base::List;
+use hy_bits::Letters;
+use hy_formula::NameTable;
+use hy_text::past_blanks;
+use std::alloc::Global;
+
+/// What the line says: an event, or nothing where it is blank or a comment. The line has no line
+/// feed. Names that the table lacks are passed over. In time linear in the line.
+///
+/// Syntax, at line 1, where the line is no text; Limit where it is a trace of more than 1,024
+/// letters.
+pub fn read_event(alloc: Global, line: &[u8], names: &NameTable) -> Result<Option<Event>, LineError>
+    ensures { IsLineAnswer names.now line.now result }
+{
+    read_line(line, names, List::new(alloc))
+}
+
+/// As `read_event`, with the letters of a trace in the memory of `letters`, what that has is dropped.
+pub fn read_line(
+    line: &[u8],
+    names: &NameTable,
+    letters: Letters,
+) -> Result<Option<Event>, LineError>
+    ensures { IsLineAnswer names.now line.now result }
+{
+    let Some(begun) = begin(line) else {
+        return Err(LineError::Syntax { line: 1 });
+    };
+    match begun {
+        Begun::Nothing => Ok(None),
+        Begun::Word(text) => Ok(Some(Event::Whole(read_trace(text, names, letters)?))),
+        Begun::Letter { session, set } => read_letter(session, set, names),
+        Begun::End { session } => Ok(Some(Event::End { session })),
+        Begun::Save => Ok(Some(Event::Save)),
+        Begun::Back => Ok(Some(Event::Back)),
+    }
+}
+
+/// Whether the line is blank or a comment. In time linear in its blanks.
+pub fn says_nothing(line: &[u8]) -> bool
+    ensures { IsTrue result ↔ SaysNothing line.now }
+{
+    match past_blanks(line) {
+        [] | [b'#', ..] => true,
+        _ => false,
+    }
+}
+
+/// The letter of a session whose set is the text.
+fn read_letter(session: u32, set: &[u8], names: &NameTable) -> Result<Option<Event>, LineError>
+    ensures { IsLetterAnswer names.now session set.now result }
+{
+    match read_whole_set(set, names) {
+        Some(letter) => Ok(Some(Event::Letter { session, letter })),
+        None => Err(LineError::Syntax { line: 1 }),
+    }
+}

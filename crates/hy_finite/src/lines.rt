@@ -1,0 +1,100 @@
+//! The lines of a file, and the events that they say, one after another.
+
+ghost use Rattle.std.specs.Prelude.{◌≡◌, ◌+◌, ◌<◌, ◌≤◌, ◌^◌, ◌∷◌, length};
+ghost use Rattle.std.specs.List.{slice_split};
+ghost use Rattle.std.specs.Option.{option_copied};
+ghost use Rattle.hy_base.specs.declared.reading.TheConstants.{BYTES_LIMIT};
+ghost use Rattle.hy_text.specs.Bytes.{is_line_feed};
+ghost use Rattle.hy_finite.specs.LinesLeft.{left_lines, left_len};
+ghost use Rattle.hy_finite.specs.NextEvents.{IsNextLine, IsNextAnswer};
+
+use crate::error::LineError;
+use crate::event::Placed;
+use crate::line::{read_line, says_nothing};
+use hy_bits::Letters;
+use hy_formula::NameTable;
+use hy_text::Class;
+
+/// The lines of a file that are left to read: what they are, with none after the last one, and the
+/// number of the first of them, counted from 1.
+#[derive(Clone, Copy)]
+pub struct EventLines<'a> {
+    left: Option<&'a [u8]>,
+    next: u32,
+    ghost countable: { next + left_len (option_copied left) < 2 ^ 32 },
+}
+
+impl<'a> EventLines<'a> {
+    ghost use Rattle.hy_finite.specs.Remaining.{remaining, all_lines};
+
+    /// All lines of a file.
+    pub fn new(bytes: &'a [u8]) -> EventLines<'a>
+        requires { length bytes.now ≤ BYTES_LIMIT }
+        ensures { remaining result ≡ all_lines bytes.now }
+    {
+        EventLines {
+            left: Some(bytes),
+            next: 1,
+        }
+    }
+
+    /// The next event, or `None` where no line is left that says one. Names that the table lacks are
+    /// passed over. The letters of a trace are put into the memory of `letters`, and what that has is
+    /// dropped: lend the letters of the last event again, and few allocations are made. In time linear
+    /// in the lines that are passed.
+    ///
+    /// Syntax where the next line that says something is no text; Limit where it is a trace of more
+    /// than 1,024 letters. After an error the lines are as before.
+    pub fn next(&mut self, names: &NameTable, letters: Letters) -> Result<Option<Placed>, LineError>
+        ensures { IsNextAnswer names.now (remaining self.old) (remaining self.new) result }
+    {
+        let before = *self;
+        let Some((line, text)) = self.next_line() else {
+            return Ok(None);
+        };
+        match read_line(text, names, letters) {
+            Ok(Some(event)) => Ok(Some(Placed { line, event })),
+            Ok(None) => Ok(None),
+            Err(LineError::Syntax { .. }) => {
+                *self = before;
+                Err(LineError::Syntax { line })
+            }
+            Err(fault) => {
+                *self = before;
+                Err(fault)
+            }
+        }
+    }
+
+    /// The next line that says something, and its number.
+    fn next_line(&mut self) -> Option<(u32, &'a [u8])>
+        ensures { IsNextLine (remaining self.old) (remaining self.new) result }
+    {
+        while let Some(text) = self.left {
+            let line = self.next;
+            let (first, rest) = split_line(text);
+            *self = EventLines {
+                left: rest,
+                next: line + 1,
+            };
+            if !says_nothing(first) {
+                return Some((line, first));
+            }
+        }
+        None
+    }
+}
+
+/// The first line, without its line feed, and what stands behind that: `None` where there is none.
+/// In time linear in the line.
+pub fn split_line(text: &[u8]) -> (&[u8], Option<&[u8]>)
+    ensures lines { slice_split is_line_feed text.now ≡ result.0.now ∷ left_lines (option_copied result.1) }
+    ensures fewer { left_len (option_copied result.1) < left_len (Some text.now) }
+{
+    let (line, behind) = Class::InLine.split(text);
+    if behind.is_empty() {
+        return (line, None);
+    }
+    let (_, rest) = behind.split_at(1);
+    (line, Some(rest))
+}
