@@ -1,5 +1,5 @@
 -- Checking the lines of a file one after another, and collecting what they say.
-use Rattle.std.proofs.Common.{◌≡◌, ℕ, suc, ◌+◌, ◌<◌, ◌⊎◌, Bool, true, false, List, [], ◌∷◌, ◌++◌, length, Err, inl, inr, refl, sym, ap, ◌∙◌, subst, arith, append_assoc, append-nil}
+use Rattle.std.proofs.Common.{◌≡◌, ℕ, suc, ◌+◌, ◌<◌, ◌⊎◌, Bool, true, false, List, [], ◌∷◌, ◌++◌, length, Option, Some, Ok, Err, inl, inr, refl, sym, ap, ◌∙◌, subst, arith, append_assoc, append-nil}
 use Rattle.hy_formula.specs.Quantifiers.{Each}
 use Rattle.hy_finite.specs.declared.event.Placed.{Placed}
 use Rattle.hy_finite.specs.declared.error.LineError.{LineError}
@@ -131,6 +131,37 @@ pub silent-says : (table : List (List ℕ)) (n : ℕ) (lines : List (List ℕ)) 
 silent-says table n [] each = refl
 silent-says table n (x ∷ xs) (nothing, each) = inl (nothing, silent-says table (suc n) xs each)
 
+-- ---- what comes next
+
+pub next-more : (table : List (List ℕ)) (old new : LinesLeft) (placed : Placed) (later : List Placed)
+    → IsNextAnswer table old new (Ok (Some placed)) → SayEvents table new.first new.lines later
+    → SayEvents table old.first old.lines (placed ∷ later)
+next-more table old new placed later (line, said, reached, next, says, short, e) spoken =
+    let P : ℕ → Type 0 = λ n. SayEvents table n new.lines later in
+    let whole : placed ≡ record { line = placed.line; event = event_of table said } =
+    ap (λ v. record { line = placed.line; event = v }) e in
+    let R : Placed → Type 0 = λ p. SayEvents table old.first old.lines (p ∷ later) in
+    subst R (sym whole)
+    (reached-says table old.first old.lines placed.line line new.lines said later reached says (subst P next spoken))
+
+pub next-fewer : (table : List (List ℕ)) (old new : LinesLeft) (placed : Placed)
+    → IsNextAnswer table old new (Ok (Some placed)) → length new.lines < length old.lines
+next-fewer table old new placed (line, said, reached, next, says, short, e) =
+    reached-fewer old.first old.lines placed.line line new.lines reached
+
+pub next-good : (table : List (List ℕ)) (old new : LinesLeft) (placed : Placed)
+    → IsNextAnswer table old new (Ok (Some placed)) → Each IsGood old.lines → Each IsGood new.lines
+next-good table old new placed (line, said, reached, next, says, short, e) each =
+    (reached-good old.first old.lines placed.line line new.lines reached each).1
+
+pub next-no_fault : (table : List (List ℕ)) (old new : LinesLeft) (fault : LineError)
+    → Each IsGood old.lines → IsNextAnswer table old new (Err fault) → fault ≡ Memory
+next-no_fault table old new (Syntax k) each (kept, (line, rest, reached, fault)) =
+    absurd (good-not_faulty line (good-text line (reached-good old.first old.lines k line rest reached each).0) fault)
+next-no_fault table old new Limit each (kept, (k, line, rest, reached, long)) =
+    absurd (good-not_long line (reached-good old.first old.lines k line rest reached each).0 long)
+next-no_fault table old new Memory each kept = refl
+
 -- ---- collecting
 
 -- The events of the lines before these have been collected.
@@ -138,29 +169,26 @@ pub record Collected (table : List (List ℕ)) (lines : List (List ℕ)) (left :
   pub back : (more : List Placed) → SayEvents table left.first left.lines more → SayEvents table 1 lines (events ++ more)
   pub good : Each IsGood left.lines
 
-pub collected-more : (table lines : List (List ℕ)) (old new : LinesLeft) (events : List Placed) (placed : Placed) → Collected table lines old events
-    → (line : List ℕ) (said : Said) → Reaches old.first old.lines placed.line line new.lines → new.first ≡ suc placed.line → Says line said → placed.event ≡ event_of table said
+pub collected-more : (table lines : List (List ℕ)) (old new : LinesLeft) (events : List Placed) (placed : Placed)
+    → Collected table lines old events → IsNextAnswer table old new (Ok (Some placed))
     → Collected table lines new (events ++ placed ∷ [])
-collected-more table lines old new events placed before line said reached next says e = record {
+collected-more table lines old new events placed before found = record {
   back = λ more spoken.
-      let P : ℕ → Type 0 = λ n. SayEvents table n new.lines more in
       let Q : List Placed → Type 0 = SayEvents table 1 lines in
-      let whole : placed ≡ record { line = placed.line; event = event_of table said } = ap (λ v. record { line = placed.line; event = v }) e in
-      let R : Placed → Type 0 = λ p. SayEvents table old.first old.lines (p ∷ more) in
-      let here = subst R (sym whole) (reached-says table old.first old.lines placed.line line new.lines said more reached says (subst P next spoken)) in
-      subst Q (sym (append_assoc events (placed ∷ []) more)) (before.back (placed ∷ more) here);
-  good = (reached-good old.first old.lines placed.line line new.lines reached before.good).1;
+      subst Q (sym (append_assoc events (placed ∷ []) more)) (before.back (placed ∷ more) (next-more table old new placed more found spoken));
+  good = next-good table old new placed found before.good;
 }
 
-pub collected-all : (table lines : List (List ℕ)) (left : LinesLeft) (events : List Placed) → Collected table lines left events → Each SaysNothing left.lines → SayEvents table 1 lines events
+pub collected-all : (table lines : List (List ℕ)) (left : LinesLeft) (events : List Placed)
+    → Collected table lines left events → Each SaysNothing left.lines → SayEvents table 1 lines events
 collected-all table lines left events done silent =
     let P : List Placed → Type 0 = SayEvents table 1 lines in
     subst P (append-nil events) (done.back [] (silent-says table left.first left.lines silent))
 
 -- no line that is left is at fault
-pub collected-fault : (table : List (List ℕ)) (bytes : List ℕ) (old new : LinesLeft) (events : List Placed) (fault : LineError) → Collected table (lines_of bytes) old events → IsNextAnswer table old new (Err fault) → IsFileAnswer table bytes (Err fault)
-collected-fault table bytes old new events (Syntax k) before (kept, (line, rest, reached, fault)) =
-    absurd (good-not_faulty line (good-text line (reached-good old.first old.lines k line rest reached before.good).0) fault)
-collected-fault table bytes old new events Limit before (kept, (k, line, rest, reached, long)) =
-    absurd (good-not_long line (reached-good old.first old.lines k line rest reached before.good).0 long)
-collected-fault table bytes old new events Memory before kept = tt
+pub collected-fault : (table : List (List ℕ)) (bytes : List ℕ) (old new : LinesLeft) (events : List Placed) (fault : LineError)
+    → Collected table (lines_of bytes) old events → IsNextAnswer table old new (Err fault)
+    → IsFileAnswer table bytes (Err fault)
+collected-fault table bytes old new events fault before found =
+    let P : LineError → Type 0 = λ e. IsFileAnswer table bytes (Err e) in
+    subst P (sym (next-no_fault table old new fault before.good found)) tt

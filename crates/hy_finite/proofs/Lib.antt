@@ -1,10 +1,13 @@
+pub mod Agreeing
 pub mod Collecting
 pub mod Decimals
 pub mod JudgedLength
 pub mod LineAnswers
+pub mod OneAnswer
 pub mod Reaching
 pub mod RowLoops
 pub mod Saying
 pub mod Splitting
 pub mod RowMeanings
 pub mod Truth
+pub mod Violating

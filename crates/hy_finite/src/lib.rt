@@ -6,6 +6,7 @@ mod checks;
 mod error;
 mod event;
 mod file;
+pub mod laws;
 mod lengths;
 mod line;
 mod lines;

@@ -7,4 +7,5 @@ pub mod Normalising
 pub mod Renaming
 pub mod Repeating
 pub mod Shapes
+pub mod Tuples
 pub mod Unrolling

@@ -4,7 +4,7 @@ use Rattle.hy_finite.specs.declared.event.Placed.{Placed}
 use Rattle.hy_finite.specs.EventFiles.{lines_of}
 use Rattle.hy_finite.specs.NextEvents.{IsNextAnswer}
 use Rattle.hy_finite.specs.Remaining.{remaining}
-use Rattle.hy_finite.proofs.Collecting.{collected-more, collected-all, collected-fault, reached-fewer}
+use Rattle.hy_finite.proofs.Collecting.{collected-more, collected-all, collected-fault, next-fewer}
 use Rattle.hy_finite.proofs.file.read_events.Goals as goal
 
 pub returns-in_err-placed : goal.returns-in_err-placed
@@ -20,17 +20,15 @@ loop-events-smaller c =
     let old = remaining c.loop-events.lines in
     let new = remaining c.next.new.self in
     let P : Option Placed → Type 0 = λ o. IsNextAnswer c.args.names.now old new (Ok o) in
-    let (line, said, reached, next, says, short, e) = subst P c.in-Some.is c.in_ok-placed.ensures in
-    reached-fewer old.first old.lines c.in-Some.placed.line line new.lines reached
+    next-fewer c.args.names.now old new c.in-Some.placed (subst P c.in-Some.is c.in_ok-placed.ensures)
 
 pub loop-events-preserved : goal.loop-events-preserved
 loop-events-preserved c =
     let old = remaining c.loop-events.lines in
     let new = remaining c.next.new.self in
     let P : Option Placed → Type 0 = λ o. IsNextAnswer c.args.names.now old new (Ok o) in
-    let (line, said, reached, next, says, short, e) = subst P c.in-Some.is c.in_ok-placed.ensures in
     rw c.in_ok-push.ensures.added
-    (collected-more c.args.names.now (lines_of c.args.bytes.now) old new c.loop-events.events c.in-Some.placed c.loop-events.invariant line said reached next says e)
+    (collected-more c.args.names.now (lines_of c.args.bytes.now) old new c.loop-events.events c.in-Some.placed c.loop-events.invariant (subst P c.in-Some.is c.in_ok-placed.ensures))
 
 pub returns : goal.returns
 returns c =
