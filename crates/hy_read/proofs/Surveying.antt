@@ -22,26 +22,15 @@ use Rattle.hy_read.proofs.Deriving.{allowed-text}
 use Rattle.hy_read.proofs.Faulting.{fault-answered, end-answered}
 use Rattle.hy_read.proofs.Passing.{opens_at_least}
 use Rattle.hy_read.proofs.Spanning.{spans-one}
-use Rattle.hy_read.proofs.Stepping.{Reached, reached-more, reached-all}
+use Rattle.hy_read.proofs.Stepping.{Reached, reached-all, stands_next}
 use Rattle.hy_read.proofs.Viable.{after-append}
 
 -- one more token is read
 pub reached_next : (text : List ℕ) (at : ℕ) (front : List Span) (t : Placed) → Reached text at front → Stands text at t → Reached text t.behind (front ++ span_of t ∷ [])
-reached_next text at front t reached stands = through (drop t.first text) refl
-  where
-    through : (here : List ℕ) → drop t.first text ≡ here → Reached text t.behind (front ++ span_of t ∷ [])
-    through [] e =
-        let none = ap length e in
-        let longer = stands.longer in
-        let within = stands.within in
-        absurd (omega (arith, none, longer, within, length-drop t.first text))
-    through (c ∷ cs) e =
-        let at_first : drop (at + blanks (drop at text)) text ≡ c ∷ cs = ap (λ n. drop n text) (sym stands.blank) ∙ e in
-        let is : first_token (c ∷ cs) ≡ (plain t.token, stands.size) = ap first_token (sym e) ∙ stands.is in
-        let more = reached-more text at front c cs (plain t.token) stands.size reached at_first is in
-        let behind : at + blanks (drop at text) + stands.size ≡ t.behind = ap (λ n. n + stands.size) (sym stands.blank) ∙ sym stands.ends in
-        subst (λ f. Reached text t.behind (front ++ record { token = plain t.token; first = f } ∷ [])) (sym stands.blank)
-        (subst (λ n. Reached text n (front ++ record { token = plain t.token; first = at + blanks (drop at text) } ∷ [])) behind more)
+reached_next text at front t reached stands spans h =
+    let (rest, is, left) = reached spans h in
+    let (others, begins, behind) = stands_next text at t rest stands left in
+    (others, is ∙ ap (λ x. front ++ x) begins ∙ sym (append_assoc front (span_of t ∷ []) others), behind)
 
 kinds_meet : (many : Bool) (p : Place) (k : Kind) (t : Token) (o : Option Place) → kind_of k ≡ tokens.kind_of t → o ≡ next_place many p (kind_of k) → next_place many p (tokens.kind_of t) ≡ o
 kinds_meet many p k t o kind next = ap (next_place many p) (sym kind) ∙ sym next

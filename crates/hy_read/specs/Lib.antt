@@ -1,9 +1,13 @@
 pub mod Answers
+pub mod Builds
 pub mod Contract
 pub mod Counting
 pub mod Grammar
+pub mod Headings
+pub mod Judged
 pub mod Moves
 pub mod Operators
+pub mod Parses
 pub mod Places
 pub mod Results
 pub mod Scanning
