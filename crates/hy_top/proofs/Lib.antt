@@ -1,4 +1,6 @@
 pub mod Arriving
+pub mod FirstSpecs
+pub mod MonitorPipeline
 pub mod OneAnswer
 pub mod Outputting
 pub mod Searches

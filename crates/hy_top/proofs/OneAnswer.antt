@@ -1,8 +1,7 @@
 -- The first stage that is met gives one answer.
-use Rattle.std.proofs.Common.{◌≡◌, ℕ, zero, suc, ◌<◌, List, [], ◌∷◌, length, take, All, Ok, Some, inl, inr, ap, sym, subst, ◌∙◌, arith, refl, true}
+use Rattle.std.proofs.Common.{◌≡◌, ℕ, zero, suc, ◌<◌, List, [], ◌∷◌, length, take, All, Some, inl, inr, ap, sym, subst, ◌∙◌, arith, refl, true}
 use Rattle.std.proofs.lemmas.Bool.{cases_lt}
 use Rattle.std.proofs.lemmas.List.{length-take}
-use Rattle.hy_formula.specs.declared.classes.Class.{Class}
 use Rattle.hy_formula.specs.declared.prefix.Quant.{Quant}
 use Rattle.hy_formula.specs.Trees.{Tree}
 use Rattle.hy_finite.specs.EventFiles.{lines_of}
@@ -10,11 +9,11 @@ use Rattle.hy_finite.specs.Traces.{Trace}
 use Rattle.hy_read.specs.Answers.{Answer as Found, Answers, Plain, faulty, free, over, read_as}
 use Rattle.hy_read.proofs.Spanning.{answer-once}
 use Rattle.hy_top.specs.declared.answer.Answer.{Answer}
-use Rattle.hy_top.specs.declared.answer.Answer.TheVariants.{NoViolation, Violation, Line, Prefix, Unbuilt}
+use Rattle.hy_top.specs.declared.answer.Answer.TheVariants.{NoViolation, Violation, Line, Prefix}
 use Rattle.hy_top.specs.Arrivals.{AreUniversal, Satisfies, AllSatisfy, ViolatesBy, FirstViolation}
 use Rattle.hy_top.specs.Commands.{Command, monitor}
 use Rattle.hy_top.specs.Monitoring.{HasSpecs, RefusesFound, RefusesSpecs, RefusesLines, RefusesTraces, RefusesClass, first_class, IsJudged, is_clean, is_violated, Judges, most_quantifiers}
-use Rattle.hy_top.specs.Stages.{Stage, opening, reading, size, text, class, work, Given, Came, Met, First, here, later, Agree}
+use Rattle.hy_top.specs.Stages.{Stage, opening, reading, size, text, class, work, Given, Met, First, here, later, Agree}
 use Rattle.hy_top.specs.WholeTraces.{IsTraceFile}
 use Rattle.hy_top.proofs.Arriving.{quantified-all}
 use Rattle.hy_top.proofs.Searches.{picked-take}

@@ -1,12 +1,11 @@
 -- One first wrong line of a trace file, or none.
-use Rattle.std.proofs.Common.{◌≡◌, ℕ, suc, ◌⊎◌, List, [], ◌∷◌, inl, inr, sym, ap, ◌∙◌}
+use Rattle.std.proofs.Common.{◌≡◌, ℕ, suc, List, [], ◌∷◌, inl, inr, sym, ap, ◌∙◌}
 use Rattle.hy_text.specs.Bytes.{past_blanks}
 use Rattle.hy_finite.specs.declared.event.Placed.{Placed}
 use Rattle.hy_finite.specs.EventFiles.{event_of, lines_of, SayEvents}
-use Rattle.hy_finite.specs.EventLines.{Said}
 use Rattle.hy_finite.specs.Traces.{Trace}
 use Rattle.hy_finite.proofs.Saying.{nothing-said, one-said}
-use Rattle.hy_top.specs.WholeTraces.{IsWrong, FirstWrong, NoneWrong, SomeUnbuilt, NoneUnbuilt, wholes, IsTraceFile}
+use Rattle.hy_top.specs.WholeTraces.{FirstWrong, NoneWrong, SomeUnbuilt, NoneUnbuilt, wholes, IsTraceFile}
 
 pub wrong-once : (n : ℕ) (lines : List (List ℕ)) (j k : ℕ) → FirstWrong n lines j → FirstWrong n lines k → j ≡ k
 wrong-once n [] j k one two = absurd one

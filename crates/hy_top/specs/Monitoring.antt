@@ -1,10 +1,10 @@
 -- What `rvhyper` answers for its specification file and its trace file.
-use Rattle.std.specs.Prelude.{◌≡◌, ◌⊎◌, ℕ, ◌≤◌, List, [], ◌∷◌, length, Option, Some, None, Ok, Bool, true, slice_get, if◌then◌else◌}
+use Rattle.std.specs.Prelude.{◌≡◌, ◌⊎◌, ℕ, ◌≤◌, List, [], ◌∷◌, length, Option, Some, None, Ok, true, slice_get}
 use Rattle.hy_base.specs.Shelf.{Read}
-use Rattle.hy_formula.specs.Classes.{class_of, has_only}
+use Rattle.hy_formula.specs.Classes.{class_of}
 use Rattle.hy_formula.specs.declared.classes.Class.{Class}
+use Rattle.hy_formula.specs.declared.classes.Class.TheVariants as classes
 use Rattle.hy_formula.specs.declared.prefix.Quant.{Quant}
-use Rattle.hy_formula.specs.declared.prefix.Quant.TheVariants as quant
 use Rattle.hy_formula.specs.Trees.{Tree}
 use Rattle.hy_finite.specs.EventFiles.{lines_of}
 use Rattle.hy_finite.specs.Traces.{Trace}
@@ -55,11 +55,17 @@ pub record RefusesTraces (given : List Read) (answer : Answer) : Type 0 where
   pub came : slice_get given 1 ≡ Some (Ok bytes)
   pub refused : RefusesLines (lines_of bytes) answer
 
+-- this class, unless it is that of universal formulas
+abbrev pub unless_universal : Class → Option Class → Option Class
+unless_universal classes.Exists later = Some classes.Exists
+unless_universal classes.Forall later = later
+unless_universal classes.ExistsForall later = Some classes.ExistsForall
+unless_universal classes.Other later = Some classes.Other
+
 -- the class of the first formula that is not universal
 abbrev pub first_class : List Plain → Option Class
 first_class [] = None
-first_class (formula ∷ formulas) =
-    if has_only quant.Forall formula.prefix then first_class formulas else Some (class_of formula.prefix)
+first_class (formula ∷ formulas) = unless_universal (class_of formula.prefix) (first_class formulas)
 
 -- Some formula is not universal.
 pub record RefusesClass (given : List Read) (answer : Answer) : Type 0 where
@@ -104,7 +110,7 @@ pub data FileJudged (formulas : List Plain) (names : List (List ℕ)) (bytes : L
   other_class : (traces : List Trace) → IsTraceFile names bytes traces → (class : Class) → first_class formulas ≡ Some class
       → FileJudged formulas names bytes (Prefix 0 class)
   judged : (traces : List Trace) (answer : Answer) (formula : Plain) → IsTraceFile names bytes traces
-      → formulas ≡ formula ∷ [] → AreUniversal formula.prefix → IsJudged formula.prefix formula.body traces answer
+      → formulas ≡ formula ∷ [] → first_class formulas ≡ None → AreUniversal formula.prefix → IsJudged formula.prefix formula.body traces answer
       → FileJudged formulas names bytes answer
 
 -- Memory ran out, or the fact holds.

@@ -1,5 +1,5 @@
 -- Trace files that have whole traces alone. A line that begins as that of a session or a save does is not built yet.
-use Rattle.std.specs.Prelude.{◌≡◌, ℕ, suc, ◌⊎◌, List, [], ◌∷◌}
+use Rattle.std.specs.Prelude.{◌≡◌, ℕ, suc, ◌⊎◌, ◌||◌, nat_eq, Bool, false, IsTrue, List, [], ◌∷◌}
 use Rattle.hy_formula.specs.Quantifiers.{Each}
 use Rattle.hy_text.specs.Bytes.{past_blanks}
 use Rattle.hy_finite.specs.EventFiles.{lines_of, IsEventFile}
@@ -13,9 +13,14 @@ use Rattle.hy_top.specs.declared.whole_traces.Line.TheVariants as line_is
 use Rattle.hy_top.specs.declared.whole_traces.Lines.{Lines}
 use Rattle.hy_top.specs.declared.whole_traces.Lines.TheVariants as lines_are
 
+-- whether the text begins with `@` or `!`
+abbrev pub is_marked : List ℕ → Bool
+is_marked [] = false
+is_marked (b ∷ rest) = nat_eq b 64 || nat_eq b 33
+
 -- The first byte of the line but blanks is `@` or `!`.
 abbrev pub IsSessionLine : List ℕ → Type 0
-IsSessionLine line = (rest : List ℕ) × ((past_blanks line ≡ 64 ∷ rest) ⊎ (past_blanks line ≡ 33 ∷ rest))
+IsSessionLine line = IsTrue (is_marked (past_blanks line))
 
 -- The line is no text, and no line of a session.
 pub record IsWrong (line : List ℕ) : Type 0 where

@@ -99,7 +99,13 @@ impl Arrival<'_> {
         requires within { All (λ k. k ≤ self.now.newest) tuple.now }
         ensures { IfOk result (λ holds. IsTrue holds ↔ Satisfies (tree_of self.now.body.now) (picked self.now.traces.now tuple.now)) }
     {
-        finite_holds(alloc, self.body, self.traces, tuple.as_slice(), Lengths::Min)
+        finite_holds(
+            alloc,
+            self.body,
+            self.traces,
+            tuple.as_slice(),
+            Lengths::Min,
+        )
     }
 
     /// The least trace to try behind a beginning of that length: the last place of a tuple that lacks the

@@ -84,7 +84,15 @@ fn write_syntax<E: Sink>(err: &mut E, name: &str, token: u32, byte: u32) -> Resu
     let byte = other.format(byte).as_bytes();
     write_pieces(
         err,
-        &[b"error E2 ", name.as_bytes(), b": token ", token, b" byte ", byte, b"\n"],
+        &[
+            b"error E2 ",
+            name.as_bytes(),
+            b": token ",
+            token,
+            b" byte ",
+            byte,
+            b"\n",
+        ],
     )
 }
 
@@ -143,19 +151,45 @@ fn write_line<E: Sink>(answer: &Answer, names: &[&str], err: &mut E) -> Result<(
         Answer::Unbound { file, byte } => {
             let mut buffer = Buffer::new();
             let byte = buffer.format(*byte).as_bytes();
-            write_about(err, b"error E3 ", name_of_file(names, *file), b": byte ", byte)
+            write_about(
+                err,
+                b"error E3 ",
+                name_of_file(names, *file),
+                b": byte ",
+                byte,
+            )
         }
         Answer::Prefix { file, class } => {
             let class = class_text(*class);
-            write_about(err, b"error E4 ", name_of_file(names, *file), b": prefix ", class)
+            write_about(
+                err,
+                b"error E4 ",
+                name_of_file(names, *file),
+                b": prefix ",
+                class,
+            )
         }
         Answer::Line { file, line } => {
             let mut buffer = Buffer::new();
             let line = buffer.format(*line).as_bytes();
-            write_about(err, b"error E9 ", name_of_file(names, *file), b": line ", line)
+            write_about(
+                err,
+                b"error E9 ",
+                name_of_file(names, *file),
+                b": line ",
+                line,
+            )
         }
-        Answer::OpenFault { file } => write_with_name(err, b"error E7 ", name_of_file(names, *file)),
-        Answer::ReadFault { file } => write_with_name(err, b"error E6 ", name_of_file(names, *file)),
+        Answer::OpenFault { file } => write_with_name(
+            err,
+            b"error E7 ",
+            name_of_file(names, *file),
+        ),
+        Answer::ReadFault { file } => write_with_name(
+            err,
+            b"error E6 ",
+            name_of_file(names, *file),
+        ),
         Answer::WriteFault => write_all(err, b"error E8\n"),
         Answer::Limit { kind, limit } => write_limit(err, *kind, *limit),
         Answer::Unbuilt { file } => {

@@ -1,17 +1,20 @@
 //! Trace files that have whole traces alone.
 
-ghost use Rattle.std.specs.Prelude.{◌≡◌, ◌≤◌, ◌<◌, ◌↔◌, IfOk, IfErr, IsTrue, length, List, ℕ};
+ghost use Rattle.std.specs.Prelude.{◌≡◌, ◌≤◌, ◌<◌, ◌++◌, IfOk, IfErr, OnOk, length, List, [], ℕ};
 ghost use Rattle.hy_base.specs.declared.reading.TheConstants.{BYTES_LIMIT};
+ghost use Rattle.hy_text.specs.Bytes.{past_blanks};
 ghost use Rattle.hy_finite.specs.EventFiles.{lines_of};
 ghost use Rattle.hy_finite.specs.EventLines.{IsGood};
+ghost use Rattle.hy_finite.specs.NextEvents.{IsNextAnswer};
+ghost use Rattle.hy_finite.specs.Remaining.{remaining};
 ghost use Rattle.hy_formula.specs.Quantifiers.{Each};
 ghost use Rattle.hy_top.specs.Monitoring.{RefusesLines, OrMemory};
-ghost use Rattle.hy_top.specs.WholeTraces.{IsSessionLine, IsTraceFile, AreLines, IsLine, NoneWrong, NoneUnbuilt, IsTraces};
+ghost use Rattle.hy_top.specs.WholeTraces.{is_marked, IsTraceFile, AreLines, IsLine, NoneWrong, NoneUnbuilt, IsTraces, whole_of};
 
 use crate::answer::Answer;
 use hy_base::{BYTES_LIMIT, List, M, Memory};
 use hy_bits::Letters;
-use hy_finite::{Event, EventLines, LineCheck, LineError, TraceList, check_line, split_line};
+use hy_finite::{Event, EventLines, LineCheck, Placed, TraceList, check_line, split_line};
 use hy_formula::NameTable;
 use hy_text::past_blanks;
 use std::alloc::Global;
@@ -92,11 +95,18 @@ fn look_at(line: &[u8], names: &NameTable) -> Line
 
 /// Whether the first byte of the line but blanks is `@` or `!`.
 fn is_session_line(line: &[u8]) -> bool
-    ensures { IsTrue result ↔ IsSessionLine line.now }
+    ensures { result ≡ is_marked (past_blanks line.now) }
 {
-    match past_blanks(line) {
-        [b'@', ..] | [b'!', ..] => true,
-        _ => false,
+    is_marked(past_blanks(line))
+}
+
+/// Whether the text begins with `@` or `!`.
+fn is_marked(text: &[u8]) -> bool
+    ensures { result ≡ is_marked text.now }
+{
+    match text {
+        [] => false,
+        [first, ..] => *first == b'@' || *first == b'!',
     }
 }
 
@@ -108,16 +118,28 @@ fn collect(alloc: Global, bytes: &[u8], names: &NameTable) -> M<TraceList>
 {
     let mut traces = List::new(alloc);
     let mut lines = EventLines::new(bytes);
-    loop {
-        match lines.next(names, Letters::new(alloc)) {
-            Ok(None) => return Ok(traces),
-            Ok(Some(placed)) => {
-                if let Event::Whole(trace) = placed.event {
-                    traces.push(trace)?;
-                }
-            }
-            Err(LineError::Memory) => return Err(Memory),
-            Err(LineError::Syntax { .. }) | Err(LineError::Limit) => unreachable!(),
-        }
+    while let Some(placed) = next_event(alloc, &mut lines, names)? {
+        keep(placed.event, &mut traces)?;
+    }
+    Ok(traces)
+}
+
+/// The next event of lines of which none is at fault, so that nothing but memory may be wanting.
+fn next_event(alloc: Global, lines: &mut EventLines, names: &NameTable) -> M<Option<Placed>>
+    ensures { IfOk result (λ placed. IsNextAnswer names.now (remaining lines.old) (remaining lines.new) (Ok placed)) }
+{
+    match lines.next(names, Letters::new(alloc)) {
+        Ok(placed) => Ok(placed),
+        Err(_) => Err(Memory),
+    }
+}
+
+/// Adds the trace of an event that is a whole one.
+fn keep(event: Event, traces: &mut TraceList) -> M<()>
+    ensures { OnOk result (traces.new ≡ traces.old ++ whole_of event []) }
+{
+    match event {
+        Event::Whole(trace) => traces.push(trace),
+        Event::Letter { .. } | Event::End { .. } | Event::Save | Event::Back => Ok(()),
     }
 }
