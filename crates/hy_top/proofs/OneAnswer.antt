@@ -1,21 +1,24 @@
 -- The first stage that is met gives one answer.
-use Rattle.std.proofs.Common.{◌≡◌, ℕ, zero, suc, ◌<◌, List, [], ◌∷◌, length, take, All, Ok, inl, inr, ap, sym, subst, ◌∙◌, arith, refl}
+use Rattle.std.proofs.Common.{◌≡◌, ℕ, zero, suc, ◌<◌, List, [], ◌∷◌, length, take, All, Some, inl, inr, ap, sym, subst, ◌∙◌, arith, refl, true}
 use Rattle.std.proofs.lemmas.Bool.{cases_lt}
 use Rattle.std.proofs.lemmas.List.{length-take}
 use Rattle.hy_formula.specs.declared.prefix.Quant.{Quant}
 use Rattle.hy_formula.specs.Trees.{Tree}
+use Rattle.hy_finite.specs.EventFiles.{lines_of}
+use Rattle.hy_finite.specs.Traces.{Trace}
+use Rattle.hy_read.specs.Answers.{Answer as Found, Answers, Plain, faulty, free, over, read_as}
+use Rattle.hy_read.proofs.Spanning.{answer-once}
 use Rattle.hy_top.specs.declared.answer.Answer.{Answer}
-use Rattle.hy_top.specs.declared.answer.Answer.TheVariants.{NoViolation, Violation}
+use Rattle.hy_top.specs.declared.answer.Answer.TheVariants.{NoViolation, Violation, Line, Prefix}
+use Rattle.hy_top.specs.Arrivals.{AreUniversal, Satisfies, AllSatisfy, ViolatesBy, FirstViolation}
 use Rattle.hy_top.specs.Commands.{Command, monitor}
-use Rattle.hy_top.specs.Finite.{Trace, Satisfies, AllSatisfy, ViolatesBy, FirstViolation}
-use Rattle.hy_top.specs.Formulas.{IsFirstFormula}
-use Rattle.hy_top.specs.Monitoring.{HasFormula, IsJudged, is_clean, is_violated, Judges}
-use Rattle.hy_top.specs.Stages.{Stage, opening, reading, size, text, work, Given, Came, Met, First, here, later, Agree}
-use Rattle.hy_top.specs.TraceTexts.{IsTraceFile}
-use Rattle.hy_top.proofs.OneFormula.{formula_once}
-use Rattle.hy_top.proofs.OneTraceFile.{traces_once}
+use Rattle.hy_top.specs.Monitoring.{HasSpecs, RefusesFound, RefusesSpecs, RefusesLines, RefusesTraces, RefusesClass, first_class, IsJudged, is_clean, is_violated, Judges, most_quantifiers}
+use Rattle.hy_top.specs.Stages.{Stage, opening, reading, size, text, class, work, Given, Met, First, here, later, Agree}
+use Rattle.hy_top.specs.WholeTraces.{IsTraceFile}
+use Rattle.hy_top.proofs.Arriving.{quantified-all}
 use Rattle.hy_top.proofs.Searches.{picked-take}
-use Rattle.hy_top.proofs.StageOrder.{came_once}
+use Rattle.hy_top.proofs.StageOrder.{bytes_once}
+use Rattle.hy_top.proofs.TraceLines.{wrong-once, wrong-or-none, traces-once}
 
 -- ---- two verdicts
 
@@ -54,49 +57,80 @@ one_arrival n tree traces k l pick other one two =
           ]
     ]
 
-same_clean : (n : ℕ) (traces : List Trace) (count : ℕ) (kept : List ℕ) (live : ℕ) (other : ℕ) (left : List ℕ) (open' : ℕ)
+same_clean : (count : ℕ) (kept : List ℕ) (live : ℕ) (other : ℕ) (left : List ℕ) (open' : ℕ)
     → count ≡ other → kept ≡ left → live ≡ open' → NoViolation count kept live ≡ NoViolation other left open'
-same_clean n traces count kept live other left open' e f h = cc
+same_clean count kept live other left open' e f h = cc
 
-judged_agree : (n : ℕ) (tree : Tree) (traces : List Trace) (a b : Answer) → IsJudged n tree traces a → IsJudged n tree traces b → Agree a b
-judged_agree n tree traces _ _ (is_clean count kept live one) (is_clean other left open' two) =
-    inl (same_clean n traces count kept live other left open' (one.all ∙ sym two.all) (one.kept_all ∙ sym two.kept_all) (one.none_open ∙ sym two.none_open))
-judged_agree n tree traces _ _ (is_clean count kept live one) (is_violated trace tuple two) =
-    absurd (clean_or_not n tree traces trace tuple one.clean two)
-judged_agree n tree traces _ _ (is_violated trace tuple one) (is_clean other left open' two) =
-    absurd (clean_or_not n tree traces trace tuple two.clean one)
-judged_agree n tree traces _ _ (is_violated trace tuple one) (is_violated arrival pick two) =
-    inr (0, trace, tuple, pick, refl, ap (λ t. Violation 0 t pick) (sym (one_arrival n tree traces trace arrival tuple pick one two)))
+judged_agree : (prefix : List Quant) (tree : Tree) (traces : List Trace) (a b : Answer) → AreUniversal prefix → IsJudged prefix tree traces a → IsJudged prefix tree traces b → Agree a b
+judged_agree prefix tree traces _ _ universal (is_clean count kept live one) (is_clean other left open' two) =
+    inl (same_clean count kept live other left open' (one.all ∙ sym two.all) (one.kept_all ∙ sym two.kept_all) (one.none_open ∙ sym two.none_open))
+judged_agree prefix tree traces _ _ universal (is_clean count kept live one) (is_violated trace tuple two) =
+    absurd (clean_or_not (length prefix) tree traces trace tuple (λ pick (long, members). quantified-all (length traces) _ prefix universal one.clean pick long members) two)
+judged_agree prefix tree traces _ _ universal (is_violated trace tuple one) (is_clean other left open' two) =
+    absurd (clean_or_not (length prefix) tree traces trace tuple (λ pick (long, members). quantified-all (length traces) _ prefix universal two.clean pick long members) one)
+judged_agree prefix tree traces _ _ universal (is_violated trace tuple one) (is_violated arrival pick two) =
+    inr (0, trace, tuple, pick, refl, ap (λ t. Violation 0 t pick) (sym (one_arrival (length prefix) tree traces trace arrival tuple pick one two)))
 
 -- ---- one stage, one answer
 
-module _ (given : Given) (specs traces : List ℕ) where
-  bytes_once : (k : ℕ) {bytes other : List ℕ} → Came given k (Ok bytes) → Came given k (Ok other) → bytes ≡ other
-  bytes_once k {bytes = bytes} {other = other} one two = let both : Ok bytes ≡ Ok other = came_once (monitor specs traces) given k one two in cc
+refused_once : (found : Found) (a b : Answer) → RefusesFound found a → RefusesFound found b → a ≡ b
+refused_once (faulty token byte) a b e f = e ∙ sym f
+refused_once (free byte) a b e f = e ∙ sym f
+refused_once (over count limit) a b e f = e ∙ sym f
+refused_once (read_as formulas names) a b e f = e.1 ∙ sym f.1
 
-  formulas_agree : {p q : List Quant} {s t : Tree} {m n : List (List ℕ)} → HasFormula given p s m → HasFormula given q t n → (p ≡ q) × (s ≡ t) × (m ≡ n)
-  formulas_agree {p = p} {q = q} {s = s} {t = t} {m = m} {n = n} one two =
-      let P : List ℕ → Type 0 = λ b. IsFirstFormula [] b p s m in
-      formula_once [] two.bytes p q s t m n (subst P (bytes_once 0 one.came two.came) one.formula) two.formula
+lines_once : (lines : List (List ℕ)) (a b : Answer) → RefusesLines lines a → RefusesLines lines b → a ≡ b
+lines_once lines a b (inl (k, wrong, e)) (inl (j, other, f)) = e ∙ ap (λ n. Line 1 n) (wrong-once 1 lines k j wrong other) ∙ sym f
+lines_once lines a b (inl (k, wrong, e)) (inr (none, some, f)) = absurd (wrong-or-none 1 lines k wrong none)
+lines_once lines a b (inr (none, some, e)) (inl (k, wrong, f)) = absurd (wrong-or-none 1 lines k wrong none)
+lines_once lines a b (inr (none, some, e)) (inr (other, also, f)) = e ∙ sym f
+
+module _ (given : Given) (specs traces : List ℕ) where
+  specs_agree : (s t : List Plain) (m n : List (List ℕ)) → HasSpecs given s m → HasSpecs given t n → read_as s m ≡ read_as t n
+  specs_agree s t m n one two =
+      let P : List ℕ → Type 0 = λ b. Answers true most_quantifiers [] b (read_as s m) in
+      answer-once true most_quantifiers [] two.bytes _ _ (subst P (bytes_once (monitor specs traces) given 0 one.bytes two.bytes one.came two.came) one.read) two.read
+
+  specs_refused_once : (a b : Answer) → RefusesSpecs given a → RefusesSpecs given b → a ≡ b
+  specs_refused_once a b one two =
+      let P : List ℕ → Type 0 = λ x. Answers true most_quantifiers [] x one.found in
+      let same = answer-once true most_quantifiers [] two.bytes one.found two.found (subst P (bytes_once (monitor specs traces) given 0 one.bytes two.bytes one.came two.came) one.read) two.read in
+      let Q : Found → Type 0 = λ found. RefusesFound found a in
+      refused_once two.found a b (subst Q same one.refused) two.refused
+
+  traces_refused_once : (a b : Answer) → RefusesTraces given a → RefusesTraces given b → a ≡ b
+  traces_refused_once a b one two =
+      let P : List ℕ → Type 0 = λ x. RefusesLines (lines_of x) a in
+      lines_once (lines_of two.bytes) a b (subst P (bytes_once (monitor specs traces) given 1 one.bytes two.bytes one.came two.came) one.refused) two.refused
+
+  class_refused_once : (a b : Answer) → RefusesClass given a → RefusesClass given b → a ≡ b
+  class_refused_once a b one two =
+      let same = specs_agree one.formulas two.formulas one.names two.names one.specs two.specs in
+      let formulas : one.formulas ≡ two.formulas = cc in
+      let classes : Some one.class ≡ Some two.class = sym one.first ∙ ap first_class formulas ∙ two.first in
+      let class' : one.class ≡ two.class = cc in
+      one.answered ∙ ap (λ x. Prefix 0 x) class' ∙ sym two.answered
 
   verdicts_agree : (a b : Answer) → Judges given a → Judges given b → Agree a b
   verdicts_agree a b one two =
-      let formulas = formulas_agree one.specs two.specs in
+      let same = specs_agree (one.formula ∷ []) (two.formula ∷ []) one.names two.names one.specs two.specs in
+      let formula : one.formula ≡ two.formula = cc in
+      let names : one.names ≡ two.names = cc in
       let P : List ℕ → Type 0 = λ x. IsTraceFile one.names x one.traces in
       let Q : List (List ℕ) → Type 0 = λ n. IsTraceFile n two.bytes one.traces in
-      let read = traces_once two.names two.bytes one.traces two.traces (subst Q formulas.2 (subst P (bytes_once 1 one.came two.came) one.spelled)) two.spelled in
-      let A : List Quant → Type 0 = λ p. IsJudged (length p) one.tree one.traces a in
-      let B : Tree → Type 0 = λ t. IsJudged (length two.prefix) t one.traces a in
-      let C : List Trace → Type 0 = λ ts. IsJudged (length two.prefix) two.tree ts a in
-      judged_agree (length two.prefix) two.tree two.traces a b (subst C read (subst B formulas.1 (subst A formulas.0 one.judged))) two.judged
+      let read = traces-once two.names two.bytes one.traces two.traces (subst Q names (subst P (bytes_once (monitor specs traces) given 1 one.bytes two.bytes one.came two.came) one.spelled)) two.spelled in
+      let A : Plain → Type 0 = λ p. IsJudged p.prefix p.body one.traces a in
+      let B : List Trace → Type 0 = λ ts. IsJudged two.formula.prefix two.formula.body ts a in
+      judged_agree two.formula.prefix two.formula.body two.traces a b two.universal (subst B read (subst A formula one.judged)) two.judged
 
 one_stage : (command : Command) (given : Given) (stage : Stage) (a b : Answer) → Met command given stage a → Met command given stage b → Agree a b
 one_stage command given (opening k) a b e f = inl (e.1 ∙ sym f.1)
 one_stage command given (reading k) a b e f = inl (e.1 ∙ sym f.1)
 one_stage command given (size k) a b e f = inl (e.1 ∙ sym f.1)
-one_stage (monitor specs traces) given (text zero) a b e f = inl (e.answered ∙ sym f.answered)
-one_stage (monitor specs traces) given (text (suc zero)) a b e f = inl (e.answered ∙ sym f.answered)
+one_stage (monitor specs traces) given (text zero) a b e f = inl (specs_refused_once given specs traces a b e f)
+one_stage (monitor specs traces) given (text (suc zero)) a b e f = inl (traces_refused_once given specs traces a b e f)
 one_stage (monitor specs traces) given (text (suc (suc k))) a b e f = absurd e
+one_stage (monitor specs traces) given class a b e f = inl (class_refused_once given specs traces a b e f)
 one_stage (monitor specs traces) given work a b e f = verdicts_agree given specs traces a b e f
 
 pub first_once : (command : Command) (given : Given) (stages : List Stage) (a b : Answer) → First command given stages a → First command given stages b → Agree a b

@@ -6,8 +6,10 @@ use Rattle.hy_base.specs.Sink.{GivesWhole, FailsToGive}
 use Rattle.hy_base.specs.declared.sink.Sink.{Ghosts}
 use Rattle.hy_base.specs.declared.limit.Kind.{Kind}
 use Rattle.hy_base.specs.declared.limit.Kind.TheVariants as kinds
+use Rattle.hy_formula.specs.declared.classes.Class.{Class}
+use Rattle.hy_formula.specs.declared.classes.Class.TheVariants as classes
 use Rattle.hy_top.specs.declared.answer.Answer.{Answer}
-use Rattle.hy_top.specs.declared.answer.Answer.TheVariants.{NoViolation, Violation, Words, OpenFault, ReadFault, WriteFault, Limit, Unbuilt, Memory}
+use Rattle.hy_top.specs.declared.answer.Answer.TheVariants.{NoViolation, Violation, Words, Syntax, Unbound, Prefix, Line, OpenFault, ReadFault, WriteFault, Limit, Unbuilt, Memory}
 
 -- numbers, each behind a space
 abbrev pub spaced : List ℕ → List ℕ
@@ -24,6 +26,10 @@ out_text (Violation spec trace tuple) =
     codes "violation of spec " ++ decimal spec ++ codes " at trace " ++ decimal trace ++ codes " by "
     ++ join_with_byte 32 (map decimal tuple) ++ codes "\n"
 out_text Words = []
+out_text (Syntax file token byte) = []
+out_text (Unbound file byte) = []
+out_text (Prefix file class) = []
+out_text (Line file line) = []
 out_text (OpenFault file) = []
 out_text (ReadFault file) = []
 out_text WriteFault = []
@@ -50,6 +56,12 @@ kind_text kinds.Variables = codes "variables"
 kind_text kinds.CnfVariables = codes "cnf-variables"
 kind_text kinds.CnfLiterals = codes "cnf-literals"
 
+abbrev pub class_text : Class → List ℕ
+class_text classes.Exists = codes "exists"
+class_text classes.Forall = codes "forall"
+class_text classes.ExistsForall = codes "exists-forall"
+class_text classes.Other = codes "other"
+
 -- the name of a file of the command, as its words have it
 abbrev pub name_of_file : List (List ℕ) → ℕ → List ℕ
 name_of_file names file = slice_index_or names file []
@@ -57,6 +69,11 @@ name_of_file names file = slice_index_or names file []
 -- what `err` receives, where the command has files of these names
 abbrev pub error_line : List (List ℕ) → Answer → List ℕ
 error_line names Words = codes "error E1: words\n"
+error_line names (Syntax file token byte) =
+    codes "error E2 " ++ name_of_file names file ++ codes ": token " ++ decimal token ++ codes " byte " ++ decimal byte ++ codes "\n"
+error_line names (Unbound file byte) = codes "error E3 " ++ name_of_file names file ++ codes ": byte " ++ decimal byte ++ codes "\n"
+error_line names (Prefix file class) = codes "error E4 " ++ name_of_file names file ++ codes ": prefix " ++ class_text class ++ codes "\n"
+error_line names (Line file line) = codes "error E9 " ++ name_of_file names file ++ codes ": line " ++ decimal line ++ codes "\n"
 error_line names (OpenFault file) = codes "error E7 " ++ name_of_file names file ++ codes "\n"
 error_line names (ReadFault file) = codes "error E6 " ++ name_of_file names file ++ codes "\n"
 error_line names WriteFault = codes "error E8\n"
@@ -71,6 +88,10 @@ abbrev pub status_of : Answer → ℕ
 status_of (NoViolation traces kept live) = 0
 status_of (Violation spec trace tuple) = 1
 status_of Words = 2
+status_of (Syntax file token byte) = 2
+status_of (Unbound file byte) = 2
+status_of (Prefix file class) = 2
+status_of (Line file line) = 2
 status_of (Unbuilt file) = 2
 status_of (OpenFault file) = 3
 status_of (ReadFault file) = 3

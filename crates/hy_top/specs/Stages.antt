@@ -26,6 +26,8 @@ pub data Stage : Type 0 where
   size : ℕ → Stage
   -- it is a text of its kind, within its counts
   text : ℕ → Stage
+  -- the formulas are of a class that the command takes
+  class : Stage
   -- what the command asks for
   work : Stage
 
@@ -37,9 +39,13 @@ abbrev pub stages_of_files : ℕ → List Stage
 stages_of_files zero = []
 stages_of_files (suc n) = stages_of_files n ++ stages_of_file n
 
+-- the stages that come before the work
+abbrev pub stages_before_work : Command → List Stage
+stages_before_work command = stages_of_files (length (files_of command)) ++ class ∷ []
+
 -- the order of refusals
 abbrev pub stages_of : Command → List Stage
-stages_of command = stages_of_files (length (files_of command)) ++ work ∷ []
+stages_of command = stages_before_work command ++ work ∷ []
 
 -- what came of reading the files, by their places, as far as they were read
 abbrev pub Given : Type 0
@@ -55,6 +61,10 @@ RefusesText (monitor specs traces) zero given answer = monitoring.RefusesSpecs g
 RefusesText (monitor specs traces) (suc zero) given answer = monitoring.RefusesTraces given answer
 RefusesText (monitor specs traces) (suc (suc k)) given answer = ⊥
 
+-- The class of a formula is not taken, and so is answered.
+abbrev pub RefusesClass : Command → Given → Answer → Type 0
+RefusesClass (monitor specs traces) given answer = monitoring.RefusesClass given answer
+
 -- The work of the command comes to this answer.
 abbrev pub ComesTo : Command → Given → Answer → Type 0
 ComesTo (monitor specs traces) given answer = monitoring.Judges given answer
@@ -65,6 +75,7 @@ Met command given (opening k) answer = Came given k (Err errors.OpenFailed) × (
 Met command given (reading k) answer = Came given k (Err errors.ReadFailed) × (answer ≡ ReadFault k)
 Met command given (size k) answer = Came given k (Err errors.Limit) × (answer ≡ Limit Bytes BYTES_LIMIT)
 Met command given (text k) answer = RefusesText command k given answer
+Met command given class answer = RefusesClass command given answer
 Met command given work answer = ComesTo command given answer
 
 abbrev pub Passed : Command → Given → Stage → Type 0

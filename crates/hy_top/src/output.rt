@@ -100,7 +100,12 @@ pub fn status_of(answer: &Answer) -> u8
     match answer {
         Answer::NoViolation { .. } => 0,
         Answer::Violation { .. } => 1,
-        Answer::Words | Answer::Unbuilt { .. } => 2,
+        Answer::Words
+        | Answer::Syntax { .. }
+        | Answer::Unbound { .. }
+        | Answer::Prefix { .. }
+        | Answer::Line { .. }
+        | Answer::Unbuilt { .. } => 2,
         Answer::OpenFault { .. } | Answer::ReadFault { .. } | Answer::WriteFault => 3,
         Answer::Limit { .. } => 5,
         Answer::Memory => 6,

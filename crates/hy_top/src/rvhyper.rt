@@ -1,26 +1,31 @@
 //! `rvhyper`: its words, and the one pipeline from its files to its answer.
 
-ghost use Rattle.std.specs.Prelude.{◌≡◌, ◌≤◌, ◌<◌, ◌^◌, ◌⊎◌, ◌∷◌, List, [], ℕ, IfOk, IsErrOf, IfSome, IfNone, length};
+ghost use Rattle.std.specs.Prelude.{◌≡◌, ◌≤◌, ◌<◌, ◌^◌, ◌⊎◌, ◌↔◌, ◌∷◌, IsTrue, List, [], ℕ, IfOk, IfErr, IfSome, IfNone, length, Some, None, true};
 ghost use Rattle.hy_base.specs.Shelf.{KeepsShelf};
-ghost use Rattle.hy_formula.specs.declared.prefix.Quant.{Quant};
-ghost use Rattle.hy_formula.specs.Trees.{Tree, tree_of};
+ghost use Rattle.hy_formula.specs.Trees.{tree_of};
+ghost use Rattle.hy_finite.specs.EventFiles.{lines_of};
+ghost use Rattle.hy_read.specs.Answers.{Answer as Found, Answers, read_as};
+ghost use Rattle.hy_read.specs.Builds.{plain_formulas};
 ghost use Rattle.hy_top.specs.declared.answer.Tool.TheVariants.{RvHyper};
+ghost use Rattle.hy_top.specs.Arrivals.{AreUniversal};
 ghost use Rattle.hy_top.specs.Commands.{texts, Monitors, HasNoCommand, is_file_word, monitor};
-ghost use Rattle.hy_top.specs.Formulas.{IsFirstFormula};
-ghost use Rattle.hy_top.specs.Monitoring.{IsJudged, IsFileJudged, OrMemory};
+ghost use Rattle.hy_top.specs.Monitoring.{AreBuilt, RefusesFound, RefusesLines, IsJudged, FileJudged, OrMemory, most_quantifiers, first_class};
 ghost use Rattle.hy_top.specs.Runs.{Follows};
 ghost use Rattle.hy_top.specs.Stages.{fault_answer};
+ghost use Rattle.hy_top.specs.WholeTraces.{IsTraceFile};
 
 use crate::answer::Answer;
-use crate::finite::lines::LineError;
-use crate::finite::monitor::first_violation;
-use crate::finite::trace::TraceList;
-use crate::finite::traces::read_traces;
-use crate::read::error::ReadError;
-use crate::read::formula::read_formula;
+use crate::arrivals::first_violation;
+use crate::refusal::text_answer;
+use crate::whole_traces::read_traces;
 use hy_base::{BYTES_LIMIT, FileError, Kind, Memory, NumList, Shelf, read_all};
-use hy_formula::{Formula, NameTable};
+use hy_finite::TraceList;
+use hy_formula::{Class, Formula, NameTable, class};
+use hy_read::{SpecList, read_specs};
 use std::alloc::Global;
+
+/// Most quantifiers of a formula.
+const MOST_QUANTIFIERS: u8 = 4;
 
 /// A command of `rvhyper`: the names of its specification file and of its trace file.
 #[derive(Clone, Copy)]
@@ -67,10 +72,9 @@ pub fn monitor<S: Shelf>(alloc: Global, command: Command, shelf: &mut S) -> Answ
         Ok(text) => text,
         Err(error) => return fault_answer(error, 0),
     };
-    let specs = match read_specs(alloc, text.as_slice()) {
+    let specs = match built_specs(alloc, text.as_slice()) {
         Ok(specs) => specs,
-        Err(ReadError::Unbuilt) => return Answer::Unbuilt { file: 0 },
-        Err(ReadError::Memory) => return Answer::Memory,
+        Err(answer) => return answer,
     };
     match read_all(alloc, shelf, command.traces) {
         Ok(bytes) => judge_file(alloc, &specs, bytes.as_slice()),
@@ -93,35 +97,65 @@ fn fault_answer(error: FileError, file: u8) -> Answer
     }
 }
 
-/// A specification that was read: its formula, and the names that its atoms number.
+/// Formulas that were read, and the names that their atoms number.
 #[derive(Drop)]
 struct Specs {
-    formula: Formula,
+    formulas: SpecList,
     names: NameTable,
 }
 
-/// The formula of a specification file.
-fn read_specs(alloc: Global, text: &[u8]) -> Result<Specs, ReadError>
-    ensures ok { IfOk result (λ s. IsFirstFormula [] text.now s.formula.prefix (tree_of s.formula.body)
-        s.names) }
-    ensures unbuilt { IsErrOf result ReadError.Unbuilt
-        → (prefix : List Quant) (tree : Tree) (table : List (List ℕ))
-        → IsFirstFormula [] text.now prefix tree table → ⊥ }
+/// The formulas of a specification file, or how it is answered that it has none that are built.
+fn built_specs(alloc: Global, text: &[u8]) -> Result<Specs, Answer>
+    requires few { length text.now ≤ BYTES_LIMIT }
+    ensures ok { IfOk result (λ s. Answers true most_quantifiers [] text.now
+        (read_as (plain_formulas s.formulas) s.names)) }
+    ensures built { IfOk result (λ s. AreBuilt (plain_formulas s.formulas)) }
+    ensures refused { IfErr result (λ answer. OrMemory answer ((found : Found)
+        × Answers true most_quantifiers [] text.now found × RefusesFound found answer)) }
 {
     let mut names = match NameTable::new(alloc) {
         Ok(names) => names,
-        Err(Memory) => return Err(ReadError::Memory),
+        Err(Memory) => return Err(Answer::Memory),
     };
-    match read_formula(alloc, text, &mut names) {
-        Ok(formula) => Ok(Specs { formula, names }),
-        Err(error) => Err(error),
+    let formulas = match read_specs(alloc, text, MOST_QUANTIFIERS, &mut names) {
+        Ok(formulas) => formulas,
+        Err(error) => return Err(text_answer(error, 0)),
+    };
+    if !are_built(&formulas) {
+        return Err(Answer::Unbuilt { file: 0 });
+    }
+    Ok(Specs { formulas, names })
+}
+
+/// Whether there is one formula, with at most two quantifiers.
+fn are_built(formulas: &SpecList) -> bool
+    ensures { IsTrue result ↔ AreBuilt (plain_formulas formulas.now) }
+{
+    formulas.len() == 1 && formulas.at(0).prefix.len() <= 2
+}
+
+/// The answer for the bytes of a trace file.
+fn judge_file(alloc: Global, specs: &Specs, bytes: &[u8]) -> Answer
+    requires few { length bytes.now ≤ BYTES_LIMIT }
+    requires built { AreBuilt (plain_formulas specs.now.formulas) }
+    ensures { OrMemory result (FileJudged (plain_formulas specs.now.formulas) specs.now.names bytes.now result) }
+{
+    let traces = match read_traces(alloc, bytes, &specs.names) {
+        Ok(traces) => traces,
+        Err(answer) => return answer,
+    };
+    let formula = specs.formulas.at(0);
+    match class(formula) {
+        Class::Forall => judge(alloc, formula, &traces),
+        class => Answer::Prefix { file: 0, class },
     }
 }
 
 /// The answer for traces that arrive in order.
 fn judge(alloc: Global, formula: &Formula, traces: &TraceList) -> Answer
     requires few { length traces.now < 2 ^ 32 }
-    ensures { OrMemory result (IsJudged (length formula.now.prefix) (tree_of formula.now.body)
+    requires universal { AreUniversal formula.now.prefix }
+    ensures { OrMemory result (IsJudged formula.now.prefix (tree_of formula.now.body)
         traces.now result) }
 {
     match first_violation(alloc, &formula.body, formula.prefix.len(), traces) {
@@ -148,18 +182,5 @@ fn clean_answer(alloc: Global, count: u32) -> Answer
             live: 0,
         },
         Err(Memory) => Answer::Memory,
-    }
-}
-
-/// The answer for the bytes of a trace file.
-fn judge_file(alloc: Global, specs: &Specs, bytes: &[u8]) -> Answer
-    requires few { length bytes.now ≤ BYTES_LIMIT }
-    ensures { OrMemory result (IsFileJudged (length specs.now.formula.prefix)
-        (tree_of specs.now.formula.body) specs.now.names bytes.now result) }
-{
-    match read_traces(alloc, bytes, &specs.names) {
-        Ok(traces) => judge(alloc, &specs.formula, &traces),
-        Err(LineError::Unbuilt) => Answer::Unbuilt { file: 1 },
-        Err(LineError::Memory) => Answer::Memory,
     }
 }

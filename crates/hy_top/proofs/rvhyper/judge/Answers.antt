@@ -9,5 +9,5 @@ returns-in-Ok-Some c = inr (is_violated _ _ (rw (c.in-Ok-Some.field-0-is, c.len.
 
 pub returns-in-Ok-None : goal.returns-in-Ok-None
 returns-in-Ok-None c =
-    clean_judged _ _ _ _ _ c.clean_answer.ensures (grind (arith, common_steps))
+    clean_judged _ _ _ _ _ c.requires.universal c.clean_answer.ensures (grind (arith, common_steps))
     (rw (c.in-Ok-None.field-0-is, c.len.ensures.len) at c.in-Ok-None.ensures.clean)
