@@ -9,6 +9,7 @@ pub mod Moves
 pub mod Operators
 pub mod Parses
 pub mod Places
+pub mod Printing
 pub mod Results
 pub mod Scanning
 pub mod Scans

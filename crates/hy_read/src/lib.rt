@@ -12,6 +12,7 @@ mod operator;
 mod parse;
 mod parsed;
 mod parser;
+mod print;
 mod read;
 mod scan;
 mod scope;
@@ -26,6 +27,7 @@ mod word;
 
 pub use error::ReadError;
 pub use formulas::SpecList;
+pub use print::print_formula;
 pub use read::{read_formula, read_specs};
 pub use laws::{
     allowed_is_derived, fault_answered, fault_fits, fault_found, height_without_names, one_answer,

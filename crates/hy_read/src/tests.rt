@@ -1,6 +1,6 @@
 //! Texts, the formulas that they are and the places of their faults, worked out by hand.
 
-use crate::{ReadError, read_formula, read_specs};
+use crate::{ReadError, print_formula, read_formula, read_specs};
 use hy_base::{Kind, Limit, M};
 use hy_formula::NameTable;
 
@@ -111,5 +111,16 @@ fn formulas_share_their_names(rt: HostRuntime) -> M<()> {
     assert_eq!(rt; specs.map(|specs| specs.len()), Some(2));
     assert_eq!(rt; names.len(), 3);
     assert_eq!(rt; names.find(b"b"), Some(1));
+    Ok(())
+}
+
+#[test]
+fn prints_a_formula(rt: HostRuntime) -> Result<(), ReadError> {
+    let mut names = NameTable::new(rt.alloc())?;
+    let text = b"exists p. forall q. a_p & !a_q -> X(\"a b\"_q U true)";
+    let formula = read_formula(rt.alloc(), text, 8, &mut names)?;
+    let printed = print_formula(rt.alloc(), &formula, &names)?;
+    let want = b"exists x1. forall x2. ((a_x1 & !a_x2) -> X (\"a b\"_x2 U true))";
+    assert_eq!(rt; printed.as_slice(), want.as_slice());
     Ok(())
 }
