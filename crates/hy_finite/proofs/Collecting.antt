@@ -1,5 +1,5 @@
 -- Checking the lines of a file one after another, and collecting what they say.
-use Rattle.std.proofs.Common.{◌≡◌, ℕ, suc, ◌+◌, ◌<◌, ◌⊎◌, Bool, true, false, List, [], ◌∷◌, ◌++◌, length, Option, Some, Ok, Err, inl, inr, refl, sym, ap, ◌∙◌, subst, arith, append_assoc, append-nil}
+use Rattle.std.proofs.Common.{◌≡◌, ℕ, suc, ◌+◌, ◌<◌, Bool, true, false, List, [], ◌∷◌, ◌++◌, length, Some, Ok, Err, inl, inr, refl, sym, ap, subst, arith, append_assoc, append-nil}
 use Rattle.hy_formula.specs.Quantifiers.{Each}
 use Rattle.hy_finite.specs.declared.event.Placed.{Placed}
 use Rattle.hy_finite.specs.declared.error.LineError.{LineError}

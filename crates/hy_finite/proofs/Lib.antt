@@ -1,13 +1,15 @@
 pub mod Agreeing
+pub mod Carrying
 pub mod Collecting
 pub mod Decimals
 pub mod JudgedLength
 pub mod LineAnswers
+pub mod NameWords
 pub mod OneAnswer
 pub mod Reaching
-pub mod RowLoops
+pub mod RowMeanings
+pub mod RowSteps
 pub mod Saying
 pub mod Splitting
-pub mod RowMeanings
 pub mod Truth
 pub mod Violating

@@ -1,5 +1,5 @@
 -- What a line is, by how it begins and by the sets in it.
-use Rattle.std.proofs.Common.{◌≡◌, ◌≢◌, ℕ, ◌<◌, ◌≤◌, ◌⊎◌, List, [], ◌∷◌, ◌++◌, length, map, take, Option, Some, None, Ok, Err, Result, inl, inr, codes, refl, sym, ap, ◌∙◌, subst, arith}
+use Rattle.std.proofs.Common.{◌≡◌, ◌≢◌, ℕ, ◌<◌, ◌≤◌, ◌⊎◌, List, [], ◌∷◌, ◌++◌, length, map, take, Option, Some, None, Ok, Err, Result, inl, inr, codes, sym, ap, ◌∙◌, subst, arith}
 use Rattle.hy_text.specs.Bytes.{past_blanks}
 use Rattle.hy_text.specs.Sets.{SpellsSet, letter_of}
 use Rattle.hy_text.specs.Words.{SpellsWord}
@@ -9,7 +9,7 @@ use Rattle.hy_bits.specs.Letter.{Letter as NameSet}
 use Rattle.hy_text.proofs.ReadingSets.{apart}
 use Rattle.hy_text.proofs.Once.{one-set, one-word}
 use Rattle.hy_finite.specs.Traces.{most_letters}
-use Rattle.hy_finite.specs.EventLines.{Said, word, letter, finish, save, back, SaysNothing, Says, Spells, IsOnly, session_at, IsFaulty, IsGood, IsTooLong}
+use Rattle.hy_finite.specs.EventLines.{Said, word, letter, finish, save, back, SaysNothing, Spells, IsOnly, session_at}
 use Rattle.hy_finite.specs.declared.checks.LineCheck.{LineCheck}
 use Rattle.hy_finite.specs.declared.checks.LineCheck.TheVariants.{Good, TooLong, Fault}
 use Rattle.hy_finite.specs.declared.begun.Begun.{Begun}
@@ -19,7 +19,7 @@ use Rattle.hy_finite.specs.declared.event.Event.{Event}
 use Rattle.hy_finite.specs.declared.error.LineError.{LineError}
 use Rattle.hy_finite.specs.declared.error.LineError.TheVariants.{Syntax, Limit, Memory}
 use Rattle.hy_finite.specs.EventAnswers.{IsLineAnswer, IsLetterAnswer}
-use Rattle.hy_finite.proofs.Saying.{begins-not, begins, nothing-said, same-session, session-begins}
+use Rattle.hy_finite.proofs.Saying.{begins-not, same-session, session-begins}
 
 -- ---- texts that say nothing that is taken
 

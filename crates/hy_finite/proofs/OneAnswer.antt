@@ -1,12 +1,12 @@
 -- One line and one file have one answer, but for want of memory.
-use Rattle.std.proofs.Common.{◌≡◌, ◌≢◌, ℕ, suc, ◌⊎◌, List, [], ◌∷◌, Option, Some, None, Result, Ok, Err, inl, inr, refl, sym, ap, ◌∙◌, subst}
+use Rattle.std.proofs.Common.{◌≡◌, ◌≢◌, ℕ, suc, List, [], ◌∷◌, Option, Some, None, Result, Ok, Err, inl, inr, refl, sym, ap, ◌∙◌}
 use Rattle.hy_formula.specs.Quantifiers.{Each}
 use Rattle.hy_finite.specs.declared.event.Event.{Event}
 use Rattle.hy_finite.specs.declared.event.Placed.{Placed}
 use Rattle.hy_finite.specs.declared.error.LineError.{LineError}
 use Rattle.hy_finite.specs.declared.error.LineError.TheVariants.{Syntax, Limit, Memory}
 use Rattle.hy_text.specs.Bytes.{past_blanks}
-use Rattle.hy_finite.specs.EventLines.{Said, word, SaysNothing, Says, IsShort, IsFaulty, IsTooLong, IsText, IsGood}
+use Rattle.hy_finite.specs.EventLines.{Said, word, IsFaulty, IsTooLong, IsText, IsGood}
 use Rattle.hy_finite.specs.EventFiles.{event_of, lines_of, SayEvents, FirstFault, SomeTooLong}
 use Rattle.hy_finite.specs.EventAnswers.{IsLineAnswer, IsFileAnswer}
 use Rattle.hy_finite.proofs.Saying.{nothing-said, one-said}

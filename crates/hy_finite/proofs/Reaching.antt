@@ -1,5 +1,5 @@
 -- Going on from line to line, past those that say nothing.
-use Rattle.std.proofs.Common.{◌≡◌, ℕ, suc, ◌⊎◌, List, [], ◌∷◌, inl, inr, refl, sym, subst}
+use Rattle.std.proofs.Common.{◌≡◌, ℕ, suc, List, [], ◌∷◌, inl, inr, refl, sym, subst}
 use Rattle.hy_formula.specs.Quantifiers.{Each}
 use Rattle.hy_finite.specs.EventLines.{SaysNothing}
 use Rattle.hy_finite.specs.LinesLeft.{LinesLeft}

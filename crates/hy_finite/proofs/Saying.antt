@@ -7,7 +7,7 @@ use Rattle.hy_text.specs.Sets.{SpellsSet}
 use Rattle.hy_text.specs.Words.{SpellsWord}
 use Rattle.hy_text.proofs.ReadingSets.{apart}
 use Rattle.hy_text.proofs.Once.{one-set, one-word}
-use Rattle.hy_finite.specs.EventLines.{Said, word, letter, finish, save, back, SaysNothing, Says, Spells, IsOnly, session_at, number_at, behind_blanks, IsFaulty}
+use Rattle.hy_finite.specs.EventLines.{Said, word, letter, finish, save, back, SaysNothing, Says, Spells, IsOnly, session_at, number_at, behind_blanks}
 
 -- the first byte of a text that says this
 abbrev pub first_of : Said → ℕ

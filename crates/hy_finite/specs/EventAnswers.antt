@@ -1,5 +1,5 @@
 -- What the readers of events answer.
-use Rattle.std.specs.Prelude.{◌≡◌, ℕ, suc, ◌+◌, ◌⊎◌, List, [], ◌∷◌, length, Option, Some, None, Result, Ok, Err}
+use Rattle.std.specs.Prelude.{◌≡◌, ℕ, List, [], Option, Some, None, Result, Ok, Err}
 use Rattle.hy_formula.specs.Quantifiers.{Each}
 use Rattle.hy_text.specs.Bytes.{past_blanks}
 use Rattle.hy_text.specs.Sets.{SpellsSet}
@@ -8,7 +8,7 @@ use Rattle.hy_finite.specs.declared.event.Placed.{Placed}
 use Rattle.hy_finite.specs.declared.error.LineError.{LineError}
 use Rattle.hy_finite.specs.declared.error.LineError.TheVariants.{Syntax, Limit, Memory}
 use Rattle.hy_finite.specs.EventLines.{Said, letter, SaysNothing, Says, IsShort, IsFaulty, IsTooLong, IsText, IsGood}
-use Rattle.hy_finite.specs.EventFiles.{event_of, lines_of, SayEvents, IsEventFile, FirstFault, SomeTooLong}
+use Rattle.hy_finite.specs.EventFiles.{event_of, lines_of, IsEventFile, FirstFault, SomeTooLong}
 
 -- The line says nothing, or this event, or it is at fault, or a trace that is too long.
 abbrev pub IsLineAnswer : List (List ℕ) → List ℕ → Result (Option Event) LineError → Type 0

@@ -6,4 +6,5 @@ pub mod LinesLeft
 pub mod NextEvents
 pub mod Remaining
 pub mod Rows
+pub mod Rules
 pub mod Traces

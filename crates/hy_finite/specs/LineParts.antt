@@ -11,7 +11,7 @@ use Rattle.hy_finite.specs.declared.checks.LineCheck.{LineCheck}
 use Rattle.hy_finite.specs.declared.checks.LineCheck.TheVariants.{Good, TooLong, Fault}
 use Rattle.hy_finite.specs.declared.error.LineError.{LineError}
 use Rattle.hy_finite.specs.declared.error.LineError.TheVariants.{Syntax, Limit, Memory}
-use Rattle.hy_finite.specs.EventLines.{Said, word, finish, save, back, SaysNothing, session_at, IsOnly, Spells, IsFaulty, IsTooLong, IsGood}
+use Rattle.hy_finite.specs.EventLines.{Said, finish, save, back, SaysNothing, session_at, IsOnly, Spells, IsFaulty, IsTooLong, IsGood}
 use Rattle.hy_finite.specs.Traces.{most_letters}
 
 abbrev pub plain_number : ℕ × Bor (List ℕ) → ℕ × List ℕ

@@ -1,5 +1,5 @@
 -- Finite traces, the length on which a tuple of them is judged, and lists that violate a universal formula.
-use Rattle.std.specs.Prelude.{ℕ, zero, suc, ◌≤◌, min, max, List, [], ◌∷◌, length, map, slice_index_or}
+use Rattle.std.specs.Prelude.{ℕ, zero, suc, min, max, List, [], ◌∷◌, length, map, slice_index_or}
 use Rattle.std.specs.List.{Contains}
 use Rattle.std.specs.FinSet.{empty, contains}
 use Rattle.hy_bits.specs.Letter.{Letter}

@@ -12,7 +12,8 @@ mod line;
 mod lines;
 mod meaning;
 mod number;
-mod row;
+mod rows;
+mod rule;
 mod sets;
 mod trace;
 

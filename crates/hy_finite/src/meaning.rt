@@ -1,20 +1,19 @@
-ghost use Rattle.std.specs.Prelude.{◌≡◌, ℕ, ◌<◌, ◌≤◌, ◌↔◌, [], length, IfOk, IsTrue, All, slice_index_or};
+ghost use Rattle.std.specs.Prelude.{◌≡◌, ℕ, ◌+◌, ◌*◌, ◌<◌, ◌≤◌, ◌↔◌, [], length, IfOk, OnOk, IsTrue, All, slice_index_or};
 ghost use Rattle.hy_formula.specs.Trees.{tree_of, vars_below, atom};
 ghost use Rattle.hy_finite.specs.Traces.{of_two, judged, picked, trace_words, Meets};
-ghost use Rattle.hy_finite.specs.Rows.{IsRowOf};
+ghost use Rattle.hy_finite.specs.Rows.{IsFilled, IsRepeated, IsNamesWord};
 
 use crate::lengths::Lengths;
-use crate::row::{
-    Row, and, constant, finally, globally, iff, negate, next, or, release, until, weak,
-};
-use crate::trace::TraceList;
+use crate::rows::{Rows, binary, unary};
+use crate::rule::{Rule, has_one};
+use crate::trace::{Trace, TraceList};
 use hy_base::{List, M};
 use hy_formula::{Atom, Body};
 use std::alloc::Global;
 
 /// Whether the body holds of the picked traces, at their first position. `pick` has for each variable
-/// of the body the number of a trace of the list. In time the size of the body times the judged
-/// length.
+/// of the body the number of a trace of the list. In time the size of the body times the judged length
+/// over 64, and for each atom the judged length; with one buffer.
 pub fn finite_holds(
     alloc: Global,
     body: &Body,
@@ -32,9 +31,12 @@ pub fn finite_holds(
         list,
         pick,
         positions,
+        width: positions.div_ceil(64),
     };
-    let row = tuple.row_of(alloc, body)?;
-    Ok(*row.at(0))
+    let mut rows = List::new(alloc);
+    tuple.fill(body, &mut rows)?;
+    let first = positions - 1;
+    Ok(has_one(*rows.at(first / 64), first % 64))
 }
 
 /// The length on which the picked traces are judged.
@@ -71,53 +73,129 @@ fn length_of(list: &TraceList, k: u32) -> usize
     list.at(k as usize).len()
 }
 
-/// A tuple of traces, and how many positions it is judged on.
+/// A tuple of traces, how many positions it is judged on, and how many words a row has for them.
 #[derive(Clone, Copy)]
 struct Picked<'a> {
     list: &'a TraceList,
     pick: &'a [u32],
     positions: usize,
+    width: usize,
     ghost members: { All (λ k. k < length list.now) pick.now },
+    ghost some: { 1 ≤ positions },
+    ghost enough: { positions ≤ 64 * width },
+    ghost needed: { 64 * width < positions + 64 },
 }
 
 impl Picked<'_> {
-    /// Whether the body holds at each position, from its parts upwards.
+    /// Puts on top whether the body holds at each position.
     #[tactic(auto, using(crate::proofs::RowMeanings::rows))]
-    fn row_of(&self, alloc: Global, body: &Body) -> M<Row>
+    fn fill(&self, body: &Body, rows: &mut Rows) -> M<()>
         requires { IsTrue (vars_below (length self.now.pick.now) (tree_of body.now)) }
-        ensures { IfOk result (λ row. IsRowOf (tree_of body.now) (trace_words (picked self.now.list.now self.now.pick.now)) self.now.positions row) }
+        ensures { OnOk result (IsFilled (tree_of body.now) (trace_words (picked self.now.list.now self.now.pick.now)) self.now.positions self.now.width rows.old rows.new) }
     {
         match body {
-            Body::True => constant(alloc, true, self.positions),
-            Body::False => constant(alloc, false, self.positions),
-            Body::Atom(a) => self.atom_row(alloc, *a),
-            Body::Not(f) => Ok(negate(self.row_of(alloc, f)?)),
-            Body::Next(f) => Ok(next(self.row_of(alloc, f)?)),
-            Body::Finally(f) => Ok(finally(self.row_of(alloc, f)?)),
-            Body::Globally(f) => Ok(globally(self.row_of(alloc, f)?)),
-            Body::And(f, g) => Ok(and(self.row_of(alloc, f)?, &self.row_of(alloc, g)?)),
-            Body::Or(f, g) => Ok(or(self.row_of(alloc, f)?, &self.row_of(alloc, g)?)),
-            Body::Implies(f, g) => {
-                Ok(or(negate(self.row_of(alloc, f)?), &self.row_of(alloc, g)?))
+            Body::True => self.push_word(u64::MAX, rows),
+            Body::False => self.push_word(0, rows),
+            Body::Atom(a) => self.push_names(*a, rows),
+            Body::Not(f) => {
+                self.fill(f, rows)?;
+                unary(Rule::Not, rows, self.width);
+                Ok(())
             }
-            Body::Iff(f, g) => Ok(iff(self.row_of(alloc, f)?, &self.row_of(alloc, g)?)),
-            Body::Until(f, g) => Ok(until(&self.row_of(alloc, f)?, self.row_of(alloc, g)?)),
-            Body::Release(f, g) => Ok(release(self.row_of(alloc, f)?, self.row_of(alloc, g)?)),
-            Body::Weak(f, g) => Ok(weak(self.row_of(alloc, f)?, self.row_of(alloc, g)?)),
+            Body::Next(f) => {
+                self.fill(f, rows)?;
+                unary(Rule::Next, rows, self.width);
+                Ok(())
+            }
+            Body::Finally(f) => {
+                self.fill(f, rows)?;
+                unary(Rule::Finally, rows, self.width);
+                Ok(())
+            }
+            Body::Globally(f) => {
+                self.fill(f, rows)?;
+                unary(Rule::Globally, rows, self.width);
+                Ok(())
+            }
+            Body::And(f, g) => {
+                self.fill(f, rows)?;
+                self.fill(g, rows)?;
+                binary(Rule::And, rows, self.width);
+                Ok(())
+            }
+            Body::Or(f, g) => {
+                self.fill(f, rows)?;
+                self.fill(g, rows)?;
+                binary(Rule::Or, rows, self.width);
+                Ok(())
+            }
+            Body::Implies(f, g) => {
+                self.fill(f, rows)?;
+                self.fill(g, rows)?;
+                binary(Rule::Implies, rows, self.width);
+                Ok(())
+            }
+            Body::Iff(f, g) => {
+                self.fill(f, rows)?;
+                self.fill(g, rows)?;
+                binary(Rule::Iff, rows, self.width);
+                Ok(())
+            }
+            Body::Until(f, g) => {
+                self.fill(f, rows)?;
+                self.fill(g, rows)?;
+                binary(Rule::Until, rows, self.width);
+                Ok(())
+            }
+            Body::Release(f, g) => {
+                self.fill(f, rows)?;
+                self.fill(g, rows)?;
+                binary(Rule::Release, rows, self.width);
+                Ok(())
+            }
+            Body::Weak(f, g) => {
+                self.fill(f, rows)?;
+                self.fill(g, rows)?;
+                binary(Rule::Weak, rows, self.width);
+                Ok(())
+            }
         }
     }
 
-    /// Whether the atom holds at each position.
-    #[tactic(auto, using(crate::proofs::RowMeanings::atoms))]
-    fn atom_row(&self, alloc: Global, a: Atom) -> M<Row>
+    /// Puts on top a row of the same word again and again.
+    fn push_word(&self, word: u64, rows: &mut Rows) -> M<()>
+        ensures { OnOk result (IsRepeated word self.now.width rows.old rows.new) }
+    {
+        for _k in 0..self.width {
+            rows.push(word)?;
+        }
+        Ok(())
+    }
+
+    /// Puts on top whether the atom holds at each position.
+    fn push_names(&self, a: Atom, rows: &mut Rows) -> M<()>
         requires { a.var < length self.now.pick.now }
-        ensures { IfOk result (λ row. IsRowOf (atom a.name a.var) (trace_words (picked self.now.list.now self.now.pick.now)) self.now.positions row) }
+        ensures { OnOk result (IsFilled (atom a.name a.var) (trace_words (picked self.now.list.now self.now.pick.now)) self.now.positions self.now.width rows.old rows.new) }
     {
         let trace = self.list.at(self.pick[a.var as usize] as usize);
-        let mut row = List::new(alloc);
-        for i in 0..self.positions {
-            row.push(trace.letter_at(i).has(a.name as usize))?;
+        for k in 0..self.width {
+            let to = self.positions - 64 * k;
+            rows.push(names_word(trace, a.name, to.saturating_sub(64), to))?;
         }
-        Ok(row)
+        Ok(())
     }
+}
+
+/// Whether the name is in the letters from `from` up to `to`, the last of them at the lowest place.
+fn names_word(trace: &Trace, name: u8, from: usize, to: usize) -> u64
+    requires order { from ≤ to }
+    requires few { to ≤ from + 64 }
+    requires named { name < 64 }
+    ensures { IsNamesWord trace.now name from to result }
+{
+    let mut word = 0;
+    for i in from..to {
+        word = (word << 1) | trace.letter_at(i).has(name as usize) as u64;
+    }
+    word
 }

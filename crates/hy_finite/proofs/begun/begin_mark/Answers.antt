@@ -1,5 +1,3 @@
-use Rattle.std.proofs.Common.{true, false}
-use Rattle.std.proofs.lemmas.Bool.{false≢true}
 use Rattle.hy_finite.proofs.LineAnswers.{no-mark}
 use Rattle.hy_finite.proofs.begun.begin_mark.Goals as goal
 

@@ -1,7 +1,6 @@
-use Rattle.std.proofs.Common.{Some, inr, ap, sym, subst, ◌∙◌, List, ℕ}
-use Rattle.hy_text.specs.Bytes.{past_blanks}
+use Rattle.std.proofs.Common.{Some, inr, subst, List, ℕ}
 use Rattle.hy_finite.specs.declared.begun.Begun.{Begun}
-use Rattle.hy_finite.specs.EventLines.{save, back, finish}
+use Rattle.hy_finite.specs.EventLines.{back, finish}
 use Rattle.hy_finite.specs.LineParts.{IsBegun, IsWordChecked}
 use Rattle.hy_finite.proofs.LineAnswers.{checked-word, checked-set}
 use Rattle.hy_finite.proofs.checks.check_line.Goals as goal

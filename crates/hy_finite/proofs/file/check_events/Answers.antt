@@ -1,10 +1,10 @@
-use Rattle.std.proofs.Common.{◌≡◌, ◌+◌, Bool, true, ap, sym, ◌∙◌, subst, arith}
+use Rattle.std.proofs.Common.{ap, ◌∙◌, subst, arith}
 use Rattle.std.specs.Option.{option_copied}
 use Rattle.hy_finite.specs.EventFiles.{lines_of}
 use Rattle.hy_finite.specs.LinesLeft.{left_lines, left_len}
 use Rattle.hy_finite.specs.declared.checks.LineCheck.{LineCheck}
 use Rattle.hy_finite.specs.LineParts.{IsChecked}
-use Rattle.hy_finite.proofs.Collecting.{Checked, checked-good, checked-long}
+use Rattle.hy_finite.proofs.Collecting.{checked-good, checked-long}
 use Rattle.hy_finite.proofs.file.check_events.Goals as goal
 use Rattle.hy_finite.proofs.file.check_events.Goals.{in-Good, in-TooLong}
 

@@ -1,10 +1,10 @@
-use Rattle.std.proofs.Common.{ℕ, List, [], Some, Err, ap, subst, refl, ◌≡◌}
+use Rattle.std.proofs.Common.{ℕ, List, [], Some, ap, subst, refl}
 use Rattle.hy_finite.specs.declared.begun.Begun.{Begun}
 use Rattle.hy_finite.specs.EventLines.{word, finish}
 use Rattle.hy_finite.specs.declared.event.Event.TheVariants.{Whole}
 use Rattle.hy_text.specs.Words.{SpellsWord}
 use Rattle.hy_finite.specs.LineParts.{IsBegun}
-use Rattle.hy_finite.proofs.LineAnswers.{letter-line, fault-line}
+use Rattle.hy_finite.proofs.LineAnswers.{letter-line}
 use Rattle.hy_finite.proofs.line.read_line.Goals as goal
 
 pub returns-in_ok-read_trace-in-Word : goal.returns-in_ok-read_trace-in-Word

@@ -1,4 +1,4 @@
-use Rattle.std.proofs.Common.{◌≤◌, ◌<◌, ◌^◌, ◌*◌, get_or, ◌+◌, ◌-◌, sym, ◌∙◌, ap, arith}
+use Rattle.std.proofs.Common.{◌*◌, get_or, ◌+◌, ◌-◌, sym, ◌∙◌, ap, arith}
 use Rattle.hy_finite.proofs.Decimals.{decimal-more, digit-fits, room}
 use Rattle.hy_finite.proofs.number.decimal.Goals as goal
 

@@ -1,6 +1,4 @@
-use Rattle.std.proofs.Common.{sym, ap, length, ◌∙◌, ◌≡◌, true, eq-eqb}
-use Rattle.std.specs.Option.{option_map}
-use Rattle.hy_text.specs.Bytes.{past_blanks}
+use Rattle.std.proofs.Common.{ap, length, ◌∙◌, eq-eqb}
 use Rattle.hy_finite.proofs.LineAnswers.{no-set}
 use Rattle.hy_finite.proofs.sets.read_whole_set.Goals as goal
 

@@ -1,7 +1,0 @@
-use Rattle.std.proofs.Common.{◌&&◌}
-use Rattle.hy_finite.specs.Rows.{value_at}
-use Rattle.hy_finite.proofs.RowLoops.{Rewritten}
-use Rattle.hy_finite.proofs.row.and.Given as goal
-
-abbrev pub invariant-loop-i : goal.invariant-loop-i
-invariant-loop-i l = Rewritten l.initial.left l.left (λ k. value_at l.initial.left k && value_at l.right k) l.i
