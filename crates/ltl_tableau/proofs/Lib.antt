@@ -11,3 +11,4 @@ pub mod Sounding
 pub mod TasksTogether
 pub mod Walking
 pub mod Collecting
+pub mod Exploring

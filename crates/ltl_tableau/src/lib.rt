@@ -3,7 +3,10 @@
 
 mod branch;
 mod collect;
+mod explored;
 pub mod laws;
+mod tableau_error;
 
 pub use branch::{Branch, BranchList, postpones};
 pub use collect::branches;
+pub use tableau_error::TableauError;
