@@ -12,3 +12,4 @@ pub mod TasksTogether
 pub mod Walking
 pub mod Collecting
 pub mod Exploring
+pub mod Drawing

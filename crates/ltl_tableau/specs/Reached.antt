@@ -2,7 +2,8 @@
 use Rattle.std.specs.Prelude.{◌≡◌, ◌↔◌, ℕ, suc, ◌<◌, ◌≤◌, Bool, true, cond, List, [], ◌∷◌, ◌++◌, map, length, slice_index_or}
 use Rattle.std.specs.List.{Contains}
 use Rattle.std.specs.FinSet.{empty}
-use Rattle.rank_check.specs.Graphs.{Shape, members_of, successors_of, Postpones}
+use Rattle.rank_check.specs.declared.graph.Node.{Node as Vertex}
+use Rattle.rank_check.specs.Graphs.{Shape, members_of, no_node, successors_of, Postpones}
 use Rattle.ltl_closure.specs.Nodes.{Node}
 use Rattle.ltl_tableau.specs.Branches.{Members, Branch, branches, IsBranch, postpones}
 use Rattle.ltl_tableau.specs.Walks.{no_branch}
@@ -48,6 +49,10 @@ pub record IsTableau (nodes : List Node) (roots : Members) (list : List Branch) 
 
 -- ---- on the way
 
+-- What each branch leaves for later is one of the sets.
+abbrev pub AreLeft : List Members → List Branch → Type 0
+AreLeft sets list = (b : Branch) → Contains list b → Contains sets b.later
+
 -- Sets whose branches are to be found, and branches that were found, of the first set and of what they leave for
 -- later. There is at most one set more than there are branches.
 pub record Explores (nodes : List Node) (sets : List Members) (list : List Branch) : Type 0 where
@@ -56,7 +61,7 @@ pub record Explores (nodes : List Node) (sets : List Members) (list : List Branc
   pub distinct : AreDistinct list
   pub asked : (s : Members) → Contains sets s → (b : Branch) → IsBranch nodes s b → IsReachable nodes (set_at sets 0) b
   pub reached : (b : Branch) → Contains list b → IsReachable nodes (set_at sets 0) b
-  pub leaves : (b : Branch) → Contains list b → Contains sets b.later
+  pub leaves : AreLeft sets list
 
 -- The groups are the branches of the first sets, each in their order, at most n of each set.
 pub record AreGroups (nodes : List Node) (n : ℕ) (sets : List Members) (list : List Branch) (groups : List (List ℕ)) : Type 0 where
@@ -85,3 +90,14 @@ pub record PutsSet (old : List Members) (s : Members) (new : List Members) : Typ
   pub there : Contains new s
   pub list : new ≡ cond is_new (old ++ s ∷ []) old
   pub was : is_new ≡ true → ¬ Contains old s
+
+-- The node leads to the set that its branch leaves for later, and postpones what its branch does.
+pub record IsNodeOf (nodes : List Node) (sets : List Members) (b : Branch) (node : Vertex) : Type 0 where
+  pub named : node.next_group < length sets
+  pub leads : set_at sets node.next_group ≡ b.later
+  pub postponed : (k : ℕ) → Contains node.postponed k ↔ (postpones nodes b k ≡ true)
+
+-- The nodes are those of the branches.
+pub record AreNodes (nodes : List Node) (sets : List Members) (list : List Branch) (drawn : List Vertex) : Type 0 where
+  pub count : length drawn ≡ length list
+  pub each : (v : ℕ) → v < length list → IsNodeOf nodes sets (branch_at list v) (slice_index_or drawn v no_node)

@@ -103,10 +103,7 @@ impl<const W: usize> Explored<W> {
 }
 
 /// Puts a branch last where it is new, and answers its place.
-fn insert_branch<const W: usize>(
-    branches: &mut IndexSet<Branch<W>>,
-    branch: Branch<W>,
-) -> M<usize>
+fn insert_branch<const W: usize>(branches: &mut IndexSet<Branch<W>>, branch: Branch<W>) -> M<usize>
     ensures { IfOk result (PutsBranch branches.old.keys branch.entry branches.new.keys) }
 {
     let (number, _) = branches.insert_full(branch)?;

@@ -45,4 +45,4 @@ returns-clause-groups g c =
     inv.grows c.requires.groups c.requires.more inv.inside
     (few-members c.loop-branch.self.branches.keys _ _ c.loop-branch.members c.loop-branch.branch-index c.args.states c.as_slice-branch-items.ensures.keys (omega (arith, c.len-2.ensures.len, c.if-len-states.false)) c.loop-branch-test.false inv.right)
     (all-members c.args.c.now.nodes c.index-as_slice-len.result c.loop-branch.self.branches.keys _ _ c.loop-branch.members c.loop-branch.branch-index c.as_slice-branch-items.ensures.keys (found-all c.args.c.now.nodes c.index-as_slice-len.result _ _ c.args.states c.new-found.ensures.empty c.in_ok-collect.ensures (omega (arith, c.len-2.ensures.len, c.if-len-states.false))) c.loop-branch-test.false inv.right
-     ∙ ap (branches c.args.c.now.nodes) (sym (set-is c.args.self.now.sets.keys _ _ _ c.index-as_slice-len.result c.as_slice.ensures.keys c.len.ensures c.index-as_slice-len.is c.requires.more))))
+    ∙ ap (branches c.args.c.now.nodes) (sym (set-is c.args.self.now.sets.keys _ _ _ c.index-as_slice-len.result c.as_slice.ensures.keys c.len.ensures c.index-as_slice-len.is c.requires.more))))
