@@ -48,7 +48,7 @@ collects-append most old mid new xs ys p q =
 
 -- ---- one branch, put into a set
 
-number-same : (s t : Members) → nat_eq (number s) (number t) ≡ true → s ≡ t
+pub number-same : (s t : Members) → nat_eq (number s) (number t) ≡ true → s ≡ t
 number-same s t e = sym (ones-number s) ∙ ap ones (eqb-true _ _ e) ∙ ones-number t
 
 -- what `==` of two branches computes

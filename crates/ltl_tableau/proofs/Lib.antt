@@ -11,3 +11,5 @@ pub mod Sounding
 pub mod TasksTogether
 pub mod Walking
 pub mod Collecting
+pub mod Exploring
+pub mod Drawing

@@ -3,7 +3,13 @@
 
 mod branch;
 mod collect;
+mod draw;
+mod explored;
 pub mod laws;
+mod tableau;
+mod tableau_error;
 
 pub use branch::{Branch, BranchList, postpones};
 pub use collect::branches;
+pub use tableau::Tableau;
+pub use tableau_error::TableauError;
