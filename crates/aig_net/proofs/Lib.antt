@@ -5,6 +5,7 @@ mod GateLemmas
 pub mod Listed
 pub mod Literals
 pub mod Looping
+pub mod Making
 pub mod Rounds
 mod RowLemmas
 mod SignalLemmas

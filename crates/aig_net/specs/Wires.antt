@@ -95,6 +95,15 @@ made_all first ands (w ∷ ws) =
           (made first ands w).literal ∷ (made_all first (made first ands w).ands ws).literals;
     }
 
+-- There is room for the ands of the wires.
+abbrev pub FitsAll : ℕ → List And → List Wire → Type 0
+FitsAll first ands ws = first + length (made_all first ands ws).ands ≤ 2 ^ 31
+
+-- the wires were made after the old ands: the new ones, and the literals
+pub record MakesAll (first : ℕ) (old : List And) (ws : List Wire) (new : List And) (ls : List ℕ) : Type 0 where
+  pub ands : new ≡ (made_all first old ws).ands
+  pub literals : ls ≡ (made_all first old ws).literals
+
 -- n wires one after the other, each with the literals of those before
 abbrev pub made_each : ℕ → List And → ((ℕ → ℕ) → ℕ → Wire) → ℕ → MadeAll
 made_each first ands wire zero = record { ands = ands; literals = [] }

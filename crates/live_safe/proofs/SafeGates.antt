@@ -4,7 +4,7 @@ use Rattle.std.proofs.lemmas.Bool.Decides.{Decides-ltb}
 use Rattle.aig_net.specs.declared.parts.And.{And}
 use Rattle.aig_net.specs.Nets.{Net, no_and, Valuation, literal_value, and_value, reset_at, and_at, literal_at, latch_variable, first_and, AreRight, IsRight}
 use Rattle.aig_net.specs.Wires.{listed, Wire, literal, wire_value, wire_at}
-use Rattle.live_safe.specs.Safe.{begun_nexts, has_begun, safe_inputs, take, saved, safe_first, effective, effectives, safe_variable, safe_literal, safe_and, safe_ands, saving_wires, saving, grab, next_saved, seen_wire, copy_wire, bad_wire, closing_wires, closing, safe_latches, to_safe, shown}
+use Rattle.live_safe.specs.Safe.{effective_at, begun_nexts, has_begun, safe_inputs, take, saved, safe_first, effective, effectives, safe_variable, safe_literal, safe_and, safe_ands, saving_wires, saving, grab, next_saved, seen_wire, copy_wire, bad_wire, closing_wires, closing, safe_latches, to_safe, shown}
 use Rattle.aig_net.proofs.Literals.{value-under, value-even}
 use Rattle.aig_net.proofs.Listed.{length-listed}
 use Rattle.aig_net.proofs.Wiring.{all-right, right-first, and-of-value}
@@ -119,11 +119,11 @@ module _ (net : Net) where
         (effective net j (reset_at net.resets j))
     effective-value j lt =
         let wires : List Wire = listed 0 (length net.latches)
-        (λ j. effective net j (reset_at net.resets j)) in
+        (effective_at net) in
         let eff : AreRight (safe_first net) (effectives net).ands v =
         right-first (safe_first net) (effectives net).ands
         (map (safe_and net) net.ands) v base-right in
-        listed-each (literal 0) (length net.latches) (λ j. effective net j (reset_at net.resets j))
+        listed-each (literal 0) (length net.latches) (effective_at net)
         (λ j w. literal_value v (literal_at (effectives net).literals j) ≡ wire_value v w)
         (all-right (safe_first net) [] wires v eff).1 j lt
 

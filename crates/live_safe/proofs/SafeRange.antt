@@ -6,7 +6,7 @@ use Rattle.aig_net.specs.declared.parts.Reset.{Reset}
 use Rattle.aig_net.specs.declared.parts.Reset.TheVariants.{Zero, One, Free}
 use Rattle.aig_net.specs.Nets.{Net, no_and, reset_at, and_at, literal_at, latch_variable, first_and, variables, Below, AreOrdered, AreTurned, AreNames, is_name, IsNet}
 use Rattle.aig_net.specs.Wires.{all_of, listed, Wire, literal, both, equal, wire_at, WireBelow}
-use Rattle.live_safe.specs.Safe.{begun_nexts, count_below, is_free, is_set, free_at, has_begun, safe_inputs, saved, seen, raw, copied_latch, safe_first, effective, effectives, safe_variable, safe_literal, safe_and, safe_ands, saving_wires, saving, next_saved, seen_wire, copy_wire, bad_wires, bad_wire, bad, closing_wires, closing, safe_latches, to_safe}
+use Rattle.live_safe.specs.Safe.{effective_at, begun_nexts, count_below, is_free, is_set, free_at, has_begun, safe_inputs, saved, seen, raw, copied_latch, safe_first, effective, effectives, safe_variable, safe_literal, safe_and, safe_ands, saving_wires, saving, next_saved, seen_wire, copy_wire, bad_wires, bad_wire, bad, closing_wires, closing, safe_latches, to_safe}
 use Rattle.aig_net.proofs.Literals.{below-even, below-under}
 use Rattle.aig_net.proofs.Wiring.{below-more, below-max, below-min, wire-more, all-grow, all-ordered, all-turned}
 use Rattle.aig_net.proofs.Listed.{each-append, each-map, each-listed, append-listed}
@@ -79,12 +79,12 @@ module _ (net : Net) where
       Below (first + effs) (literal_at (effectives net).literals j))
   eff-ordered =
       let wires : List Wire = listed 0 (length net.latches)
-      (λ j. effective net j (reset_at net.resets j)) in
+      (effective_at net) in
       let m : length wires ≡ length net.latches =
-      length-listed 0 (length net.latches) (λ j. effective net j (reset_at net.resets j)) in
+      length-listed 0 (length net.latches) (effective_at net) in
       let (ordered, below) = all-ordered first [] wires (λ j lt. absurd (omega arith))
       (each-listed (literal 0) (length net.latches)
-      (λ j. effective net j (reset_at net.resets j)) (λ _ w. WireBelow (first + 0) w)
+      (effective_at net) (λ _ w. WireBelow (first + 0) w)
       (λ j lt. wire-more first (first + 0) (effective net j (reset_at net.resets j)) (omega arith)
       (effective-below j lt (reset_at net.resets j) refl))) in
       (ordered, λ j lt. below j (omega (arith, m, lt)))
@@ -279,7 +279,7 @@ module _ (net : Net) where
         each-append no_and (effectives net).ands (map (safe_and net) net.ands)
         (λ _ a. a.right ≤ a.left)
         (all-turned first [] (listed 0 (length net.latches)
-        (λ j. effective net j (reset_at net.resets j))) (λ j lt. absurd (omega arith)))
+        (effective_at net)) (λ j lt. absurd (omega arith)))
         (each-map (safe_and net) no_and no_and net.ands (λ _ a. a.right ≤ a.left)
         (λ j lt. omega arith))
 

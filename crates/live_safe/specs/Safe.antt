@@ -5,7 +5,7 @@ use Rattle.aig_net.specs.declared.parts.Reset.{Reset}
 use Rattle.aig_net.specs.declared.parts.Reset.TheVariants.{Zero, One, Free}
 use Rattle.aig_net.specs.Nets.{Net, under, literal_at, reset_at, Valuation, literal_value}
 use Rattle.aig_net.specs.Executions.{Word}
-use Rattle.aig_net.specs.Wires.{Wire, literal, opposed, both, either, equal, listed, all_of, and_of, MadeAll, made_all}
+use Rattle.aig_net.specs.Wires.{Wire, literal, opposed, both, either, equal, choice, listed, all_of, and_of, MadeAll, made_all}
 use Rattle.live_safe.specs.declared.safe_net.SafeNet.{SafeNet}
 
 -- how many numbers below one pass the test
@@ -67,16 +67,21 @@ abbrev pub safe_first : Net → ℕ
 safe_first net = suc (safe_inputs net + suc
     (length net.fairs + (length net.latches + (length net.latches + cond (has_begun net) 1 0))))
 
--- the value of a latch, which at the start is its reset
+-- the value of a latch with this literal, which at the start is its reset; a free one is given by an input
+abbrev pub effective_wire : ℕ → ℕ → ℕ → Reset → Wire
+effective_wire latch begun input Zero = literal latch
+effective_wire latch begun input One = either (literal latch) (opposed (literal begun))
+effective_wire latch begun input Free = choice begun latch input
+
 abbrev pub effective : Net → ℕ → Reset → Wire
-effective net j Zero = literal (raw net j)
-effective net j One = either (literal (raw net j)) (opposed (literal (begun net)))
-effective net j Free = either (both (literal (begun net)) (literal (raw net j)))
-    (both (opposed (literal (begun net))) (literal (free_input net j)))
+effective net j reset = effective_wire (raw net j) (begun net) (free_input net j) reset
+
+abbrev pub effective_at : Net → ℕ → Wire
+effective_at net j = effective net j (reset_at net.resets j)
 
 abbrev pub effectives : Net → MadeAll
 effectives net = made_all (safe_first net) []
-    (listed 0 (length net.latches) (λ j. effective net j (reset_at net.resets j)))
+    (listed 0 (length net.latches) (effective_at net))
 
 -- the literal for a variable of the net
 abbrev pub safe_variable : Net → ℕ → ℕ
@@ -117,10 +122,9 @@ seen_wire net j =
     (either (literal (safe_literal net (literal_at net.fairs j)))
     (both (literal (saved net)) (literal (seen net j))))
 
+-- a copy takes the effective value where it is to be saved
 abbrev pub copy_wire : Net → ℕ → Wire
-copy_wire net j =
-    either (both (literal (grab net)) (literal (literal_at (effectives net).literals j)))
-    (both (opposed (literal (grab net))) (literal (copied_latch net j)))
+copy_wire net j = choice (grab net) (literal_at (effectives net).literals j) (copied_latch net j)
 
 abbrev pub bad_wires : Net → List Wire
 bad_wires net =
