@@ -2,6 +2,8 @@ pub mod Choosing
 pub mod LassoWords
 pub mod Bodies
 pub mod Negating
+pub mod Periodic
 pub mod Periods
+pub mod Shortening
 pub mod Places
 pub mod Rows

@@ -8,6 +8,7 @@ pub mod laws;
 mod meaning;
 mod period;
 mod row;
+mod shorten;
 
 pub use choices::holds;
 pub use error::HoldsError;
