@@ -9,6 +9,8 @@ mod meaning;
 mod period;
 mod row;
 mod shorten;
+#[cfg(test)]
+mod tests;
 
 pub use choices::holds;
 pub use error::HoldsError;
