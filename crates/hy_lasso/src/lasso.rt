@@ -1,6 +1,8 @@
-ghost use Rattle.std.specs.Prelude.{◌≡◌, ◌<◌, [], length, IfSome, IfNone};
+ghost use Rattle.std.specs.Prelude.{◌≡◌, ◌<◌, ℕ, [], length, IfSome, IfNone};
+ghost use Rattle.hy_lasso.specs.NormalForms.{IsNormal};
 ghost use Rattle.hy_lasso.specs.Words.{letter_at};
 
+use crate::shorten::{least_round, shared_end};
 use hy_base::List;
 use hy_bits::{LetterMask, Letters};
 use std::marker::Model;
@@ -71,5 +73,22 @@ impl Lasso {
             let place = (i - stem) % self.cycle.len() as u64;
             *self.cycle.at(place as usize)
         }
+    }
+
+    /// The normal form: the same letter at every position, the shortest cycle, and the shortest stem.
+    /// In place, in time linear in the lasso times the divisors of the length of the cycle.
+    pub fn shorten(self) -> Lasso
+        ensures word { (i : ℕ) → letter_at result i ≡ letter_at self i }
+        ensures normal { IsNormal result }
+    {
+        let Lasso {
+            mut stem,
+            mut cycle,
+        } = self;
+        cycle.truncate(least_round(cycle.as_slice()));
+        let shared = shared_end(stem.as_slice(), cycle.as_slice());
+        stem.truncate(stem.len() - shared);
+        cycle.rotate_right(shared % cycle.len());
+        Lasso { stem, cycle }
     }
 }

@@ -8,6 +8,9 @@ pub mod laws;
 mod meaning;
 mod period;
 mod row;
+mod shorten;
+#[cfg(test)]
+mod tests;
 
 pub use choices::holds;
 pub use error::HoldsError;
