@@ -117,10 +117,7 @@ impl Graph {
         requires { node < length self.now.nodes }
         ensures { IsTrue result ↔ Postpones self.now node until }
     {
-        self.postponed(node)
-            .as_slice()
-            .iter()
-            .any(|u| *u == until)
+        self.postponed(node).as_slice().iter().any(|u| *u == until)
     }
 
     /// How many members a group has.
