@@ -1,5 +1,5 @@
 -- What the parser builds of an expression, from what it built of its parts.
-use Rattle.std.proofs.Common.{rules, IsTrue, ◌≡◌, ◌≢◌, ℕ, zero, suc, max, ◌-◌, ◌<◌, ◌≤◌, ◌⊎◌, inl, inr, List, [], ◌∷◌, Option, Some, None, Result, Ok, Err, refl, ap, sym, subst, ◌∙◌, arith}
+use Rattle.std.proofs.Common.{rules, IsTrue, ◌≡◌, ◌≢◌, ℕ, suc, max, ◌-◌, ◌<◌, ◌≤◌, ◌⊎◌, inl, inr, List, [], ◌∷◌, Option, Some, None, Ok, Err, refl, ap, sym, subst, ◌∙◌, arith}
 use Rattle.hy_formula.specs.Trees.{Tree, tree_of, height, vars_below}
 use Rattle.hy_formula.specs.Trees as trees
 use Rattle.hy_read.specs.declared.symbol.Symbol.{Symbol}
@@ -132,8 +132,8 @@ module _ (Means : List ℕ → List ℕ → Tree → Type 0) where
   left_refused text n k high ts e built tree rest d stops = elim (parts d) [
     | inl a ↦ built tree rest a (stops_sooner k rest stops)
     | inr j ↦
-      let tall = height_whole j in
-      higher text high high j.left tree (symbol j.s ∷ j.middle) rest e (λ h. omega arith) (built j.left (symbol j.s ∷ j.middle) j.first (stops_at k j.s j.join j.middle j.binds))
+        let tall = height_whole j in
+        higher text high high j.left tree (symbol j.s ∷ j.middle) rest e (λ h. omega arith) (built j.left (symbol j.s ∷ j.middle) j.first (stops_at k j.s j.join j.middle j.binds))
   ]
 
   none_there : (text : List ℕ) (r : ℕ) (follow : Follow) (s : Symbol) (join : Tree → Tree → Tree) (middle : List Token) → IsFollowed text follow (symbol s ∷ middle) → HasNoOperator r follow → binary_of s ≡ Some (r, join) → ⊥
@@ -168,18 +168,18 @@ module _ (Means : List ℕ → List ℕ → Tree → Type 0) where
   around text n k high ts p operator behind built (s, is, b) tree rest d stops = elim (parts d) [
     | inl a ↦ absurd (operator_goes_on text k p.follow operator behind rest (s, is, b) (built tree rest a (stops_sooner k rest stops)).followed stops)
     | inr j ↦
-      let parsed = built j.left (symbol j.s ∷ j.middle) j.first (stops_at k j.s j.join j.middle j.binds) in
-      let (more, e, left) = subst (λ x. IsFollowed text x (symbol j.s ∷ j.middle)) is parsed.followed in
-      let same = same_after j.middle more j.s s e in
-      let joins_same = (parts_of_some (binary_of s) (suc k, j.join) (suc k, joins operator) (ap binary_of (sym same.0) ∙ j.binds) b).1 in
-      record {
-        right = j.right;
-        middle = j.middle;
-        left = subst (λ x. AreLeft text behind x) (sym same.1) left;
-        second = j.second;
-        whole = ap (λ x. joins operator x j.right) parsed.is ∙ ap (λ f. f j.left j.right) (sym joins_same) ∙ j.whole;
-        counted = parsed.counted ∙ ap height (sym parsed.is);
-      }
+        let parsed = built j.left (symbol j.s ∷ j.middle) j.first (stops_at k j.s j.join j.middle j.binds) in
+        let (more, e, left) = subst (λ x. IsFollowed text x (symbol j.s ∷ j.middle)) is parsed.followed in
+        let same = same_after j.middle more j.s s e in
+        let joins_same = (parts_of_some (binary_of s) (suc k, j.join) (suc k, joins operator) (ap binary_of (sym same.0) ∙ j.binds) b).1 in
+        record {
+          right = j.right;
+          middle = j.middle;
+          left = subst (λ x. AreLeft text behind x) (sym same.1) left;
+          second = j.second;
+          whole = ap (λ x. joins operator x j.right) parsed.is ∙ ap (λ f. f j.left j.right) (sym joins_same) ∙ j.whole;
+          counted = parsed.counted ∙ ap height (sym parsed.is);
+        }
   ]
 
   pub left_high : (text : List ℕ) (n k high : ℕ) (ts : List Token) (p : Parsed) (operator : Binary) (behind : ℕ) → Builds Means text n k high ts (Ok p) → IsOperator (suc k) p.follow operator behind → high ≤ p.height → Builds Means text n (suc k) high ts (Err TooHigh)

@@ -1,5 +1,5 @@
 -- The formulas of a text, built one after another.
-use Rattle.std.proofs.Common.{◌≡◌, ℕ, zero, suc, max, ◌+◌, ◌-◌, ◌<◌, ◌≤◌, List, [], ◌∷◌, ◌++◌, length, map, Bool, Option, Result, Ok, Err, IsTrue, refl, ap, sym, subst, ◌∙◌, arith, append_assoc, append-nil}
+use Rattle.std.proofs.Common.{◌≡◌, ℕ, zero, suc, max, ◌-◌, ◌<◌, ◌≤◌, List, [], ◌∷◌, ◌++◌, length, map, Bool, Option, Result, Ok, Err, refl, ap, sym, subst, ◌∙◌, arith, append_assoc, append-nil}
 use Rattle.std.proofs.lemmas.List.{length-map, map-append}
 use Rattle.hy_formula.specs.Trees.{Tree, tree_of, height}
 use Rattle.hy_formula.specs.declared.formula.Formula.{Formula}
@@ -14,7 +14,7 @@ use Rattle.hy_read.specs.declared.symbol.Symbol.{Symbol}
 use Rattle.hy_read.specs.declared.symbol.Symbol.TheVariants as signs
 use Rattle.hy_read.specs.Answers.{Plain, plain_of}
 use Rattle.hy_read.specs.Builds.{AreBuilt, IsFormulaBuilt, meaning_in, most_of_heights, most_of_quantifiers, plain_formula, plain_formulas}
-use Rattle.hy_read.specs.Grammar.{AreFormulas, IsFormula, Quantifier, Read, loosest, quantifier_tokens}
+use Rattle.hy_read.specs.Grammar.{AreFormulas, IsFormula, Read, loosest}
 use Rattle.hy_read.specs.Headings.{IsHeading, quants_of}
 use Rattle.hy_read.specs.Parses.{AreLeft, Builds, IsBuilt, IsFollowed, Stops, meaning}
 use Rattle.hy_read.specs.Results.{most_open, variables_of}
@@ -118,44 +118,44 @@ next_of o many text at formulas left fs some p = through p.more p.made p.count p
     through : (more : List Read) → plain_formulas formulas ++ map plain_of more ≡ map plain_of fs → left ≡ length more → (most_of_heights more ≤ 200 → most_of_heights fs ≤ 200) → (200 < most_of_heights more → 200 < most_of_heights fs) → most_of_quantifiers more ≤ 8 → StandAt o many text at more → (n : NextOf o many text at formulas fs) × (left ≡ suc (length n.others))
     through [] made count low high few there = absurd (omega arith)
     through (f ∷ []) made count low high few (tokens, here, is, opens) = (
-        record {
-          f = f;
-          others = [];
-          made = made;
-          tokens = tokens;
-          rest = [];
-          left = here;
-          is = is;
-          few = omega arith;
-          opens = opens;
-          stops = tt;
-          behind = λ follow next followed past. tt;
-          few_others = omega arith;
-          low = λ h k. low (omega arith);
-          high = λ h. high (omega arith);
-        },
-        count,
-      )
+      record {
+        f = f;
+        others = [];
+        made = made;
+        tokens = tokens;
+        rest = [];
+        left = here;
+        is = is;
+        few = omega arith;
+        opens = opens;
+        stops = tt;
+        behind = λ follow next followed past. tt;
+        few_others = omega arith;
+        low = λ h k. low (omega arith);
+        high = λ h. high (omega arith);
+      },
+      count,
+    )
     through (f ∷ g ∷ gs) made count low high few (tokens, here, (m, (rest, is, are)), opens) =
         let tail = (formula-within (meaning_in o) 200 f tokens (symbol signs.Semicolon ∷ rest) is opens).1 in (
-        record {
-          f = f;
-          others = g ∷ gs;
-          made = made;
-          tokens = tokens;
-          rest = symbol signs.Semicolon ∷ rest;
-          left = here;
-          is = is;
-          few = omega arith;
-          opens = opens;
-          stops = tt;
-          behind = λ follow next followed past. (rest, past signs.Semicolon rest followed, are, omega arith);
-          few_others = omega arith;
-          low = λ h k. low (omega arith);
-          high = λ h. high (omega arith);
-        },
-        count,
-      )
+          record {
+            f = f;
+            others = g ∷ gs;
+            made = made;
+            tokens = tokens;
+            rest = symbol signs.Semicolon ∷ rest;
+            left = here;
+            is = is;
+            few = omega arith;
+            opens = opens;
+            stops = tt;
+            behind = λ follow next followed past. (rest, past signs.Semicolon rest followed, are, omega arith);
+            few_others = omega arith;
+            low = λ h k. low (omega arith);
+            high = λ h. high (omega arith);
+          },
+          count,
+        )
 
 -- one more formula is built
 pub progress_more : (o : Option (List (List ℕ))) (many : Bool) (text : List ℕ) (at next : ℕ) (formulas : List Formula) (left : ℕ) (fs : List Read) (n : NextOf o many text at formulas fs) (b : Built) → left ≡ suc (length n.others) → IsFormulaBuilt text n.f n.rest (Ok b) → ((s : Symbol) (more : List Token) → IsFollowed text b.follow (symbol s ∷ more) → AreLeft text next more) → Progress o many text next (formulas ++ b.formula ∷ []) (left - 1) fs

@@ -4,7 +4,6 @@ use Rattle.std.specs.Option.{option_map, is_none}
 use Rattle.std.proofs.Math.Seq.{drop-append_seam, take-suc}
 use Rattle.std.proofs.lemmas.Grind.{common_steps}
 use Rattle.std.proofs.lemmas.List.{map-append, length-map}
-use Rattle.hy_read.specs.declared.symbol.Symbol.{Symbol}
 use Rattle.hy_read.specs.declared.symbol.Symbol.TheVariants as signs
 use Rattle.hy_read.specs.declared.counts.Counts.{Counts}
 use Rattle.hy_read.specs.Tokens.{Token, Kind, symbol, variable, atom, nothing, kind_of}
@@ -40,13 +39,13 @@ counted_more front t k old new kind before p mp q mq s = record {
   opens = λ rest.
       let behind : most_open (opened t old.parens) rest ≡ most_open new.parens rest = ap (λ n. most_open n rest) (opened_kind t old.parens ∙ ap (λ x. opened_by x old.parens) kind ∙ sym p) in
       let all : most_open zero ((front ++ t ∷ []) ++ rest) ≡ max old.most_parens (max old.parens (most_open new.parens rest)) =
-          ap (most_open zero) (append_assoc front (t ∷ []) rest) ∙ before.opens (t ∷ rest) ∙ ap (λ x. max old.most_parens (max old.parens x)) behind in
+      ap (most_open zero) (append_assoc front (t ∷ []) rest) ∙ before.opens (t ∷ rest) ∙ ap (λ x. max old.most_parens (max old.parens x)) behind in
       largest_so_far _ old.most_parens old.parens new.parens (most_open new.parens rest) all before.most_of_opens (opens_at_least new.parens rest)
       ∙ ap (λ x. max x (most_open new.parens rest)) (sym mp);
   words = λ rest.
       let behind : most_quantified (quantified_by (kind_of t) old.quantifiers) rest ≡ most_quantified new.quantifiers rest = ap (λ n. most_quantified n rest) (ap (λ x. quantified_by x old.quantifiers) kind ∙ sym q) in
       let all : most_quantified zero ((front ++ t ∷ []) ++ rest) ≡ max old.most_quantifiers (max old.quantifiers (most_quantified new.quantifiers rest)) =
-          ap (most_quantified zero) (append_assoc front (t ∷ []) rest) ∙ before.words (t ∷ rest) ∙ ap (λ x. max old.most_quantifiers (max old.quantifiers x)) behind in
+      ap (most_quantified zero) (append_assoc front (t ∷ []) rest) ∙ before.words (t ∷ rest) ∙ ap (λ x. max old.most_quantifiers (max old.quantifiers x)) behind in
       largest_so_far _ old.most_quantifiers old.quantifiers new.quantifiers (most_quantified new.quantifiers rest) all before.most_of_words (words_at_least new.quantifiers rest)
       ∙ ap (λ x. max x (most_quantified new.quantifiers rest)) (sym mq);
   ends = λ rest.
@@ -77,18 +76,18 @@ binds_on front s old new step before rest =
 -- the first unbound atom
 pub binds_not : (front : List Span) (s : Span) (old new : List (List ℕ)) → ((rest : List Token) → unbound_at old (s.token ∷ rest) ≡ Some 0) → Binds front old None → Binds (front ++ s ∷ []) new (Some s.first)
 binds_not front s old new stop before = (
-    length front,
-    λ rest. ap (unbound_at []) (tokens_more front s rest) ∙ before (s.token ∷ rest) ∙ ap (option_map (λ k. length front + k)) (stop rest) ∙ ap Some (omega arith),
-    λ bytes more. ap (λ l. first_of bytes (drop (length front) l)) (append_assoc front (s ∷ []) more) ∙ ap (first_of bytes) (drop-append_seam front (s ∷ more)),
-  )
+  length front,
+  λ rest. ap (unbound_at []) (tokens_more front s rest) ∙ before (s.token ∷ rest) ∙ ap (option_map (λ k. length front + k)) (stop rest) ∙ ap Some (omega arith),
+  λ bytes more. ap (λ l. first_of bytes (drop (length front) l)) (append_assoc front (s ∷ []) more) ∙ ap (first_of bytes) (drop-append_seam front (s ∷ more)),
+)
 
 -- a token behind it
 pub binds_past : (front : List Span) (s : Span) (old new : List (List ℕ)) (byte : ℕ) → Binds front old (Some byte) → Binds (front ++ s ∷ []) new (Some byte)
 binds_past front s old new byte (k, is, at) = (
-    k,
-    λ rest. ap (unbound_at []) (tokens_more front s rest) ∙ is (s.token ∷ rest),
-    λ bytes more. ap (λ l. first_of bytes (drop k l)) (append_assoc front (s ∷ []) more) ∙ at bytes (s ∷ more),
-  )
+  k,
+  λ rest. ap (unbound_at []) (tokens_more front s rest) ∙ is (s.token ∷ rest),
+  λ bytes more. ap (λ l. first_of bytes (drop k l)) (append_assoc front (s ∷ []) more) ∙ at bytes (s ∷ more),
+)
 
 -- A token that is no unbound atom leaves what was found.
 pub pass_on : (front : List Span) (s : Span) (old new : List (List ℕ)) (u : Option ℕ) → ((rest : List Token) → unbound_at old (s.token ∷ rest) ≡ option_map suc (unbound_at new rest)) → Binds front old u → Binds (front ++ s ∷ []) new u
@@ -134,6 +133,7 @@ last_place_push bound x (y ∷ ys) = through (bytes_eq x bound) (last_place_push
   where
     here : Option ℕ
     here = if bytes_eq y bound then Some 0 else None
+
     through : (b : Bool) → last_place_of bound (ys ++ x ∷ []) ≡ (if b then Some (length ys) else last_place_of bound ys) → later_or (last_place_of bound (ys ++ x ∷ [])) here ≡ (if b then Some (suc (length ys)) else later_or (last_place_of bound ys) here)
     through true e = ap (λ o. later_or o here) e
     through false e = ap (λ o. later_or o here) e

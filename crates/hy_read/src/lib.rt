@@ -27,9 +27,9 @@ mod word;
 
 pub use error::ReadError;
 pub use formulas::SpecList;
-pub use print::print_formula;
-pub use read::{read_formula, read_specs};
 pub use laws::{
     allowed_is_derived, fault_answered, fault_fits, fault_found, height_without_names, one_answer,
     one_answer_to_bytes, one_fault, one_reading, parens_are_counted, viable_begins_text,
 };
+pub use print::print_formula;
+pub use read::{read_formula, read_specs};

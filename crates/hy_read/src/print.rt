@@ -114,13 +114,7 @@ fn push_before(out: &mut Text, sign: Symbol, f: &Body, names: &NameTable) -> M<(
 
 /// Adds an operator between its operands.
 #[cycle(print)]
-fn push_between(
-    out: &mut Text,
-    f: &Body,
-    sign: Symbol,
-    g: &Body,
-    names: &NameTable,
-) -> M<()>
+fn push_between(out: &mut Text, f: &Body, sign: Symbol, g: &Body, names: &NameTable) -> M<()>
     ensures { OnOk result (out.new ≡ out.old ++ printed_between sign (printed_body names.now (tree_of f.now)) (printed_body names.now (tree_of g.now))) }
 {
     out.push(b'(')?;

@@ -112,12 +112,7 @@ fn past(kind: Kind, number: u32) -> ReadError
 }
 
 /// The first `count` formulas of `text`, all of whose names are in the table.
-fn build(
-    alloc: Global,
-    text: &[u8],
-    count: u32,
-    names: &NameTable,
-) -> Result<SpecList, ReadError>
+fn build(alloc: Global, text: &[u8], count: u32, names: &NameTable) -> Result<SpecList, ReadError>
     ensures { (many : Bool) (limit : ℕ) (old : PlainList (PlainList ℕ)) → IsMeasured many limit text.now count
         → HasNames old names.now text.now → IsAnswer plain_formulas many limit old names.now text.now result }
 {

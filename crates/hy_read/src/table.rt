@@ -45,12 +45,24 @@ pub enum Kind {
 /// Whether a token may stand next, by place and by kind. A closing parenthesis and a semicolon have
 /// further conditions, on the parentheses that stand open.
 const ALLOWED: [[bool; 10]; 6] = [
-    [true, false, false, false, false, false, false, false, false, false],
-    [false, true, false, false, false, false, false, false, false, false],
-    [false, false, true, false, false, false, false, false, false, false],
-    [true, false, false, true, true, true, false, false, false, false],
-    [false, false, false, true, true, true, false, false, false, false],
-    [false, false, false, false, false, false, true, true, true, false],
+    [
+        true, false, false, false, false, false, false, false, false, false,
+    ],
+    [
+        false, true, false, false, false, false, false, false, false, false,
+    ],
+    [
+        false, false, true, false, false, false, false, false, false, false,
+    ],
+    [
+        true, false, false, true, true, true, false, false, false, false,
+    ],
+    [
+        false, false, false, true, true, true, false, false, false, false,
+    ],
+    [
+        false, false, false, false, false, false, true, true, true, false,
+    ],
 ];
 
 /// Whether a token of this kind may stand at this place, up to the parentheses that stand open.

@@ -11,10 +11,7 @@ use crate::table::Kind;
 pub enum Token<'a> {
     Symbol(Symbol),
     Variable(&'a [u8]),
-    Atom {
-        name: &'a [u8],
-        variable: &'a [u8],
-    },
+    Atom { name: &'a [u8], variable: &'a [u8] },
     /// The rest of a text whose first byte begins no token.
     Nothing,
 }

@@ -1,5 +1,5 @@
 -- Reading the sets of a word one after another: what is read so far, and what is left to read.
-use Rattle.std.proofs.Common.{◌≡◌, ◌≢◌, ℕ, zero, suc, nat_lt, true, false, inl, inr, if◌then◌else◌, ◌+◌, ◌-◌, ◌≤◌, ◌<◌, List, [], ◌∷◌, ◌++◌, length, map, take, refl, sym, ap, ◌∙◌, subst, arith, append_assoc, append-nil}
+use Rattle.std.proofs.Common.{◌≡◌, ℕ, zero, suc, nat_lt, true, false, inl, inr, if◌then◌else◌, ◌+◌, ◌-◌, ◌≤◌, ◌<◌, List, [], ◌∷◌, ◌++◌, length, map, take, refl, sym, ap, ◌∙◌, subst, arith, append_assoc, append-nil}
 use Rattle.std.proofs.lemmas.Bool.{cases_lt}
 use Rattle.std.proofs.lemmas.Bool.Decides.{nat_tests}
 use Rattle.hy_bits.specs.Letter.{Letter}
@@ -43,6 +43,7 @@ letter_kept most read letters xs letter = elim (cases_lt read most) [ inl less �
         let test : nat_lt read most ≡ true = grind (arith, nat_tests) in
         let left : most - read ≡ suc (most - (read + 1)) = omega arith in
         rw (test, left) (append_assoc letters (letter ∷ []) (take (most - (read + 1)) xs))
+
     passed : most ≤ read → (letters ++ (if nat_lt read most then letter ∷ [] else [])) ++ take (most - (read + 1)) xs ≡ letters ++ take (most - read) (letter ∷ xs)
     passed enough =
         let test : nat_lt read most ≡ false = grind (arith, nat_tests) in

@@ -71,7 +71,11 @@ fn keep_letter(letters: &mut Letters, letter: LetterMask, is_wanted: bool) -> M<
     ensures added { OnOk result (letters.new ≡ letters.old ++ (if is_wanted then letter ∷ [] else [])) }
     ensures refused { OnErr result (letters.new ≡ letters.old) }
 {
-    if is_wanted { letters.push(letter) } else { Ok(()) }
+    if is_wanted {
+        letters.push(letter)
+    } else {
+        Ok(())
+    }
 }
 
 /// Adds a word to a text, each set by `push_set`. Refused for memory, the text may have a part of it.

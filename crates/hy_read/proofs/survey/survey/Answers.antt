@@ -1,4 +1,4 @@
-use Rattle.std.proofs.Common.{◌≡◌, ℕ, ◌+◌, ◌≤◌, sym, subst, arith, ◌++◌, ◌∷◌, []}
+use Rattle.std.proofs.Common.{ℕ, ◌+◌, ◌≤◌, sym, subst, arith, ◌++◌, ◌∷◌, []}
 use Rattle.hy_read.specs.declared.counts.Counts.{Counts}
 use Rattle.hy_read.specs.Counting.{IsFew}
 use Rattle.hy_read.specs.Moves.{IsPlaced}
@@ -31,8 +31,8 @@ loop-next-preserved c =
         front ++ span_of c.in-Some.next ∷ [],
         reached_next c.args.text.now c.loop-next.at front c.in-Some.next reached c.in-Some.ensures,
         passed_more c.args.many front c.in-Some.next c.kind-kind.result c.loop-next.tokens c.loop-next.stage c.in-Some-next_stage.after c.loop-next.counts c.behind-counts.result c.loop-next.scope c.pass.new.self passed c.kind-kind.ensures c.in-Some-next_stage.ensures.next c.behind-counts.ensures.parens
-        (c.behind-counts.ensures.counted (tokens_of front) (plain c.in-Some.next.token) (sym c.kind-kind.ensures) passed.counted)
-        (c.in_ok-pass.ensures front passed.scoped),
+            (c.behind-counts.ensures.counted (tokens_of front) (plain c.in-Some.next.token) (sym c.kind-kind.ensures) passed.counted)
+            (c.in_ok-pass.ensures front passed.scoped),
       );
       placed = subst (IsPlaced c.in-Some-next_stage.after) (sym c.behind-counts.ensures.parens) c.in-Some-next_stage.ensures.placed;
       few = few_more _ _ _ (omega arith) (c.behind-counts.ensures.few c.loop-next.at c.loop-next.invariant.few);
