@@ -1,5 +1,5 @@
 -- What the parser builds of an expression, from what it built of its parts.
-use Rattle.std.proofs.Common.{rules, IsTrue, ◌≡◌, ◌≢◌, ℕ, zero, suc, max, ◌-◌, ◌<◌, ◌≤◌, ◌⊎◌, inl, inr, List, [], ◌∷◌, Option, Some, None, Result, Ok, Err, refl, ap, sym, subst, ◌∙◌, arith}
+use Rattle.std.proofs.Common.{rules, IsTrue, ◌≡◌, ◌≢◌, ℕ, suc, max, ◌-◌, ◌<◌, ◌≤◌, ◌⊎◌, inl, inr, List, [], ◌∷◌, Option, Some, None, Ok, Err, refl, ap, sym, subst, ◌∙◌, arith}
 use Rattle.hy_formula.specs.Trees.{Tree, tree_of, height, vars_below}
 use Rattle.hy_formula.specs.Trees as trees
 use Rattle.hy_read.specs.declared.symbol.Symbol.{Symbol}

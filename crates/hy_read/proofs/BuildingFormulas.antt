@@ -1,5 +1,5 @@
 -- The formulas of a text, built one after another.
-use Rattle.std.proofs.Common.{◌≡◌, ℕ, zero, suc, max, ◌+◌, ◌-◌, ◌<◌, ◌≤◌, List, [], ◌∷◌, ◌++◌, length, map, Bool, Option, Result, Ok, Err, IsTrue, refl, ap, sym, subst, ◌∙◌, arith, append_assoc, append-nil}
+use Rattle.std.proofs.Common.{◌≡◌, ℕ, zero, suc, max, ◌-◌, ◌<◌, ◌≤◌, List, [], ◌∷◌, ◌++◌, length, map, Bool, Option, Result, Ok, Err, refl, ap, sym, subst, ◌∙◌, arith, append_assoc, append-nil}
 use Rattle.std.proofs.lemmas.List.{length-map, map-append}
 use Rattle.hy_formula.specs.Trees.{Tree, tree_of, height}
 use Rattle.hy_formula.specs.declared.formula.Formula.{Formula}
@@ -14,7 +14,7 @@ use Rattle.hy_read.specs.declared.symbol.Symbol.{Symbol}
 use Rattle.hy_read.specs.declared.symbol.Symbol.TheVariants as signs
 use Rattle.hy_read.specs.Answers.{Plain, plain_of}
 use Rattle.hy_read.specs.Builds.{AreBuilt, IsFormulaBuilt, meaning_in, most_of_heights, most_of_quantifiers, plain_formula, plain_formulas}
-use Rattle.hy_read.specs.Grammar.{AreFormulas, IsFormula, Quantifier, Read, loosest, quantifier_tokens}
+use Rattle.hy_read.specs.Grammar.{AreFormulas, IsFormula, Read, loosest}
 use Rattle.hy_read.specs.Headings.{IsHeading, quants_of}
 use Rattle.hy_read.specs.Parses.{AreLeft, Builds, IsBuilt, IsFollowed, Stops, meaning}
 use Rattle.hy_read.specs.Results.{most_open, variables_of}

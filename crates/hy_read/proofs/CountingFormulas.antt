@@ -1,12 +1,11 @@
 -- The counts of a text by its tokens are those of its formulas.
-use Rattle.std.proofs.Common.{◌≡◌, ℕ, zero, suc, max, ◌+◌, ◌≤◌, List, [], ◌∷◌, ◌++◌, length, map, Bool, refl, ap, sym, ◌∙◌, arith, add-suc, add-zero}
+use Rattle.std.proofs.Common.{◌≡◌, ℕ, zero, suc, max, ◌+◌, List, [], ◌∷◌, ◌++◌, length, Bool, refl, ap, sym, ◌∙◌, arith, add-zero}
 use Rattle.hy_formula.specs.Trees.{Tree}
-use Rattle.hy_read.specs.declared.symbol.Symbol.{Symbol}
 use Rattle.hy_read.specs.declared.symbol.Symbol.TheVariants as signs
 use Rattle.hy_read.specs.Builds.{most_of_quantifiers}
 use Rattle.hy_read.specs.Counting.{ended_by, quantified_by, most_quantified, semicolons}
-use Rattle.hy_read.specs.Grammar.{AreFormulas, Derives, alone, joined, constant, prefixed, named, grouped, IsFormula, Quantifier, Read, quantifier_tokens, quantifier_word}
-use Rattle.hy_read.specs.Tokens.{Token, Kind, symbol, variable, kind_of, kind_of_symbol, binary, prefix, leaf}
+use Rattle.hy_read.specs.Grammar.{AreFormulas, Derives, alone, joined, constant, prefixed, named, grouped, IsFormula, Quantifier, Read, quantifier_tokens}
+use Rattle.hy_read.specs.Tokens.{Token, Kind, symbol, variable, kind_of, binary, prefix, leaf}
 use Rattle.hy_read.proofs.Once.{is-word}
 use Rattle.hy_read.proofs.Passing.{words_at_least}
 use Rattle.hy_read.proofs.TokenKinds.{binary-kind, prefix-kind, leaf-kind}

@@ -1,6 +1,6 @@
 -- The heights of formulas do not depend on what their atoms mean.
 use Rattle.std.proofs.Common.{◌≡◌, ℕ, suc, max, List, [], ◌∷◌, length, map, Bool, None, refl, ap, ◌∙◌}
-use Rattle.hy_formula.specs.Trees.{Tree, height}
+use Rattle.hy_formula.specs.Trees.{height}
 use Rattle.hy_read.specs.declared.symbol.Symbol.TheVariants as signs
 use Rattle.hy_read.specs.Builds.{meaning_in, most_of_heights, most_of_quantifiers}
 use Rattle.hy_read.specs.Grammar.{AreFormulas, IsFormula, Read}

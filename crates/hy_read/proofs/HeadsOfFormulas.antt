@@ -1,8 +1,6 @@
 -- The quantifiers of a formula, one after another: those so far, and those that are left.
-use Rattle.std.proofs.Common.{◌≡◌, ◌≢◌, ℕ, List, [], ◌∷◌, ◌++◌, ◌+◌, drop, map, refl, ap, sym, subst, ◌∙◌, append_assoc, append-nil}
+use Rattle.std.proofs.Common.{◌≡◌, ◌≢◌, ℕ, List, [], ◌∷◌, ◌++◌, ◌+◌, drop, refl, ap, sym, subst, ◌∙◌, append_assoc, append-nil}
 use Rattle.hy_formula.specs.declared.prefix.Quant.{Quant}
-use Rattle.hy_formula.specs.declared.prefix.Quant.TheVariants as quants
-use Rattle.hy_read.specs.declared.symbol.Symbol.{Symbol}
 use Rattle.hy_read.specs.declared.symbol.Symbol.TheVariants as signs
 use denote.Ref.{Bor}
 use Rattle.hy_read.specs.declared.token.Placed.{Placed}

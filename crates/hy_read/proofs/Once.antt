@@ -5,7 +5,7 @@ use Rattle.hy_formula.specs.declared.prefix.Quant.TheVariants as quants
 use Rattle.hy_read.specs.declared.symbol.Symbol.{Symbol}
 use Rattle.hy_read.specs.declared.symbol.Symbol.TheVariants as signs
 use Rattle.hy_formula.specs.Trees.{Tree}
-use Rattle.hy_read.specs.Tokens.{Token, symbol, variable, atom, nothing, Kind, word, leaf, prefix, kind_of, kind_of_symbol}
+use Rattle.hy_read.specs.Tokens.{Token, symbol, variable, atom, nothing, Kind, word, leaf, prefix, kind_of_symbol}
 use Rattle.hy_read.specs.Grammar.{Derives, alone, joined, constant, prefixed, named, grouped, constant_of, unary_of, binary_of, loosest, quantifier_word, Quantifier, quantifier_tokens, Read, IsFormula, AreFormulas}
 use Rattle.hy_read.specs.Headings.{NoWord}
 use Rattle.hy_read.specs.Parses.{IsLooser, Stops}

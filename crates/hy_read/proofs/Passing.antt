@@ -4,7 +4,6 @@ use Rattle.std.specs.Option.{option_map, is_none}
 use Rattle.std.proofs.Math.Seq.{drop-append_seam, take-suc}
 use Rattle.std.proofs.lemmas.Grind.{common_steps}
 use Rattle.std.proofs.lemmas.List.{map-append, length-map}
-use Rattle.hy_read.specs.declared.symbol.Symbol.{Symbol}
 use Rattle.hy_read.specs.declared.symbol.Symbol.TheVariants as signs
 use Rattle.hy_read.specs.declared.counts.Counts.{Counts}
 use Rattle.hy_read.specs.Tokens.{Token, Kind, symbol, variable, atom, nothing, kind_of}

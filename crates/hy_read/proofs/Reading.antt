@@ -1,16 +1,15 @@
 -- From the counts of a text and what is built of it to the answer.
 use Rattle.std.proofs.Common.{◌≡◌, ℕ, zero, suc, ◌<◌, ◌≤◌, List, [], ◌∷◌, ◌++◌, length, length-append, map, Bool, true, false, nat_lt, Option, Some, None, Result, Ok, Err, refl, ap, sym, subst, ◌∙◌, arith}
 use Rattle.std.proofs.lemmas.Bool.Decides.{nat_tests}
-use Rattle.hy_base.specs.declared.limit.Kind.{Kind}
 use Rattle.hy_formula.specs.declared.formula.Formula.{Formula}
 use Rattle.hy_read.specs.declared.build_error.BuildError.{BuildError}
 use Rattle.hy_read.specs.declared.build_error.BuildError.TheVariants as refusals
 use Rattle.hy_read.specs.declared.counts.Counts.{Counts}
 use Rattle.hy_read.specs.declared.error.ReadError.{ReadError}
 use Rattle.hy_read.specs.declared.error.ReadError.TheVariants.{Syntax, Unbound, Limit, Memory}
-use Rattle.hy_read.specs.Answers.{Answers, Plain, faulty, free, over, read_as, located, plain_of, tokens_of}
+use Rattle.hy_read.specs.Answers.{Answers, Plain, over, read_as, located, plain_of, tokens_of}
 use Rattle.hy_read.specs.Builds.{AreBuilt, meaning_in, most_of_heights, most_of_quantifiers, plain_formula, plain_formulas}
-use Rattle.hy_read.specs.Contract.{IsAnswer, kind_of_count}
+use Rattle.hy_read.specs.Contract.{IsAnswer}
 use Rattle.hy_formula.specs.Trees.{Tree}
 use Rattle.std.proofs.lemmas.List.{length-map}
 use Rattle.hy_read.specs.Grammar.{AreFormulas, Quantifier, Read}

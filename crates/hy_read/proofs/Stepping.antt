@@ -1,5 +1,5 @@
 -- One token of a text, at a place of it.
-use Rattle.std.proofs.Common.{◌≡◌, ℕ, zero, ◌+◌, ◌<◌, ◌≤◌, List, [], ◌∷◌, ◌++◌, length, length-drop, arith, drop, refl, ap, sym, subst, ◌∙◌, append_assoc, append-nil}
+use Rattle.std.proofs.Common.{◌≡◌, ℕ, zero, ◌+◌, List, [], ◌∷◌, ◌++◌, length, length-drop, arith, drop, refl, ap, sym, subst, ◌∙◌, append-nil}
 use Rattle.std.proofs.Math.Seq.{drop-drop}
 use Rattle.hy_read.specs.Tokens.{Token}
 use Rattle.hy_read.specs.declared.token.Placed.{Placed}

@@ -1,5 +1,5 @@
 -- The first pass over a text: one more token, a token that is not allowed, and the end.
-use Rattle.std.proofs.Common.{◌≡◌, ◌≢◌, ℕ, zero, ◌+◌, ◌<◌, ◌≤◌, max, List, [], ◌∷◌, ◌++◌, length, drop, Bool, Option, Some, None, refl, ap, sym, subst, ◌∙◌, arith, append_assoc, append-nil, length-drop, length-append}
+use Rattle.std.proofs.Common.{◌≡◌, ℕ, zero, ◌+◌, ◌≤◌, max, List, [], ◌∷◌, ◌++◌, length, drop, Bool, Option, Some, None, ap, sym, subst, ◌∙◌, arith, append_assoc, append-nil, length-append}
 use Rattle.std.specs.Option.{option_and_then}
 use Rattle.std.proofs.lemmas.List.{map-append}
 use Rattle.hy_read.specs.declared.counts.Counts.{Counts}
@@ -12,7 +12,7 @@ use Rattle.hy_read.specs.Counting.{most_quantified, semicolons, opened_by, IsCou
 use Rattle.hy_read.specs.Moves.{place_of, kind_of}
 use Rattle.hy_read.specs.Places.{Place, start, operator, next_place, place_after}
 use Rattle.hy_read.specs.Results.{unbound, unbound_at, most_open}
-use Rattle.hy_read.specs.Scanning.{Span, Spans, blanks, first_token}
+use Rattle.hy_read.specs.Scanning.{Span, Spans, blanks}
 use Rattle.hy_read.specs.Scans.{plain, span_of, Stands}
 use Rattle.hy_read.specs.Scopes.{Binds, IsScoped, variables_of}
 use Rattle.hy_read.specs.Surveys.{IsPassed, IsSound}
@@ -20,7 +20,6 @@ use Rattle.hy_read.specs.Tokens as tokens
 use Rattle.hy_read.specs.Tokens.{Token}
 use Rattle.hy_read.proofs.Deriving.{allowed-text}
 use Rattle.hy_read.proofs.Faulting.{fault-answered, end-answered}
-use Rattle.hy_read.proofs.Passing.{opens_at_least}
 use Rattle.hy_read.proofs.Spanning.{spans-one}
 use Rattle.hy_read.proofs.Stepping.{Reached, reached-all, stands_next}
 use Rattle.hy_read.proofs.Viable.{after-append}

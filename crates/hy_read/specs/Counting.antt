@@ -1,5 +1,5 @@
 -- What is counted of a text, token by token.
-use Rattle.std.specs.Prelude.{◌≡◌, ℕ, zero, suc, pred, max, ◌+◌, ◌≤◌, List, [], ◌∷◌, ◌++◌}
+use Rattle.std.specs.Prelude.{◌≡◌, ℕ, zero, suc, pred, max, ◌≤◌, List, [], ◌∷◌, ◌++◌}
 use Rattle.hy_read.specs.Tokens.{Token, Kind, word, open_paren, close_paren, semicolon, kind_of}
 use Rattle.hy_read.specs.Results.{most_open}
 use Rattle.hy_read.specs.declared.counts.Counts.{Counts}

@@ -7,7 +7,7 @@ use Rattle.hy_read.specs.declared.symbol.Symbol.TheVariants.{Dot}
 use Rattle.hy_read.specs.Grammar.{Quantifier, quantifier_tokens, quantifier_word}
 use Rattle.hy_read.specs.Parses.{AreLeft}
 use Rattle.hy_read.specs.Results.{variables_of}
-use Rattle.hy_read.specs.Tokens.{Token, Kind, word, kind_of, symbol, variable}
+use Rattle.hy_read.specs.Tokens.{Token, word, kind_of, symbol, variable}
 
 -- The tokens do not begin with a quantifier word.
 abbrev pub NoWord : List Token → Type 0

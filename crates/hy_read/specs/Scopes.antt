@@ -1,5 +1,5 @@
 -- What a pass over the tokens of a text knows of its variables.
-use Rattle.std.specs.Prelude.{◌≡◌, ℕ, ◌+◌, List, [], ◌∷◌, ◌++◌, length, drop, map, Option, Some, None}
+use Rattle.std.specs.Prelude.{◌≡◌, ℕ, ◌+◌, List, [], ◌++◌, length, drop, map, Option, Some, None}
 use Rattle.std.specs.Option.{option_map}
 use Rattle.hy_read.specs.Tokens.{Token}
 use Rattle.hy_read.specs.Scanning.{Span}

@@ -1,5 +1,5 @@
 -- What the first pass over a text answers.
-use Rattle.std.specs.Prelude.{◌≡◌, ℕ, zero, List, [], Option, Some, None, length, Bool, Result, Ok, Err}
+use Rattle.std.specs.Prelude.{◌≡◌, ℕ, zero, List, [], Some, None, length, Bool, Result, Ok, Err}
 use Rattle.hy_read.specs.declared.counts.Counts.{Counts}
 use Rattle.hy_read.specs.declared.error.ReadError.{ReadError}
 use Rattle.hy_read.specs.declared.error.ReadError.TheVariants.{Syntax, Unbound, Limit, Memory}

@@ -1,4 +1,4 @@
-use Rattle.std.proofs.Common.{◌≡◌, ◌<◌, ◌≤◌, length, map, inl, inr, refl, sym, ap, ◌∙◌, arith, Err, Ok}
+use Rattle.std.proofs.Common.{map, inl, inr, ap, ◌∙◌, arith, Err, Ok}
 use Rattle.std.specs.Option.{option_map}
 use Rattle.std.proofs.lemmas.Result.{err_from_is_err_and}
 use Rattle.hy_read.proofs.BuildingFormulas.{head_of, head_count, body_built, formula_refused, formula_made}

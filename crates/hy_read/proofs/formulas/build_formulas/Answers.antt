@@ -1,7 +1,7 @@
-use Rattle.std.proofs.Common.{◌≡◌, ◌<◌, ◌≤◌, ◌-◌, ◌+◌, ◌++◌, ◌∷◌, [], length, refl, sym, ap, ◌∙◌, arith, subst, Err, Ok, ℕ}
+use Rattle.std.proofs.Common.{◌≡◌, ◌-◌, ◌+◌, ◌++◌, ◌∷◌, [], arith, subst}
 use Rattle.std.specs.Option.{option_map}
 use Rattle.std.proofs.lemmas.Result.{err_from_is_err_and}
-use Rattle.hy_read.proofs.BuildingFormulas.{Progress, progress_none, next_of, progress_more, progress_refused, progress_all}
+use Rattle.hy_read.proofs.BuildingFormulas.{Progress, next_of, progress_more, progress_refused, progress_all}
 use Rattle.hy_read.proofs.formulas.build_formulas.Goals as goal
 
 pub returns-in_err-built : goal.returns-in_err-built

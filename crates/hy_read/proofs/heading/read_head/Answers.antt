@@ -1,5 +1,4 @@
-use Rattle.std.proofs.Common.{◌≡◌, ◌∷◌, ap, sym, ◌∙◌, refl}
-use Rattle.hy_formula.specs.declared.prefix.Quant.{Quant}
+use Rattle.std.proofs.Common.{◌∷◌, ap}
 use Rattle.hy_read.specs.declared.symbol.Symbol.TheVariants.{Dot}
 use Rattle.hy_read.specs.Grammar.{quantifier_word}
 use Rattle.hy_read.specs.Scans.{plain}

@@ -1,6 +1,6 @@
-use Rattle.std.proofs.Common.{◌≡◌, ◌++◌, ◌∷◌, [], ap, sym, ◌∙◌, map, length, arith, length-append}
+use Rattle.std.proofs.Common.{◌≡◌, ◌++◌, ◌∷◌, [], ap, ◌∙◌, map, length, arith, length-append}
 use Rattle.std.proofs.lemmas.List.{map-append}
-use Rattle.hy_read.proofs.HeadsOfFormulas.{headed_none, headed_more, headed_all}
+use Rattle.hy_read.proofs.HeadsOfFormulas.{headed_more, headed_all}
 use Rattle.hy_read.proofs.heading.read_heading.Goals as goal
 
 pub returns-clause-headed : goal.returns-clause-headed

@@ -1,8 +1,7 @@
-use Rattle.std.proofs.Common.{◌≡◌, ◌≤◌, ◌-◌, List, ℕ, ◌++◌, length, map}
+use Rattle.std.proofs.Common.{◌≡◌, ◌≤◌, ◌-◌, List, ◌++◌, length, map}
 use Rattle.hy_read.specs.Grammar.{Quantifier, quantifier_tokens}
-use Rattle.hy_read.specs.Headings.{NoWord, quants_of}
+use Rattle.hy_read.specs.Headings.{NoWord}
 use Rattle.hy_read.specs.Parses.{AreLeft}
-use Rattle.hy_read.specs.Results.{variables_of}
 use Rattle.hy_read.specs.Tokens.{Token}
 use Rattle.hy_read.proofs.HeadsOfFormulas.{IsHeadedSoFar}
 use Rattle.hy_read.proofs.heading.read_heading.Given as goal

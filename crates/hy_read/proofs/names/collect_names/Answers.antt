@@ -1,7 +1,5 @@
-use Rattle.std.proofs.Common.{◌≡◌, ◌<◌, ◌≤◌, ℕ, List, [], ◌∷◌, ◌++◌, length, Err, refl, sym, ap, ◌∙◌, arith, append_assoc, append-nil}
+use Rattle.std.proofs.Common.{◌≡◌, [], ◌∷◌, ◌++◌, length, refl, sym, ap, ◌∙◌, arith, append_assoc, append-nil}
 use Rattle.std.proofs.lemmas.Result.{err_from_is_err_and}
-use Rattle.hy_formula.specs.declared.name_table.NameError.{NameError}
-use Rattle.hy_formula.specs.declared.name_table.NameError.TheVariants.{Limit}
 use Rattle.hy_read.specs.Results.{names_of}
 use Rattle.hy_read.specs.Scans.{plain}
 use Rattle.hy_read.specs.Tokens.{Token}

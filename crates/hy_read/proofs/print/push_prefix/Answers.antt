@@ -1,4 +1,4 @@
-use Rattle.std.proofs.Common.{◌≡◌, ◌≤◌, ◌+◌, ◌++◌, ◌∷◌, [], drop, length, sym, ap, ◌∙◌, arith, add-one, append_assoc, append-nil}
+use Rattle.std.proofs.Common.{◌≤◌, ◌+◌, ◌++◌, drop, length, sym, ap, ◌∙◌, arith, add-one, append_assoc, append-nil}
 use Rattle.hy_read.specs.Printing.{printed_quantifier, printed_quantifiers}
 use Rattle.hy_text.proofs.Printing.{left_at, left_none}
 use Rattle.hy_read.proofs.print.push_prefix.Goals as goal

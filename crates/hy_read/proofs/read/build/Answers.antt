@@ -1,5 +1,4 @@
-use Rattle.std.proofs.Common.{refl, sym, ap, ◌∙◌, Ok, Err, subst}
-use Rattle.hy_read.specs.Builds.{plain_formulas}
+use Rattle.std.proofs.Common.{refl, ap, ◌∙◌, Ok, Err, subst}
 use Rattle.hy_read.specs.Judged.{IsLate}
 use Rattle.hy_read.specs.Results.{heights}
 use Rattle.hy_read.proofs.Reading.{late}

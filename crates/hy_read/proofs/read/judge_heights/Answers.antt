@@ -1,4 +1,4 @@
-use Rattle.std.proofs.Common.{refl, sym, ap, ◌∙◌, Ok, Err, subst}
+use Rattle.std.proofs.Common.{refl, ap, ◌∙◌, Err, subst}
 use Rattle.hy_read.specs.Judged.{IsLateAndNamed}
 use Rattle.hy_read.specs.Results.{heights, names}
 use Rattle.hy_read.proofs.Reading.{late_and_named}

@@ -1,5 +1,4 @@
-use Rattle.std.proofs.Common.{refl, sym, ap, ◌∙◌, Ok, Err, subst}
-use Rattle.hy_read.proofs.Reading.{last_is_only, some_formula}
+use Rattle.hy_read.proofs.Reading.{last_is_only}
 use Rattle.hy_read.proofs.read.read_formula.Goals as goal
 
 pub returns-clause-answer : goal.returns-clause-answer

@@ -1,13 +1,11 @@
-use Rattle.std.proofs.Common.{◌≡◌, ℕ, suc, ◌+◌, ◌-◌, ◌<◌, ◌∷◌, List, Some, Ok, Err, refl, sym, subst, ap, ◌∙◌, arith, add-one}
+use Rattle.std.proofs.Common.{ℕ, suc, ◌+◌, ◌-◌, ◌<◌, ◌∷◌, List, Ok, Err, refl, sym, subst, ap, ◌∙◌, arith, add-one}
 use Rattle.std.proofs.lemmas.Result.{err_from_is_err_and}
-use Rattle.hy_formula.specs.Trees.{Tree, always, never}
+use Rattle.hy_formula.specs.Trees.{always}
 use Rattle.hy_read.specs.declared.build_error.BuildError.TheVariants.{TooHigh}
-use Rattle.hy_read.specs.declared.symbol.Symbol.TheVariants as signs
-use Rattle.hy_read.specs.Operators.{rank_number, makes}
 use Rattle.hy_read.specs.Parses.{means, AreLeft, Builds, IsOperator, HasNoOperator}
 use Rattle.hy_read.specs.Scans.{plain}
-use Rattle.hy_read.specs.Tokens.{Token, symbol, atom, variable, nothing}
-use Rattle.hy_read.proofs.Building.{height_some, left_refused, left_alone, left_high, right_refused, both_parsed, prefixed_refused, prefixed_parsed, no_parens, group_refused, group_open, group_parsed, constant_parts, leaf_parsed, no_operand, no_variable, no_nothing, no_symbol_operand}
+use Rattle.hy_read.specs.Tokens.{Token}
+use Rattle.hy_read.proofs.Building.{height_some, left_refused, left_alone, left_high, right_refused, both_parsed, prefixed_refused, prefixed_parsed, group_refused, group_open, group_parsed, constant_parts, leaf_parsed, no_operand, no_variable, no_nothing}
 use Rattle.hy_read.proofs.Stepping.{stands_left, none_left}
 use Rattle.hy_read.proofs.parser.Parser.+parse.Goals as goal
 

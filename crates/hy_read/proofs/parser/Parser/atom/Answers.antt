@@ -1,4 +1,4 @@
-use Rattle.std.proofs.Common.{length, ◌≡◌, ◌<◌, List, Some, None, refl, sym, ap, ◌∙◌, arith, subst, map}
+use Rattle.std.proofs.Common.{length, ◌<◌, refl, sym, ap, arith, map}
 use Rattle.std.specs.Option.{option_map}
 use Rattle.std.proofs.lemmas.List.{length-map}
 use Rattle.hy_formula.specs.Trees.{tree_of, atom as atom_tree}
