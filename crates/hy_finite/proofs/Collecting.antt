@@ -36,7 +36,8 @@ good-not_long line (inr (said, says, short)) long =
 -- ---- checking
 
 -- Of the lines those before `left`, of which the first has number n, have been checked.
-pub record Checked (lines : List (List ℕ)) (n : ℕ) (left : List (List ℕ)) (is_long : Bool) : Type 0 where
+pub record Checked (lines : List (List ℕ)) (n : ℕ) (left : List (List ℕ))
+    (is_long : Bool) : Type 0 where
   pub fault : (k : ℕ) → FirstFault n left k → FirstFault 1 lines k
   pub texts : Each IsText left → Each IsText lines
   pub later : SomeTooLong left → SomeTooLong lines
@@ -52,12 +53,16 @@ checked-none lines = record {
   good = λ e each. each;
 }
 
-pub checked-fault : (lines : List (List ℕ)) (n : ℕ) (left : List (List ℕ)) (b : Bool) (line : List ℕ) (rest : List (List ℕ)) → Checked lines n left b → left ≡ line ∷ rest → IsFaulty line → FirstFault 1 lines n
+pub checked-fault : (lines : List (List ℕ)) (n : ℕ) (left : List (List ℕ)) (b : Bool)
+    (line : List ℕ) (rest : List (List ℕ)) → Checked lines n left b → left ≡ line ∷ rest
+    → IsFaulty line → FirstFault 1 lines n
 checked-fault lines n left b line rest before first fault =
     let P : List (List ℕ) → Type 0 = λ ls. FirstFault n ls n in
     before.fault n (subst P (sym first) (inl (fault, refl)))
 
-pub checked-good : (lines : List (List ℕ)) (n : ℕ) (left : List (List ℕ)) (b : Bool) (line : List ℕ) (rest : List (List ℕ)) → Checked lines n left b → left ≡ line ∷ rest → IsGood line → Checked lines (n + 1) rest b
+pub checked-good : (lines : List (List ℕ)) (n : ℕ) (left : List (List ℕ)) (b : Bool)
+    (line : List ℕ) (rest : List (List ℕ)) → Checked lines n left b → left ≡ line ∷ rest
+    → IsGood line → Checked lines (n + 1) rest b
 checked-good lines n left b line rest before first good =
     let F : List (List ℕ) → Type 0 = λ ls. (k : ℕ) → FirstFault n ls k → FirstFault 1 lines k in
     let T : List (List ℕ) → Type 0 = λ ls. Each IsText ls → Each IsText lines in
@@ -66,14 +71,17 @@ checked-good lines n left b line rest before first good =
     let P : ℕ → Type 0 = λ m. (k : ℕ) → FirstFault m rest k → FirstFault 1 lines k in
     let next : n + 1 ≡ suc n = omega arith in
     record {
-      fault = subst P (sym next) (λ k f. subst F first before.fault k (inr (good-text line good, f)));
+      fault =
+          subst P (sym next) (λ k f. subst F first before.fault k (inr (good-text line good, f)));
       texts = λ each. subst T first before.texts (good-text line good, each);
       later = λ some. subst S first before.later (inr some);
       long = before.long;
       good = λ e each. subst G first (before.good e) (good, each);
     }
 
-pub checked-long : (lines : List (List ℕ)) (n : ℕ) (left : List (List ℕ)) (b : Bool) (line : List ℕ) (rest : List (List ℕ)) → Checked lines n left b → left ≡ line ∷ rest → IsTooLong line → Checked lines (n + 1) rest true
+pub checked-long : (lines : List (List ℕ)) (n : ℕ) (left : List (List ℕ)) (b : Bool)
+    (line : List ℕ) (rest : List (List ℕ)) → Checked lines n left b → left ≡ line ∷ rest
+    → IsTooLong line → Checked lines (n + 1) rest true
 checked-long lines n left b line rest before first long =
     let F : List (List ℕ) → Type 0 = λ ls. (k : ℕ) → FirstFault n ls k → FirstFault 1 lines k in
     let T : List (List ℕ) → Type 0 = λ ls. Each IsText ls → Each IsText lines in
@@ -81,41 +89,55 @@ checked-long lines n left b line rest before first long =
     let P : ℕ → Type 0 = λ m. (k : ℕ) → FirstFault m rest k → FirstFault 1 lines k in
     let next : n + 1 ≡ suc n = omega arith in
     record {
-      fault = subst P (sym next) (λ k f. subst F first before.fault k (inr (long-text line long, f)));
+      fault =
+          subst P (sym next) (λ k f. subst F first before.fault k (inr (long-text line long, f)));
       texts = λ each. subst T first before.texts (long-text line long, each);
       later = λ some. subst S first before.later (inr some);
       long = λ e. subst S first before.later (inl long);
       good = λ e. absurd (cc);
     }
 
-pub checked-all-good : (lines : List (List ℕ)) (n : ℕ) (left : List (List ℕ)) (b : Bool) → Checked lines n left b → left ≡ [] → b ≡ false → Each IsGood lines
-checked-all-good lines n left b done none short = let P : List (List ℕ) → Type 0 = Each IsGood in done.good short (subst P (sym none) tt)
+pub checked-all-good : (lines : List (List ℕ)) (n : ℕ) (left : List (List ℕ)) (b : Bool)
+    → Checked lines n left b → left ≡ [] → b ≡ false → Each IsGood lines
+checked-all-good lines n left b done none short =
+    let P : List (List ℕ) → Type 0 = Each IsGood in done.good short (subst P (sym none) tt)
 
-pub checked-all-long : (lines : List (List ℕ)) (n : ℕ) (left : List (List ℕ)) (b : Bool) → Checked lines n left b → left ≡ [] → b ≡ true → Each IsText lines × SomeTooLong lines
-checked-all-long lines n left b done none long = let P : List (List ℕ) → Type 0 = Each IsText in (done.texts (subst P (sym none) tt), done.long long)
+pub checked-all-long : (lines : List (List ℕ)) (n : ℕ) (left : List (List ℕ)) (b : Bool)
+    → Checked lines n left b → left ≡ [] → b ≡ true → Each IsText lines × SomeTooLong lines
+checked-all-long lines n left b done none long =
+    let P : List (List ℕ) → Type 0 = Each IsText in
+    (done.texts (subst P (sym none) tt), done.long long)
 
 -- ---- the next line that says something
 
-pub reached-loud : (n : ℕ) (lines : List (List ℕ)) (k : ℕ) (line : List ℕ) (rest : List (List ℕ)) → Reaches n lines k line rest → ¬ SaysNothing line
+pub reached-loud : (n : ℕ) (lines : List (List ℕ)) (k : ℕ) (line : List ℕ) (rest : List (List ℕ))
+    → Reaches n lines k line rest → ¬ SaysNothing line
 reached-loud n [] k line rest r = absurd r
 reached-loud n (x ∷ xs) k line rest (inl (nothing, r)) = reached-loud (suc n) xs k line rest r
-reached-loud n (x ∷ xs) k line rest (inr (loud, e, same, f)) = λ nothing. loud (let P : List ℕ → Type 0 = SaysNothing in subst P same nothing)
+reached-loud n (x ∷ xs) k line rest (inr (loud, e, same, f)) =
+    λ nothing. loud (let P : List ℕ → Type 0 = SaysNothing in subst P same nothing)
 
-pub reached-fewer : (n : ℕ) (lines : List (List ℕ)) (k : ℕ) (line : List ℕ) (rest : List (List ℕ)) → Reaches n lines k line rest → length rest < length lines
+pub reached-fewer : (n : ℕ) (lines : List (List ℕ)) (k : ℕ) (line : List ℕ) (rest : List (List ℕ))
+    → Reaches n lines k line rest → length rest < length lines
 reached-fewer n [] k line rest r = absurd r
-reached-fewer n (x ∷ xs) k line rest (inl (nothing, r)) = omega (arith, reached-fewer (suc n) xs k line rest r)
+reached-fewer n (x ∷ xs) k line rest (inl (nothing, r)) =
+    omega (arith, reached-fewer (suc n) xs k line rest r)
 reached-fewer n (x ∷ xs) k line rest (inr (loud, e, same, f)) = omega (arith, ap length f)
 
-pub reached-good : (n : ℕ) (lines : List (List ℕ)) (k : ℕ) (line : List ℕ) (rest : List (List ℕ)) → Reaches n lines k line rest → Each IsGood lines → IsGood line × Each IsGood rest
+pub reached-good : (n : ℕ) (lines : List (List ℕ)) (k : ℕ) (line : List ℕ) (rest : List (List ℕ))
+    → Reaches n lines k line rest → Each IsGood lines → IsGood line × Each IsGood rest
 reached-good n [] k line rest r each = absurd r
-reached-good n (x ∷ xs) k line rest (inl (nothing, r)) (here, each) = reached-good (suc n) xs k line rest r each
+reached-good n (x ∷ xs) k line rest (inl (nothing, r)) (here, each) =
+    reached-good (suc n) xs k line rest r each
 reached-good n (x ∷ xs) k line rest (inr (loud, e, same, f)) (here, each) =
     let P : List ℕ → Type 0 = IsGood in
     let Q : List (List ℕ) → Type 0 = Each IsGood in
     (subst P (sym same) here, subst Q (sym f) each)
 
 -- the events of the lines, by the next one and those behind it
-pub reached-says : (table : List (List ℕ)) (n : ℕ) (lines : List (List ℕ)) (k : ℕ) (line : List ℕ) (rest : List (List ℕ)) (said : Said) (more : List Placed) → Reaches n lines k line rest → Says line said → SayEvents table (suc k) rest more
+pub reached-says : (table : List (List ℕ)) (n : ℕ) (lines : List (List ℕ)) (k : ℕ) (line : List ℕ)
+    (rest : List (List ℕ)) (said : Said) (more : List Placed) → Reaches n lines k line rest
+    → Says line said → SayEvents table (suc k) rest more
     → SayEvents table n lines (record { line = k; event = event_of table said } ∷ more)
 reached-says table n [] k line rest said more r says events = absurd r
 reached-says table n (x ∷ xs) k line rest said more (inl (nothing, r)) says events =
@@ -127,13 +149,15 @@ reached-says table n (x ∷ xs) k line rest said more (inr (loud, e, same, f)) s
     let placed : ℕ → Placed = λ j. record { line = j; event = event_of table said } in
     inr (said, more, subst P same says, ap (λ j. placed j ∷ more) e, subst Q e (subst R f events))
 
-pub silent-says : (table : List (List ℕ)) (n : ℕ) (lines : List (List ℕ)) → Each SaysNothing lines → SayEvents table n lines []
+pub silent-says : (table : List (List ℕ)) (n : ℕ) (lines : List (List ℕ)) → Each SaysNothing lines
+    → SayEvents table n lines []
 silent-says table n [] each = refl
 silent-says table n (x ∷ xs) (nothing, each) = inl (nothing, silent-says table (suc n) xs each)
 
 -- ---- what comes next
 
-pub next-more : (table : List (List ℕ)) (old new : LinesLeft) (placed : Placed) (later : List Placed)
+pub next-more : (table : List (List ℕ)) (old new : LinesLeft) (placed : Placed)
+    (later : List Placed)
     → IsNextAnswer table old new (Ok (Some placed)) → SayEvents table new.first new.lines later
     → SayEvents table old.first old.lines (placed ∷ later)
 next-more table old new placed later (line, said, reached, next, says, short, e) spoken =
@@ -142,7 +166,8 @@ next-more table old new placed later (line, said, reached, next, says, short, e)
     ap (λ v. record { line = placed.line; event = v }) e in
     let R : Placed → Type 0 = λ p. SayEvents table old.first old.lines (p ∷ later) in
     subst R (sym whole)
-    (reached-says table old.first old.lines placed.line line new.lines said later reached says (subst P next spoken))
+    (reached-says table old.first old.lines placed.line line new.lines said later reached says
+    (subst P next spoken))
 
 pub next-fewer : (table : List (List ℕ)) (old new : LinesLeft) (placed : Placed)
     → IsNextAnswer table old new (Ok (Some placed)) → length new.lines < length old.lines
@@ -157,7 +182,8 @@ next-good table old new placed (line, said, reached, next, says, short, e) each 
 pub next-no_fault : (table : List (List ℕ)) (old new : LinesLeft) (fault : LineError)
     → Each IsGood old.lines → IsNextAnswer table old new (Err fault) → fault ≡ Memory
 next-no_fault table old new (Syntax k) each (kept, (line, rest, reached, fault)) =
-    absurd (good-not_faulty line (good-text line (reached-good old.first old.lines k line rest reached each).0) fault)
+    absurd (good-not_faulty line (good-text line (reached-good old.first old.lines k line rest
+    reached each).0) fault)
 next-no_fault table old new Limit each (kept, (k, line, rest, reached, long)) =
     absurd (good-not_long line (reached-good old.first old.lines k line rest reached each).0 long)
 next-no_fault table old new Memory each kept = refl
@@ -165,28 +191,34 @@ next-no_fault table old new Memory each kept = refl
 -- ---- collecting
 
 -- The events of the lines before these have been collected.
-pub record Collected (table : List (List ℕ)) (lines : List (List ℕ)) (left : LinesLeft) (events : List Placed) : Type 0 where
-  pub back : (more : List Placed) → SayEvents table left.first left.lines more → SayEvents table 1 lines (events ++ more)
+pub record Collected (table : List (List ℕ)) (lines : List (List ℕ)) (left : LinesLeft)
+    (events : List Placed) : Type 0 where
+  pub back : (more : List Placed) → SayEvents table left.first left.lines more
+      → SayEvents table 1 lines (events ++ more)
   pub good : Each IsGood left.lines
 
-pub collected-more : (table lines : List (List ℕ)) (old new : LinesLeft) (events : List Placed) (placed : Placed)
+pub collected-more : (table lines : List (List ℕ)) (old new : LinesLeft) (events : List Placed)
+    (placed : Placed)
     → Collected table lines old events → IsNextAnswer table old new (Ok (Some placed))
     → Collected table lines new (events ++ placed ∷ [])
 collected-more table lines old new events placed before found = record {
   back = λ more spoken.
       let Q : List Placed → Type 0 = SayEvents table 1 lines in
-      subst Q (sym (append_assoc events (placed ∷ []) more)) (before.back (placed ∷ more) (next-more table old new placed more found spoken));
+      subst Q (sym (append_assoc events (placed ∷ []) more)) (before.back (placed ∷ more)
+      (next-more table old new placed more found spoken));
   good = next-good table old new placed found before.good;
 }
 
 pub collected-all : (table lines : List (List ℕ)) (left : LinesLeft) (events : List Placed)
-    → Collected table lines left events → Each SaysNothing left.lines → SayEvents table 1 lines events
+    → Collected table lines left events → Each SaysNothing left.lines → SayEvents table 1 lines
+    events
 collected-all table lines left events done silent =
     let P : List Placed → Type 0 = SayEvents table 1 lines in
     subst P (append-nil events) (done.back [] (silent-says table left.first left.lines silent))
 
 -- no line that is left is at fault
-pub collected-fault : (table : List (List ℕ)) (bytes : List ℕ) (old new : LinesLeft) (events : List Placed) (fault : LineError)
+pub collected-fault : (table : List (List ℕ)) (bytes : List ℕ) (old new : LinesLeft)
+    (events : List Placed) (fault : LineError)
     → Collected table (lines_of bytes) old events → IsNextAnswer table old new (Err fault)
     → IsFileAnswer table bytes (Err fault)
 collected-fault table bytes old new events fault before found =

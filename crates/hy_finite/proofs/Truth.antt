@@ -7,45 +7,70 @@ use Rattle.hy_formula.specs.Temporal.{below, IsUntil}
 pub decides-itself : (b : Bool) → Decides b (b ≡ true)
 decides-itself b = (λ e. e, λ e. e)
 
-pub decides-implies : {P Q : Type 0} (x y : Bool) → Decides x P → Decides y Q → Decides (not x || y) (P → Q)
+pub decides-implies : {P Q : Type 0} (x y : Bool) → Decides x P → Decides y Q
+    → Decides (not x || y) (P → Q)
 decides-implies true y p q = (λ e _. q.0 e, λ f. q.1 (f (p.0 refl)))
 decides-implies false y p q = (λ _ h. absurd (decided p h), λ _. refl)
   where
     decided : {P : Type 0} → Decides false P → P → ⊥
     decided d h = let e : false ≡ true = d.1 h in cc
 
-pub decides-iff : {P Q : Type 0} (x y : Bool) → Decides x P → Decides y Q → Decides (beq x y) ((P → Q) × (Q → P))
+pub decides-iff : {P Q : Type 0} (x y : Bool) → Decides x P → Decides y Q → Decides (beq x y) ((P
+    → Q) × (Q → P))
 decides-iff true true p q = (λ _. (λ _. q.0 refl, λ _. p.0 refl), λ _. refl)
 decides-iff true false p q = (λ e. absurd (cc), λ h. q.1 (h.0 (p.0 refl)))
 decides-iff false true p q = (λ e. absurd (cc), λ h. p.1 (h.1 (q.0 refl)))
-decides-iff false false p q = (λ _. (λ h. absurd (let e : false ≡ true = p.1 h in cc), λ h. absurd (let e : false ≡ true = q.1 h in cc)), λ _. refl)
+decides-iff false false p q = (
+  λ _. (
+    λ h. absurd (let e : false ≡ true = p.1 h in
+        cc),
+    λ h. absurd (let e : false ≡ true = q.1 h in cc),
+  ),
+  λ _. refl,
+)
 
 -- until at a position, when its right side holds there
 until-now : (m i : ℕ) (P Q : ℕ → Type 0) → i < m → Q i → IsUntil (below m) P Q i
 until-now m i P Q lt q = (i, omega arith, lt, q, λ k le under. absurd (omega arith))
 
 -- until at a position, when its left side holds there and until at the next one
-until-later : (m i : ℕ) (P Q : ℕ → Type 0) → P i → IsUntil (below m) P Q (suc i) → IsUntil (below m) P Q i
+until-later : (m i : ℕ) (P Q : ℕ → Type 0) → P i → IsUntil (below m) P Q (suc i)
+    → IsUntil (below m) P Q i
 until-later m i P Q p (j, from, within, q, all) = (j, omega arith, within, q, before)
   where
     before : (k : ℕ) → i ≤ k → k < j → P k
-    before k le lt = elim (cases_eq i k) [ inl e ↦ subst P e p | inr apart ↦ all k (omega arith) lt ]
+    before k le lt =
+        elim (cases_eq i k) [ inl e ↦ subst P e p | inr apart ↦ all k (omega arith) lt ]
 
 -- until at a position where its right side does not hold
-until-first : (m i : ℕ) (P Q : ℕ → Type 0) → ¬ Q i → IsUntil (below m) P Q i → P i × IsUntil (below m) P Q (suc i)
+until-first : (m i : ℕ) (P Q : ℕ → Type 0) → ¬ Q i → IsUntil (below m) P Q i
+    → P i × IsUntil (below m) P Q (suc i)
 until-first m i P Q not_here (j, from, within, q, all) =
     elim (cases_eq i j) [
       | inl e ↦ absurd (not_here (subst Q (sym e) q))
-      | inr apart ↦ (all i (omega arith) (omega arith), (j, omega arith, within, q, λ k le lt. all k (omega arith) lt))
+      | inr apart ↦ (
+        all i (omega arith) (omega arith),
+        (j, omega arith, within, q, λ k le lt. all k (omega arith) lt),
+      )
     ]
 
-pub until-step : (m i : ℕ) (P Q : ℕ → Type 0) (p q later : Bool) → i < m → Decides p (P i) → Decides q (Q i) → Decides later (IsUntil (below m) P Q (suc i)) → Decides (q || (p && later)) (IsUntil (below m) P Q i)
+pub until-step : (m i : ℕ) (P Q : ℕ → Type 0) (p q later : Bool) → i < m → Decides p (P i)
+    → Decides q (Q i) → Decides later (IsUntil (below m) P Q (suc i))
+    → Decides (q || (p && later)) (IsUntil (below m) P Q i)
 until-step m i P Q p true later lt dp dq dl = (λ _. until-now m i P Q lt (dq.0 refl), λ _. refl)
-until-step m i P Q true false later lt dp dq dl =
-    (λ e. until-later m i P Q (dp.0 refl) (dl.0 e), λ u. dl.1 ((until-first m i P Q (λ h. let e : false ≡ true = dq.1 h in cc) u).1))
-until-step m i P Q false false later lt dp dq dl =
-    (λ e. absurd (cc), λ u. dp.1 ((until-first m i P Q (λ h. let e : false ≡ true = dq.1 h in cc) u).0))
+until-step m i P Q true false later lt dp dq dl = (
+  λ e. until-later m i P Q (dp.0 refl) (dl.0 e),
+  λ u. dl.1 ((until-first m i P Q
+      (λ h. let e : false ≡ true = dq.1 h in cc) u).1),
+)
+until-step m i P Q false false later lt dp dq dl = (
+  λ e. absurd (cc),
+  λ u. dp.1 ((until-first m i P Q (λ h. let e : false ≡ true = dq.1 h in
+      cc) u).0),
+)
 
 -- until of facts that hold at the same places
-pub until-like : (m i : ℕ) (P Q P' Q' : ℕ → Type 0) → ((k : ℕ) → k < m → P k → P' k) → ((k : ℕ) → k < m → Q k → Q' k) → IsUntil (below m) P Q i → IsUntil (below m) P' Q' i
-until-like m i P Q P' Q' f g (j, from, within, q, all) = (j, from, within, g j within q, λ k le lt. f k (omega arith) (all k le lt))
+pub until-like : (m i : ℕ) (P Q P' Q' : ℕ → Type 0) → ((k : ℕ) → k < m → P k → P' k) → ((k : ℕ)
+    → k < m → Q k → Q' k) → IsUntil (below m) P Q i → IsUntil (below m) P' Q' i
+until-like m i P Q P' Q' f g (j, from, within, q, all) =
+    (j, from, within, g j within q, λ k le lt. f k (omega arith) (all k le lt))

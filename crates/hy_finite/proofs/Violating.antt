@@ -12,26 +12,34 @@ use Rattle.hy_formula.proofs.Tuples.{contains-here, contains-later, searched-mem
 use Rattle.hy_finite.specs.declared.lengths.Lengths.{Lengths}
 use Rattle.hy_finite.specs.Traces.{Trace, judged, trace_words, Meets, ViolatesBy, Violates}
 
-decided-meets : (lengths : Lengths) (body : Tree) (tuple : List Trace) → Decided (Meets lengths body tuple)
+decided-meets : (lengths : Lengths) (body : Tree) (tuple : List Trace)
+    → Decided (Meets lengths body tuple)
 decided-meets lengths body tuple = decided-below (judged lengths tuple) (trace_words tuple) body 0
 
 pub decided-violates : (lengths : Lengths) (n : ℕ) (body : Tree) (list : List Trace)
     → Decided (Violates lengths n body list)
 decided-violates lengths n body list =
     let s = some-tuple (Contains list) (λ tuple. ¬ Meets lengths body tuple) n in
-    decided-like (λ q. let (t, i, no_b) = s.0 q in (t, (i, no_b))) (λ (t, (i, no_b)). s.1 (t, i, no_b))
-    (decided-quantified (Contains list) (searched-members list) (λ tuple. ¬ Meets lengths body tuple)
+    decided-like (λ q. let (t, i, no_b) = s.0 q in
+    (t, (i, no_b))) (λ (t, (i, no_b)). s.1 (t, i, no_b))
+    (decided-quantified (Contains list) (searched-members list)
+    (λ tuple. ¬ Meets lengths body tuple)
     (λ tuple m. decided-not (decided-meets lengths body tuple)) (repeated Exists n))
 
 pub violating : (lengths : Lengths) (n : ℕ) (body : Tree) (list : List Trace)
-    → Violates lengths n body list ↔ (¬ Quantified (Contains list) (Meets lengths body) (repeated Forall n))
+    → Violates lengths n body list ↔ (¬ Quantified (Contains list) (Meets lengths body)
+    (repeated Forall n))
 violating lengths n body list =
     let e = every-tuple (Contains list) (Meets lengths body) n in (
       λ (t, (i, no_b)) q. no_b (e.0 q t i),
       λ no_q. elim (decided-violates lengths n body list) [
         | inl v ↦ v
         | inr none ↦
-            absurd (no_q (e.1 (λ t i. elim (decided-meets lengths body t) [ inl b ↦ b | inr no_b ↦ absurd (none (t, (i, no_b))) ])))
+            absurd (no_q (e.1 (λ t i. elim (decided-meets lengths body t) [
+              | inl b ↦ b
+              | inr no_b ↦
+                  absurd (none (t, (i, no_b)))
+            ])))
       ],
     )
 
@@ -40,8 +48,13 @@ members-before : (list : List Trace) (t : Trace) (tuple : List Trace)
 members-before list t [] m = inl tt
 members-before list t (x ∷ xs) (here, m) =
     elim (Contains-push_cases list t x here) [
-      | inr e ↦ inr (let P : Trace → Type 0 = Contains (x ∷ xs) in subst P (sym e) (contains-here x xs))
-      | inl old ↦ elim (members-before list t xs m) [ inl all ↦ inl (old, all) | inr later ↦ inr (contains-later x t xs later) ]
+      | inr e ↦ inr (let P : Trace → Type 0 = Contains (x ∷ xs) in
+          subst P (sym e) (contains-here x xs))
+      | inl old ↦ elim (members-before list t xs m) [
+        | inl all ↦ inl (old, all)
+        | inr later ↦ inr
+            (contains-later x t xs later)
+      ]
     ]
 
 pub arriving : (lengths : Lengths) (n : ℕ) (body : Tree) (list : List Trace) (t : Trace)

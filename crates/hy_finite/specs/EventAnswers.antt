@@ -13,7 +13,8 @@ use Rattle.hy_finite.specs.EventFiles.{event_of, lines_of, IsEventFile, FirstFau
 -- The line says nothing, or this event, or it is at fault, or a trace that is too long.
 abbrev pub IsLineAnswer : List (List ℕ) → List ℕ → Result (Option Event) LineError → Type 0
 IsLineAnswer table line (Ok None) = SaysNothing line
-IsLineAnswer table line (Ok (Some event)) = (said : Said) × Says line said × IsShort said × (event ≡ event_of table said)
+IsLineAnswer table line (Ok (Some event)) =
+    (said : Said) × Says line said × IsShort said × (event ≡ event_of table said)
 IsLineAnswer table line (Err (Syntax n)) = (n ≡ 1) × IsFaulty line
 IsLineAnswer table line (Err Limit) = IsTooLong line
 IsLineAnswer table line (Err Memory) = Unit {0}
@@ -24,7 +25,8 @@ IsLetterAnswer table n text (Ok (Some event)) =
     (names : List (List ℕ)) × (rest : List ℕ) × SpellsSet text names rest × (past_blanks rest ≡ [])
     × (event ≡ event_of table (letter n names))
 IsLetterAnswer table n text (Err (Syntax k)) =
-    (k ≡ 1) × ((names : List (List ℕ)) (rest : List ℕ) → SpellsSet text names rest → ¬ (past_blanks rest ≡ []))
+    (k ≡ 1) × ((names : List (List ℕ)) (rest : List ℕ) → SpellsSet text names rest → ¬
+    (past_blanks rest ≡ []))
 IsLetterAnswer table n text _ = ⊥
 
 -- why a file is refused: its first line that is no text, or that all are and one is a trace that is too long

@@ -2,6 +2,7 @@
 -- count from 1, those that say nothing too. A name that the table lacks is passed over.
 use Rattle.std.specs.Prelude.{◌≡◌, ℕ, suc, ◌⊎◌, List, [], ◌∷◌, map}
 use Rattle.std.specs.List.{slice_split}
+use Rattle.hy_bits.specs.Letter.{Letter as NameSet}
 use Rattle.hy_text.specs.Bytes.{is_line_feed}
 use Rattle.hy_text.specs.Sets.{letter_of}
 use Rattle.hy_finite.specs.declared.event.Event.{Event}
@@ -17,6 +18,11 @@ event_of table (finish n) = End n
 event_of table save = Save
 event_of table back = Back
 
+-- the letters of a whole trace
+abbrev pub letters_in : Event → List NameSet
+letters_in (Whole trace) = trace
+letters_in _ = []
+
 abbrev pub lines_of : List ℕ → List (List ℕ)
 lines_of bytes = slice_split is_line_feed bytes
 
@@ -25,7 +31,8 @@ abbrev pub SayEvents : List (List ℕ) → ℕ → List (List ℕ) → List Plac
 SayEvents table n [] events = events ≡ []
 SayEvents table n (line ∷ lines) events =
     (SaysNothing line × SayEvents table (suc n) lines events)
-    ⊎ ((said : Said) × (rest : List Placed) × Says line said × (events ≡ record { line = n; event = event_of table said } ∷ rest)
+    ⊎ ((said : Said) × (rest : List Placed) × Says line said ×
+    (events ≡ record { line = n; event = event_of table said } ∷ rest)
     × SayEvents table (suc n) lines rest)
 
 -- The file is these events.
@@ -35,7 +42,8 @@ IsEventFile table bytes events = SayEvents table 1 (lines_of bytes) events
 -- Of the lines, of which the first has number n, line k is the first that is no text.
 abbrev pub FirstFault : ℕ → List (List ℕ) → ℕ → Type 0
 FirstFault n [] k = ⊥
-FirstFault n (line ∷ lines) k = (IsFaulty line × (k ≡ n)) ⊎ (IsText line × FirstFault (suc n) lines k)
+FirstFault n (line ∷ lines) k =
+    (IsFaulty line × (k ≡ n)) ⊎ (IsText line × FirstFault (suc n) lines k)
 
 -- Some line is a trace that is too long.
 abbrev pub SomeTooLong : List (List ℕ) → Type 0

@@ -57,8 +57,10 @@ IsOnly text bytes = (rest : List ℕ) × (text ≡ bytes ++ rest) × (past_blank
 abbrev pub Spells : List ℕ → Said → Type 0
 Spells text (word sets) = SpellsWord text sets []
 Spells text (letter n names) =
-    (behind rest : List ℕ) × (session_at text ≡ Some (n, behind)) × SpellsSet behind names rest × (past_blanks rest ≡ [])
-Spells text (finish n) = (behind : List ℕ) × (session_at text ≡ Some (n, behind)) × IsOnly behind (codes "end")
+    (behind rest : List ℕ) × (session_at text ≡ Some (n, behind)) × SpellsSet behind names rest ×
+    (past_blanks rest ≡ [])
+Spells text (finish n) =
+    (behind : List ℕ) × (session_at text ≡ Some (n, behind)) × IsOnly behind (codes "end")
 Spells text save = IsOnly text (codes "!save")
 Spells text back = IsOnly text (codes "!back")
 

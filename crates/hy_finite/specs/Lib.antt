@@ -1,6 +1,7 @@
 pub mod EventAnswers
 pub mod EventFiles
 pub mod EventLines
+pub mod Judging
 pub mod LineParts
 pub mod LinesLeft
 pub mod NextEvents

@@ -23,13 +23,17 @@ IsNextLine old new (Some (k, line)) =
     Reaches old.first old.lines k line.now new.lines × (new.first ≡ suc k)
 
 -- The next event, or there is none; or the next line that says something is no text, or a trace that is too long.
-abbrev pub IsNextAnswer : List (List ℕ) → LinesLeft → LinesLeft → Result (Option Placed) LineError → Type 0
+abbrev pub IsNextAnswer : List (List ℕ) → LinesLeft → LinesLeft → Result
+    (Option Placed) LineError → Type 0
 IsNextAnswer table old new (Ok None) = Each SaysNothing old.lines
 IsNextAnswer table old new (Ok (Some placed)) =
     (line : List ℕ) × (said : Said) × Reaches old.first old.lines placed.line line new.lines
-    × (new.first ≡ suc placed.line) × Says line said × IsShort said × (placed.event ≡ event_of table said)
+    × (new.first ≡ suc placed.line) × Says line said × IsShort said ×
+    (placed.event ≡ event_of table said)
 IsNextAnswer table old new (Err (Syntax k)) =
-    (new ≡ old) × ((line : List ℕ) × (rest : List (List ℕ)) × Reaches old.first old.lines k line rest × IsFaulty line)
+    (new ≡ old) × ((line : List ℕ) × (rest : List (List ℕ)) × Reaches old.first old.lines k line
+    rest × IsFaulty line)
 IsNextAnswer table old new (Err Limit) =
-    (new ≡ old) × ((k : ℕ) × (line : List ℕ) × (rest : List (List ℕ)) × Reaches old.first old.lines k line rest × IsTooLong line)
+    (new ≡ old) × ((k : ℕ) × (line : List ℕ) × (rest : List
+    (List ℕ)) × Reaches old.first old.lines k line rest × IsTooLong line)
 IsNextAnswer table old new (Err Memory) = new ≡ old

@@ -37,4 +37,5 @@ pub record IsRepeated (word : ℕ) (width : ℕ) (old new : List ℕ) : Type 0 w
 -- The word has a place for each letter before place `to` of the trace, at most 64, the last at place 0.
 abbrev pub IsNamesWord : Trace → ℕ → ℕ → ℕ → ℕ → Type 0
 IsNamesWord trace name from to word =
-    (i b : ℕ) → from ≤ i → i + suc b ≡ to → has_one word b ≡ contains (slice_index_or trace i empty) name
+    (i b : ℕ) → from ≤ i → i + suc b ≡ to → has_one word b ≡ contains
+    (slice_index_or trace i empty) name

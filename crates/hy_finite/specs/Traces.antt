@@ -29,7 +29,8 @@ judged lengths (t ∷ u ∷ ts) = of_two lengths (length t) (judged lengths (u �
 
 -- the words of a tuple; past its end a trace goes on with empty letters
 abbrev pub trace_words : List Trace → Words
-trace_words tuple name variable i = contains (slice_index_or (slice_index_or tuple variable []) i empty) name
+trace_words tuple name variable i =
+    contains (slice_index_or (slice_index_or tuple variable []) i empty) name
 
 -- The tuple satisfies the body.
 abbrev pub Meets : Lengths → Tree → List Trace → Type 0
@@ -37,7 +38,8 @@ Meets lengths body tuple = SatisfiesAt (below (judged lengths tuple)) (trace_wor
 
 -- The tuple, of n members of the list, does not satisfy the body.
 abbrev pub ViolatesBy : Lengths → ℕ → Tree → List Trace → List Trace → Type 0
-ViolatesBy lengths n body list tuple = IsTuple (Contains list) n tuple × (¬ Meets lengths body tuple)
+ViolatesBy lengths n body list tuple =
+    IsTuple (Contains list) n tuple × (¬ Meets lengths body tuple)
 
 -- The list violates the universal formula with n variables and this body.
 abbrev pub Violates : Lengths → ℕ → Tree → List Trace → Type 0

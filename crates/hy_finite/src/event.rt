@@ -1,6 +1,9 @@
+ghost use Rattle.std.specs.Prelude.{◌≡◌};
+
 use crate::trace::Trace;
-use hy_base::{List, Remake};
-use hy_bits::LetterMask;
+use hy_base::List;
+use hy_bits::{LetterMask, Letters};
+use std::alloc::Global;
 
 /// What a line of a trace file brings. A session is a trace that comes letter by letter; it is known
 /// by its number.
@@ -16,6 +19,22 @@ pub enum Event {
     Save,
     /// Those that were put aside last come back.
     Back,
+}
+
+impl Event {
+    ghost use Rattle.hy_finite.specs.EventFiles.{letters_in};
+
+    /// The letters of a whole trace, whose memory can be lent again; none of any other event.
+    pub fn into_letters(self, alloc: Global) -> Letters
+        ensures { result ≡ letters_in self }
+    {
+        match self {
+            Event::Whole(trace) => trace.into_letters(),
+            Event::Letter { .. } | Event::End { .. } | Event::Save | Event::Back => List::new(
+                alloc,
+            ),
+        }
+    }
 }
 
 /// An event, and the number of its line, counted from 1.

@@ -54,13 +54,15 @@ pub fn next_events()
         → (events : List Placed) × SayEvents table n lines events }
     ensures last { (table : List (List ℕ)) (n : ℕ) (lines : List (List ℕ))
         → Each SaysNothing lines → SayEvents table n lines [] }
-    ensures more { (table : List (List ℕ)) (old new : LinesLeft) (placed : Placed) (later : List Placed)
-        → IsNextAnswer table old new (Ok (Some placed)) → SayEvents table new.first new.lines later
+    ensures more { (table : List (List ℕ)) (old new : LinesLeft) (placed : Placed)
+        (later : List Placed) → IsNextAnswer table old new (Ok (Some placed))
+        → SayEvents table new.first new.lines later
         → SayEvents table old.first old.lines (placed ∷ later) }
     ensures fewer { (table : List (List ℕ)) (old new : LinesLeft) (placed : Placed)
         → IsNextAnswer table old new (Ok (Some placed)) → length new.lines < length old.lines }
     ensures good { (table : List (List ℕ)) (old new : LinesLeft) (placed : Placed)
-        → IsNextAnswer table old new (Ok (Some placed)) → Each IsGood old.lines → Each IsGood new.lines }
+        → IsNextAnswer table old new (Ok (Some placed))
+        → Each IsGood old.lines → Each IsGood new.lines }
     ensures no_fault { (table : List (List ℕ)) (old new : LinesLeft) (fault : LineError)
         → Each IsGood old.lines → IsNextAnswer table old new (Err fault) → fault ≡ errors.Memory }
 {}

@@ -40,8 +40,8 @@ impl<'a> EventLines<'a> {
 
     /// The next event, or `None` where no line is left that says one. Names that the table lacks are
     /// passed over. The letters of a trace are put into the memory of `letters`, and what that has is
-    /// dropped: lend the letters of the last event again, and few allocations are made. In time linear
-    /// in the lines that are passed.
+    /// dropped: lend what `Event::into_letters` gives of the last event, and few allocations are made.
+    /// In time linear in the lines that are passed.
     ///
     /// Syntax where the next line that says something is no text; Limit where it is a trace of more
     /// than 1,024 letters. After an error the lines are as before.
@@ -88,7 +88,8 @@ impl<'a> EventLines<'a> {
 /// The first line, without its line feed, and what stands behind that: `None` where there is none.
 /// In time linear in the line.
 pub fn split_line(text: &[u8]) -> (&[u8], Option<&[u8]>)
-    ensures lines { slice_split is_line_feed text.now ≡ result.0.now ∷ left_lines (option_copied result.1) }
+    ensures lines { slice_split is_line_feed text.now
+        ≡ result.0.now ∷ left_lines (option_copied result.1) }
     ensures fewer { left_len (option_copied result.1) < left_len (Some text.now) }
 {
     let (line, behind) = Class::InLine.split(text);

@@ -1,7 +1,7 @@
 ghost use Rattle.std.specs.Prelude.{◌≡◌, ℕ, ◌+◌, ◌*◌, ◌<◌, ◌≤◌, ◌↔◌, [], length, IfOk, OnOk, IsTrue, All, slice_index_or};
 ghost use Rattle.hy_formula.specs.Trees.{tree_of, vars_below, atom};
-ghost use Rattle.hy_finite.specs.Traces.{of_two, judged, picked, trace_words, Meets};
-ghost use Rattle.hy_finite.specs.Rows.{IsFilled, IsRepeated, IsNamesWord};
+ghost use Rattle.hy_finite.specs.Traces.{of_two, judged, picked, Meets};
+ghost use Rattle.hy_finite.specs.Rows.{IsRepeated, IsNamesWord};
 
 use crate::lengths::Lengths;
 use crate::rows::{Rows, binary, unary};
@@ -24,7 +24,8 @@ pub fn finite_holds(
     requires some { 1 ≤ length pick.now }
     requires members { All (λ k. k < length list.now) pick.now }
     requires bound { IsTrue (vars_below (length pick.now) (tree_of body.now)) }
-    ensures { IfOk result (λ holds. IsTrue holds ↔ Meets lengths (tree_of body.now) (picked list.now pick.now)) }
+    ensures { IfOk result (λ holds.
+        IsTrue holds ↔ Meets lengths (tree_of body.now) (picked list.now pick.now)) }
 {
     let positions = judged_length(list, pick, lengths);
     let tuple = Picked {
@@ -87,11 +88,13 @@ struct Picked<'a> {
 }
 
 impl Picked<'_> {
+    ghost use Rattle.hy_finite.specs.Judging.{IsRowOn};
+
     /// Puts on top whether the body holds at each position.
     #[tactic(auto, using(crate::proofs::RowMeanings::rows))]
     fn fill(&self, body: &Body, rows: &mut Rows) -> M<()>
         requires { IsTrue (vars_below (length self.now.pick.now) (tree_of body.now)) }
-        ensures { OnOk result (IsFilled (tree_of body.now) (trace_words (picked self.now.list.now self.now.pick.now)) self.now.positions self.now.width rows.old rows.new) }
+        ensures { OnOk result (IsRowOn self.now (tree_of body.now) rows.old rows.new) }
     {
         match body {
             Body::True => self.push_word(u64::MAX, rows),
@@ -175,7 +178,7 @@ impl Picked<'_> {
     /// Puts on top whether the atom holds at each position.
     fn push_names(&self, a: Atom, rows: &mut Rows) -> M<()>
         requires { a.var < length self.now.pick.now }
-        ensures { OnOk result (IsFilled (atom a.name a.var) (trace_words (picked self.now.list.now self.now.pick.now)) self.now.positions self.now.width rows.old rows.new) }
+        ensures { OnOk result (IsRowOn self.now (atom a.name a.var) rows.old rows.new) }
     {
         let trace = self.list.at(self.pick[a.var as usize] as usize);
         for k in 0..self.width {

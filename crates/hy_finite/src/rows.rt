@@ -13,7 +13,8 @@ pub type Rows = List<u64>;
 /// Puts the row of a body in place of that of its part, which is on top. In time linear in the width.
 pub fn unary(rule: Rule, rows: &mut Rows, width: usize)
     requires { width ≤ length rows.old }
-    ensures applied { let base = length rows.old - width in IsApplied rule rows.old rows.new base base width }
+    ensures applied { let base = length rows.old - width in
+        IsApplied rule rows.old rows.new base base width }
     ensures long { length rows.new ≡ length rows.old }
 {
     let base = rows.len() - width;
@@ -24,7 +25,8 @@ pub fn unary(rule: Rule, rows: &mut Rows, width: usize)
 /// the width.
 pub fn binary(rule: Rule, rows: &mut Rows, width: usize)
     requires { 2 * width ≤ length rows.old }
-    ensures applied { let base = length rows.old - 2 * width in IsApplied rule rows.old rows.new base (base + width) width }
+    ensures applied { let base = length rows.old - 2 * width in
+        IsApplied rule rows.old rows.new base (base + width) width }
     ensures long { length rows.new + width ≡ length rows.old }
 {
     let other = rows.len() - width;

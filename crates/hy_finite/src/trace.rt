@@ -85,6 +85,14 @@ impl Trace {
         }
     }
 
+    /// The letters, as a list of their own.
+    pub fn into_letters(self) -> Letters
+        ensures { result ≡ self }
+    {
+        let Trace { letters } = self;
+        letters
+    }
+
     /// The letters as a slice.
     pub fn as_slice(&self) -> &[LetterMask]
         ensures { result.now ≡ self.now }

@@ -13,7 +13,8 @@ contains-here x xs = (0, omega arith, refl)
 pub contains-later : {A : Type 0} (x y : A) (xs : List A) → Contains xs y → Contains (x ∷ xs) y
 contains-later x y xs h = Contains-append_right (x ∷ []) xs y h
 
-pub contains-cases : {A : Type 0} (x y : A) (xs : List A) → Contains (x ∷ xs) y → (x ≡ y) ⊎ Contains xs y
+pub contains-cases : {A : Type 0} (x y : A) (xs : List A) → Contains (x ∷ xs) y
+    → (x ≡ y) ⊎ Contains xs y
 contains-cases x y xs h =
     elim (Contains-append_cases (x ∷ []) xs y h) [
       | inl (zero, lt, e) ↦ inl e
@@ -27,17 +28,21 @@ contains-none y (k, lt, e) = omega arith
 -- Of the members of a list one with a property is found.
 pub searched-members : {A : Type 0} (list : List A) → IsSearched (Contains list)
 searched-members [] P d = inr (λ (x, c, p). contains-none x c)
-searched-members {A} (y ∷ ys) P d = step (d y (contains-here y ys)) (searched-members ys P (λ x c. d x (contains-later y x ys c)))
+searched-members {A} (y ∷ ys) P d =
+    step (d y (contains-here y ys)) (searched-members ys P (λ x c. d x (contains-later y x ys c)))
   where
-    step : Decided (P y) → Decided ((x : A) × Contains ys x × P x) → Decided ((x : A) × Contains (y ∷ ys) x × P x)
+    step : Decided (P y) → Decided ((x : A) × Contains ys x × P x)
+        → Decided ((x : A) × Contains (y ∷ ys) x × P x)
     step (inl p) _ = inl (y, contains-here y ys, p)
     step (inr n) (inl (x, c, p)) = inl (x, contains-later y x ys c, p)
     step (inr n) (inr none) =
-        inr (λ (x, c, p). elim (contains-cases y x ys c) [ inl e ↦ n (subst P (sym e) p) | inr later ↦ none (x, later, p) ])
+        inr (λ (x, c, p). elim (contains-cases y x ys c) [ inl e ↦ n (subst P
+            (sym e) p) | inr later ↦ none (x, later, p) ])
 
 module _ {A : Type 0} (Member : A → Type 0) where
   pub some-tuple : (Body : List A → Type 0) (n : ℕ)
-      → Quantified Member Body (repeated Exists n) ↔ ((tuple : List A) × IsTuple Member n tuple × Body tuple)
+      → Quantified Member Body (repeated Exists n) ↔
+          ((tuple : List A) × IsTuple Member n tuple × Body tuple)
   some-tuple Body zero = (λ b. ([], record { count = refl; members = tt }, b), back)
     where
       back : ((tuple : List A) × IsTuple Member 0 tuple × Body tuple) → Body []
@@ -50,14 +55,18 @@ module _ {A : Type 0} (Member : A → Type 0) where
     back (λ x. (some-tuple (λ tuple. Body (x ∷ tuple)) n).1),
   )
     where
-      back : ((x : A) → ((tuple : List A) × IsTuple Member n tuple × Body (x ∷ tuple)) → Quantified Member (λ tuple. Body (x ∷ tuple)) (repeated Exists n))
-          → ((tuple : List A) × IsTuple Member (suc n) tuple × Body tuple) → Quantified Member Body (repeated Exists (suc n))
+      back : ((x : A) → ((tuple : List A) × IsTuple Member n tuple × Body (x ∷ tuple))
+          → Quantified Member (λ tuple. Body (x ∷ tuple)) (repeated Exists n))
+          → ((tuple : List A) × IsTuple Member (suc n) tuple × Body tuple) → Quantified Member Body
+              (repeated Exists (suc n))
       back f ([], t, b) = absurd (omega (arith, t.count))
       back f (x ∷ xs, t, b) =
-          (x, t.members.0, f x (xs, record { count = omega (arith, t.count); members = t.members.1 }, b))
+          (x, t.members.0, f x (xs, record { count = omega
+              (arith, t.count); members = t.members.1 }, b))
 
   pub every-tuple : (Body : List A → Type 0) (n : ℕ)
-      → Quantified Member Body (repeated Forall n) ↔ ((tuple : List A) → IsTuple Member n tuple → Body tuple)
+      → Quantified Member Body (repeated Forall n) ↔
+          ((tuple : List A) → IsTuple Member n tuple → Body tuple)
   every-tuple Body zero = (there, λ all. all [] (record { count = refl; members = tt }))
     where
       there : Body [] → (tuple : List A) → IsTuple Member 0 tuple → Body tuple
@@ -70,8 +79,11 @@ module _ {A : Type 0} (Member : A → Type 0) where
         (λ tuple t. all (x ∷ tuple) (record { count = ap suc t.count; members = (m, t.members) })),
   )
     where
-      there : ((x : A) → Quantified Member (λ tuple. Body (x ∷ tuple)) (repeated Forall n) → (tuple : List A) → IsTuple Member n tuple → Body (x ∷ tuple))
-          → Quantified Member Body (repeated Forall (suc n)) → (tuple : List A) → IsTuple Member (suc n) tuple → Body tuple
+      there : ((x : A) → Quantified Member (λ tuple. Body (x ∷ tuple)) (repeated Forall n)
+          → (tuple : List A) → IsTuple Member n tuple → Body (x ∷ tuple))
+          → Quantified Member Body (repeated Forall (suc n)) → (tuple : List A) → IsTuple Member
+              (suc n) tuple → Body tuple
       there f q [] t = absurd (omega (arith, t.count))
       there f q (x ∷ xs) t =
-          f x (q x t.members.0) xs (record { count = omega (arith, t.count); members = t.members.1 })
+          f x (q x t.members.0) xs (record { count = omega
+              (arith, t.count); members = t.members.1 })

@@ -18,11 +18,13 @@ names_once here (x ∷ w ∷ names) [] rest end one two = absurd two
 names_once here (x ∷ w ∷ names) (y ∷ []) rest end (b, n, e, comma, one) (c, f, shut) =
     let same = ap past_blanks (same_name here x b y c e f).1 in
     absurd (apart 44 125 (past_blanks b) n end (omega arith) comma (same ∙ shut))
-names_once here (x ∷ w ∷ names) (y ∷ z ∷ others) rest end (b, n, e, comma, one) (c, m, f, other, two) =
+names_once here (x ∷ w ∷ names) (y ∷ z ∷ others) rest end (b, n, e, comma, one)
+    (c, m, f, other, two) =
     let same = same_name here x b y c e f in
     let left = behind_byte 44 (past_blanks b) n m comma (ap past_blanks same.1 ∙ other) in
     let P : List ℕ → Type 0 = λ t. SpellsNames (past_blanks t) (w ∷ names) rest in
-    let later = names_once (past_blanks m) (w ∷ names) (z ∷ others) rest end (subst P left one) two in
+    let later = names_once (past_blanks m) (w ∷ names) (z ∷ others) rest end
+        (subst P left one) two in
     ap (λ v. v ∷ w ∷ names) same.0 ∙ ap (λ vs. y ∷ vs) later
 
 set_once : (text : List ℕ) (names others : List (List ℕ)) (rest end : List ℕ)
@@ -58,11 +60,13 @@ one-word text (x ∷ []) (y ∷ z ∷ others) rest end (b, one, e, bare) (c, nex
 one-word text (x ∷ w ∷ sets) [] rest end one two = absurd two
 one-word text (x ∷ w ∷ sets) (y ∷ []) rest end (b, next, one, semicolon, more) (c, two, f, bare) =
     absurd (bare next (sym f ∙ ap past_blanks (same_set text y x c b two one) ∙ semicolon))
-one-word text (x ∷ w ∷ sets) (y ∷ z ∷ others) rest end (b, next, one, semicolon, more) (c, m, two, other, tail) =
+one-word text (x ∷ w ∷ sets) (y ∷ z ∷ others) rest end (b, next, one, semicolon, more)
+    (c, m, two, other, tail) =
     let (names, behind) = one-set text x y b c one two in
     let same = behind_byte 59 (past_blanks b) next m semicolon (ap past_blanks behind ∙ other) in
     let P : List ℕ → Type 0 = λ t. SpellsWord (past_blanks t) (w ∷ sets) rest in
-    let (later, left) = one-word (past_blanks m) (w ∷ sets) (z ∷ others) rest end (subst P same more) tail in
+    let (later, left) = one-word (past_blanks m) (w ∷ sets) (z ∷ others) rest end
+        (subst P same more) tail in
     (ap (λ v. v ∷ w ∷ sets) names ∙ ap (λ vs. y ∷ vs) later, left)
 
 pub ruleset laws = (one-word)

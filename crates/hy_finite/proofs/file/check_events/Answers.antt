@@ -20,8 +20,12 @@ loop-left-preserved c =
     let shorter = ap (λ o. left_len (option_copied o)) c.in-Some.is in
     record {
       checked = elim c.match-check_line.branch [
-        | in-Good w ↦ rw w.is_long-is (checked-good lines c.loop-left.line left c.loop-left.is_long line rest before first (subst P w.in-Good.is c.check_line.ensures))
-        | in-TooLong w ↦ rw w.is_long-is (checked-long lines c.loop-left.line left c.loop-left.is_long line rest before first (subst P w.in-TooLong.is c.check_line.ensures))
+        | in-Good w ↦ rw w.is_long-is (checked-good lines c.loop-left.line left c.loop-left.is_long
+            line rest before first (subst P w.in-Good.is c.check_line.ensures))
+        | in-TooLong w ↦ rw w.is_long-is (checked-long lines c.loop-left.line left
+            c.loop-left.is_long line rest before first
+            (subst P w.in-TooLong.is c.check_line.ensures))
       ];
-      countable = omega (arith, shorter, c.split_line.ensures.fewer, c.loop-left.invariant.countable);
+      countable =
+          omega (arith, shorter, c.split_line.ensures.fewer, c.loop-left.invariant.countable);
     }

@@ -18,7 +18,8 @@ returns-in_ok-read_trace-in-Word c =
 pub returns-in-Letter : goal.returns-in-Letter
 returns-in-Letter c =
     let P : Begun → Type 0 = λ b. IsBegun c.args.line.now (Some b) in
-    letter-line c.args.names.now c.args.line.now c.in-Letter.session c.in-Letter.set c.read_letter.result (subst P c.in-Letter.is c.in-Some.ensures) c.read_letter.ensures
+    letter-line c.args.names.now c.args.line.now c.in-Letter.session c.in-Letter.set
+    c.read_letter.result (subst P c.in-Letter.is c.in-Some.ensures) c.read_letter.ensures
 
 pub returns-in-End : goal.returns-in-End
 returns-in-End c =

@@ -7,11 +7,13 @@ use Rattle.hy_finite.proofs.lines.split_line.Goals as goal
 
 pub returns-then-is_empty-clause-lines : goal.returns-then-is_empty-clause-lines
 returns-then-is_empty-clause-lines c =
-    last_line c.args.text.now c.split.result.0.now c.split.result.1.now c.split.ensures.run c.split.ensures.rest (eqb-true _ 0 (sym c.if-is_empty.ensures))
+    last_line c.args.text.now c.split.result.0.now c.split.result.1.now c.split.ensures.run
+    c.split.ensures.rest (eqb-true _ 0 (sym c.if-is_empty.ensures))
 
 pub returns-clause-lines : goal.returns-clause-lines
 returns-clause-lines c =
     let apart = eqb-false _ 0 (sym c.if-is_empty.ensures) in
     let some : 0 < length c.split.result.1.now = omega (arith, apart) in
-    let line = next_line c.args.text.now c.split.result.0.now c.split.result.1.now c.split.ensures.run c.split.ensures.rest some in
+    let line = next_line c.args.text.now c.split.result.0.now c.split.result.1.now
+    c.split.ensures.run c.split.ensures.rest some in
     line ∙ ap (λ t. c.split.result.0.now ∷ slice_split is_line_feed t) (sym c.split_at.ensures.back)

@@ -14,7 +14,10 @@ returns c =
     let word = get_or_from_slice_get c.fill.new.rows _ c.at.result.now 0 c.at.ensures in
     let told = c.in_ok-fill.ensures.told 0 (m - 1) (omega arith) in
     let tuple = picked c.args.list.now c.args.pick.now in
-    let first : length c.new-rows.result + (m - 1) / 64 ≡ (m - 1) / 64 = omega (arith, ap length c.new-rows.ensures) in
-    let P : ℕ → Type 0 = λ n. Decides c.has_one.result (SatisfiesAt (below n) (trace_words tuple) (tree_of c.args.body.now) 0) in
+    let first : length c.new-rows.result + (m - 1) / 64 ≡ (m - 1) / 64 = omega
+    (arith, ap length c.new-rows.ensures) in
+    let P : ℕ → Type 0 = λ n. Decides c.has_one.result (SatisfiesAt (below n) (trace_words tuple)
+    (tree_of c.args.body.now) 0) in
     subst P c.judged_length-positions.ensures.judged
-    (Decides-at _ _ (c.has_one.ensures ∙ ap (λ w. has_one w ((m - 1) % 64)) (sym word ∙ ap (λ k. get_or c.fill.new.rows k 0) (sym first))) told)
+    (Decides-at _ _ (c.has_one.ensures ∙ ap (λ w. has_one w ((m - 1) % 64)) (sym word
+    ∙ ap (λ k. get_or c.fill.new.rows k 0) (sym first))) told)

@@ -12,4 +12,5 @@ returns c k lt =
     ∙ ap not (c.until_word.ensures k lt)
     ∙ sym
     (release-turned (has_one c.args.left) (has_one c.args.right) _ _ c.args.carry 64
-    (λ j within. has_one-not c.args.left j left within) (λ j within. has_one-not c.args.right j right within) (suc k) (omega arith))
+    (λ j within. has_one-not c.args.left j left within)
+    (λ j within. has_one-not c.args.right j right within) (suc k) (omega arith))

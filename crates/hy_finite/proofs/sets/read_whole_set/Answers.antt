@@ -9,4 +9,6 @@ pub returns-then-not-is_empty : goal.returns-then-not-is_empty
 returns-then-not-is_empty c =
     let (names, spelled, letter) = c.in-Some.ensures.found in
     no-set c.args.text.now names c.in-Some.set.rest.now spelled
-    (λ none. let e = eq-eqb (length c.past_blanks.result.now) 0 (ap length (c.past_blanks.ensures.behind ∙ none)) in cc (e, c.is_empty.ensures, c.if-not-is_empty.true))
+    (λ none. let e = eq-eqb (length c.past_blanks.result.now) 0 (ap length
+    (c.past_blanks.ensures.behind ∙ none)) in cc
+    (e, c.is_empty.ensures, c.if-not-is_empty.true))

@@ -11,4 +11,5 @@ returns-in-Ok-None c =
     let old = remaining c.args.self.now in
     let new = remaining c.next_line.new.self in
     let P : Option Event → Type 0 = λ o. IsLineAnswer c.args.names.now c.in-Some.text.now (Ok o) in
-    absurd (reached-loud old.first old.lines c.in-Some.line c.in-Some.text.now new.lines c.in-Some.ensures.0 (subst P c.in-Ok-None.field-0-is c.in-Ok-None.ensures))
+    absurd (reached-loud old.first old.lines c.in-Some.line c.in-Some.text.now new.lines
+    c.in-Some.ensures.0 (subst P c.in-Ok-None.field-0-is c.in-Ok-None.ensures))

@@ -6,10 +6,13 @@ use Rattle.hy_finite.proofs.Carrying.{has_one-not, has_one-and, has_one-or, has_
 use Rattle.hy_finite.proofs.rule.Rule.word.Goals as goal
 
 pub returns-in-Not : goal.returns-in-Not
-returns-in-Not c k lt = let fits : c.args.left < 2 ^ 64 = omega arith in rw c.in-Not.is (has_one-not c.args.left k fits lt)
+returns-in-Not c k lt =
+    let fits : c.args.left < 2 ^ 64 = omega arith in
+    rw c.in-Not.is (has_one-not c.args.left k fits lt)
 
 pub returns-in-Next : goal.returns-in-Next
-returns-in-Next c k lt = rw (c.in-Next.is, byte-of) (has_one-next c.args.left (has_one c.args.right) c.args.carry k lt)
+returns-in-Next c k lt =
+    rw (c.in-Next.is, byte-of) (has_one-next c.args.left (has_one c.args.right) c.args.carry k lt)
 
 pub returns-in-And : goal.returns-in-And
 returns-in-And c k lt = rw c.in-And.is (has_one-and c.args.left c.args.right k)
@@ -21,7 +24,8 @@ pub returns-in-Implies : goal.returns-in-Implies
 returns-in-Implies c k lt =
     let fits : c.args.left < 2 ^ 64 = omega arith in
     rw c.in-Implies.is
-    (has_one-or _ c.args.right k ∙ ap (λ x. x || has_one c.args.right k) (has_one-not c.args.left k fits lt))
+    (has_one-or _ c.args.right k ∙ ap (λ x. x || has_one c.args.right k)
+    (has_one-not c.args.left k fits lt))
 
 pub returns-in-Iff : goal.returns-in-Iff
 returns-in-Iff c k lt =
@@ -32,26 +36,40 @@ returns-in-Iff c k lt =
 pub returns-in-Finally : goal.returns-in-Finally
 returns-in-Finally c k lt =
     rw c.in-Finally.is
-    (c.until_word.ensures k lt ∙ sym (carry-like (λ b. b) Finally Until (has_one c.args.left) (has_one c.args.right) (has_one 18446744073709551615) (has_one c.args.left) c.args.carry c.args.carry 64 refl each (suc k) (omega arith)))
+    (c.until_word.ensures k lt ∙ sym (carry-like (λ b. b) Finally Until (has_one c.args.left)
+    (has_one c.args.right) (has_one 18446744073709551615)
+    (has_one c.args.left) c.args.carry c.args.carry 64 refl each (suc k) (omega arith)))
   where
     all : (j : ℕ) → j < 64 → has_one 18446744073709551615 j ≡ true
     all j within = ap (λ b. nat_eq b 1) (bit_at_ones 64 j within)
 
-    each : (j : ℕ) → j < 64 → (b : Bool) → (has_one c.args.left j || b) ≡ (has_one c.args.left j || (has_one 18446744073709551615 j && b))
+    each : (j : ℕ) → j < 64 → (b : Bool)
+        → (has_one c.args.left j || b) ≡ (has_one c.args.left j ||
+        (has_one 18446744073709551615 j && b))
     each j within b = ap (λ x. has_one c.args.left j || (x && b)) (sym (all j within))
 
 pub returns-in-Globally : goal.returns-in-Globally
 returns-in-Globally c k lt =
     rw c.in-Globally.is
-    (c.release_word.ensures k lt ∙ sym (carry-like (λ b. b) Globally Release (has_one c.args.left) (has_one c.args.right) (has_one 0) (has_one c.args.left) c.args.carry c.args.carry 64 refl each (suc k) (omega arith)))
+    (c.release_word.ensures k lt ∙ sym (carry-like (λ b. b) Globally Release (has_one c.args.left)
+    (has_one c.args.right) (has_one 0) (has_one c.args.left) c.args.carry c.args.carry 64 refl
+    each (suc k) (omega arith)))
   where
-    each : (j : ℕ) → j < 64 → (b : Bool) → (has_one c.args.left j && b) ≡ (has_one c.args.left j && (has_one 0 j || b))
-    each j within b = ap (λ x. has_one c.args.left j && (x || b)) (ap (λ n. nat_eq n 1) (sym (bit_at-zero j)))
+    each : (j : ℕ) → j < 64 → (b : Bool)
+        → (has_one c.args.left j && b) ≡ (has_one c.args.left j && (has_one 0 j || b))
+    each j within b =
+        ap (λ x. has_one c.args.left j && (x || b)) (ap (λ n. nat_eq n 1) (sym (bit_at-zero j)))
 
 pub returns-in-Weak : goal.returns-in-Weak
 returns-in-Weak c k lt =
     rw c.in-Weak.is
-    (c.release_word-in-Weak.ensures k lt ∙ sym (carry-like (λ b. b) Weak Release (has_one c.args.left) (has_one c.args.right) (has_one c.args.right) (has_one (bit_or c.args.left c.args.right)) c.args.carry c.args.carry 64 refl each (suc k) (omega arith)))
+    (c.release_word-in-Weak.ensures k lt
+    ∙ sym (carry-like (λ b. b) Weak Release (has_one c.args.left) (has_one c.args.right)
+    (has_one c.args.right) (has_one (bit_or c.args.left c.args.right)) c.args.carry c.args.carry
+    64 refl each (suc k) (omega arith)))
   where
-    each : (j : ℕ) → j < 64 → (b : Bool) → ((has_one c.args.left j || has_one c.args.right j) && (has_one c.args.right j || b)) ≡ (has_one (bit_or c.args.left c.args.right) j && (has_one c.args.right j || b))
-    each j within b = ap (λ x. x && (has_one c.args.right j || b)) (sym (has_one-or c.args.left c.args.right j))
+    each : (j : ℕ) → j < 64 → (b : Bool)
+        → ((has_one c.args.left j || has_one c.args.right j) && (has_one c.args.right j || b)) ≡
+        (has_one (bit_or c.args.left c.args.right) j && (has_one c.args.right j || b))
+    each j within b =
+        ap (λ x. x && (has_one c.args.right j || b)) (sym (has_one-or c.args.left c.args.right j))
