@@ -7,4 +7,5 @@ pub mod Periodic
 pub mod Periods
 pub mod Shortening
 pub mod Places
+pub mod Printing
 pub mod Rows

@@ -7,12 +7,12 @@ mod lasso;
 pub mod laws;
 mod meaning;
 mod period;
+mod print;
 mod row;
 mod shorten;
-#[cfg(test)]
-mod tests;
 
 pub use choices::holds;
 pub use error::HoldsError;
 pub use lasso::{Lasso, LassoList};
 pub use meaning::holds_body;
+pub use print::print_lassos;
