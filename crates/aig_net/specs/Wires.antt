@@ -78,7 +78,8 @@ pub record Makes (first : ℕ) (old : List And) (w : Wire) (new : List And) (l :
 
 -- a literal where the test is true, another where it is false
 abbrev pub choice : ℕ → ℕ → ℕ → Wire
-choice test a b = either (both (literal test) (literal a)) (both (opposed (literal test)) (literal b))
+choice test a b =
+    either (both (literal test) (literal a)) (both (opposed (literal test)) (literal b))
 
 -- the ands of a net, and literals
 pub record MadeAll : Type 0 where
@@ -100,7 +101,8 @@ abbrev pub FitsAll : ℕ → List And → List Wire → Type 0
 FitsAll first ands ws = first + length (made_all first ands ws).ands ≤ 2 ^ 31
 
 -- the wires were made after the old ands: the new ones, and the literals
-pub record MakesAll (first : ℕ) (old : List And) (ws : List Wire) (new : List And) (ls : List ℕ) : Type 0 where
+pub record MakesAll (first : ℕ) (old : List And) (ws : List Wire) (new : List And)
+    (ls : List ℕ) : Type 0 where
   pub ands : new ≡ (made_all first old ws).ands
   pub literals : ls ≡ (made_all first old ws).literals
 
