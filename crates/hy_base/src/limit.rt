@@ -3,6 +3,8 @@
 pub enum Kind {
     /// Bytes of one file.
     Bytes,
+    /// Variables of a circuit.
+    Variables,
 }
 
 /// A count of `kind` is past its number `limit`.

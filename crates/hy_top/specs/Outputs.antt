@@ -4,7 +4,7 @@ use Rattle.std.specs.List.{join_with_byte, flat_map}
 use Rattle.hy_base.specs.Counts.{Rose}
 use Rattle.hy_base.specs.Pieces.{GaveFront}
 use Rattle.hy_base.specs.declared.limit.Kind.{Kind}
-use Rattle.hy_base.specs.declared.limit.Kind.TheVariants.{Bytes}
+use Rattle.hy_base.specs.declared.limit.Kind.TheVariants.{Bytes, Variables}
 use Rattle.hy_top.specs.declared.answer.Answer.{Answer}
 use Rattle.hy_top.specs.declared.answer.Answer.TheVariants.{NoViolation, Violation, Words, OpenFault, ReadFault, WriteFault, Limit, Unbuilt, Memory}
 
@@ -26,6 +26,7 @@ out_text _ = []
 
 abbrev pub kind_text : Kind → List ℕ
 kind_text Bytes = codes "bytes"
+kind_text Variables = codes "variables"
 
 -- the word that named a file of the command
 abbrev pub file_word : List (List ℕ) → ℕ → List ℕ

@@ -17,6 +17,7 @@ fn kind_text(kind: Kind) -> &'static [u8]
 {
     match kind {
         Kind::Bytes => b"bytes",
+        Kind::Variables => b"variables",
     }
 }
 
