@@ -1,0 +1,11 @@
+pub mod Answers
+pub mod Circuits
+pub mod Files
+pub mod Gates
+pub mod Keeping
+pub mod Outcomes
+pub mod Passes
+pub mod Spelled
+pub mod Symbols
+pub mod Texts
+pub mod Words

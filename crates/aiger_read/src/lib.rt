@@ -1,0 +1,11 @@
+//! Circuit texts: which bytes are which net, and what is wrong with all others.
+#![tactic(auto)]
+
+mod content;
+mod error;
+mod header;
+mod lines;
+mod section;
+mod text;
+
+pub use error::{AigKind, AigerError};
