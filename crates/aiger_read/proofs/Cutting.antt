@@ -28,7 +28,7 @@ first-dropped ps zero = refl
 first-dropped [] (suc k) = refl
 first-dropped (p ∷ ps) (suc k) = first-dropped ps k
 
-first-at : (ends : ℕ → Bool) (bytes : List ℕ) (k at : ℕ) → at ≡ place (pieces ends bytes) k → piece_at (pieces ends (drop at bytes)) 0 ≡ piece_at (pieces ends bytes) k
+pub first-at : (ends : ℕ → Bool) (bytes : List ℕ) (k at : ℕ) → at ≡ place (pieces ends bytes) k → piece_at (pieces ends (drop at bytes)) 0 ≡ piece_at (pieces ends bytes) k
 first-at ends bytes k at is =
     ap (λ n. piece_at (pieces ends (drop n bytes)) 0) is ∙ ap (λ ps. piece_at ps 0) (pieces-from ends k bytes) ∙ first-dropped (pieces ends bytes) k
 

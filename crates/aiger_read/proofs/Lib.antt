@@ -16,3 +16,4 @@ pub mod Rows
 pub mod LinesRead
 pub mod Sections
 pub mod Kept
+pub mod Groups

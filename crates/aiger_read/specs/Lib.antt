@@ -1,5 +1,6 @@
 pub mod Answers
 pub mod Circuits
+pub mod Deltas
 pub mod Files
 pub mod Gates
 pub mod Keeping

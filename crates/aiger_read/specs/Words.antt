@@ -1,7 +1,15 @@
 -- What is left of a text: its first piece, and its words.
 use Rattle.std.specs.Prelude.{◌≡◌, ℕ, suc, Bool, List, [], length, Option, Some, None}
 use Rattle.std.specs.List.{slice_split}
+use Rattle.aiger_read.specs.declared.text.Ends.{Ends}
+use Rattle.aiger_read.specs.declared.text.Ends.TheVariants.{Line, Number}
 use Rattle.aiger_read.specs.Texts.{pieces, piece_at, place, is_feed, is_space}
+use Rattle.aiger_read.specs.Files.{ends_number}
+
+-- what ends a piece
+abbrev pub ends_with : Ends → ℕ → Bool
+ends_with Line b = is_feed b
+ends_with Number b = ends_number b
 
 -- Line k of the text begins at this byte.
 abbrev pub IsPlace : List ℕ → ℕ → ℕ → Type 0

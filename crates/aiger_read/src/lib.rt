@@ -2,6 +2,7 @@
 #![tactic(auto)]
 
 mod content;
+mod deltas;
 mod error;
 mod header;
 mod lines;

@@ -4,36 +4,71 @@ ghost use Rattle.std.specs.Prelude.{◌≡◌, ℕ, suc, ◌+◌, ◌^◌, ◌<�
 ghost use Rattle.std.specs.List.{slice_split, prefix_len};
 ghost use Rattle.std.specs.Option.{option_copied};
 ghost use Rattle.std.specs.Str.Parse.{AllDigits, digits_value};
-ghost use Rattle.aiger_read.specs.Texts.{is_feed, is_ended, is_space, is_return, without_end, line_text, number_of, numbers_of, piece_at};
+ghost use Rattle.aiger_read.specs.Texts.{is_feed, is_ended, is_space, is_return, without_end, line_text, number_of, numbers_of, pieces, piece_at, place};
 ghost use Rattle.aiger_read.specs.Files.{lines};
-ghost use Rattle.aiger_read.specs.Words.{IsPlace, first_len, words_of, left_of};
+ghost use Rattle.aiger_read.specs.Words.{ends_with, IsPlace, first_len, words_of, left_of};
 
 use hy_base::{List, M};
+
+/// What ends a piece of a text.
+#[derive(Clone, Copy)]
+pub enum Ends {
+    /// A line feed ends a line.
+    Line,
+    /// A byte below 128 ends a number of the binary form.
+    Number,
+}
+
+impl Ends {
+    #[inline(always)]
+    fn has(self, b: u8) -> bool
+        ensures { result ≡ ends_with self b }
+    {
+        match self {
+            Ends::Line => b == b'\n',
+            Ends::Number => b < 128,
+        }
+    }
+
+    /// The piece that begins at byte `at`, with its end where it has one; empty at the end of the
+    /// text. In time linear in the piece.
+    #[inline(always)]
+    pub fn piece_at(self, text: &[u8], at: usize) -> &[u8]
+        requires { at ≤ length text.now }
+        ensures piece { (k : ℕ) → at ≡ place (pieces (ends_with self) text.now) k → result.now ≡ piece_at (pieces (ends_with self) text.now) k }
+        ensures next { (k : ℕ) → at ≡ place (pieces (ends_with self) text.now) k → at + length result.now ≡ place (pieces (ends_with self) text.now) (suc k) }
+        ensures within { at + length result.now ≤ length text.now }
+    {
+        let (_, rest) = text.split_at(at);
+        let (piece, _) = rest.split_at(self.piece_len(rest));
+        piece
+    }
+
+    /// How long the first piece is, with its end.
+    #[inline(always)]
+    fn piece_len(self, text: &[u8]) -> usize
+        ensures piece { result ≡ first_len (ends_with self) text.now }
+        ensures within { result ≤ length text.now }
+    {
+        for (i, b) in text.iter().enumerate() {
+            if self.has(*b) {
+                return i + 1;
+            }
+        }
+        text.len()
+    }
+}
 
 /// The line that begins at byte `at`, with its line feed where it has one; empty at the end of the
 /// text. In time linear in the line.
 pub fn line_at(bytes: &[u8], at: usize) -> &[u8]
     requires { at ≤ length bytes.now }
     ensures line { (k : ℕ) → IsPlace bytes.now k at → result.now ≡ piece_at (lines bytes.now) k }
-    ensures next { (k : ℕ) → IsPlace bytes.now k at → IsPlace bytes.now (suc k) (at + length result.now) }
+    ensures next { (k : ℕ) → IsPlace bytes.now k at
+        → IsPlace bytes.now (suc k) (at + length result.now) }
     ensures within { at + length result.now ≤ length bytes.now }
 {
-    let (_, rest) = bytes.split_at(at);
-    let (line, _) = rest.split_at(line_len(rest));
-    line
-}
-
-/// How long the first line is, with its line feed.
-fn line_len(text: &[u8]) -> usize
-    ensures line { result ≡ first_len is_feed text.now }
-    ensures within { result ≤ length text.now }
-{
-    for (i, b) in text.iter().enumerate() {
-        if *b == b'\n' {
-            return i + 1;
-        }
-    }
-    text.len()
+    Ends::Line.piece_at(bytes, at)
 }
 
 /// Whether the line has its line feed.
