@@ -1,5 +1,5 @@
 -- What is found first, and tests of the numbers below one.
-use Rattle.std.proofs.Common.{◌≡◌, ℕ, zero, suc, ◌<◌, ◌⊎◌, Bool, true, false, not, ◌&&◌, ◌||◌, nat_eq, inl, inr, refl, sym, ◌∙◌, ap, subst, arith, ◌≤◌, Option, Some, None, List, [], ◌∷◌, length, get_or}
+use Rattle.std.proofs.Common.{◌≡◌, ℕ, zero, suc, ◌<◌, ◌⊎◌, Bool, true, false, not, ◌&&◌, ◌||◌, nat_eq, inl, inr, refl, sym, ◌∙◌, ap, subst, arith, ◌≤◌, Option, Some, None, List, [], ◌∷◌, ◌++◌, length, get_or}
 use Rattle.std.proofs.lemmas.Bool.{cases_eq, eqb-true, eq-eqb}
 use Rattle.aiger_read.specs.Texts.{when, otherwise, first_some, first_below, any_below}
 use Rattle.aiger_read.specs.Files.{holds}
@@ -134,3 +134,20 @@ first-more find m (suc n) a le e =
 -- where nothing is found before, what is found here is the first
 pub first-here : {A : Type 0} (find : ℕ → Option A) (n : ℕ) → first_some n find ≡ None → first_some (suc n) find ≡ find n
 first-here find n e = ap (λ o. otherwise o (find n)) e
+
+pub holds-left : (v : ℕ) (xs ys : List ℕ) → holds v xs ≡ true → holds v (xs ++ ys) ≡ true
+holds-left v [] ys e = absurd (cc)
+holds-left v (x ∷ xs) ys e =
+    elim (or-either (nat_eq v x) (holds v xs) e) [ inl here ↦ or-first _ _ here | inr more ↦ or-second (nat_eq v x) _ (holds-left v xs ys more) ]
+
+pub holds-right : (v : ℕ) (xs ys : List ℕ) → holds v ys ≡ true → holds v (xs ++ ys) ≡ true
+holds-right v [] ys e = e
+holds-right v (x ∷ xs) ys e = or-second (nat_eq v x) _ (holds-right v xs ys e)
+
+pub holds-append : (v : ℕ) (xs ys : List ℕ) → holds v (xs ++ ys) ≡ true → (holds v xs ≡ true) ⊎ (holds v ys ≡ true)
+holds-append v [] ys e = inr e
+holds-append v (x ∷ xs) ys e =
+    elim (or-either (nat_eq v x) _ e) [
+      | inl here ↦ inl (or-first _ _ here)
+      | inr rest ↦ elim (holds-append v xs ys rest) [ inl a ↦ inl (or-second (nat_eq v x) _ a) | inr b ↦ inr b ]
+    ]

@@ -173,15 +173,21 @@ module _ (h : Header) (bytes : List ℕ) where
 
   -- ---- one section behind the first i
 
-  pub section_lines : (i count : ℕ) → i < 9 → count ≡ slice_index (counts h (kept_to h bytes i).justice) (number_in (section_at i)) → (j : ℕ) → j < count → section h bytes (sum (take i (plan h bytes)) + j) ≡ section_at i
-  section_lines i count lt is j less =
-      let inside : j < slice_index (plan h bytes) (number_in (section_at i)) = omega (arith, less, is, count_at i lt) in
+  pub planned_lines : (i count : ℕ) → i < 9 → count ≡ slice_index (plan h bytes) (number_in (section_at i)) → (j : ℕ) → j < count → section h bytes (sum (take i (plan h bytes)) + j) ≡ section_at i
+  planned_lines i count lt is j less =
+      let inside : j < slice_index (plan h bytes) (number_in (section_at i)) = omega (arith, less, is) in
       let P : ℕ → Type 0 = λ n. section h bytes (sum (take n (plan h bytes)) + j) ≡ section_at i in
       subst P (number-of i lt) (in-section (plan h bytes) (section_at i) j refl inside).0
 
+  pub planned_count : (i count : ℕ) → i < 9 → count ≡ slice_index (plan h bytes) (number_in (section_at i)) → count ≡ slice_index (plan h bytes) i
+  planned_count i count lt is = is ∙ ap (slice_index (plan h bytes)) (number-of i lt)
+
+  pub section_lines : (i count : ℕ) → i < 9 → count ≡ slice_index (counts h (kept_to h bytes i).justice) (number_in (section_at i)) → (j : ℕ) → j < count → section h bytes (sum (take i (plan h bytes)) + j) ≡ section_at i
+  section_lines i count lt is = planned_lines i count lt (is ∙ count_at i lt)
+
   -- the number of its lines
   pub section_count : (i count : ℕ) → i < 9 → count ≡ slice_index (counts h (kept_to h bytes i).justice) (number_in (section_at i)) → count ≡ slice_index (plan h bytes) i
-  section_count i count lt is = is ∙ count_at i lt ∙ ap (slice_index (plan h bytes)) (number-of i lt)
+  section_count i count lt is = planned_count i count lt (is ∙ count_at i lt)
 
   pub section_rows_are : (i count : ℕ) → i < 9 → count ≡ slice_index (plan h bytes) i → rows_from h bytes (sum (take i (plan h bytes))) count ≡ section_rows h bytes (section_at i)
   section_rows_are i count lt is =

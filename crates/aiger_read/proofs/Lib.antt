@@ -17,3 +17,4 @@ pub mod LinesRead
 pub mod Sections
 pub mod Kept
 pub mod Groups
+pub mod Known

@@ -41,3 +41,9 @@ pub tells_more : (find : ℕ → Option Refusal) (m n : ℕ) (e : AigerError) �
 tells_more find m n (Bad kind byte) le tells = first-more find m n _ le tells
 tells_more find m n (PastLimit l) le tells = (first-more find m n _ le tells.0, tells.1)
 tells_more find m n Memory le tells = tt
+
+-- Where nothing is found, the error is that memory ran out.
+pub tells_nothing : (found other : Option Refusal) (e : AigerError) → found ≡ None → Tells found e → Tells other e
+tells_nothing found other (Bad kind byte) none tells = absurd (cc)
+tells_nothing found other (PastLimit l) none tells = let some = tells.0 in absurd (cc)
+tells_nothing found other Memory none tells = tt

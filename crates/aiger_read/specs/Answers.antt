@@ -1,5 +1,5 @@
 -- What the passes of the reader answer.
-use Rattle.std.specs.Prelude.{◌≡◌, ℕ, ◌+◌, ◌<◌, ◌≤◌, ◌^◌, true, List, length, Option, Some, None, Result, Ok, Err}
+use Rattle.std.specs.Prelude.{◌≡◌, ℕ, ◌+◌, ◌<◌, ◌≤◌, ◌^◌, true, List, length, Option, Some, None, Result, Ok, Err, IsTrue}
 use Rattle.hy_base.specs.declared.limit.Limit.{Limit}
 use Rattle.hy_base.specs.declared.limit.Kind.TheVariants.{Variables}
 use Rattle.aiger_read.specs.declared.error.AigerError.{AigerError}
@@ -7,7 +7,7 @@ use Rattle.aiger_read.specs.declared.error.AigerError.TheVariants.{Bad, Limit as
 use Rattle.aiger_read.specs.declared.error.AigKind.TheVariants.{Header as HeaderFault}
 use Rattle.aiger_read.specs.declared.header.Header.{Header}
 use Rattle.aiger_read.specs.Texts.{is_ended, is_feed, line_text}
-use Rattle.aiger_read.specs.Files.{header_of, line_start}
+use Rattle.aiger_read.specs.Files.{header_of, is_header, line_start}
 use Rattle.aiger_read.specs.Outcomes.{Outcome, Refusal, refused, limit, fault, of_header, first_line, outcome}
 
 -- at most 1,048,576 variables
@@ -42,6 +42,9 @@ pub record Fits (h : Header) : Type 0 where
   pub short : IsShort h
   pub top : h.top ≤ 1048576
   pub sum : h.inputs + h.latches + h.ands ≤ h.top
+
+abbrev pub IsLargeEnough : Header → Type 0
+IsLargeEnough h = IsTrue (is_header h)
 
 -- what is wrong with the header that is there or not
 abbrev pub of_found : Option Header → Option Refusal

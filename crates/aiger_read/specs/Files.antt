@@ -157,7 +157,7 @@ defined _ row = []
 -- the literals that a line uses
 abbrev pub used : Section → List ℕ → List ℕ
 used Inputs row = []
-used Latches row = slice_index row 1 ∷ []
+used Latches row = take 1 (drop 1 row)
 used Sizes row = []
 used Gates row = drop 1 row
 used _ row = row

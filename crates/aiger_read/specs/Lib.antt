@@ -10,3 +10,4 @@ pub mod Spelled
 pub mod Symbols
 pub mod Texts
 pub mod Words
+pub mod Uses

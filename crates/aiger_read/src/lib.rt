@@ -8,5 +8,6 @@ mod header;
 mod lines;
 mod section;
 mod text;
+mod uses;
 
 pub use error::{AigKind, AigerError};
