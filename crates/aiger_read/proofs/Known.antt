@@ -21,15 +21,15 @@ use Rattle.aiger_read.specs.Uses.{is_marked, AreKnown}
 use Rattle.aiger_read.proofs.Firsts.{either, and-both, or-either, or-first, or-second, or-none, not-not, none-both, when-none, first-none, any-some, some-any, place-holds, holds-place, holds-left, holds-right, holds-append}
 use Rattle.aiger_read.proofs.Sections.{in-section, line-of}
 
-map-twice : {A B : Type 0} {C : Type 0} (f : A → B) (g : B → C) (xs : List A) → map g (map f xs) ≡ map (λ x. g (f x)) xs
+pub map-twice : {A B : Type 0} {C : Type 0} (f : A → B) (g : B → C) (xs : List A) → map g (map f xs) ≡ map (λ x. g (f x)) xs
 map-twice f g [] = refl
 map-twice f g (x ∷ xs) = ap (λ l. g (f x) ∷ l) (map-twice f g xs)
 
-map-joined : {A B : Type 0} (f : A → B) (xs ys : List A) → map f (xs ++ ys) ≡ map f xs ++ map f ys
+pub map-joined : {A B : Type 0} (f : A → B) (xs ys : List A) → map f (xs ++ ys) ≡ map f xs ++ map f ys
 map-joined f [] ys = refl
 map-joined f (x ∷ xs) ys = ap (λ l. f x ∷ l) (map-joined f xs ys)
 
-bool-same : (a b : Bool) → (a ≡ true → b ≡ true) → (b ≡ true → a ≡ true) → a ≡ b
+pub bool-same : (a b : Bool) → (a ≡ true → b ≡ true) → (b ≡ true → a ≡ true) → a ≡ b
 bool-same true true f g = refl
 bool-same true false f g = sym (f refl)
 bool-same false true f g = g refl

@@ -18,3 +18,5 @@ pub mod Sections
 pub mod Kept
 pub mod Groups
 pub mod Known
+pub mod Heaps
+pub mod Takes

@@ -10,11 +10,11 @@ use Rattle.aiger_read.specs.Files.{holds}
 use Rattle.aiger_read.specs.Gates.{gate_at, uses, waits, is_next, next_gate, taken, order, AreSorted}
 use Rattle.aiger_read.proofs.Firsts.{either, and-both, both-and, not-true, not-false, or-either, any-some, holds-place, place-holds}
 
-first-empty : (n : ℕ) (test : ℕ → Bool) → ((j : ℕ) → j < n → test j ≡ false) → first_below n test ≡ None
+pub first-empty : (n : ℕ) (test : ℕ → Bool) → ((j : ℕ) → j < n → test j ≡ false) → first_below n test ≡ None
 first-empty zero test none = refl
 first-empty (suc n) test none = ap (λ o. otherwise o (when (test n) n)) (first-empty n test (λ j lt. none j (omega arith))) ∙ ap (λ b. when b n) (none n (omega arith))
 
-first-is : (n : ℕ) (test : ℕ → Bool) (k : ℕ) → k < n → test k ≡ true → ((j : ℕ) → j < k → test j ≡ false) → first_below n test ≡ Some k
+pub first-is : (n : ℕ) (test : ℕ → Bool) (k : ℕ) → k < n → test k ≡ true → ((j : ℕ) → j < k → test j ≡ false) → first_below n test ≡ Some k
 first-is zero test k lt yes_k none = absurd (omega arith)
 first-is (suc n) test k lt yes_k none =
     elim (cases_eq k n) [

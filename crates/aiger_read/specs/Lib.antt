@@ -11,3 +11,4 @@ pub mod Symbols
 pub mod Texts
 pub mod Words
 pub mod Uses
+pub mod Takings

@@ -6,6 +6,8 @@ mod deltas;
 mod error;
 mod header;
 mod lines;
+mod order;
+mod ready;
 mod section;
 mod text;
 mod uses;
