@@ -1,6 +1,6 @@
 //! Clauses in one flat list of literals, which contracts see as a list of clauses.
 
-ghost use Rattle.std.specs.Prelude.{◌≡◌, ◌-◌, ◌<◌, ◌^◌, ◌∷◌, ◌++◌, ℤ, List, [], length, slice_get, IfOk, OnOk, OnErr, Some};
+ghost use Rattle.std.specs.Prelude.{◌≡◌, ◌-◌, ◌<◌, ◌^◌, ◌↔◌, ◌∷◌, ◌++◌, ℤ, List, IsTrue, [], length, slice_get, IfOk, OnOk, OnErr, Some};
 ghost use Rattle.chain_check.specs.Clauses.{AreClauses, AreLiterals};
 
 use crate::literal::Literal;
@@ -119,6 +119,19 @@ impl Cnf {
             variables,
             clauses: Clauses::new(alloc),
         })
+    }
+
+    /// Whether the clause may be added, in time linear in it.
+    pub fn takes(&self, clause: &[i32]) -> bool
+        ensures { IsTrue result ↔ (AreLiterals self.now.variables clause.now ×
+            (length self.now.clauses < 2 ^ 31 - 1)) }
+    {
+        for number in clause {
+            if !Literal::new(*number).is_of(self.variables as usize) {
+                return false;
+            }
+        }
+        self.clauses.len() < 2_147_483_647
     }
 
     /// Adds a clause last, in time linear in it. Refused for memory it changes nothing.

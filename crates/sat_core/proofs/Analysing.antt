@@ -122,7 +122,7 @@ module _ (trail : List ℤ) (start p : ℕ) (seen : List Bool) (lower : List ℤ
   pub see-lower : q < start → IsAnalysis trail start p (set seen q true) (lower ++ m ∷ [])
       (max highest (q + 1)) unsettled
   see-lower lt = record {
-    long = length-set seen q true ∙ is.long;
+    long = omega (arith, is.long, length-set seen q true);
     below_end = is.below_end;
     counted = is.counted ∙ sym (count-lower seen start q p lt);
     lowers = lowers;
@@ -178,7 +178,7 @@ module _ (trail : List ℤ) (start p : ℕ) (seen : List Bool) (lower : List ℤ
   pub see-level : start ≤ q → IsAnalysis trail start p (set seen q true) lower highest
       (unsettled + 1)
   see-level le = record {
-    long = length-set seen q true ∙ is.long;
+    long = omega (arith, is.long, length-set seen q true);
     below_end = is.below_end;
     counted = omega (arith, is.counted, count-more seen start q p le below inside none);
     lowers = λ i small e. is.lowers i small (sym
@@ -318,13 +318,13 @@ placed-at trail places i m placed lt e =
 -- how far the marking of a clause has come
 pub record IsMarking (trail : List ℤ) (start p : ℕ) (old : Analysis) (front : Clause)
     (new : Analysis) : Type 0 where
-  pub is : IsAnalysis trail start p new.seen.items new.lower.items new.highest new.unsettled
-  pub more : AreMore old.seen.items new.seen.items
-  pub marked : AreMarked trail p new.seen.items front
+  pub is : IsAnalysis trail start p new.seen new.lower.items new.highest new.unsettled
+  pub more : AreMore old.seen new.seen
+  pub marked : AreMarked trail p new.seen front
   pub same_chain : new.chain.items ≡ old.chain.items
 
 pub marking-starts : (trail : List ℤ) (start p : ℕ) (a : Analysis) →
-    IsAnalysis trail start p a.seen.items a.lower.items a.highest a.unsettled →
+    IsAnalysis trail start p a.seen a.lower.items a.highest a.unsettled →
     IsMarking trail start p a [] a
 marking-starts trail start p a is = record {
   is = is;
@@ -341,7 +341,7 @@ pub marking-skips : (trail : List ℤ) (places : List ℕ) (start p : ℕ) (old 
 marking-skips trail places start p old new front l placed past is =
     record { is = is.is; more = is.more; marked = marked; same_chain = is.same_chain }
   where
-    marked : AreMarked trail p new.seen.items (front ++ l ∷ [])
+    marked : AreMarked trail p new.seen (front ++ l ∷ [])
     marked m there i lt e =
         elim (Contains-push_cases front l m there) [
           | inl h ↦ is.marked m h i lt e
@@ -355,8 +355,8 @@ marking-skips trail places start p old new front l placed past is =
 
 pub marking-sees : (trail : List ℤ) (places : List ℕ) (start p : ℕ) (old new next : Analysis)
     (front : Clause) (l : ℤ) → ArePlaced trail places → IsMarking trail start p old front new →
-    IsAnalysis trail start p next.seen.items next.lower.items next.highest next.unsettled →
-    AreMore new.seen.items next.seen.items → get_or next.seen.items
+    IsAnalysis trail start p next.seen next.lower.items next.highest next.unsettled →
+    AreMore new.seen next.seen → get_or next.seen
     (get_or places (unsigned_abs l) 0) false ≡ true → next.chain.items ≡ new.chain.items →
     IsMarking trail start p old (front ++ l ∷ []) next
 marking-sees trail places start p old new next front l placed is now more seen chain =
@@ -368,12 +368,12 @@ marking-sees trail places start p old new next front l placed is now more seen c
           is.same_chain;
     }
   where
-    marked : AreMarked trail p next.seen.items (front ++ l ∷ [])
+    marked : AreMarked trail p next.seen (front ++ l ∷ [])
     marked m there i lt e =
         elim (Contains-push_cases front l m there) [
           | inl h ↦ more i (is.marked m h i lt e)
           | inr same ↦
-              let P : ℕ → Type 0 = λ k. get_or next.seen.items k false ≡ true in
+              let P : ℕ → Type 0 = λ k. get_or next.seen k false ≡ true in
               subst P (placed-at trail places i l placed (omega (arith, lt, is.is.below_end))
               (e ∙ ap neg_ℤ (sym same))) seen
         ]

@@ -7,4 +7,7 @@ pub mod Pointing
 pub mod Backing
 pub mod Taught
 pub mod Searching
-pub mod Watching
+pub mod Covering
+pub mod Holding
+pub mod Visiting
+pub mod Stamping

@@ -72,11 +72,11 @@ module _ (s : Solver) (start p : ℕ) (a : Analysis) (ready : IsReady s)
   apart m there there' = consistent-trail s ready (neg_ℤ m) (on-trail m there)
       (on-trail (neg_ℤ m) there')
 
-  one-left : seen_count a.seen.items start p ≡ 0
+  one-left : seen_count a.seen start p ≡ 0
   one-left = omega (
     arith,
     point.only,
-    counted-seen s.partial.literals start p a.seen.items
+    counted-seen s.partial.literals start p a.seen
         a.lower.items a.highest a.unsettled point.is point.level point.seen,
   )
 
@@ -89,7 +89,7 @@ module _ (s : Solver) (start p : ℕ) (a : Analysis) (ready : IsReady s)
           subst P (twice (get_or s.partial.literals i (pos 0)))
           (opposite-there learned (neg_ℤ (get_or s.partial.literals i (pos 0))) there)
 
-      has : (i : ℕ) → i < suc p → get_or a.seen.items i false ≡ true →
+      has : (i : ℕ) → i < suc p → get_or a.seen i false ≡ true →
           Contains (map neg_ℤ learned) (get_or s.partial.literals i (pos 0))
       has i lt e =
           elim (cases_lt i start) [
@@ -100,7 +100,7 @@ module _ (s : Solver) (start p : ℕ) (a : Analysis) (ready : IsReady s)
                   λ k. Contains (map neg_ℤ learned) (get_or s.partial.literals k (pos 0)) in
                   subst P (sym same) (back p (Contains-push a.lower.items (neg_ℤ top)))
               | inr other ↦ let clash : false ≡ true =
-                  sym (count-none a.seen.items start p one-left i level (omega arith)) ∙ e in
+                  sym (count-none a.seen start p one-left i level (omega arith)) ∙ e in
                   absurd (cc)
             ]
           ]

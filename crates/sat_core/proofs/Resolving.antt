@@ -1,9 +1,9 @@
 -- Reasons in the place of what they imply.
-use Rattle.std.proofs.Common.{◌≡◌, ◌≢◌, ℕ, zero, suc, ◌-◌, ◌<◌, ◌≤◌, Bool, true, false, List, [], ◌∷◌, ◌++◌, length, get_or, take, drop, reverse, replicate, inl, inr, refl, sym, ap, ◌∙◌, subst, arith}
+use Rattle.std.proofs.Common.{◌≡◌, ◌≢◌, ℕ, zero, suc, ◌-◌, ◌<◌, ◌≤◌, Bool, true, false, List, [], ◌∷◌, ◌++◌, length, get_or, take, drop, reverse, inl, inr, refl, sym, ap, ◌∙◌, subst, arith}
 use Rattle.std.specs.Prelude.{ℤ, pos, neg_ℤ, unsigned_abs}
 use Rattle.std.specs.List.{Contains}
 use Rattle.std.proofs.lemmas.Bool.{cases_lt}
-use Rattle.std.proofs.lemmas.List.{length-take-le, length-replicate, get_or-replicate, get_or_past, get_or_default, take_all, take-append-drop}
+use Rattle.std.proofs.lemmas.List.{length-take-le, take_all, take-append-drop}
 use Rattle.std.proofs.lemmas.List.Elements.{Contains-append_left}
 use Rattle.std.proofs.lemmas.Option.{slice_get_within, get_or_from_slice_get}
 use Rattle.sat_core.specs.declared.solver.Solver.{Solver}
@@ -11,39 +11,31 @@ use Rattle.chain_check.specs.Clauses.{Clause}
 use Rattle.chain_check.specs.Chains.{IsFalseIn, IsUnit, IsNumbered, Refutes}
 use Rattle.sat_core.specs.Trails.{AreSettled}
 use Rattle.sat_core.specs.Solvers.{IsReady, IsConflict}
+use Rattle.sat_core.specs.Marks.{AreNone}
 use Rattle.sat_core.specs.Analyses.{seen_count, IsAnalysis, IsRefuting, AreMarkable, AreMarked, AreMore}
 use Rattle.chain_check.proofs.Literals.{same-or-not}
 use Rattle.sat_core.proofs.Trailing.{IsConsistent, consistent, settled-unrefuted, at-front}
 use Rattle.sat_core.proofs.Analysing.{refuting-starts, refuting-goes, count-empty, count-unseen, counted-seen, pass-unseen, refuting-skips}
 
--- nothing is seen
-blank : (n i : ℕ) → get_or (replicate n false) i false ≡ false
-blank n i = elim (cases_lt i n) [
-  | inl lt ↦ get_or-replicate n i false false lt
-  | inr past ↦
-      get_or_past (replicate n false) i false (omega (arith, length-replicate n false))
-]
-
-count-blank : (seen : List Bool) (start p : ℕ) → ((i : ℕ) → get_or seen i false ≡ false) →
-    seen_count seen start p ≡ 0
+count-blank : (seen : List Bool) (start p : ℕ) → AreNone seen → seen_count seen start p ≡ 0
 count-blank seen start zero none = refl
 count-blank seen start (suc p) none = count-unseen seen start p (none p) ∙
     count-blank seen start p none
 
-pub analysis-none : (trail : List ℤ) (start n : ℕ) (seen : List Bool) (lower : List ℤ) →
-    n ≡ length trail → seen ≡ replicate n false → lower ≡ [] →
-    IsAnalysis trail start n seen lower 0 0
-analysis-none trail start n seen lower e f g =
-    let P : List Bool → Type 0 = λ xs. IsAnalysis trail start n xs lower 0 0 in
-    let Q : List ℤ → Type 0 = λ xs. IsAnalysis trail start n (replicate n false) xs 0 0 in
-    subst P (sym f) (subst Q (sym g) (record {
-      long = length-replicate n false ∙ e;
-      below_end = omega arith;
-      counted = sym (count-blank (replicate n false) start n (blank n));
-      lowers = λ i lt h. let clash : false ≡ true = sym (blank n i) ∙ h in absurd (cc);
-      lower_from = λ m (k, lt, h). absurd (omega arith);
-      reached = λ some. absurd (omega arith);
-    }))
+-- nothing is seen
+pub analysis-none : (trail : List ℤ) (start n : ℕ) (seen : List Bool) (lower : List ℤ)
+    (highest unsettled : ℕ) → n ≡ length trail → n ≤ length seen → AreNone seen → lower ≡ [] →
+    highest ≡ 0 → unsettled ≡ 0 → IsAnalysis trail start n seen lower highest unsettled
+analysis-none trail start n seen lower highest unsettled e le blank g high none =
+    let Q : List ℤ → Type 0 = λ xs. IsAnalysis trail start n seen xs highest unsettled in
+    subst Q (sym g) (record {
+      long = omega (arith, e, le);
+      below_end = omega (arith, e);
+      counted = none ∙ sym (count-blank seen start n blank);
+      lowers = λ i lt h. let clash : false ≡ true = sym (blank i) ∙ h in absurd (cc);
+      lower_from = λ q (k, lt, h). absurd (omega arith);
+      reached = λ some. absurd (omega (arith, high));
+    })
 
 -- the conflict's clause
 pub its-clause : (clauses : List Clause) (k : ℕ) (c : Clause) → IsNumbered clauses k c →
@@ -193,22 +185,15 @@ implied-first s p ready lt none =
 
 -- one place further down
 pub further-down : (clauses : List Clause) (trail : List ℤ) (start p : ℕ) (seen : List Bool)
-    (lower : List ℤ) (highest unsettled : ℕ) (chain : List ℕ) (b : Bool) → 0 < p →
-    b ≡ get_or seen (p - 1) b → b ≡ false → IsAnalysis trail start p seen lower highest unsettled →
-    IsRefuting clauses trail p seen chain → IsAnalysis trail start
-    (p - 1) seen lower highest unsettled × IsRefuting clauses trail (p - 1) seen chain
-further-down clauses trail start p seen lower highest unsettled chain b some at none is refuting =
+    (lower : List ℤ) (highest unsettled : ℕ) (chain : List ℕ) → 0 < p →
+    get_or seen (p - 1) false ≡ false → IsAnalysis trail start p seen lower highest unsettled →
+    IsRefuting clauses trail p seen chain →
+    IsAnalysis trail start (p - 1) seen lower highest unsettled ×
+    IsRefuting clauses trail (p - 1) seen chain
+further-down clauses trail start p seen lower highest unsettled chain some unseen is refuting =
     let P : ℕ → Type 0 = λ q. IsAnalysis trail start q seen lower highest unsettled in
-    let Q : ℕ → Type 0 = λ q. IsRefuting clauses trail q seen chain in (
+    let Q : ℕ → Type 0 = λ q. IsRefuting clauses trail q seen chain in
+    let same : p ≡ suc (p - 1) = omega arith in (
       pass-unseen trail start (p - 1) seen lower highest unsettled (subst P same is) unseen,
       refuting-skips clauses trail (p - 1) seen chain unseen (subst Q same refuting),
     )
-  where
-    same : p ≡ suc (p - 1)
-    same = omega arith
-
-    inside : p - 1 < length seen
-    inside = omega (arith, is.long, is.below_end)
-
-    unseen : get_or seen (p - 1) false ≡ false
-    unseen = get_or_default seen (p - 1) false b inside ∙ sym at ∙ none

@@ -1,6 +1,6 @@
 -- The search.
 use Rattle.std.proofs.Common.{◌≡◌, ◌≢◌, ℕ, zero, suc, ◌+◌, ◌-◌, ◌*◌, ◌^◌, ◌<◌, ◌≤◌, ◌⊎◌, ◌↔◌, Bool, true, false, List, [], ◌∷◌, ◌++◌, length, get_or, inl, inr, refl, sym, ap, ◌∙◌, subst, arith}
-use Rattle.std.specs.Prelude.{ℤ, pos, negsuc, neg_ℤ}
+use Rattle.std.specs.Prelude.{ℤ, pos, negsuc, neg_ℤ, MatchBool}
 use Rattle.std.specs.List.{Contains}
 use Rattle.std.proofs.lemmas.Bool.{cases_eq, cases_Bool}
 use Rattle.std.proofs.lemmas.List.{append_assoc, append-nil, map_push, length_push, get_or_append_left, get_or_push}
@@ -12,6 +12,7 @@ use Rattle.chain_check.specs.Chains.{Refutes, Follows}
 use Rattle.chain_check.specs.Logs.{clauses_of, IsPassed, AreNew}
 use Rattle.sat_core.specs.Trails.{AreSettled}
 use Rattle.sat_core.specs.Solvers.{IsReady, GoesOn}
+use Rattle.sat_core.specs.Searches.{IsSearching}
 use Rattle.sat_core.proofs.Propagating.{not-shorter, no-more-than}
 use Rattle.sat_core.specs.Outcomes.{AreValues, EndsEmpty}
 use Rattle.sat_core.proofs.Readying.{ready-from}
@@ -42,16 +43,6 @@ new-more (d ∷ log) before e (some', fresh', new) some fresh =
       new-more log (before ++ d.clause ∷ []) e new some
           (subst P (sym (append_assoc before (d.clause ∷ []) (clauses_of log))) fresh),
     )
-
--- how far the search has come
-pub record IsSearching (n : ℕ) (given : List Clause) (conflicts : ℕ) (s : Solver)
-    (log : List Learned) : Type 0 where
-  pub ready : IsReady s
-  pub variables : s.partial.variables ≡ n
-  pub clauses : s.clauses ≡ given ++ clauses_of log
-  pub passed : IsPassed n given log
-  pub new : AreNew given log
-  pub few : length log ≤ conflicts
 
 pub empty-follows : (n : ℕ) (before : List Clause) (chain : List ℕ) → Refutes before [] chain →
     Follows n before [] chain
@@ -185,7 +176,7 @@ pub searching-on : (n : ℕ) (given : List Clause) (k : ℕ) (s t : Solver) (log
     IsSearching n given k s log → IsReady t → GoesOn s t → IsSearching n given k t log
 searching-on n given k s t log is ready on = record {
   ready = ready;
-  variables = on.variables ∙ is.variables;
+  same_variables = on.variables ∙ is.same_variables;
   clauses = on.clauses ∙ is.clauses;
   passed = is.passed;
   new = is.new;
@@ -230,12 +221,12 @@ searching-learned n given k s t log more e is left ready variables clauses follo
     let S : List Learned → Type 0 = IsSearching n given k t in
     subst S (sym added) (record {
       ready = ready;
-      variables = variables ∙ is.variables;
+      same_variables = variables ∙ is.same_variables;
       clauses = clauses ∙ ap (λ cs. cs ++ e.clause ∷ []) is.clauses ∙
           append_assoc given (clauses_of log) (e.clause ∷ []) ∙
           ap (λ cs. given ++ cs) (sym (map_push (λ (d : Learned). d.clause) log e));
       passed = passed-more n log given e is.passed
-          (subst Q is.clauses (subst P is.variables follows));
+          (subst Q is.clauses (subst P is.same_variables follows));
       new = new-more log given e is.new some (subst R is.clauses fresh);
       few = omega (arith, is.few, left, length_push log e);
     })
@@ -249,7 +240,7 @@ satisfied-outcome n given k s log values is settled full are =
     let P : List Clause → Type 0 = SatisfiesAll values in
     let all : P (given ++ clauses_of log) = subst P is.clauses
     (all-satisfied s values is.ready settled full are) in (
-      are.long ∙ is.variables,
+      are.long ∙ is.same_variables,
       λ c there. all c
           (Contains-append_left given (clauses_of log) c there),
     )
@@ -261,7 +252,7 @@ pub searching-decided : (n : ℕ) (given : List Clause) (k : ℕ) (s t u : Solve
     (n - length s.partial.literals)
 searching-decided n given k s t u log l is on ready pushed =
     let variables : u.partial.variables ≡ n = ap (λ q. q.variables) pushed ∙ on.variables ∙
-    is.variables in
+    is.same_variables in
     less-open ((k - length log) * (n + 1)) n (length s.partial.literals) (length u.partial.literals)
     (omega (
       arith,
@@ -269,3 +260,11 @@ searching-decided n given k s t u log l is on ready pushed =
       ap (λ q. length q.literals) pushed,
       length_push t.partial.literals l,
     )) (omega (arith, no-more-than u ready, variables))
+
+pub when-true : (P Q : Type 0) (b : Bool) → b ≡ true → MatchBool b P Q → P
+when-true P Q true e h = h
+when-true P Q false e h = absurd (cc)
+
+pub when-false : (P Q : Type 0) (b : Bool) → b ≡ false → MatchBool b P Q → Q
+when-false P Q true e h = absurd (cc)
+when-false P Q false e h = h

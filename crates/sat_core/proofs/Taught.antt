@@ -1,8 +1,10 @@
 -- The solver after it has learned.
-use Rattle.std.proofs.Common.{◌≡◌, ℕ, ◌+◌, ◌-◌, ◌^◌, ◌<◌, ◌≤◌, List, [], ◌∷◌, ◌++◌, Some, length, get_or, take, inl, inr, refl, sym, ap, ◌∙◌, subst, arith}
-use Rattle.std.specs.Prelude.{ℤ, pos, neg_ℤ, slice_get}
-use Rattle.std.proofs.lemmas.List.{length-take-le, length_push, get_or-take, take-take, get_or_push}
-use Rattle.std.proofs.lemmas.Bool.{cases_eq}
+use Rattle.std.proofs.Common.{◌≡◌, ℕ, suc, ◌+◌, ◌-◌, ◌^◌, ◌<◌, ◌≤◌, List, [], ◌∷◌, ◌++◌, Some, length, get_or, take, inl, inr, refl, sym, ap, ◌∙◌, subst, arith}
+use Rattle.std.specs.Prelude.{ℤ, pos, neg_ℤ, unsigned_abs, slice_get, Option, None, MatchOption}
+use Rattle.std.specs.List.{Contains}
+use Rattle.std.proofs.lemmas.List.Elements.{Contains-append_left, Contains-push}
+use Rattle.std.proofs.lemmas.List.{length-take-le, length_push, get_or-take, take-take, get_or_push, get_or_append_left}
+use Rattle.std.proofs.lemmas.Bool.{cases_eq, cases_lt, cases_order}
 use Rattle.std.proofs.lemmas.Option.{slice_get-get_or}
 use Rattle.sat_core.specs.declared.solver.Solver.{Solver}
 use Rattle.sat_core.specs.declared.analysis.Analysis.{Analysis}
@@ -12,7 +14,9 @@ use Rattle.sat_core.specs.Trails.{IsOpenIn, IsSettled, IsStep}
 use Rattle.sat_core.specs.Solvers.{IsReady}
 use Rattle.sat_core.specs.Points.{IsPoint}
 use Rattle.sat_core.specs.Backs.{IsBack}
-use Rattle.chain_check.proofs.Literals.{opposite-literal}
+use Rattle.sat_core.specs.Lessons.{IsLate, IsSecond, IsTaught}
+use Rattle.chain_check.proofs.Literals.{opposite-literal, twice}
+use Rattle.sat_core.proofs.Trailing.{apart-places}
 use Rattle.sat_core.proofs.Pointing.{learned, literals, learned-unit, top-open, learned-settled}
 use Rattle.sat_core.proofs.Backing.{ready-learned}
 
@@ -124,3 +128,93 @@ module _ (s : Solver) (start p : ℕ) (a : Analysis) (ready : IsReady s)
       right = let P : ℕ → Type 0 = λ n. IsLiteral n up in
           subst P (sym variables-are) (opposite-literal s.partial.variables
           (get_or s.partial.literals p (pos 0)) (ready.trail.steps p point.inside).right)
+
+  -- the literal that became false last of the others
+  pub the-second : (t : Solver) (c : Clause) (top m : ℤ) → c ≡ its → top ≡ up → 0 < a.highest →
+      m ≡ neg_ℤ (get_or s.partial.literals (a.highest - 1) (pos 0)) →
+      t.limits.items ≡ mid.limits.items →
+      t.partial.literals ≡ mid.partial.literals ++ top ∷ [] → IsSecond t c top m
+  the-second t c top m e f some is limits trail =
+      let (i, at, low, inside, there) = point.is.reached some in
+      let l : ℤ = get_or s.partial.literals i (pos 0) in
+      let its-place : a.highest - 1 ≡ i = omega (arith, at) in
+      let m-is : m ≡ neg_ℤ l = is ∙ ap (λ k. neg_ℤ (get_or s.partial.literals k (pos 0))) its-place
+      in
+      let C : Clause → Type 0 = λ d. Contains d m in
+      let D : ℤ → Type 0 = Contains its in
+      record {
+        there = subst C (sym e) (subst D (sym m-is)
+            (Contains-append_left a.lower.items (up ∷ []) (neg_ℤ l) there));
+        differ = λ same.
+            let clash : l ≡ get_or s.partial.literals p (pos 0) = sym (twice l) ∙
+            ap neg_ℤ (sym m-is ∙ sym same ∙ f) ∙ twice (get_or s.partial.literals p (pos 0)) in
+            apart-places s.partial.variables s.clauses s.partial.literals s.reasons.items
+            s.limits.items ready.trail i p (omega (arith, low, point.level)) point.inside
+            (ap unsigned_abs clash);
+        late = late i at inside m-is;
+      }
+    where
+      late : (i : ℕ) → suc i ≡ a.highest → i < length s.partial.literals →
+          m ≡ neg_ℤ (get_or s.partial.literals i (pos 0)) →
+          IsLate t.partial.literals t.limits.items m
+      late i at inside m-is k stands q less =
+          let few : length (take level s.limits.items) ≡ level =
+          length-take-le level s.limits.items (omega (arith, back.inside)) in
+          let within : q < level = omega (arith, less, ap length (limits ∙ back.limits), few) in
+          let limit : get_or t.limits.items q 0 ≡ get_or s.limits.items q 0 =
+          ap (λ xs. get_or xs q 0) (limits ∙ back.limits) ∙
+          get_or-take level s.limits.items q 0 within in
+          let low : get_or s.limits.items q 0 < a.highest = back.lower q within in
+          elim (cases_lt k to) [
+            | inr past ↦ omega (arith, limit, low, back.above, past)
+            | inl early ↦
+                let same : get_or s.partial.literals k (pos 0) ≡ get_or s.partial.literals i
+                (pos 0) =
+                sym (get_or-take to s.partial.literals k (pos 0) early) ∙
+                sym (get_or_append_left (take to s.partial.literals) (top ∷ []) (pos 0) k
+                (omega (
+                  arith,
+                  length-take-le to s.partial.literals
+                      (omega (arith, to-low, point.inside)),
+                  early,
+                ))) ∙
+                sym (ap (λ xs. get_or xs k (pos 0))
+                (trail ∙ ap (λ xs. xs ++ top ∷ []) trail-is)) ∙ stands.1 ∙ ap neg_ℤ m-is ∙
+                twice (get_or s.partial.literals i (pos 0)) in
+                elim (cases_order k i) [
+                  | inl eq ↦ omega (arith, limit, low, at, eq)
+                  | inr (inl less') ↦ absurd (apart-places s.partial.variables s.clauses
+                      s.partial.literals s.reasons.items s.limits.items ready.trail k i less'
+                      inside (ap unsigned_abs same))
+                  | inr (inr more) ↦ absurd (apart-places s.partial.variables s.clauses
+                      s.partial.literals s.reasons.items s.limits.items ready.trail i k more
+                      (omega (arith, early, to-low, point.inside)) (ap unsigned_abs (sym same)))
+                ]
+          ]
+
+  pub taught-lesson : (t : Solver) (c : Clause) (top : ℤ) (second : Option ℤ) → c ≡ its → top ≡ up →
+      MatchOption second (a.highest ≡ 0)
+      (λ l. (0 < a.highest) × (l ≡ neg_ℤ (get_or s.partial.literals (a.highest - 1) (pos 0)))) →
+      t.limits.items ≡ mid.limits.items →
+      t.partial.literals ≡ mid.partial.literals ++ top ∷ [] → IsTaught s t c top second level
+  taught-lesson t c top second e f found limits trail = record {
+    inside = back.inside;
+    limits = limits ∙ back.limits;
+    trail = trail ∙ ap (λ xs. xs ++ top ∷ []) trail-is;
+    has_top = let C : Clause → Type 0 = λ d. Contains d top in
+        let D : ℤ → Type 0 = Contains its in
+        subst C (sym e) (subst D (sym f) (Contains-push a.lower.items up));
+    has_second = seconds second found;
+  }
+    where
+      seconds : (o : Option ℤ) → MatchOption o (a.highest ≡ 0)
+          (λ l. (0 < a.highest) × (l ≡ neg_ℤ (get_or s.partial.literals (a.highest - 1) (pos 0)))) →
+          MatchOption o (t.limits.items ≡ []) (IsSecond t c top)
+      seconds None none =
+          elim (cases_lt 0 level) [
+            | inl some ↦ absurd (omega (arith, back.lower 0 some, none))
+            | inr zero' ↦ let P : ℕ → Type 0 = λ n. t.limits.items ≡ take n s.limits.items in
+                let here : level ≡ 0 = omega arith in
+                subst P here (limits ∙ back.limits)
+          ]
+      seconds (Some m) (some, is) = the-second t c top m e f some is limits trail

@@ -13,7 +13,7 @@ seen_count seen start (suc p) = cond (nat_le start p && slice_index_or seen p fa
 -- others are counted; `highest` is one more than the highest place of `lower`.
 pub record IsAnalysis (trail : List ℤ) (start p : ℕ) (seen : List Bool) (lower : List ℤ)
     (highest unsettled : ℕ) : Type 0 where
-  pub long : length seen ≡ length trail
+  pub long : length trail ≤ length seen
   pub below_end : p ≤ length trail
   pub counted : unsettled ≡ seen_count seen start p
   pub lowers : (i : ℕ) → i < start → slice_index_or seen i false ≡ true →

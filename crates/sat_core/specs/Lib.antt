@@ -1,8 +1,12 @@
 pub mod Trails
 pub mod Solvers
-pub mod Passes
 pub mod Analyses
 pub mod Points
 pub mod Backs
 pub mod Outcomes
 pub mod Watches
+pub mod Lists
+pub mod Visits
+pub mod Lessons
+pub mod Searches
+pub mod Marks

@@ -8,7 +8,7 @@ pub record IsPoint (clauses : List Clause) (trail : List ℤ) (start p : ℕ)
     (a : Analysis) : Type 0 where
   pub level : start ≤ p
   pub inside : p < length trail
-  pub seen : slice_index_or a.seen.items p false ≡ true
+  pub seen : slice_index_or a.seen p false ≡ true
   pub only : a.unsettled ≡ 1
-  pub is : IsAnalysis trail start (suc p) a.seen.items a.lower.items a.highest a.unsettled
-  pub refuting : IsRefuting clauses trail (suc p) a.seen.items a.chain.items
+  pub is : IsAnalysis trail start (suc p) a.seen a.lower.items a.highest a.unsettled
+  pub refuting : IsRefuting clauses trail (suc p) a.seen a.chain.items

@@ -4,9 +4,14 @@
 mod analysis;
 mod analyzing;
 mod learning;
+mod lists;
+mod marks;
+mod order;
 mod solver;
 mod solving;
 #[cfg(test)]
 mod tests;
+mod watches;
+mod watching;
 
 pub use solving::{Assignment, Outcome, solve};

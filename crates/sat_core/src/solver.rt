@@ -1,10 +1,11 @@
-ghost use Rattle.std.specs.Prelude.{◌≡◌, ◌<◌, ◌+◌, ◌∷◌, ◌++◌, unsigned_abs, [], length, slice_set, OnOk, IfOk, MatchOption};
+//! The state of a search: what is true, why, and since which decision.
+
+ghost use Rattle.std.specs.Prelude.{◌≡◌, ◌<◌, ◌+◌, ◌∷◌, ◌++◌, unsigned_abs, [], length, slice_set, OnOk};
 ghost use Rattle.chain_check.specs.Clauses.{IsLiteral};
 ghost use Rattle.sat_core.specs.Trails.{IsOpenIn, IsStep, AreSettled};
-ghost use Rattle.sat_core.specs.Solvers.{IsReady, GoesOn, IsConflict};
-ghost use Rattle.sat_core.specs.Passes.{IsPass};
+ghost use Rattle.sat_core.specs.Solvers.{IsReady, GoesOn};
 
-use chain_check::{Clauses, Literal, Open, Partial};
+use chain_check::{Clauses, Literal, Partial};
 use hy_base::M;
 use std::alloc::Global;
 
@@ -65,66 +66,12 @@ impl Solver {
         requires open_yet { IsOpenIn self.old.partial.literals l }
         ensures ready { OnOk result (IsReady self.new) }
         ensures clauses { OnOk result (self.new.clauses ≡ self.old.clauses) }
+        ensures limits { OnOk result (self.new.limits.items
+            ≡ self.old.limits.items ++ length self.old.partial.literals ∷ []) }
         ensures pushed { OnOk result (self.new.partial ≡ record self.old.partial
             { literals = self.old.partial.literals ++ l ∷ [] }) }
     {
         self.limits.push(self.partial.len())?;
         self.push(l, 0)
-    }
-}
-
-/// What a pass over all clauses found.
-#[derive(Clone, Copy)]
-pub enum Pass {
-    /// The clause with this number has only false literals.
-    Conflict(u32),
-    Changed,
-    Complete,
-}
-
-impl Solver {
-    /// Goes over all clauses once.
-    pub(crate) fn pass(&mut self) -> M<Pass>
-        requires { IsReady self.old }
-        ensures ready { OnOk result (IsReady self.new) }
-        ensures goes_on { OnOk result (GoesOn self.old self.new) }
-        ensures found { IfOk result (λ p. IsPass self.old self.new p) }
-    {
-        let mut changed = false;
-        for i in 0..self.clauses.len() {
-            match self.partial.openness(self.clauses.clause(i)) {
-                Open::Nothing => return Ok(Pass::Conflict(i as u32 + 1)),
-                Open::One(l) => {
-                    if !self.partial.is_true(l) {
-                        self.imply(l, i as u32 + 1)?;
-                        changed = true;
-                    }
-                }
-                Open::More => {}
-            }
-        }
-        Ok(if changed {
-            Pass::Changed
-        } else {
-            Pass::Complete
-        })
-    }
-
-    /// Makes true what follows by single clauses. The number of a clause with only false literals,
-    /// or none, where each clause has a true literal or two that are not false.
-    pub(crate) fn propagate(&mut self) -> M<Option<u32>>
-        requires { IsReady self.old }
-        ensures ready { OnOk result (IsReady self.new) }
-        ensures goes_on { OnOk result (GoesOn self.old self.new) }
-        ensures found { IfOk result (λ found. MatchOption found
-            (AreSettled self.new.clauses self.new.partial.literals) (λ k. IsConflict self.new k)) }
-    {
-        'passes: loop {
-            match self.pass()? {
-                Pass::Conflict(number) => return Ok(Some(number)),
-                Pass::Changed => {}
-                Pass::Complete => return Ok(None),
-            }
-        }
     }
 }

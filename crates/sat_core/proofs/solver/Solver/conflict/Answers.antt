@@ -1,5 +1,5 @@
-use Rattle.std.proofs.Common.{rules, replicate, false, ◌≡◌, ◌++◌, ◌∷◌, [], ap, ◌∙◌}
 use Rattle.sat_core.proofs.Resolving.{analysis-none, conflict-markable, conflict-refutes}
+use Rattle.std.proofs.Common.{◌∙◌}
 use Rattle.sat_core.proofs.solver.Solver.conflict.Goals as goal
 
 pub mark-requires-clause-markable : goal.mark-requires-clause-markable
@@ -8,14 +8,14 @@ mark-requires-clause-markable c = conflict-markable c.args.self.now c.args.numbe
 
 pub mark-requires-clause-is : goal.mark-requires-clause-is
 mark-requires-clause-is c =
-    let none : c.in_ok-seen.seen.items ≡ replicate c.len-len.result false = search rules in
     analysis-none c.args.self.now.partial.literals c.args.start c.len-len.result
-    c.in_ok-seen.seen.items c.new.result.items c.len-len.ensures none c.new.ensures.items
+    c.begin.new.self.seen c.begin.new.self.lower.items c.begin.new.self.highest
+    c.begin.new.self.unsettled c.len-len.ensures c.in_ok-begin.ensures.room
+    c.in_ok-begin.ensures.none c.in_ok-begin.ensures.lower c.in_ok-begin.ensures.highest
+    c.in_ok-begin.ensures.unsettled
 
 pub returns-clause-refuting : goal.returns-clause-refuting
 returns-clause-refuting c =
-    conflict-refutes c.args.self.now c.args.number c.len-len.result c.mark.new.analysis.seen.items
+    conflict-refutes c.args.self.now c.args.number c.len-len.result c.mark.new.analysis.seen
     c.mark.new.analysis.chain.items c.len-len.ensures c.requires.conflict
-    c.in_ok-mark.ensures.marked
-    (c.in_ok-mark.ensures.chain ∙ c.in_ok-push.ensures.items ∙
-    ap (λ xs. xs ++ c.args.number ∷ []) c.new-chain.ensures.items)
+    c.in_ok-mark.ensures.marked (c.in_ok-mark.ensures.chain ∙ c.in_ok-begin.ensures.chain)

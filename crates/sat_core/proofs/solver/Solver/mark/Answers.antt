@@ -30,7 +30,7 @@ pub see-requires-clause-room : goal.see-requires-clause-room
 see-requires-clause-room c = omega (
   arith,
   c.loop-l.invariant.is.counted,
-  count-few c.loop-l.analysis.seen.items c.args.start c.args.p,
+  count-few c.loop-l.analysis.seen c.args.start c.args.p,
   c.loop-l.invariant.is.below_end,
   no-more-than c.args.self.now c.requires.ready,
   c.requires.ready.few_variables,
@@ -70,7 +70,7 @@ loop-l-preserved c =
     (elim c.if-place-p.branch [
       | then-place-p+in_ok-see w ↦
           let R : ℕ → Type 0 = λ k. get_or trail k (pos 0) ≡ neg_ℤ c.l-item.result in
-          let S : ℕ → Type 0 = λ k. get_or w.see.new.self.seen.items k false ≡ true in
+          let S : ℕ → Type 0 = λ k. get_or w.see.new.self.seen k false ≡ true in
           let at = markable-at trail places c.args.p clause c.l-item.result c.requires.ready.placed
           c.loop-l.invariant.is.below_end (subst A its c.requires.markable) here
           (omega (arith, w.if-place-p.true, place)) in
@@ -94,6 +94,6 @@ returns-clause-marked c =
     get_or_from_slice_get c.args.self.now.clauses
     (c.args.number - 1) c.clause-l-items.result.now [] c.clause-l-items.ensures in
     let P : Clause → Type 0 = AreMarked c.args.self.now.partial.literals c.args.p
-    c.loop-l.analysis.seen.items in
+    c.loop-l.analysis.seen in
     subst P (take_all c.loop-l.l-index c.clause-l-items.result.now c.loop-l-test.false ∙ sym its)
     c.loop-l.invariant.marked

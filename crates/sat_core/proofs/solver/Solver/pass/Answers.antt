@@ -1,75 +1,127 @@
-use Rattle.std.proofs.Common.{◌+◌, Bool, arith, length, sym, subst, ap}
-use Rattle.std.specs.List.{Contains}
-use Rattle.std.proofs.Common.{inl, inr}
-use Rattle.std.proofs.lemmas.Bool.{both_ways}
-use Rattle.sat_core.specs.declared.solver.Solver.{Solver}
-use Rattle.chain_check.specs.Chains.{IsUnit}
-use Rattle.chain_check.proofs.Passing.{numbered-there}
-use Rattle.sat_core.proofs.Propagating.{IsPassing, the-clause, passing-settled, passing-implied, passed-all, unit-step}
+use Rattle.std.proofs.Common.{suc, ◌<◌, ℕ, List, [], length, set, refl, sym, ap, ◌∙◌, subst, arith}
+use Rattle.std.proofs.lemmas.List.{length-set}
+use Rattle.sat_core.specs.declared.watching.Visit.{Visit}
+use Rattle.sat_core.specs.declared.watching.Visit.TheVariants.{Kept}
+use Rattle.sat_core.specs.Lists.{place_of}
+use Rattle.sat_core.specs.Watches.{IsWatching}
+use Rattle.sat_core.specs.Visits.{IsVisit}
+use Rattle.sat_core.proofs.Propagating.{goes-nowhere, goes-further}
+use Rattle.sat_core.proofs.Holding.{IsPassing, passing-starts, passing-ends}
+use Rattle.sat_core.proofs.Visiting.{visited-pair, visited-clause, visited-first, visited-second, visited-kept, visited-conflict, visited-moved, the-moved, moved-inside}
 use Rattle.sat_core.proofs.solver.Solver.pass.Goals as goal
-use Rattle.sat_core.proofs.solver.Solver.pass.Goals.{in-One+then-not-is_true+in_ok-imply-in-One, in-One+else-not-is_true, in-More}
 
-pub openness-requires : goal.openness-requires
-openness-requires c = c.loop-i.invariant.ready.right c.clause.result.now
-    (numbered-there c.loop-i.self.clauses (c.loop-i.i + 1) c.clause.result.now
-    (the-clause c.loop-i.self.clauses c.loop-i.i c.clause.result.now c.clause.ensures))
+pub visits-init : goal.visits-init
+visits-init c =
+    let P : List (List ℕ) → Type 0 = λ ls. IsPassing c.args.self.now c.args.watches.now.done
+    c.args.watches.now.pairs.items ls c.args.l c.take-list.result 0 in
+    let Q : List ℕ → Type 0 = λ xs. IsPassing c.args.self.now c.args.watches.now.done
+    c.args.watches.now.pairs.items (set c.args.watches.now.lists (place_of c.args.l) [])
+    c.args.l xs 0 in
+    record {
+      ready = c.requires.ready;
+      goes_on = goes-nowhere c.args.self.now;
+      done = refl;
+      long = refl;
+      passing = subst P (sym c.take-list.ensures.left)
+          (subst Q (sym c.take-list.ensures.taken)
+          (passing-starts c.args.self.now c.args.watches.now.done c.args.watches.now.pairs.items
+          c.args.watches.now.lists c.args.l c.requires.right c.requires.at c.requires.watching));
+    }
 
-pub returns-in-Nothing-clause-found : goal.returns-in-Nothing-clause-found
-returns-in-Nothing-clause-found c = (
-  c.clause.result.now,
-  the-clause c.loop-i.self.clauses c.loop-i.i c.clause.result.now c.clause.ensures,
-  c.in-Nothing.ensures,
-)
+pub visit-requires-clause-place : goal.visit-requires-clause-place
+visit-requires-clause-place c = visited-clause c.visits.self c.args.watches.now.done
+    c.visits.watches c.args.l c.visits.list c.visits.i c.at-place.result.now
+    c.visits.invariant.passing (omega (arith, c.visits-test.true, c.len.ensures)) c.at-place.ensures
 
-pub is_true-requires : goal.is_true-requires
-is_true-requires c =
-    c.loop-i.invariant.ready.right c.clause.result.now
-    (numbered-there c.loop-i.self.clauses (c.loop-i.i + 1) c.clause.result.now
-    (the-clause c.loop-i.self.clauses c.loop-i.i c.clause.result.now c.clause.ensures))
-    c.in-One.l c.in-One.ensures.there
+pub visit-requires-clause-long : goal.visit-requires-clause-long
+visit-requires-clause-long c = visited-pair c.visits.self c.args.watches.now.done c.visits.watches
+    c.args.l c.visits.list c.visits.i c.at-place.result.now c.visits.invariant.passing
+    (omega (arith, c.visits-test.true, c.len.ensures)) c.at-place.ensures
 
-pub imply-requires-clause-step : goal.imply-requires-clause-step
-imply-requires-clause-step c =
-    unit-step c.loop-i.self c.loop-i.i c.clause.result.now c.in-One.l c.loop-i.invariant.ready
-    c.clause.ensures c.in-One.ensures (λ h. both_ways c.is_true.result c.if-not-is_true.true
-    (c.is_true.ensures.1 h))
+pub visit-requires-clause-first : goal.visit-requires-clause-first
+visit-requires-clause-first c = visited-first c.visits.self c.args.watches.now.done c.visits.watches
+    c.args.l c.visits.list c.visits.i c.at-place.result.now c.visits.invariant.passing
+    (omega (arith, c.visits-test.true, c.len.ensures)) c.at-place.ensures
 
-pub loop-i-preserved : goal.loop-i-preserved
-loop-i-preserved c =
-    let P : Solver → Type 0 = λ s. IsPassing c.args.self.now s
-    (c.loop-i.i + 1) c.match-openness.changed in
-    elim c.match-openness.branch [
-      | in-One+then-not-is_true+in_ok-imply-in-One w ↦
-          let Q : Bool → Type 0 = IsPassing c.args.self.now w.imply.new.self (c.loop-i.i + 1) in
-          subst P (sym w.self-is) (subst Q (sym w.changed-is)
-          (passing-implied c.args.self.now c.loop-i.self w.imply.new.self c.loop-i.i
-          c.loop-i.changed w.in-One.l c.loop-i.invariant w.in_ok-imply-in-One.ensures.ready
-          w.in_ok-imply-in-One.ensures.goes_on w.in_ok-imply-in-One.ensures.pushed))
-      | in-One+else-not-is_true w ↦
-          let Q : Bool → Type 0 = IsPassing c.args.self.now c.loop-i.self (c.loop-i.i + 1) in
-          let true' : Contains c.loop-i.self.partial.literals w.in-One.l =
-          w.is_true.ensures.0 w.if-not-is_true.false in
-          let unit : IsUnit c.loop-i.self.partial.literals c.clause.result.now w.in-One.l =
-          w.in-One.ensures in
-          subst P (sym w.self-is) (subst Q (sym w.changed-is)
-          (passing-settled c.args.self.now c.loop-i.self c.loop-i.i c.loop-i.changed
-          c.clause.result.now c.loop-i.invariant c.clause.ensures
-          (inl (w.in-One.l, unit.there, true'))))
-      | in-More w ↦
-          let Q : Bool → Type 0 = IsPassing c.args.self.now c.loop-i.self (c.loop-i.i + 1) in
-          subst P (sym w.self-is) (subst Q (sym w.changed-is)
-          (passing-settled c.args.self.now c.loop-i.self c.loop-i.i c.loop-i.changed
-          c.clause.result.now c.loop-i.invariant c.clause.ensures (inr w.in-More.ensures)))
-    ]
+pub visit-requires-clause-second : goal.visit-requires-clause-second
+visit-requires-clause-second c = visited-second c.visits.self c.args.watches.now.done
+    c.visits.watches c.args.l c.visits.list c.visits.i c.at-place.result.now
+    c.visits.invariant.passing (omega (arith, c.visits-test.true, c.len.ensures)) c.at-place.ensures
 
-pub returns-else-changed-clause-found : goal.returns-else-changed-clause-found
-returns-else-changed-clause-found c =
-    let P : Bool → Type 0 = IsPassing c.args.self.now c.loop-i.self c.loop-i.i in
-    passed-all c.args.self.now c.loop-i.self c.loop-i.i
-    (subst P c.if-changed.false c.loop-i.invariant)
-    (omega (
-      arith,
-      c.loop-i-test.false,
-      c.len-i-end.ensures,
-      ap length c.loop-i.invariant.goes_on.clauses,
-    ))
+pub visits-preserved-in-Kept : goal.visits-preserved-in-Kept
+visits-preserved-in-Kept c =
+    let P : Visit → Type 0 = IsVisit c.visits.self c.visit.new.self c.visits.watches
+    c.visit.new.watches c.at-place.result.now c.args.l in
+    let kept : P Kept = subst P c.in-Kept.is c.in_ok-visit.ensures.visit in
+    record {
+      ready = c.in_ok-visit.ensures.ready;
+      goes_on = goes-further c.args.self.now c.visits.self c.visit.new.self
+          c.visits.invariant.goes_on c.in_ok-visit.ensures.goes_on;
+      done = c.in_ok-visit.ensures.done ∙ c.visits.invariant.done;
+      long = ap length kept.0.0 ∙ c.visits.invariant.long;
+      passing = visited-kept c.visits.self c.args.watches.now.done c.visits.watches c.args.l
+          c.visits.list c.visits.i c.at-place.result.now c.visits.invariant.passing
+          (omega (arith, c.visits-test.true, c.len.ensures)) c.at-place.ensures c.visit.new.self
+          c.visit.new.watches c.in_ok-visit.ensures.goes_on kept;
+    }
+
+pub visits-preserved : goal.visits-preserved
+visits-preserved c =
+    let P : Visit → Type 0 = IsVisit c.visits.self c.visit.new.self c.visits.watches
+    c.visit.new.watches c.at-place.result.now c.args.l in
+    let (other, m, moved) = the-moved c.visits.self c.visit.new.self c.visits.watches
+    c.visit.new.watches c.at-place.result.now c.args.l
+    (subst P c.in-Moved.is c.in_ok-visit.ensures.visit) in
+    let inside : c.at-place.result.now < length c.visits.self.clauses =
+    visited-clause c.visits.self c.args.watches.now.done c.visits.watches c.args.l c.visits.list
+    c.visits.i c.at-place.result.now c.visits.invariant.passing
+    (omega (arith, c.visits-test.true, c.len.ensures)) c.at-place.ensures in
+    record {
+      ready = c.in_ok-visit.ensures.ready;
+      goes_on = goes-further c.args.self.now c.visits.self c.visit.new.self
+          c.visits.invariant.goes_on c.in_ok-visit.ensures.goes_on;
+      done = c.in_ok-visit.ensures.done ∙ c.visits.invariant.done;
+      long = ap length moved.pairs ∙ length-set c.visits.watches.pairs.items c.at-place.result.now
+          (record { first = other; second = m }) ∙ c.visits.invariant.long;
+      passing = visited-moved c.visits.self c.args.watches.now.done c.visits.watches c.args.l
+          c.visits.list c.visits.i c.at-place.result.now c.visits.invariant.passing
+          (omega (arith, c.visits-test.true, c.len.ensures)) c.at-place.ensures c.visit.new.self
+          c.visit.new.watches c.remove_at.new.list other m
+          (moved-inside c.visits.self c.visit.new.self c.visits.watches c.visit.new.watches
+          c.at-place.result.now c.args.l other m c.visits.invariant.ready inside
+          (omega (
+            arith,
+            c.visits.invariant.passing.watching.sized,
+            length-set c.visits.watches.lists (place_of c.args.l) c.visits.list,
+          )) moved)
+          c.remove_at.ensures moved;
+    }
+
+pub overflow_add-result : goal.overflow_add-result
+overflow_add-result c =
+    let inside : c.at-place.result.now < length c.visits.self.clauses =
+    visited-clause c.visits.self c.args.watches.now.done c.visits.watches c.args.l c.visits.list
+    c.visits.i c.at-place.result.now c.visits.invariant.passing
+    (omega (arith, c.visits-test.true, c.len.ensures)) c.at-place.ensures in
+    omega (arith, inside, c.visits.invariant.ready.few_clauses)
+
+pub returns-in-Conflict-clause-watching : goal.returns-in-Conflict-clause-watching
+returns-in-Conflict-clause-watching c =
+    let P : Visit → Type 0 = IsVisit c.visits.self c.visit.new.self c.visits.watches
+    c.visit.new.watches c.at-place.result.now c.args.l in
+    let Q : List (List ℕ) → Type 0 = IsWatching c.visit.new.self c.args.watches.now.done
+    c.visit.new.watches.pairs.items in
+    let both = visited-conflict c.visits.self c.args.watches.now.done c.visits.watches c.args.l
+    c.visits.list c.visits.i c.at-place.result.now c.visits.invariant.passing
+    (omega (arith, c.visits-test.true, c.len.ensures)) c.at-place.ensures c.visit.new.self
+    c.visit.new.watches c.in_ok-visit.ensures.goes_on
+    (subst P c.in-Conflict.is c.in_ok-visit.ensures.visit) in
+    (both.0, subst Q (sym c.put.ensures) both.1)
+
+pub returns-clause-watching : goal.returns-clause-watching
+returns-clause-watching c =
+    let Q : List (List ℕ) → Type 0 = IsWatching c.visits.self
+    (suc c.args.watches.now.done) c.visits.watches.pairs.items in
+    subst Q (sym c.put-2.ensures) (passing-ends c.visits.self c.args.watches.now.done
+    c.visits.watches.pairs.items c.visits.watches.lists c.args.l c.visits.list c.visits.i
+    c.visits.invariant.passing (omega (arith, c.visits-test.false, c.len.ensures)))

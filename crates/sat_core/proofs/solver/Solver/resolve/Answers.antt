@@ -20,8 +20,8 @@ returns-clause-refuting c =
     let its : c.index-number.result.now ≡ get_or c.args.self.now.reasons.items c.args.p 0 =
     c.index-number.ensures ∙ get_or_default c.args.self.now.reasons.items c.args.p
     c.index-number.result.now 0 (omega (arith, inside, c.requires.ready.trail.long)) in
-    reason-refutes c.args.self.now c.args.p c.index-number.result.now c.args.analysis.now.seen.items
-    c.mark.new.analysis.seen.items c.args.analysis.now.chain.items c.push.new.self.items
+    reason-refutes c.args.self.now c.args.p c.index-number.result.now c.args.analysis.now.seen
+    c.mark.new.analysis.seen c.args.analysis.now.chain.items c.push.new.self.items
     c.requires.ready inside its (omega (arith, its, c.requires.implied))
     c.in_ok-mark.ensures.more c.in_ok-mark.ensures.marked
     (c.in_ok-push.ensures.items ∙ ap (λ xs. xs ++ c.index-number.result.now ∷ [])

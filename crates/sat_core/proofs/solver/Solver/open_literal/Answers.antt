@@ -3,8 +3,8 @@ use Rattle.std.specs.Prelude.{ℤ, pos, neg_ℤ}
 use Rattle.std.specs.List.{Contains}
 use Rattle.std.proofs.lemmas.Int.{ints}
 use Rattle.sat_core.proofs.Searching.{full-more, full-from}
-use Rattle.sat_core.proofs.solver.Solver.choose.Goals as goal
-use Rattle.sat_core.proofs.solver.Solver.choose.Goals.{else-not-is_true-via-then-not-is_true+else-not-is_false, else-not-is_true-via-else-not-is_true}
+use Rattle.sat_core.proofs.solver.Solver.open_literal.Goals as goal
+use Rattle.sat_core.proofs.solver.Solver.open_literal.Goals.{else-not-is_true-via-then-not-is_true+else-not-is_false, else-not-is_true-via-else-not-is_true}
 
 pub loop-place-preserved : goal.loop-place-preserved
 loop-place-preserved c =
