@@ -1,17 +1,15 @@
 -- A pass in which no node was seen.
-use Rattle.std.proofs.Common.{◌≡◌, ℕ, ◌<◌, ◌≤◌, Bool, true, false, List, [], length, get_or, replicate, inl, inr, refl, sym, ap, ◌∙◌, subst, arith}
+use Rattle.std.proofs.Common.{◌≡◌, ℕ, false, [], length, get_or, replicate, inl, inr, sym, ◌∙◌, arith}
 use Rattle.std.specs.List.{Contains}
 use Rattle.std.proofs.lemmas.Bool.{cases_lt, true≢false}
 use Rattle.std.proofs.lemmas.List.{length-replicate, get_or-replicate, get_or_past}
-use Rattle.std.proofs.lemmas.List.Sums.{count_by-le-length}
 use Rattle.rank_check.specs.Graphs.{Shape}
-use Rattle.fair_search.specs.declared.pass.Place.{Place}
 use Rattle.fair_search.specs.declared.pass.Place.TheVariants.{New, Open, Done}
 use Rattle.fair_search.specs.declared.pass.Pass.{Pass}
-use Rattle.fair_search.specs.Passing.{place_of, is_seen, looks, looks_of, degree_of, IsPass}
+use Rattle.fair_search.specs.Passing.{place_of, IsPass}
 
 -- what is read of equal values, with the same default
-all_alike : {X : Type 0} (n : ℕ) (x : X) (i : ℕ) → get_or (replicate n x) i x ≡ x
+pub all_alike : {X : Type 0} (n : ℕ) (x : X) (i : ℕ) → get_or (replicate n x) i x ≡ x
 all_alike n x i =
     elim (cases_lt i n) [
       | inl lt ↦ get_or-replicate n i x x lt

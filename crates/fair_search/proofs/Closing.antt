@@ -1,17 +1,17 @@
 -- The last component ends once all members that its nodes lead to were looked at.
-use Rattle.std.proofs.Common.{◌≡◌, ◌≢◌, ℕ, zero, suc, ◌+◌, ◌-◌, ◌<◌, ◌≤◌, ◌⊎◌, List, [], ◌∷◌, ◌++◌, length, get_or, take, drop, count_by, Bool, true, false, Option, Some, None, inl, inr, refl, sym, ap, ◌∙◌, subst, arith}
+use Rattle.std.proofs.Common.{◌≡◌, ◌≢◌, ℕ, ◌+◌, ◌-◌, ◌<◌, ◌≤◌, ◌⊎◌, List, [], ◌∷◌, ◌++◌, length, get_or, take, drop, true, false, Option, Some, None, inl, inr, refl, sym, ap, ◌∙◌, subst, arith}
 use Rattle.std.specs.List.{Contains, All}
 use Rattle.std.proofs.Math.ListN.{length-append, get_or-append}
 use Rattle.std.proofs.Math.Seq.{get_or-append_seam}
 use Rattle.std.proofs.lemmas.Bool.{cases_eq, cases_lt, true≢false}
 use Rattle.std.proofs.lemmas.List.{get_or_default, get_or_past, get_or-take, get_or-drop, length-drop, length-take-le}
 use Rattle.std.proofs.lemmas.List.Elements.{Contains-get_or, Contains-push, Contains-append_left, Contains-push_cases}
-use Rattle.rank_check.specs.Graphs.{Shape, members_of, successors_of, IsEdge, Postpones}
+use Rattle.rank_check.specs.Graphs.{Shape, members_of, successors_of, IsEdge}
 use Rattle.fair_search.specs.declared.pass.Place.{Place}
 use Rattle.fair_search.specs.declared.pass.Place.TheVariants.{New, Open, Done}
 use Rattle.fair_search.specs.declared.pass.Pass.{Pass}
 use Rattle.fair_search.specs.Paths.{Leads}
-use Rattle.fair_search.specs.Passing.{place_of, is_seen, degree_of, looks_of, IsUp, NoStart, SettledAt, IsSettled, ExplainsDone, IsPass, AreDone, ExplainsAll, left, looks, edges}
+use Rattle.fair_search.specs.Passing.{place_of, is_seen, degree_of, looks_of, IsUp, NoStart, SettledAt, IsSettled, ExplainsDone, IsPass, AreDone, ExplainsAll, left}
 use Rattle.fair_search.proofs.Merging.{open≢new, up-front}
 
 module _ (g : Shape) (p : Pass) (is : IsPass g p) (front : List ℕ) (b : ℕ) (ends : p.starts ≡ front ++ b ∷ []) (spent : (i : ℕ) → Contains p.pending i → i < b) where

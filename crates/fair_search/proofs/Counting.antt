@@ -1,11 +1,11 @@
 -- How many members were looked at, and how much is left.
-use Rattle.std.proofs.Common.{◌≡◌, ℕ, zero, suc, ◌+◌, ◌-◌, ◌*◌, ◌<◌, ◌≤◌, List, [], ◌∷◌, length, get_or, set, sum, refl, sym, ap, ◌∙◌, arith}
+use Rattle.std.proofs.Common.{◌≡◌, ℕ, zero, suc, ◌+◌, ◌-◌, ◌*◌, ◌<◌, ◌≤◌, List, [], ◌∷◌, length, get_or, set, sum, arith}
 use Rattle.std.specs.List.{sum_by}
 use Rattle.std.proofs.lemmas.List.Sums.{sum_by-set, sum_by-cons}
 use Rattle.rank_check.specs.declared.graph.Node.{Node}
-use Rattle.rank_check.specs.Graphs.{Shape, members_of, node_of, no_node}
+use Rattle.rank_check.specs.Graphs.{Shape, members_of, no_node}
 use Rattle.fair_search.specs.declared.pass.Pass.{Pass}
-use Rattle.fair_search.specs.Passing.{degree_of, looks_of, looks, edges, left, IsPass}
+use Rattle.fair_search.specs.Passing.{degree_of, looks_of, looks, edges, IsPass}
 
 -- a sum of smaller numbers is smaller
 sum_below : (f : Node → ℕ) (xs : List ℕ) (ns : List Node) → length xs ≡ length ns → ((v : ℕ) → get_or xs v 0 ≤ f (get_or ns v no_node)) → sum xs ≤ sum_by f ns

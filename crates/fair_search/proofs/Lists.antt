@@ -1,7 +1,7 @@
 -- The last element of a list, and what holds of an answer.
-use Rattle.std.proofs.Common.{◌≡◌, ℕ, ◌+◌, ◌-◌, ◌<◌, ◌≤◌, List, [], ◌∷◌, ◌++◌, length, get_or, take, Option, Some, Result, Ok, Err, inl, inr, refl, sym, ap, ◌∙◌, arith}
+use Rattle.std.proofs.Common.{◌≡◌, ℕ, ◌+◌, ◌-◌, ◌<◌, ◌≤◌, List, [], ◌∷◌, ◌++◌, length, get_or, take, Some, Result, Ok, Err, inl, inr, sym, ap, ◌∙◌, arith}
 use Rattle.std.specs.List.{Contains, slice_get}
-use Rattle.std.specs.Result.{OnOk}
+use Rattle.std.specs.Result.{OnOk, IfOk}
 use Rattle.std.proofs.Math.ListN.{length-append}
 use Rattle.std.proofs.Math.Seq.{get_or-append_seam}
 use Rattle.std.proofs.lemmas.Bool.{cases_eq}
@@ -26,6 +26,10 @@ without_last xs front x e =
 pub ok-then : {T E : Type 0} (r : Result T E) {P Q : Type 0} → (P → Q) → OnOk r P → OnOk r Q
 ok-then (Ok x) f there = f there
 ok-then (Err e) f there = tt
+
+pub ok-each : {T E : Type 0} (r : Result T E) {P Q : T → Type 0} → ((x : T) → P x → Q x) → IfOk r P → IfOk r Q
+ok-each (Ok x) f there = f x there
+ok-each (Err e) f there = tt
 
 -- the last number of a list that rises is the greatest
 pub up-last : (xs front : List ℕ) (b x : ℕ) → IsUp xs → xs ≡ front ++ b ∷ [] → Contains xs x → x ≤ b

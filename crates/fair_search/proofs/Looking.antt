@@ -1,17 +1,16 @@
 -- Steps of the pass: a member of the starting group, or of what a node leads to, is looked at.
-use Rattle.std.proofs.Common.{◌≡◌, ◌≢◌, ℕ, ◌+◌, ◌-◌, ◌*◌, ◌<◌, ◌≤◌, Bool, true, false, List, [], ◌∷◌, ◌++◌, length, get_or, set, sum, inl, inr, refl, sym, ap, ◌∙◌, subst, arith}
+use Rattle.std.proofs.Common.{◌≡◌, ◌≢◌, ℕ, ◌+◌, ◌<◌, ◌≤◌, true, false, List, [], ◌∷◌, ◌++◌, length, get_or, set, sum, inl, inr, refl, sym, ap, ◌∙◌, subst, arith}
 use Rattle.std.specs.List.{Contains}
 use Rattle.std.proofs.Math.ListN.{length-append}
 use Rattle.std.proofs.lemmas.Bool.{cases_eq, cases_lt}
 use Rattle.std.proofs.lemmas.List.{get_or_past}
 use Rattle.std.proofs.lemmas.List.Elements.{Contains-get_or}
 use Rattle.rank_check.specs.Graphs.{Shape, members_of, node_of, successors_of, IsEdge}
-use Rattle.fair_search.specs.declared.pass.Place.{Place}
-use Rattle.fair_search.specs.declared.pass.Place.TheVariants.{New, Open, Done}
+use Rattle.fair_search.specs.declared.pass.Place.TheVariants.{New}
 use Rattle.fair_search.specs.declared.pass.Pass.{Pass}
-use Rattle.fair_search.specs.Passing.{place_of, degree_of, looks_of, looks, edges, left, IsSettled, IsPass, MayOpen, IsLast, HasReached, Goes}
+use Rattle.fair_search.specs.Passing.{place_of, degree_of, looks_of, looks, edges, left, IsSettled, IsPass, MayOpen, HasReached, Goes}
 use Rattle.fair_search.proofs.Opening.{Opened, opened_pass, open_here}
-use Rattle.fair_search.proofs.Merging.{open≢new, Looked, looked_pass, Looped, looped_pass, loop_here, Spent, spent_pass}
+use Rattle.fair_search.proofs.Merging.{open≢new, Looked, looked_pass, Looped, looped_pass, loop_here, spent_pass}
 use Rattle.fair_search.proofs.Counting.{looks_start, looks_left, one_more, falls-look}
 
 -- how many members there are of what a node leads to, and an edge to one of them
@@ -52,36 +51,36 @@ begun_more g p is more seen = record {
   pending_open = is.pending_open;
   begun_within = omega (arith, more);
   begun_seen = λ k lt.
-    elim (cases_eq k p.begun) [
-      | inl e ↦ let P : ℕ → Type 0 = λ k. place_of p (get_or (members_of g 0) k 0) ≢ New in subst P (sym e) seen
-      | inr apart ↦ is.begun_seen k (omega (arith, lt, apart))
-    ];
+      elim (cases_eq k p.begun) [
+        | inl e ↦ let P : ℕ → Type 0 = λ k. place_of p (get_or (members_of g 0) k 0) ≢ New in subst P (sym e) seen
+        | inr apart ↦ is.begun_seen k (omega (arith, lt, apart))
+      ];
   closed = is.closed;
   ranked = is.ranked;
   explained = is.explained;
 }
 
 module _ (g : Shape) (p : Pass) (is : IsPass g p) (s : ℕ) where
+  -- where no component is open the stack is empty
+  pub no_stack : p.starts ≡ [] → length p.stack ≡ 0
+  no_stack idle =
+      elim (cases_eq (length p.stack) 0) [
+        | inl e ↦ e
+        | inr apart ↦
+            let P : List ℕ → Type 0 = λ xs. Contains xs 0 in
+            let there = subst P idle (is.first_start (omega (arith, apart))) in
+            absurd (omega (arith, there.1))
+      ]
+
   module _ (idle : p.starts ≡ []) (more : p.begun < length (members_of g 0)) where
     first : ℕ
     first = get_or (members_of g 0) p.begun 0
-
-    -- where no component is open the stack is empty
-    pub no_stack : length p.stack ≡ 0
-    no_stack =
-        elim (cases_eq (length p.stack) 0) [
-          | inl e ↦ e
-          | inr apart ↦
-              let P : List ℕ → Type 0 = λ xs. Contains xs 0 in
-              let there = subst P idle (is.first_start (omega (arith, apart))) in
-              absurd (omega (arith, there.1))
-        ]
 
     pub may_begin : (v : ℕ) → v ≡ get_or (members_of g 0) p.begun 0 → place_of p v ≡ New → v < length g.nodes → MayOpen g p v
     may_begin v e unseen made = record {
       unseen = unseen;
       made = made;
-      reached = λ i lt. absurd (omega (arith, lt, no_stack));
+      reached = λ i lt. absurd (omega (arith, lt, no_stack idle));
       starting = λ _. let P : ℕ → Type 0 = Contains (members_of g 0) in subst P (sym e) (Contains-get_or (members_of g 0) p.begun 0 more);
     }
 
@@ -93,8 +92,8 @@ module _ (g : Shape) (p : Pass) (is : IsPass g p) (s : ℕ) where
         record {
           pass = begun_more g (Opened g p is v may) (opened_pass g p is v may) more seen;
           falls =
-            falls-look (edges g) (looks p) (p.begun + 1 + sum p.explored) (length p.pending + length p.stack) _ (looks_start g p is more) (omega arith)
-            (omega (arith, length-append p.pending (length p.stack ∷ []), length-append p.stack (v ∷ [])));
+              falls-look (edges g) (looks p) (p.begun + 1 + sum p.explored) (length p.pending + length p.stack) _ (looks_start g p is more) (omega arith)
+              (omega (arith, length-append p.pending (length p.stack ∷ []), length-append p.stack (v ∷ [])));
           counted = omega arith;
         }
 
@@ -102,7 +101,7 @@ module _ (g : Shape) (p : Pass) (is : IsPass g p) (s : ℕ) where
     begin_seen v e seen = record {
       pass = begun_more g p is more (λ f. seen (ap (place_of p) e ∙ f));
       falls =
-        falls-look (edges g) (looks p) (p.begun + 1 + sum p.explored) (length p.pending + length p.stack) _ (looks_start g p is more) (omega arith) (omega arith);
+          falls-look (edges g) (looks p) (p.begun + 1 + sum p.explored) (length p.pending + length p.stack) _ (looks_start g p is more) (omega arith) (omega arith);
       counted = omega arith;
     }
 

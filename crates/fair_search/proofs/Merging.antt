@@ -1,11 +1,11 @@
 -- An edge back to an open node joins components; a member was looked at; a node has no member left.
-use Rattle.std.proofs.Common.{◌≡◌, ◌≢◌, ℕ, zero, suc, ◌+◌, ◌<◌, ◌≤◌, ◌⊎◌, Bool, true, false, cond, List, [], ◌∷◌, ◌++◌, length, get_or, set, sum, Option, Some, None, inl, inr, refl, sym, ap, ◌∙◌, subst, arith}
+use Rattle.std.proofs.Common.{◌≡◌, ◌≢◌, ℕ, zero, suc, ◌+◌, ◌<◌, ◌≤◌, ◌⊎◌, true, false, List, [], ◌∷◌, ◌++◌, length, get_or, set, inl, inr, refl, sym, ap, ◌∙◌, subst, arith}
 use Rattle.std.specs.List.{Contains}
 use Rattle.std.proofs.Math.ListN.{length-set, length-append, get_or-append}
 use Rattle.std.proofs.lemmas.Bool.{cases_eq, cases_lt}
 use Rattle.std.proofs.lemmas.List.{get_or-set_same, get_or-set_other, get_or_past}
 use Rattle.std.proofs.lemmas.List.Elements.{Contains-append_left, Contains-push_cases}
-use Rattle.rank_check.specs.Graphs.{Shape, members_of, successors_of, IsEdge}
+use Rattle.rank_check.specs.Graphs.{Shape, successors_of, IsEdge}
 use Rattle.fair_search.specs.declared.pass.Place.{Place}
 use Rattle.fair_search.specs.declared.pass.Place.TheVariants.{New, Open, Done}
 use Rattle.fair_search.specs.declared.pass.Pass.{Pass}
@@ -46,6 +46,7 @@ between (x ∷ xs) i j =
     rest : (b : ℕ) → Contains (x ∷ xs) b → ((b : ℕ) → Contains xs b → i < b → b ≤ j → ⊥) → (x ≡ b → b ≤ j → ⊥) → i < b → b ≤ j → ⊥
     rest b (zero, lt, at) none apart after upto = apart at upto
     rest b (suc k, lt, at) none apart after upto = none b (k, omega (arith, lt), at) after upto
+
     rest-low : (b : ℕ) → Contains (x ∷ xs) b → ((b : ℕ) → Contains xs b → i < b → b ≤ j → ⊥) → i < b → b ≤ j → (x ≡ b → ⊥) → ⊥
     rest-low b (zero, lt, at) none after upto apart = apart at
     rest-low b (suc k, lt, at) none after upto apart = none b (k, omega (arith, lt), at) after upto
@@ -89,7 +90,7 @@ module _ (g : Shape) (p : Pass) (is : IsPass g p) where
     back : (a b : ℕ) → a < b → b < length p.stack → NoStart Merged a b → (s : ℕ) → Contains p.starts s → a < s → s ≤ b → Leads g (get_or p.stack b 0) (get_or p.stack a 0)
     back a b lt there none s start after upto =
         let past : j < s =
-          elim (cases_lt j s) [ inl past ↦ past | inr le ↦ absurd (none s (kept s start le) after upto) ]
+        elim (cases_lt j s) [ inl past ↦ past | inr le ↦ absurd (none s (kept s start le) after upto) ]
         in
         let back_edge = from_all i (get_or p.stack j 0) last edge b there in
         elim (cases_eq a j) [
@@ -180,10 +181,10 @@ module _ (g : Shape) (p : Pass) (is : IsPass g p) where
       looked = is.looked;
       loop_seen = λ w i k at lt same. looped w (is.loop_seen w i k at lt same);
       loop_there = λ w at.
-        elim (cases_eq w v) [
-          | inl e ↦ let P : ℕ → Type 0 = λ w. IsEdge g w w in subst P (sym e) edge
-          | inr apart ↦ is.loop_there w (sym (get_or-set_other p.loops v w true false apart) ∙ at)
-        ];
+          elim (cases_eq w v) [
+            | inl e ↦ let P : ℕ → Type 0 = λ w. IsEdge g w w in subst P (sym e) edge
+            | inr apart ↦ is.loop_there w (sym (get_or-set_other p.loops v w true false apart) ∙ at)
+          ];
       waiting = is.waiting;
       pending_up = is.pending_up;
       pending_open = is.pending_open;
@@ -335,9 +336,9 @@ module _ (g : Shape) (p : Pass) (is : IsPass g p) where
       loop_seen = is.loop_seen;
       loop_there = is.loop_there;
       waiting = λ v a at left.
-        still a (is.waiting v a at left) (λ e.
-        let same : get_or p.stack i 0 ≡ v = (λ t. get_or p.stack (sym e t) 0) ∙ (is.opened v a at).1 in
-        omega (arith, spent, left, ap (degree_of g) same, ap (looks_of p) same));
+          still a (is.waiting v a at left) (λ e.
+          let same : get_or p.stack i 0 ≡ v = (λ t. get_or p.stack (sym e t) 0) ∙ (is.opened v a at).1 in
+          omega (arith, spent, left, ap (degree_of g) same, ap (looks_of p) same));
       pending_up = up-front front i (let P : List ℕ → Type 0 = IsUp in subst P ends is.pending_up);
       pending_open = λ a there. is.pending_open a (let P : List ℕ → Type 0 = λ xs. Contains xs a in subst P (sym ends) (Contains-append_left front (i ∷ []) a there));
       begun_within = is.begun_within;

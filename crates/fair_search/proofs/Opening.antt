@@ -1,5 +1,5 @@
 -- A node that was not seen is put on the stack, as a component of its own.
-use Rattle.std.proofs.Common.{◌≡◌, ◌≢◌, ℕ, zero, suc, ◌+◌, ◌<◌, ◌≤◌, ◌⊎◌, Bool, true, false, cond, List, [], ◌∷◌, ◌++◌, length, get_or, set, count_by, Option, Some, None, inl, inr, refl, sym, ap, ◌∙◌, subst, arith}
+use Rattle.std.proofs.Common.{◌≡◌, ◌≢◌, ℕ, ◌+◌, ◌<◌, ◌≤◌, ◌⊎◌, true, false, cond, List, [], ◌∷◌, ◌++◌, length, get_or, set, count_by, Option, Some, None, inl, inr, sym, ap, ◌∙◌, subst, arith}
 use Rattle.std.specs.List.{Contains}
 use Rattle.std.proofs.Math.ListN.{length-set, length-append, get_or-append}
 use Rattle.std.proofs.Math.Seq.{get_or-append_seam}
@@ -7,12 +7,12 @@ use Rattle.std.proofs.lemmas.Bool.{cases_eq}
 use Rattle.std.proofs.lemmas.List.{get_or-set_same, get_or-set_other}
 use Rattle.std.proofs.lemmas.List.Elements.{Contains-get_or, Contains-push, Contains-append_left, Contains-push_cases}
 use Rattle.std.proofs.lemmas.List.Sums.{sum_by-set}
-use Rattle.rank_check.specs.Graphs.{Shape, members_of, successors_of, IsEdge, Postpones}
+use Rattle.rank_check.specs.Graphs.{Shape, members_of, successors_of, IsEdge}
 use Rattle.fair_search.specs.declared.pass.Place.{Place}
 use Rattle.fair_search.specs.declared.pass.Place.TheVariants.{New, Open, Done}
 use Rattle.fair_search.specs.declared.pass.Pass.{Pass}
 use Rattle.fair_search.specs.Paths.{Leads}
-use Rattle.fair_search.specs.Passing.{place_of, is_seen, degree_of, looks_of, looks, IsUp, NoStart, SettledAt, IsSettled, ExplainsDone, IsPass, MayOpen}
+use Rattle.fair_search.specs.Passing.{place_of, is_seen, degree_of, looks_of, IsUp, NoStart, SettledAt, IsSettled, ExplainsDone, IsPass, MayOpen}
 
 -- a list that rises, with a greater number last
 pub up-push : (xs : List ℕ) (n : ℕ) → IsUp xs → ((x : ℕ) → Contains xs x → x < n) → IsUp (xs ++ n ∷ [])

@@ -1,5 +1,5 @@
 -- A node to which one of the last component leads is taken up: it is opened, joined, or done.
-use Rattle.std.proofs.Common.{◌≡◌, ℕ, ◌+◌, ◌<◌, ◌≤◌, List, [], ◌∷◌, ◌++◌, length, get_or, refl, sym, ap, ◌∙◌, subst, arith}
+use Rattle.std.proofs.Common.{◌≡◌, ℕ, ◌<◌, ◌≤◌, List, [], ◌∷◌, length, get_or, refl, sym, ap, subst, arith}
 use Rattle.std.specs.List.{Contains}
 use Rattle.std.proofs.Math.ListN.{length-append, get_or-append}
 use Rattle.rank_check.specs.Graphs.{Shape, IsEdge}
@@ -24,8 +24,8 @@ module _ (g : Shape) (p : Pass) (is : IsPass g p) (i w : ℕ) (last : IsLast p i
     reached_new = record {
       pass = opened_pass g p is w (may_open unseen made);
       settled =
-        (let P : Place → Type 0 = SettledAt (Opened g p is w (may_open unseen made)) i in
-        subst P (sym (open_here g p is w (may_open unseen made))) (λ b there lt le. omega (arith, lt, le, last.0)));
+          (let P : Place → Type 0 = SettledAt (Opened g p is w (may_open unseen made)) i in
+          subst P (sym (open_here g p is w (may_open unseen made))) (λ b there lt le. omega (arith, lt, le, last.0)));
       explored = refl;
       begun = refl;
       standing = omega (arith, length-append p.stack (w ∷ []), last.0);
@@ -44,8 +44,8 @@ module _ (g : Shape) (p : Pass) (is : IsPass g p) (i w : ℕ) (last : IsLast p i
     reached_open = record {
       pass = merged_pass g p is i j last edge_j (is.opened w j at).0 starts rises was kept;
       settled =
-        (let P : Place → Type 0 = SettledAt (Merged g p is i j last edge_j (is.opened w j at).0 starts rises was kept) i in
-        subst P (ap (place_of p) node_j) (merged_settled g p is i j last edge_j (is.opened w j at).0 starts rises was kept));
+          (let P : Place → Type 0 = SettledAt (Merged g p is i j last edge_j (is.opened w j at).0 starts rises was kept) i in
+          subst P (ap (place_of p) node_j) (merged_settled g p is i j last edge_j (is.opened w j at).0 starts rises was kept));
       explored = refl;
       begun = refl;
       standing = last.0;

@@ -1,5 +1,5 @@
 -- Nodes of a component are done one after another.
-use Rattle.std.proofs.Common.{◌≡◌, ◌≢◌, ℕ, ◌+◌, ◌<◌, ◌≤◌, ◌⊎◌, Bool, true, false, cond, List, [], ◌∷◌, ◌++◌, length, get_or, set, take, count_by, inl, inr, refl, sym, ap, ◌∙◌, subst, arith}
+use Rattle.std.proofs.Common.{◌≡◌, ◌≢◌, ℕ, ◌+◌, ◌<◌, ◌≤◌, Bool, true, cond, List, [], ◌∷◌, ◌++◌, length, get_or, set, take, inl, inr, refl, sym, ap, ◌∙◌, subst, arith}
 use Rattle.std.specs.List.{Contains, All}
 use Rattle.std.proofs.Math.ListN.{length-set}
 use Rattle.std.proofs.lemmas.Bool.{cases_eq}
@@ -7,7 +7,7 @@ use Rattle.std.proofs.lemmas.List.{get_or-set_same, get_or-set_other, take_more,
 use Rattle.std.proofs.lemmas.List.Elements.{Contains-push, Contains-append_left, Contains-push_cases}
 use Rattle.std.proofs.lemmas.List.Sums.{sum_by-set}
 use Rattle.fair_search.specs.declared.pass.Place.{Place}
-use Rattle.fair_search.specs.declared.pass.Place.TheVariants.{New, Open, Done}
+use Rattle.fair_search.specs.declared.pass.Place.TheVariants.{New, Done}
 use Rattle.fair_search.specs.Passing.{is_seen, AreDone}
 
 pub done-none : (r : ℕ) (old : List Place) → AreDone [] r old old
@@ -59,10 +59,10 @@ module _ (xs : List ℕ) (r : ℕ) (old new : List Place) (so : AreDone xs r old
   done-more = record {
     long = length-set new v (Done r) ∙ so.long;
     count =
-      (let unit : Bool → ℕ = λ b. cond b 1 0 in
-      let one : unit (is_seen (get_or new v New)) ≡ 1 = ap unit (so.seen v ∙ was) in
-      let sums = sum_by-set (λ x. cond (is_seen x) 1 0) new v (Done r) New there in
-      omega (arith, sums, one, so.count));
+        (let unit : Bool → ℕ = λ b. cond b 1 0 in
+        let one : unit (is_seen (get_or new v New)) ≡ 1 = ap unit (so.seen v ∙ was) in
+        let sums = sum_by-set (λ x. cond (is_seen x) 1 0) new v (Done r) New there in
+        omega (arith, sums, one, so.count));
     seen = next_seen;
     done = next_done;
     kept = next_kept;

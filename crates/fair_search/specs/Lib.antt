@@ -1,3 +1,5 @@
-pub mod Paths
+pub mod Answers
 pub mod Passing
+pub mod Paths
+pub mod Tours
 pub mod Verdicts

@@ -5,7 +5,6 @@
 -- later ones. Done nodes are those of finished components, ranked in the order in which they ended.
 use Rattle.std.specs.Prelude.{◌≡◌, ◌≢◌, ℕ, ◌+◌, ◌-◌, ◌*◌, ◌<◌, ◌≤◌, Bool, true, false, List, [], ◌∷◌, ◌++◌, drop, length, slice_index, slice_index_or, sum, count_by, Option, Some, None}
 use Rattle.std.specs.List.{Contains, sum_by}
-use Rattle.rank_check.specs.declared.graph.Node.{Node}
 use Rattle.rank_check.specs.Graphs.{Shape, members_of, successors_of, IsEdge, Postpones}
 use Rattle.fair_search.specs.declared.pass.Place.{Place}
 use Rattle.fair_search.specs.declared.pass.Place.TheVariants.{New, Open, Done}
@@ -19,6 +18,12 @@ abbrev pub is_seen : Place → Bool
 is_seen New = false
 is_seen (Open i) = true
 is_seen (Done r) = true
+
+-- the rank of a done node
+abbrev pub rank_at : Place → Option ℕ
+rank_at New = None
+rank_at (Open i) = None
+rank_at (Done r) = Some r
 
 abbrev pub degree_of : Shape → ℕ → ℕ
 degree_of g v = length (successors_of g v)

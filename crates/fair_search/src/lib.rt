@@ -2,4 +2,11 @@
 #![tactic(auto)]
 
 mod component;
+mod fair_walk;
+mod found;
+mod lasso;
 mod pass;
+mod path;
+
+pub use fair_walk::search;
+pub use found::{FairLasso, Found};

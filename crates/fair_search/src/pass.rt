@@ -8,12 +8,13 @@ ghost use Rattle.std.specs.Prelude.{◌≡◌, ◌<◌, ◌≤◌, ◌+◌, ◌-
 ghost use Rattle.std.specs.Bool.{OnTrue, OnFalse};
 ghost use Rattle.std.specs.List.{Contains};
 ghost use Rattle.rank_check.specs.Graphs.{Shape, members_of, IsEdge};
-ghost use Rattle.fair_search.specs.Passing.{edges, left, looks, IsUp, IsPass, IsLast, HasReached, IsFairPart, Goes, IsOver, IsFairAt};
+ghost use Rattle.fair_search.specs.Passing.{edges, left, looks, IsUp, IsPass, IsLast, HasReached, IsFairPart, Goes, IsOver, IsFairAt, rank_at};
+ghost use Rattle.rank_check.specs.Ranking.{IsRanked};
 ghost use Rattle.fair_search.specs.Verdicts.{Follows};
 
 use crate::component::{Verdict, judge, settle};
 use hy_base::{List, M, NumList, Steps};
-use rank_check::Graph;
+use rank_check::{Graph, Ranks};
 use std::alloc::Global;
 use std::sync::ledger::Ledger;
 
@@ -26,6 +27,16 @@ pub(crate) enum Place {
     Open(u32),
     /// In a finished component, which has this rank.
     Done(u32),
+}
+
+/// The rank of a node that is done.
+fn rank_of(place: Place) -> Option<u32>
+    ensures { result ≡ rank_at place }
+{
+    match place {
+        Place::Done(rank) => Some(rank),
+        _ => None,
+    }
 }
 
 /// How far a pass has come.
@@ -83,7 +94,7 @@ fn last_from(numbers: &NumList, least: u32) -> Option<u32>
 }
 
 /// The numbers of a list from a place on.
-fn from_place(numbers: &NumList, place: u32) -> &[u32]
+pub(crate) fn from_place(numbers: &NumList, place: u32) -> &[u32]
     requires { place ≤ length numbers.now }
     ensures { result.now ≡ drop place numbers.now }
 {
@@ -267,5 +278,19 @@ impl Pass {
                 Next::Found(start) => return Ok(Some(start)),
             }
         }
+    }
+
+    /// The ranks of a pass that is over.
+    pub(crate) fn into_ranks(self, alloc: Global) -> M<Ranks>
+        ensures { (g : Shape) → IsOver g self → IfOk result (IsRanked g) }
+    {
+        let mut ranks = List::new(alloc);
+        for place in self.places.as_slice() {
+            ranks.push(rank_of(*place))?;
+        }
+        Ok(Ranks {
+            ranks,
+            reasons: self.reasons,
+        })
     }
 }

@@ -14,14 +14,14 @@ loop-until-preserved c =
 pub returns : goal.returns
 returns c = record {
   inner = λ one.
-    elim c.else-nodes-eq1.branch [
-      | else-nodes-eq1-via-then-nodes-eq1+else-not-looped w ↦ c.requires.loop_there w.if-not-looped.false
-      | else-nodes-eq1-via-else-nodes-eq1 w ↦ absurd (w.if-nodes-eq1.false one)
-    ];
+      elim c.else-nodes-eq1.branch [
+        | else-nodes-eq1-via-then-nodes-eq1+else-not-looped w ↦ c.requires.loop_there w.if-not-looped.false
+        | else-nodes-eq1-via-else-nodes-eq1 w ↦ absurd (w.if-nodes-eq1.false one)
+      ];
   free = λ until there.
-    let (k, lt, at) = there in
-    let untils = (node_of c.args.g.now (get_or c.args.nodes.now 0 0)).postponed in
-    let e : c.as_slice-until-items.result.now ≡ untils = c.as_slice-until-items.ensures ∙ c.postponed.ensures in
-    let P : ℕ → Type 0 = λ u. (v : ℕ) × Contains c.args.nodes.now v × ¬ Postpones c.args.g.now v u in
-    subst P (get_or_default untils k 0 until lt ∙ at) (c.loop-until.invariant k (omega (arith, lt, ap length e)));
+      let (k, lt, at) = there in
+      let untils = (node_of c.args.g.now (get_or c.args.nodes.now 0 0)).postponed in
+      let e : c.as_slice-until-items.result.now ≡ untils = c.as_slice-until-items.ensures ∙ c.postponed.ensures in
+      let P : ℕ → Type 0 = λ u. (v : ℕ) × Contains c.args.nodes.now v × ¬ Postpones c.args.g.now v u in
+      subst P (get_or_default untils k 0 until lt ∙ at) (c.loop-until.invariant k (omega (arith, lt, ap length e)));
 }

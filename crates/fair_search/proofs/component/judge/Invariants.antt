@@ -1,4 +1,4 @@
-use Rattle.std.proofs.Common.{ℕ, ◌<◌, get_or, slice_index}
+use Rattle.std.proofs.Common.{ℕ, ◌<◌, get_or}
 use Rattle.std.specs.List.{Contains}
 use Rattle.rank_check.specs.Graphs.{Postpones, node_of}
 use Rattle.fair_search.proofs.component.judge.Given as goal

@@ -1,4 +1,4 @@
-use Rattle.std.proofs.Common.{ℕ, ◌-◌, ◌≡◌, List, length, take, Some, arith, sym, subst}
+use Rattle.std.proofs.Common.{ℕ, ◌-◌, ◌≡◌, length, take, Some, arith, subst}
 use Rattle.std.specs.List.{slice_get}
 use Rattle.fair_search.proofs.Lists.{last_apart}
 use Rattle.fair_search.proofs.pass.last.Goals as goal

@@ -1,4 +1,4 @@
-use Rattle.std.proofs.Common.{◌+◌, ◌≡◌, ◌≢◌, ℕ, sym, ap, ◌∙◌, subst}
+use Rattle.std.proofs.Common.{◌+◌, ℕ, sym, ◌∙◌, subst}
 use Rattle.std.proofs.lemmas.Option.{get_or_from_slice_get}
 use Rattle.fair_search.specs.declared.pass.Place.TheVariants.{New}
 use Rattle.fair_search.specs.declared.pass.Pass.{Pass}
@@ -15,8 +15,8 @@ returns-in-New-clause-goes g c =
     let Q : ℕ → Type 0 = λ s. Goes c.args.g.now p c.open.new.self c.args.steps.now s in
     ok-then c.open.result
     (λ e.
-      subst Q (sym c.member_at-node.ensures.step)
-      (subst P (sym e) (begin_new c.args.g.now p c.requires.pass c.args.steps.now c.requires.idle c.requires.more c.member_at-node.result c.member_at-node.ensures.member at c.member_at-node.ensures.made)))
+    subst Q (sym c.member_at-node.ensures.step)
+    (subst P (sym e) (begin_new c.args.g.now p c.requires.pass c.args.steps.now c.requires.idle c.requires.more c.member_at-node.result c.member_at-node.ensures.member at c.member_at-node.ensures.made)))
     c.open.ensures
 
 pub returns-in_default-clause-goes : goal.returns-in_default-clause-goes

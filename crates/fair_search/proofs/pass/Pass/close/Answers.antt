@@ -1,8 +1,7 @@
-use Rattle.std.proofs.Common.{◌≡◌, ℕ, ◌-◌, ◌<◌, ◌≤◌, ◌++◌, ◌∷◌, [], true, false, List, length, get_or, take, drop, refl, sym, ap, ◌∙◌, subst, arith}
+use Rattle.std.proofs.Common.{◌≡◌, ℕ, ◌-◌, ◌<◌, true, false, List, length, get_or, take, drop, refl, sym, ap, ◌∙◌, subst, arith}
 use Rattle.std.specs.List.{All}
 use Rattle.std.proofs.lemmas.Option.{get_or_from_slice_get}
-use Rattle.rank_check.specs.Graphs.{Shape, IsEdge}
-use Rattle.fair_search.specs.declared.pass.Place.{Place}
+use Rattle.rank_check.specs.Graphs.{IsEdge}
 use Rattle.fair_search.specs.declared.pass.Place.TheVariants.{New}
 use Rattle.fair_search.specs.declared.pass.Pass.{Pass}
 use Rattle.fair_search.specs.Passing.{is_seen, looks, left, IsPass, AreDone, ExplainsAll}
@@ -102,7 +101,7 @@ returns-in_ok-push-in-Ends-clause-ended c =
     let starts = c.truncate-in-Ends.ensures ∙ (λ t. take (c.len.ensures t - 1) p.starts) ∙ without_last p.starts front b ends in
     let ended : Pass = record p { places = c.settle.new.places; stack = c.truncate.new.self; starts = c.truncate-in-Ends.new.self; reasons = c.push.new.self } in
     let same : Closed c.args.g.now p c.requires.pass front b ends c.requires.spent reason why c.settle.new.places done ≡ ended =
-      λ t. record p { places = c.settle.new.places; stack = sym c.truncate.ensures t; starts = sym starts t; reasons = sym c.in_ok-push-in-Ends.ensures.added t }
+    λ t. record p { places = c.settle.new.places; stack = sym c.truncate.ensures t; starts = sym starts t; reasons = sym c.in_ok-push-in-Ends.ensures.added t }
     in
     let P : Pass → Type 0 = λ q. IsPass c.args.g.now q × (left c.args.g.now q < left c.args.g.now p) × (looks q ≡ looks p) in
     subst P same

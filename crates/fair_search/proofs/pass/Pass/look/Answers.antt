@@ -1,8 +1,7 @@
-use Rattle.std.proofs.Common.{◌≡◌, ◌≢◌, ℕ, ◌+◌, ◌-◌, ◌<◌, ◌≤◌, true, List, length, get_or, set, take, sym, ap, ◌∙◌, subst, arith}
+use Rattle.std.proofs.Common.{◌≡◌, ℕ, ◌+◌, ◌-◌, ◌<◌, true, List, length, set, take, sym, ◌∙◌, subst, arith}
 use Rattle.std.proofs.lemmas.Option.{get_or_from_slice_get}
-use Rattle.rank_check.specs.Graphs.{members_of, successors_of, IsEdge}
 use Rattle.fair_search.specs.declared.pass.Pass.{Pass}
-use Rattle.fair_search.specs.Passing.{degree_of, looks_of, looks, edges, Goes}
+use Rattle.fair_search.specs.Passing.{degree_of, Goes}
 use Rattle.fair_search.proofs.Counting.{looks_within, looks_left}
 use Rattle.fair_search.proofs.Lists.{without_last}
 use Rattle.fair_search.proofs.Looking.{degree_is, member_is, edge_is, look_spent, stack_made, look_other, look_loop}
@@ -125,7 +124,7 @@ returns-then-next-node-clause-goes g c =
     let S : ℕ → Type 0 = λ s. Goes c.args.g.now p (record q { explored = c.set.new.self; loops = c.set-then-next-node.new.self }) c.args.steps.now s in
     let P : Pass → Type 0 = λ r. Goes c.args.g.now p r c.args.steps.now (c.args.steps.now + 1) in
     let same : record q { explored = set q.explored node (c.at-i.result.now + 1); loops = set q.loops node true } ≡ record q { explored = c.set.new.self; loops = c.set-then-next-node.new.self } =
-      λ t. record q { explored = sym c.set.ensures t; loops = sym c.set-then-next-node.ensures t }
+    λ t. record q { explored = sym c.set.ensures t; loops = sym c.set-then-next-node.ensures t }
     in
     subst S (sym c.member_at-next.ensures.step) (subst P same (look_loop c.args.g.now p c.requires.pass c.args.steps.now c.args.place c.member_at-next.result q c.in_ok-reach.ensures node c.at-i.result.now c.requires.last.0 at is_k more member c.if-next-node.true))
 

@@ -1,4 +1,4 @@
-use Rattle.std.proofs.Common.{◌≡◌, ℕ, false, length, replicate, sym, ap, ◌∙◌, subst}
+use Rattle.std.proofs.Common.{◌≡◌, false, replicate, sym, ap, ◌∙◌, subst}
 use Rattle.fair_search.specs.declared.pass.Place.TheVariants.{New}
 use Rattle.fair_search.specs.declared.pass.Pass.{Pass}
 use Rattle.fair_search.specs.Passing.{IsPass}
