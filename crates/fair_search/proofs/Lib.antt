@@ -1,0 +1,12 @@
+pub mod Beginning
+pub mod Closing
+pub mod Counting
+pub mod Finishing
+pub mod Lists
+pub mod Looking
+pub mod Merging
+pub mod Opening
+pub mod Reaching
+pub mod Settling
+pub mod Spreading
+pub mod Touring
