@@ -95,7 +95,7 @@ module _ (gates : List Gate) where
   last-past : (list : List ℕ) (k i : ℕ) → length list ≤ i → with_last list k i ≡ k
   last-past list k i le = elim (cases_lt i (length list)) as (λ s. elim s [ inl inside ↦ get_or list i 0 | inr past ↦ k ] ≡ k) [ inl inside ↦ absurd (omega arith) | inr past ↦ refl ]
 
-  full : (list : List ℕ) → IsOrder gates list → length list ≡ length gates → (k : ℕ) → k < length gates → holds k list ≡ false → ⊥
+  pub full : (list : List ℕ) → IsOrder gates list → length list ≡ length gates → (k : ℕ) → k < length gates → holds k list ≡ false → ⊥
   full list good long k lt missing =
       let (i, j, less, le, same) = two-equal (length gates) (with_last list k) (λ i le. elim (cases_lt i (length list)) [
         | inl inside ↦ omega (arith, last-inside list k i inside, (good i inside).0)

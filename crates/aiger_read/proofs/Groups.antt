@@ -24,7 +24,7 @@ drop-past-front : (xs ys : List ℕ) (n : ℕ) → drop (length xs + n) (xs ++ y
 drop-past-front [] ys n = let q : 0 + n ≡ n = omega arith in ap (λ m. drop m ys) q
 drop-past-front (x ∷ xs) ys n = let q : length (x ∷ xs) + n ≡ suc (length xs + n) = omega arith in ap (λ m. drop m (x ∷ xs ++ ys)) q ∙ drop-past-front xs ys n
 
-rest-of : (ps : List (List ℕ)) (k : ℕ) → concat (drop k ps) ≡ drop (place ps k) (concat ps)
+pub rest-of : (ps : List (List ℕ)) (k : ℕ) → concat (drop k ps) ≡ drop (place ps k) (concat ps)
 rest-of ps zero = refl
 rest-of [] (suc k) = refl
 rest-of (p ∷ ps) (suc k) =

@@ -259,7 +259,7 @@ module _ (h : Header) (bytes : List ℕ) where
   pub use-clear : (k : ℕ) → list_any (is_undefined h bytes) (used (section h bytes k) (row h bytes k)) ≡ false → of_uses h bytes k ≡ None
   use-clear k e = ap (λ b. when b (fault Undefined (line_start bytes k))) e
 
-  none-first : {A : Type 0} (n : ℕ) (find : ℕ → Option A) → ((k : ℕ) → k < n → find k ≡ None) → first_some n find ≡ None
+  pub none-first : {A : Type 0} (n : ℕ) (find : ℕ → Option A) → ((k : ℕ) → k < n → find k ≡ None) → first_some n find ≡ None
   none-first zero find each = refl
   none-first (suc n) find each = ap (λ o. otherwise o (find n)) (none-first n find (λ k lt. each k (omega arith))) ∙ each n (omega arith)
 

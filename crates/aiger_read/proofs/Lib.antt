@@ -20,3 +20,7 @@ pub mod Groups
 pub mod Known
 pub mod Heaps
 pub mod Takes
+pub mod Reach
+pub mod LawLemmas
+pub mod Apart
+pub mod Composing

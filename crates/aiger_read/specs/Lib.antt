@@ -12,3 +12,5 @@ pub mod Texts
 pub mod Words
 pub mod Uses
 pub mod Takings
+pub mod Reaching
+pub mod Bodies

@@ -74,6 +74,7 @@ pub record AllRead (h : Header) (bytes : List ℕ) (lines : Lines) : Type 0 wher
   pub clear : first_some (counted h bytes) (of_line h bytes) ≡ None
   pub marks : h.binary ≡ false → AreMarks h bytes (counted h bytes) lines.marks
   pub content : lines.content ≡ line_content h bytes
+  pub few : literals h bytes ≤ 10000000000 * 67108864
 
 abbrev pub IsSectionsAnswer : Header → List ℕ → Lines → Result (Unit {0}) AigerError → Type 0
 IsSectionsAnswer h bytes lines (Ok _) = AllRead h bytes lines

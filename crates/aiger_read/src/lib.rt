@@ -1,10 +1,13 @@
 //! Circuit texts: which bytes are which net, and what is wrong with all others.
 #![tactic(auto)]
 
+mod body;
 mod content;
+mod cycle;
 mod deltas;
 mod error;
 mod header;
+pub mod laws;
 mod lines;
 mod order;
 mod ready;
@@ -12,4 +15,7 @@ mod section;
 mod text;
 mod uses;
 
+pub use body::{Body, read_body};
+pub use content::{Content, Gate, Latch};
 pub use error::{AigKind, AigerError};
+pub use header::Header;

@@ -27,12 +27,12 @@ pub struct Taking {
     ready: Ready,
 }
 
-/// Which and defines each variable.
-fn definers(alloc: Global, gates: &[Gate], top: u32) -> M<Definers>
+/// Which and defines each variable up to the greatest, `top`.
+pub fn definers(alloc: Global, gates: &[Gate], top: u32) -> M<Definers>
     requires apart { AreApart gates.now top }
     requires few { length gates.now ≤ 1048576 }
     requires top { top ≤ 1048576 }
-    ensures { IfOk result (λ list. AreDefiners gates.now top (length gates.now) list) }
+    ensures { IfOk result (λ list. AreSetUp gates.now list) }
 {
     let mut list = no_definers(alloc, top)?;
     for k in 0..gates.len() {
@@ -54,7 +54,7 @@ fn no_definers(alloc: Global, top: u32) -> M<Definers>
 }
 
 /// The and that defines the literal's variable.
-fn definer(definers: &Definers, l: u32) -> Option<u32>
+pub fn definer(definers: &Definers, l: u32) -> Option<u32>
     requires { l / 2 < length definers.now }
     ensures { result ≡ slice_index_or definers.now (l / 2) None }
 {
@@ -62,10 +62,8 @@ fn definer(definers: &Definers, l: u32) -> Option<u32>
 }
 
 /// Which ands use each and.
-fn users(alloc: Global, gates: &[Gate], top: u32, definers: &Definers) -> M<Users>
-    requires apart { AreApart gates.now top }
-    requires few { length gates.now ≤ 1048576 }
-    requires definers { AreDefiners gates.now top (length gates.now) definers.now }
+fn users(alloc: Global, gates: &[Gate], definers: &Definers) -> M<Users>
+    requires { AreSetUp gates.now definers.now }
     ensures { IfOk result (λ users. AreUsers gates.now (length gates.now) users.items) }
 {
     let mut users = no_users(alloc, gates)?;
@@ -234,18 +232,15 @@ fn take_next(
 
 /// The numbers of the ands in the order in which they are taken: again and again the first in the
 /// order of the text that uses only what is taken. Those that depend on themselves, or on one that
-/// does, are left out. `top` is the greatest variable. In time n log n.
-pub fn order(alloc: Global, gates: &[Gate], top: u32) -> M<List<u32>>
-    requires apart { AreApart gates.now top }
-    requires few { length gates.now ≤ 1048576 }
-    requires top { top ≤ 1048576 }
+/// does, are left out. In time n log n.
+pub fn order(alloc: Global, gates: &[Gate], definers: &Definers) -> M<List<u32>>
+    requires { AreSetUp gates.now definers.now }
     ensures { IfOk result (λ list. list ≡ order gates.now) }
 {
-    let definers = definers(alloc, gates, top)?;
-    let users = users(alloc, gates, top, &definers)?;
-    let mut taking = first_ready(alloc, gates, &definers)?;
+    let users = users(alloc, gates, definers)?;
+    let mut taking = first_ready(alloc, gates, definers)?;
     for _ in gates {
-        take_next(gates, &definers, &users, &mut taking)?;
+        take_next(gates, definers, &users, &mut taking)?;
     }
     Ok(taking.order)
 }

@@ -1,4 +1,4 @@
-use Rattle.std.proofs.Common.{◌≡◌, ◌+◌, ◌≤◌, ◌<◌, ◌∙◌, ℕ, suc, sym, ap, subst, arith, take}
+use Rattle.std.proofs.Common.{◌≡◌, ◌+◌, ◌*◌, ◌≤◌, ◌<◌, ◌∙◌, ℕ, suc, sym, ap, subst, arith, take}
 use Rattle.std.proofs.lemmas.Result.{err_from_is_err_and}
 use Rattle.std.specs.Prelude.{sum, slice_index}
 use Rattle.aiger_read.specs.declared.content.Content.{Content}
@@ -7,7 +7,7 @@ use Rattle.aiger_read.specs.declared.section.Section.{Section}
 use Rattle.aiger_read.specs.Files.{plan, counts, counted, number_in, section_rows, section as section_of}
 use Rattle.aiger_read.specs.Keeping.{keep_all}
 use Rattle.aiger_read.specs.Outcomes.{of_line}
-use Rattle.aiger_read.specs.Passes.{AreLines, rows_from}
+use Rattle.aiger_read.specs.Passes.{AreLines, rows_from, line_content}
 use Rattle.aiger_read.proofs.Stages.{tells_more}
 use Rattle.aiger_read.proofs.Kept.{kept_to, section_at, kept_all, section_lines, section_count, section_rows_are, sum_next, sum_below}
 use Rattle.aiger_read.proofs.lines.read_sections.Goals as goal
@@ -68,9 +68,11 @@ returns c =
     let nine : c.loop-i.i ≡ 9 = omega (arith, c.loop-i.auto.i-end, c.loop-i-test.false) in
     let P : ℕ → Type 0 = λ i. AreLines h bytes (sum (take i (plan h bytes))) c.loop-i.lines in
     let all = subst P nine c.loop-i.invariant.lines in
+    let kept : c.loop-i.lines.content ≡ line_content h bytes = c.loop-i.invariant.kept ∙ ap (kept_to h bytes) nine ∙ kept_all h bytes in
     record {
       start = all.start;
       clear = all.clear;
       marks = all.marks;
-      content = c.loop-i.invariant.kept ∙ ap (kept_to h bytes) nine ∙ kept_all h bytes;
+      content = kept;
+      few = omega (arith, all.small, all.start.early, all.start.within, ap (λ (d : Content). d.justice) kept);
     }

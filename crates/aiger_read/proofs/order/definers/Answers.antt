@@ -13,4 +13,4 @@ pub returns : goal.returns
 returns c =
     let q : c.loop-k.k ≡ length c.args.gates.now = omega arith in
     let P : ℕ → Type 0 = λ n. AreDefiners c.args.gates.now c.args.top n c.loop-k.list in
-    subst P q c.loop-k.invariant
+    record { top = c.args.top; apart = c.requires.apart; few = c.requires.few; definers_are = subst P q c.loop-k.invariant }
