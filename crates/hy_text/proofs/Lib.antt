@@ -1,3 +1,5 @@
+pub mod PrintedWords
 pub mod Printing
 pub mod ReadingSets
 pub mod ReadingWords
+pub mod Spelling
