@@ -1,4 +1,6 @@
 pub mod Once
+pub mod PrintedWords
 pub mod Printing
 pub mod ReadingSets
 pub mod ReadingWords
+pub mod Spelling
