@@ -1,3 +1,4 @@
 mod CallLemmas
 mod FileLemmas
 mod Pieces
+pub mod Readings

@@ -1,6 +1,7 @@
 //! A shelf over real files. It is not proved what a file holds, so this shelf tells nothing.
 
 ghost use Rattle.std.specs.Prelude.{◌≡◌, None, []};
+ghost use Rattle.hy_base.specs.Fakes.{CountsCall};
 
 use crate::calls::one_more;
 use crate::shelf::{Shelf, ShelfFailed};
@@ -56,6 +57,8 @@ impl<R: Files + Input> Shelf for DiskShelf<R> {
     ghost open_faults = { λ s. s.open_faults };
 
     ghost read_faults = { λ s. s.read_faults };
+
+    ghost called = { λ s call t. CountsCall s.open_faults s.read_faults t.open_faults t.read_faults call };
 
     fn open_file(&mut self, name: &str) -> Result<(), ShelfFailed> {
         self.source = Source::Nothing;

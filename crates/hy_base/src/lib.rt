@@ -13,6 +13,7 @@ mod reading;
 mod shelf;
 mod sink;
 mod std_sink;
+mod steps;
 #[cfg(test)]
 mod tests;
 mod writing;
@@ -27,4 +28,5 @@ pub use reading::{BYTES_LIMIT, FileError, read_all};
 pub use shelf::{Shelf, ShelfFailed};
 pub use sink::{Sink, SinkFailed};
 pub use std_sink::StdSink;
+pub use steps::Steps;
 pub use writing::{write_all, write_pieces};

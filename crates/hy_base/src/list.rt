@@ -1,4 +1,4 @@
-ghost use Rattle.std.specs.Prelude.{◌≡◌, ◌+◌, ◌<◌, ◌≤◌, [], ◌∷◌, ◌++◌, length, OnOk, OnErr, IfOk, slice_get, slice_set, take, Some, None, IfSome, nat_eq};
+ghost use Rattle.std.specs.Prelude.{◌≡◌, ◌+◌, ◌-◌, ◌<◌, ◌≤◌, [], ◌∷◌, ◌++◌, length, OnOk, OnErr, IfOk, slice_get, slice_set, take, drop, replicate, reverse, Some, None, IfSome, nat_eq};
 
 use crate::memory::M;
 use std::alloc::Global;
@@ -37,6 +37,12 @@ impl Remake for u8 {
     }
 }
 
+impl Remake for bool {
+    fn remake(&self, _alloc: Global) -> M<Self> {
+        Ok(*self)
+    }
+}
+
 impl Remake for u32 {
     fn remake(&self, _alloc: Global) -> M<Self> {
         Ok(*self)
@@ -51,6 +57,13 @@ impl<T> List<T> {
         List {
             items: Vec::new(alloc),
         }
+    }
+
+    /// The values of a vector. Takes no memory.
+    pub fn from_vec(items: Vec<T>) -> Self
+        ensures { result ≡ items.items }
+    {
+        List { items }
     }
 
     /// How many values there are.
@@ -113,6 +126,23 @@ impl<T> List<T> {
         self.items.pop()
     }
 
+    /// Turns the order round, in time linear in the length.
+    pub fn reverse(&mut self)
+    where
+        T: Drop,
+        ensures { self.new ≡ reverse self.old }
+    {
+        self.items.reverse();
+    }
+
+    /// Puts the last `n` values before the others, in time linear in the list.
+    pub fn rotate_right(&mut self, n: usize)
+        requires { n ≤ length self.old }
+        ensures { self.new ≡ drop (length self.old - n) self.old ++ take (length self.old - n) self.old }
+    {
+        self.items.rotate_right(n);
+    }
+
     /// Keeps the first `n` values.
     pub fn truncate(&mut self, n: usize)
     where
@@ -137,6 +167,19 @@ impl<T: Remake + Drop> List<T> {
         let mut made = List::new(alloc);
         for x in self.as_slice() {
             made.push(x.remake(alloc)?)?;
+        }
+        Ok(made)
+    }
+}
+
+impl<T: Copy + Drop> List<T> {
+    /// `n` times `x`, in time linear in `n`.
+    pub fn filled(alloc: Global, x: T, n: usize) -> M<Self>
+        ensures { IfOk result (λ made. made ≡ replicate n x) }
+    {
+        let mut made = List::new(alloc);
+        for _copy in 0..n {
+            made.push(x)?;
         }
         Ok(made)
     }

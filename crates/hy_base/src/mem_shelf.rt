@@ -3,7 +3,9 @@
 ghost use Rattle.std.specs.Prelude.{◌≡◌, ◌≢◌, ◌≤◌, ◌<◌, ◌++◌, ◌⊎◌, ◌+◌, ⊤, false, Some, None, [], length, take, min, position, Contains, IsOk, IsErr, IfOk, OnOk, OnErr};
 ghost use Rattle.hy_base.specs.Counts.{Rose, last_count};
 ghost use Rattle.hy_base.specs.Calls.{NoneFailsAfter};
+ghost use Rattle.hy_base.specs.Fakes.{Leads};
 ghost use Rattle.hy_base.specs.Files.{has_name, file_of};
+ghost use Rattle.hy_base.specs.Talks.{opened, not_opened, gave, at_end, not_read};
 
 use crate::calls::{Calls, one_more};
 use crate::list::{List, NumList, Remake, Text};
@@ -104,6 +106,8 @@ impl Shelf for MemShelf {
 
     ghost read_faults = { λ s. s.read_faults };
 
+    ghost called = { λ s call t. Leads s call t };
+
     #[tactic(auto, using(crate::proofs::FileLemmas::opened_name, crate::proofs::FileLemmas::opened_rest, crate::proofs::FileLemmas::lacks_file))]
     fn open_file(&mut self, name: &str) -> Result<(), ShelfFailed>
         ensures files { self.new.files ≡ self.old.files }
@@ -117,6 +121,8 @@ impl Shelf for MemShelf {
         ensures opened { OnOk result (self.new.open_name ≡ Some name.now) }
         ensures whole { OnOk result (file_of self.old.files name.now ≡ Some self.new.rest) }
         ensures closed { OnErr result ((self.new.open_name ≡ None) × (self.new.rest ≡ [])) }
+        ensures called { OnOk result (Leads self.old (opened name.now) self.new) }
+        ensures refused { OnErr result (Leads self.old (not_opened name.now) self.new) }
 
         ensures made { self.old.made ≢ last_count → self.new.made ≡ self.old.made + 1 }
         ensures chosen { self.old.made ≢ last_count → Contains self.old.fail self.new.made → IsErr result }
@@ -147,6 +153,10 @@ impl Shelf for MemShelf {
         ensures within { IfOk result (λ k. k ≤ length buf.old) }
         ensures moved { IfOk result (λ k. self.old.rest ≡ take k buf.new ++ self.new.rest) }
         ensures ended { 0 < length buf.old → IfOk result (λ k. k ≡ 0 → self.old.rest ≡ []) }
+        ensures called { IfOk result (λ k. 0 < k → Leads self.old (gave (take k buf.new)) self.new) }
+        ensures at_end { 0 < length buf.old → IfOk result (λ k. k ≡ 0 → Leads self.old at_end self.new) }
+        ensures refused { OnErr result (Leads self.old not_read self.new) }
+        ensures most { IfOk result (λ k. k ≡ min (length buf.old) (length self.old.rest)) }
 
         ensures made { self.old.made ≢ last_count → self.new.made ≡ self.old.made + 1 }
         ensures chosen { self.old.made ≢ last_count → Contains self.old.fail self.new.made → IsErr result }

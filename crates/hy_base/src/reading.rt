@@ -2,7 +2,7 @@
 
 ghost use Rattle.std.specs.Prelude.{◌≡◌, ◌≢◌, ◌≤◌, ◌<◌, ◌++◌, ℕ, List, [], length, Option, Some, None, IsErrOf, OnOk, OnErr, IfOk};
 ghost use Rattle.hy_base.specs.Counts.{Rose};
-ghost use Rattle.hy_base.specs.Shelf.{KeepsShelf, ReadsWhole, FailsToOpen, FailsToRead, IsTooLong};
+ghost use Rattle.hy_base.specs.Shelf.{KeepsShelf, ReadsFile, RestSaid};
 ghost use Rattle.hy_base.specs.declared.reading.FileError.TheVariants.{Memory as OfMemory};
 
 use crate::list::Text;
@@ -60,13 +60,7 @@ impl From<Memory> for FileError {
 /// than that were read or could have been.
 pub fn read_all<S: Shelf>(alloc: Global, shelf: &mut S, name: &str) -> Result<Text, FileError>
     ensures keeps { KeepsShelf S.Shelf shelf.old shelf.new }
-    ensures whole { IfOk result (ReadsWhole S.Shelf shelf.old shelf.new name.now) }
-    ensures open_failed { IsErrOf result FileError.OpenFailed
-        → FailsToOpen S.Shelf shelf.old shelf.new name.now }
-    ensures read_failed { IsErrOf result FileError.ReadFailed
-        → FailsToRead S.Shelf shelf.old shelf.new name.now }
-    ensures too_long { S.tells shelf.old → IsErrOf result FileError.Limit
-        → IsTooLong (S.file shelf.old) name.now }
+    ensures read { ReadsFile S.Shelf shelf.old shelf.new name.now result }
 {
     match shelf.open_file(name) {
         Err(ShelfFailed) => Err(FileError::OpenFailed),
@@ -88,6 +82,7 @@ fn read_rest<S: Shelf>(alloc: Global, shelf: &mut S) -> Result<Text, FileError>
     ensures read_failed { IsErrOf result FileError.ReadFailed → Rose (S.read_faults shelf.old) (S.read_faults shelf.new) }
     ensures reads { S.is_sound shelf.old → result ≢ Err FileError.ReadFailed }
     ensures too_long { S.tells shelf.old → IsErrOf result FileError.Limit → BYTES_LIMIT < length (S.rest shelf.old) }
+    ensures said { RestSaid S.Shelf shelf.old shelf.new result }
 {
     let mut text = Text::new(alloc);
     let mut buf = [0; READ_SIZE];

@@ -1,1 +1,1 @@
-pub mod Operations
+pub mod RowOperations

@@ -1,21 +1,20 @@
 -- What `ones` and `number` do: a set is the ones of its number, and a number is the number of its ones.
 --     contains-insert_same, contains-insert_other      whether a set with one more member has a number
 --     contains-ones, has_one-number, bit_at-number      the members of a number's ones, and the ones of a set's number
---     ones-number, number-ones, same_letter      the two are inverse; sets with the same members are equal
---     same_from_numbers, numbers_differ      what `==` of two letters says
-use Rattle.std.proofs.Common.{◌≡◌, ◌≢◌, ℕ, zero, suc, ◌^◌, ◌<◌, ◌≤◌, Bool, true, false, cond, ◌||◌, List, [], ◌∷◌, max, nat_eq, refl, sym, ap, ◌∙◌, inl, inr, subst}
+--     ones-number, number-ones, same_members      the two are inverse; sets with the same members are equal
+use Rattle.std.proofs.Common.{◌≡◌, ◌≢◌, ℕ, zero, suc, ◌^◌, ◌<◌, ◌≤◌, Bool, true, false, cond, ◌||◌, ◌&&◌, not, List, [], ◌∷◌, max, nat_eq, refl, sym, ap, ◌∙◌, inl, inr, subst}
 use Rattle.std.specs.Int.{bit_at}
 use Rattle.std.specs.List.{list_any}
 use Rattle.std.specs.Ordering.{nat_cmp, eq_by_cmp}
 use Rattle.std.specs.Cmp.{nat_cmp_total, unsigned_tied}
-use Rattle.std.specs.FinSet.{insert, contains, items, contains-empty, contains-insert, contains-items, same_set, nat_cmp-IsAntisymmetric}
+use Rattle.std.specs.FinSet.{insert, remove, contains, items, contains-empty, contains-insert, contains-remove, contains-items, same_set, nat_cmp-IsAntisymmetric}
 use Rattle.std.proofs.Math.Arith.{lt_of_le-ne}
 use Rattle.std.proofs.Math.Nat.{le_refl, lt_irrefl, lt-suc_self, zero-lt-suc, not-suc-le-zero, le_of_suc-le, le_of_suc-le-suc, lt_of_lt_of_le, lt_of_le_of_lt, le_trans, le-max_left, le-max_right, zero-max, max-zero}
 use Rattle.std.proofs.Math.Pow.{pow_mono}
 use Rattle.std.proofs.lemmas.Nat.{pow_below}
 use Rattle.std.proofs.lemmas.Bool.{eqb-true, eqb-false, ne_eqb, eq-eqb, cases_eq, cases_lt}
 use Rattle.std.proofs.lemmas.Nat.Bits.{bit_at_or, bit_at-zero, bit_at-pow_same, bit_at-pow_other, bit_at-lt, bit_at_above, same_from_bits}
-use Rattle.hy_bits.specs.Letter.{Letter}
+use Rattle.hy_bits.specs.Sets.{NumberSet}
 use Rattle.hy_bits.specs.Binary.{has_one, ones_below, ones, number_below, above_all, number}
 
 apart_above : (k q : ℕ) → k < q → q ≢ k
@@ -29,11 +28,17 @@ below_power : (n : ℕ) → n < 2 ^ n
 below_power zero = zero-lt-suc zero
 below_power (suc n) = lt_of_le_of_lt (below_power n) (pow_below n (suc n) (lt-suc_self n))
 
-pub contains-insert_same : (s : Letter) (k : ℕ) → contains (insert s k) k ≡ true
+pub contains-insert_same : (s : NumberSet) (k : ℕ) → contains (insert s k) k ≡ true
 contains-insert_same s k = contains-insert nat_cmp_total s k k ∙ ap (λ b. b || contains s k) (unsigned_tied k k ∙ eq-eqb k k refl)
 
-pub contains-insert_other : (s : Letter) (k q : ℕ) → q ≢ k → contains (insert s k) q ≡ contains s q
+pub contains-insert_other : (s : NumberSet) (k q : ℕ) → q ≢ k → contains (insert s k) q ≡ contains s q
 contains-insert_other s k q apart = contains-insert nat_cmp_total s k q ∙ ap (λ b. b || contains s q) (unsigned_tied q k ∙ ne_eqb q k apart)
+
+pub contains-remove_same : (s : NumberSet) (k : ℕ) → contains (remove s k) k ≡ false
+contains-remove_same s k = contains-remove nat_cmp_total s k k ∙ ap (λ b. not b && contains s k) (unsigned_tied k k ∙ eq-eqb k k refl)
+
+pub contains-remove_other : (s : NumberSet) (k q : ℕ) → q ≢ k → contains (remove s k) q ≡ contains s q
+contains-remove_other s k q apart = contains-remove nat_cmp_total s k q ∙ ap (λ b. not b && contains s q) (unsigned_tied q k ∙ ne_eqb q k apart)
 
 -- ---- a number's ones
 
@@ -84,24 +89,24 @@ member_other : (b : Bool) (k q : ℕ) → q ≢ k → bit_at (cond b (2 ^ k) 0) 
 member_other true k q apart = bit_at-pow_other k q apart
 member_other false k q apart = bit_at-zero q
 
-number_below-suc_other : (s : Letter) (k q : ℕ) → q ≢ k → bit_at (number_below s (suc k)) q ≡ bit_at (number_below s k) q
+number_below-suc_other : (s : NumberSet) (k q : ℕ) → q ≢ k → bit_at (number_below s (suc k)) q ≡ bit_at (number_below s k) q
 number_below-suc_other s k q apart =
     bit_at_or (cond (contains s k) (2 ^ k) 0) (number_below s k) q
     ∙ ap (λ b. max b (bit_at (number_below s k) q)) (member_other (contains s k) k q apart)
     ∙ zero-max _
 
-above_number_below : (s : Letter) (k q : ℕ) → k ≤ q → bit_at (number_below s k) q ≡ 0
+above_number_below : (s : NumberSet) (k q : ℕ) → k ≤ q → bit_at (number_below s k) q ≡ 0
 above_number_below s zero q le = bit_at-zero q
 above_number_below s (suc k) q le = number_below-suc_other s k q (apart_above k q le) ∙ above_number_below s k q (le_of_suc-le le)
 
-number_below-suc_same : (s : Letter) (k : ℕ) → bit_at (number_below s (suc k)) k ≡ cond (contains s k) 1 0
+number_below-suc_same : (s : NumberSet) (k : ℕ) → bit_at (number_below s (suc k)) k ≡ cond (contains s k) 1 0
 number_below-suc_same s k =
     bit_at_or (cond (contains s k) (2 ^ k) 0) (number_below s k) k
     ∙ ap (λ b. max (bit_at (cond (contains s k) (2 ^ k) 0) k) b) (above_number_below s k k (le_refl k))
     ∙ max-zero _
     ∙ member_one (contains s k) k
 
-bit_at-number_below : (s : Letter) (k q : ℕ) → q < k → bit_at (number_below s k) q ≡ cond (contains s q) 1 0
+bit_at-number_below : (s : NumberSet) (k q : ℕ) → q < k → bit_at (number_below s k) q ≡ cond (contains s q) 1 0
 bit_at-number_below s zero q lt = absurd (not-suc-le-zero lt)
 bit_at-number_below s (suc k) q lt =
     elim (cases_eq q k) [
@@ -115,10 +120,10 @@ above_member (x ∷ xs) q le =
     ap (λ b. b || list_any (eq_by_cmp nat_cmp q) xs) (unsigned_tied q x ∙ ne_eqb q x (apart_above x q (le_trans (le-max_left (suc x) (above_all xs)) le)))
     ∙ above_member xs q (le_trans (le-max_right (suc x) (above_all xs)) le)
 
-above_members : (s : Letter) (q : ℕ) → above_all (items s) ≤ q → contains s q ≡ false
+above_members : (s : NumberSet) (q : ℕ) → above_all (items s) ≤ q → contains s q ≡ false
 above_members s q le = contains-items s q ∙ above_member (items s) q le
 
-pub bit_at-number : (s : Letter) (q : ℕ) → bit_at (number s) q ≡ cond (contains s q) 1 0
+pub bit_at-number : (s : NumberSet) (q : ℕ) → bit_at (number s) q ≡ cond (contains s q) 1 0
 unfolding number
 bit_at-number s q =
     elim (cases_lt q (above_all (items s))) [
@@ -126,7 +131,7 @@ bit_at-number s q =
       | inr le ↦ above_number_below s _ q le ∙ sym (ap (λ b. cond b 1 0) (above_members s q le))
     ]
 
-pub has_one-number : (s : Letter) (q : ℕ) → has_one (number s) q ≡ contains s q
+pub has_one-number : (s : NumberSet) (q : ℕ) → has_one (number s) q ≡ contains s q
 has_one-number s q = ap (λ b. nat_eq b 1) (bit_at-number s q) ∙ one_of (contains s q)
   where
     one_of : (b : Bool) → nat_eq (cond b 1 0) 1 ≡ b
@@ -135,11 +140,11 @@ has_one-number s q = ap (λ b. nat_eq b 1) (bit_at-number s q) ∙ one_of (conta
 
 -- ---- a set is the ones of its number, and a number is the number of its ones
 
-pub same_letter : (s t : Letter) → ((q : ℕ) → contains s q ≡ contains t q) → s ≡ t
-same_letter s t = same_set nat_cmp_total nat_cmp-IsAntisymmetric s t
+pub same_members : (s t : NumberSet) → ((q : ℕ) → contains s q ≡ contains t q) → s ≡ t
+same_members s t = same_set nat_cmp_total nat_cmp-IsAntisymmetric s t
 
-pub ones-number : (s : Letter) → ones (number s) ≡ s
-ones-number s = same_letter _ _ (λ q. contains-ones (number s) q ∙ has_one-number s q)
+pub ones-number : (s : NumberSet) → ones (number s) ≡ s
+ones-number s = same_members _ _ (λ q. contains-ones (number s) q ∙ has_one-number s q)
 
 bit_is : (b : ℕ) → b < 2 → cond (nat_eq b 1) 1 0 ≡ b
 bit_is zero lt = refl
@@ -149,6 +154,3 @@ bit_is (suc (suc b)) lt = absurd (not-suc-le-zero (le_of_suc-le-suc (le_of_suc-l
 pub number-ones : (n : ℕ) → number (ones n) ≡ n
 number-ones n =
     same_from_bits _ _ (λ q. bit_at-number (ones n) q ∙ ap (λ b. cond b 1 0) (contains-ones n q) ∙ bit_is (bit_at n q) (bit_at-lt n q))
-
--- ---- `==` compares the numbers
-

@@ -1,6 +1,10 @@
+//! Letters: sets of names, each name by a number below 64, in one word of 64 bits.
+
 ghost use Rattle.std.specs.Prelude.{◌≡◌, ℕ, ◌<◌, IfOk};
 ghost use Rattle.std.specs.FinSet as set;
+ghost use Rattle.hy_bits.specs.Sets.{AreBelow};
 
+use crate::bit_row::BitRow;
 use hy_base::{List, M, Remake};
 use std::alloc::Global;
 use std::marker::Model;
@@ -8,29 +12,21 @@ use std::marker::Model;
 /// A letter: a set of names, each by its number, which is below 64.
 #[derive(Clone, Copy, PartialEq, Eq, PartialOrd, Ord, Hash, Debug)]
 pub struct LetterMask {
-    /// Name k is a member where bit k is 1.
-    bits: u64,
+    names: BitRow<1>,
 }
 
 impl Model for LetterMask {
-    ghost use Rattle.std.specs.Prelude.{◌^◌, ◌<◌};
     ghost use Rattle.std.specs.Coded.{coded_ℕ};
     ghost use Rattle.std.specs.FinSet as set;
     ghost use Rattle.hy_bits.specs.Letter.{Letter};
-    ghost use Rattle.hy_bits.specs.Binary.{ones, number};
-    ghost use Rattle.hy_bits.specs.BinaryLaws.{number-ones};
 
     ghost Value = { Letter };
 
     ghost coded = { set.code coded_ℕ };
 
-    ghost view = { λ m. ones m.bits };
+    ghost view = { λ m. m.names };
 
-    ghost invariant = { λ m. m.bits < 2 ^ 64 };
-
-    ghost inverse = { λ s. record { bits = number s } };
-
-    ghost inverse_ok = { λ m h i. record { bits = number-ones m.bits i } };
+    ghost inverse = { λ s. record { names = s } };
 }
 
 /// Letters one after another, as of a trace.
@@ -41,7 +37,16 @@ impl LetterMask {
     pub fn empty() -> Self
         ensures { result ≡ set.empty }
     {
-        LetterMask { bits: 0 }
+        LetterMask {
+            names: BitRow::empty(),
+        }
+    }
+
+    /// The number of each member is below 64.
+    pub fn names_below(&self)
+        ensures { AreBelow 64 self.now }
+    {
+        self.names.members_below();
     }
 
     /// Whether name `i` is a member.
@@ -49,7 +54,7 @@ impl LetterMask {
         requires { i < 64 }
         ensures { result ≡ set.contains self.now i }
     {
-        (self.bits >> i) & 1 == 1
+        self.names.has(i)
     }
 
     /// This set with name `i` too.
@@ -58,7 +63,7 @@ impl LetterMask {
         ensures { result ≡ set.insert self i }
     {
         LetterMask {
-            bits: self.bits | (1 << i),
+            names: self.names.with(i),
         }
     }
 
@@ -68,7 +73,7 @@ impl LetterMask {
         ensures { result ≡ set.remove self i }
     {
         LetterMask {
-            bits: self.bits & !(1 << i),
+            names: self.names.without(i),
         }
     }
 
@@ -77,7 +82,7 @@ impl LetterMask {
         ensures { result ≡ set.union self.now other.now }
     {
         LetterMask {
-            bits: self.bits | other.bits,
+            names: self.names.union(&other.names),
         }
     }
 
@@ -85,23 +90,12 @@ impl LetterMask {
     pub fn is_subset(&self, other: &Self) -> bool
         ensures { result ≡ set.is_subset self.now other.now }
     {
-        self.bits & other.bits == self.bits
+        self.names.is_subset(&other.names)
     }
 }
 
 impl Remake for LetterMask {
     fn remake(&self, _alloc: Global) -> M<Self> {
         Ok(*self)
-    }
-}
-
-#[cfg(test)]
-mod tests {
-    use super::*;
-
-    #[test]
-    fn is_remade(rt: HostRuntime) {
-        let letter = LetterMask::empty().with(3);
-        assert_eq!(rt; letter.remake(rt.alloc()), Ok(letter));
     }
 }

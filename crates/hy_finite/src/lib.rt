@@ -19,11 +19,12 @@ mod sets;
 mod tests;
 mod trace;
 
+pub use checks::{LineCheck, check_line};
 pub use error::LineError;
 pub use event::{Event, EventList, Placed};
 pub use file::{check_events, read_events};
 pub use lengths::Lengths;
 pub use line::read_event;
-pub use lines::EventLines;
+pub use lines::{EventLines, split_line};
 pub use meaning::finite_holds;
 pub use trace::{MOST_LETTERS, Trace, TraceList};

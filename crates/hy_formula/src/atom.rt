@@ -2,7 +2,7 @@ ghost use Rattle.std.specs.Prelude.{◌<◌};
 
 /// Says that the name of number `name` is in the present letter of the trace of variable `var`.
 /// Names are numbered below 64, variables by the place of their quantifier.
-#[derive(Clone, Copy, Debug, PartialEq, Eq)]
+#[derive(Clone, Copy, Debug, PartialEq, Eq, Hash)]
 pub struct Atom {
     pub name: u8,
     pub var: u8,

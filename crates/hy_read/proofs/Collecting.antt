@@ -1,5 +1,5 @@
 -- Each atom's name is in the table that its tokens make.
-use Rattle.std.proofs.Common.{◌≡◌, ℕ, suc, List, [], ◌∷◌, ◌++◌, Option, Some, None, Bool, true, false, if◌then◌else◌, refl, ap, sym, subst, ◌∙◌, append_assoc, append-nil}
+use Rattle.std.proofs.Common.{◌≡◌, ℕ, suc, ◌≤◌, arith, length, length-append, List, [], ◌∷◌, ◌++◌, Option, Some, None, Bool, true, false, if◌then◌else◌, refl, ap, sym, subst, ◌∙◌, append_assoc, append-nil}
 use Rattle.std.specs.Option.{option_map}
 use Rattle.std.specs.Str.{bytes_eq}
 use Rattle.std.proofs.lemmas.Slice.Eq.{bytes_eq-Decides}
@@ -53,7 +53,7 @@ kept_unless (Some k) name names = ([], sym (append-nil names))
 kept_unless None name names = (name ∷ [], refl)
 
 -- the table is the front of what it becomes
-names_kept : (tokens : List Token) (names : List (List ℕ)) → (more : List (List ℕ)) × (names_of names tokens ≡ names ++ more)
+pub names_kept : (tokens : List Token) (names : List (List ℕ)) → (more : List (List ℕ)) × (names_of names tokens ≡ names ++ more)
 names_kept [] names = ([], sym (append-nil names))
 names_kept (symbol s ∷ tokens) names = names_kept tokens names
 names_kept (variable v ∷ tokens) names = names_kept tokens names
@@ -71,3 +71,16 @@ named-all (nothing ∷ ts) names = named-all ts names
 named-all (atom n v ∷ ts) names =
     let (more, e) = names_kept ts (with_name n names) in
     (subst (Placed n) (sym e) (placed-front n (with_name n names) more (placed-new n names)), named-all ts (with_name n names))
+
+-- The names of the first token come first.
+pub names_first : (t : Token) (names : List (List ℕ)) (more : List Token) → names_of names (t ∷ more) ≡ names_of (names_of names (t ∷ [])) more
+names_first (symbol s) names more = refl
+names_first (variable v) names more = refl
+names_first (atom n v) names more = refl
+names_first nothing names more = refl
+
+pub names_grow : (tokens : List Token) (names : List (List ℕ)) → length names ≤ length (names_of names tokens)
+names_grow tokens names =
+    let (more, is) = names_kept tokens names in
+    let e = ap length is in
+    omega (arith, e, length-append names more)

@@ -26,7 +26,7 @@ joined-as s k r join op a b g h e =
     let same : op ≡ join = ap (λ (p : ℕ × (Tree → Tree → Tree)). p.1) pairs in
     ap (λ f. height (f a b)) (sym same) ∙ e
 
-binary-height : (s : Symbol) (r : ℕ) (join : Tree → Tree → Tree) (a b : Tree) → binary_of s ≡ Some (r, join) → height (join a b) ≡ suc (max (height a) (height b))
+pub binary-height : (s : Symbol) (r : ℕ) (join : Tree → Tree → Tree) (a b : Tree) → binary_of s ≡ Some (r, join) → height (join a b) ≡ suc (max (height a) (height b))
 binary-height signs.And r join a b h = joined-as signs.And 2 r join Rattle.hy_formula.specs.Trees.and a b refl h refl
 binary-height signs.Or r join a b h = joined-as signs.Or 3 r join Rattle.hy_formula.specs.Trees.or a b refl h refl
 binary-height signs.Implies r join a b h = joined-as signs.Implies 4 r join Rattle.hy_formula.specs.Trees.implies a b refl h refl
@@ -37,7 +37,7 @@ binary-height signs.Weak r join a b h = joined-as signs.Weak 1 r join Rattle.hy_
 binary-height _ r join a b h = absurd cc
 
 module _ (Means : List ℕ → List ℕ → Tree → Type 0) (low : (n v : List ℕ) (t : Tree) → Means n v t → height t ≡ 1) where
-  flatten : {rank : ℕ} {tokens rest : List Token} {tree : Tree} → Derives Means rank tokens tree rest → (b : Tree) × Derives Flat rank tokens b rest × (height tree ≡ height b)
+  pub flatten : {rank : ℕ} {tokens rest : List Token} {tree : Tree} → Derives Means rank tokens tree rest → (b : Tree) × Derives Flat rank tokens b rest × (height tree ≡ height b)
   flatten (alone d) = let (b, c, e) = flatten d in (b, alone c, e)
   flatten (joined {left = left} {right = right} {s = s} {join = join} h d e) =
       let (a, c, f) = flatten d in

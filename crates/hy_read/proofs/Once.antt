@@ -5,53 +5,43 @@ use Rattle.hy_formula.specs.declared.prefix.Quant.TheVariants as quants
 use Rattle.hy_read.specs.declared.symbol.Symbol.{Symbol}
 use Rattle.hy_read.specs.declared.symbol.Symbol.TheVariants as signs
 use Rattle.hy_formula.specs.Trees.{Tree}
-use Rattle.hy_read.specs.Tokens.{Token, symbol, variable, atom, nothing, Kind, word, leaf, prefix, kind_of, kind_of_symbol}
+use Rattle.hy_read.specs.Tokens.{Token, symbol, variable, atom, nothing, Kind, word, leaf, prefix, kind_of_symbol}
 use Rattle.hy_read.specs.Grammar.{Derives, alone, joined, constant, prefixed, named, grouped, constant_of, unary_of, binary_of, loosest, quantifier_word, Quantifier, quantifier_tokens, Read, IsFormula, AreFormulas}
+use Rattle.hy_read.specs.Headings.{NoWord}
+use Rattle.hy_read.specs.Parses.{IsLooser, Stops}
 use Rattle.hy_read.proofs.TokenKinds.{prefix-kind, leaf-kind}
 
-abbrev IsLooser : ℕ → Option (ℕ × (Tree → Tree → Tree)) → Type 0
-IsLooser rank None = Unit {0}
-IsLooser rank (Some (other, join)) = rank < other
-
--- What stands behind does not go on with an expression of this rank.
-abbrev Stops : ℕ → List Token → Type 0
-Stops rank [] = Unit {0}
-Stops rank (symbol s ∷ rest) = IsLooser rank (binary_of s)
-Stops rank (variable v ∷ rest) = Unit {0}
-Stops rank (atom a v ∷ rest) = Unit {0}
-Stops rank (nothing ∷ rest) = Unit {0}
-
-looser_still : (rank : ℕ) (o : Option (ℕ × (Tree → Tree → Tree))) → IsLooser (suc rank) o → IsLooser rank o
+pub looser_still : (rank : ℕ) (o : Option (ℕ × (Tree → Tree → Tree))) → IsLooser (suc rank) o → IsLooser rank o
 looser_still rank None h = tt
 looser_still rank (Some (other, join)) h = omega arith
 
-stops_sooner : (rank : ℕ) (rest : List Token) → Stops (suc rank) rest → Stops rank rest
+pub stops_sooner : (rank : ℕ) (rest : List Token) → Stops (suc rank) rest → Stops rank rest
 stops_sooner rank [] h = tt
 stops_sooner rank (symbol s ∷ rest) h = looser_still rank (binary_of s) h
 stops_sooner rank (variable v ∷ rest) h = tt
 stops_sooner rank (atom a v ∷ rest) h = tt
 stops_sooner rank (nothing ∷ rest) h = tt
 
-stops_at : (rank : ℕ) (s : Symbol) (join : Tree → Tree → Tree) (rest : List Token) → binary_of s ≡ Some (suc rank, join) → Stops rank (symbol s ∷ rest)
+pub stops_at : (rank : ℕ) (s : Symbol) (join : Tree → Tree → Tree) (rest : List Token) → binary_of s ≡ Some (suc rank, join) → Stops rank (symbol s ∷ rest)
 stops_at rank s join rest h = let P : Option (ℕ × (Tree → Tree → Tree)) → Type 0 = λ o. IsLooser rank o in let k : rank < suc rank = omega arith in subst P (sym h) k
 
-goes_on : (rank : ℕ) (s : Symbol) (join : Tree → Tree → Tree) (rest : List Token) → binary_of s ≡ Some (suc rank, join) → Stops (suc rank) (symbol s ∷ rest) → ⊥
+pub goes_on : (rank : ℕ) (s : Symbol) (join : Tree → Tree → Tree) (rest : List Token) → binary_of s ≡ Some (suc rank, join) → Stops (suc rank) (symbol s ∷ rest) → ⊥
 goes_on rank s join rest h stops = let P : Option (ℕ × (Tree → Tree → Tree)) → Type 0 = λ o. IsLooser (suc rank) o in let k : suc rank < suc rank = subst P h stops in omega arith
 
-constant_or_unary : (s : Symbol) (tree : Tree) (make : Tree → Tree) → constant_of s ≡ Some tree → unary_of s ≡ Some make → ⊥
+pub constant_or_unary : (s : Symbol) (tree : Tree) (make : Tree → Tree) → constant_of s ≡ Some tree → unary_of s ≡ Some make → ⊥
 constant_or_unary signs.True tree make h k = cc
 constant_or_unary signs.False tree make h k = cc
 constant_or_unary _ tree make h k = cc
 
-same_after : (a b : List Token) (s r : Symbol) → symbol s ∷ a ≡ symbol r ∷ b → (s ≡ r) × (a ≡ b)
+pub same_after : (a b : List Token) (s r : Symbol) → symbol s ∷ a ≡ symbol r ∷ b → (s ≡ r) × (a ≡ b)
 same_after a b s r e = (cc, cc)
 
-parts_of_some : {A B : Type 0} (o : Option (A × B)) (p q : A × B) → o ≡ Some p → o ≡ Some q → (p.0 ≡ q.0) × (p.1 ≡ q.1)
+pub parts_of_some : {A B : Type 0} (o : Option (A × B)) (p q : A × B) → o ≡ Some p → o ≡ Some q → (p.0 ≡ q.0) × (p.1 ≡ q.1)
 parts_of_some {A = A} {B = B} o p q h k =
     let same : p ≡ q = cc in
     (ap (λ (x : A × B). x.0) same, ap (λ (x : A × B). x.1) same)
 
-same_join : (s r : Symbol) (rank : ℕ) (f g : Tree → Tree → Tree) → s ≡ r → binary_of s ≡ Some (rank, f) → binary_of r ≡ Some (rank, g) → f ≡ g
+pub same_join : (s r : Symbol) (rank : ℕ) (f g : Tree → Tree → Tree) → s ≡ r → binary_of s ≡ Some (rank, f) → binary_of r ≡ Some (rank, g) → f ≡ g
 same_join s r rank f g e h k = (parts_of_some (binary_of r) (rank, f) (rank, g) (subst (λ x. binary_of x ≡ Some (rank, f)) e h) k).1
 
 same_joined : (f g : Tree → Tree → Tree) (a b c d : Tree) → f ≡ g → a ≡ c → b ≡ d → f a b ≡ g c d
@@ -91,18 +81,13 @@ module _ (Means : List ℕ → List ℕ → Tree → Type 0) (once : (name bound
       let inside = derives_once d e tt tt in
       (inside.0, (same_after _ _ signs.CloseParen signs.CloseParen inside.1).1)
 
--- The tokens do not begin with a quantifier word.
-abbrev NoWord : List Token → Type 0
-NoWord [] = Unit {0}
-NoWord (t ∷ ts) = kind_of t ≡ word → ⊥
-
 not-word : (k l : Kind) → k ≡ leaf → k ≡ l → l ≡ word → ⊥
 not-word k l e f g = cc
 
 other-word : (k l : Kind) → k ≡ prefix → k ≡ l → l ≡ word → ⊥
 other-word k l e f g = cc
 
-body-word : {Means : List ℕ → List ℕ → Tree → Type 0} {rank : ℕ} {tokens rest : List Token} {tree : Tree} → Derives Means rank tokens tree rest → NoWord tokens
+pub body-word : {Means : List ℕ → List ℕ → Tree → Type 0} {rank : ℕ} {tokens rest : List Token} {tree : Tree} → Derives Means rank tokens tree rest → NoWord tokens
 body-word (alone d) = body-word d
 body-word (joined h d e) = body-word d
 body-word (constant {s = s} h) = λ e. not-word (kind_of_symbol s) (kind_of_symbol s) (leaf-kind s _ h) refl e
@@ -110,17 +95,17 @@ body-word (prefixed {s = s} h d) = λ e. other-word (kind_of_symbol s) (kind_of_
 body-word (named h) = λ e. cc
 body-word (grouped d) = λ e. cc
 
-is-word : (q : Quant) → kind_of_symbol (quantifier_word q) ≡ word
+pub is-word : (q : Quant) → kind_of_symbol (quantifier_word q) ≡ word
 is-word quants.Exists = refl
 is-word quants.Forall = refl
 
-words-once : (q r : Quant) → quantifier_word q ≡ quantifier_word r → q ≡ r
+pub words-once : (q r : Quant) → quantifier_word q ≡ quantifier_word r → q ≡ r
 words-once quants.Exists quants.Exists e = refl
 words-once quants.Exists quants.Forall e = absurd cc
 words-once quants.Forall quants.Exists e = absurd cc
 words-once quants.Forall quants.Forall e = refl
 
-same-words : (s r : Symbol) (v w : List ℕ) (xs ys : List Token) → symbol s ∷ variable v ∷ symbol signs.Dot ∷ xs ≡ symbol r ∷ variable w ∷ symbol signs.Dot ∷ ys → (s ≡ r) × (v ≡ w) × (xs ≡ ys)
+pub same-words : (s r : Symbol) (v w : List ℕ) (xs ys : List Token) → symbol s ∷ variable v ∷ symbol signs.Dot ∷ xs ≡ symbol r ∷ variable w ∷ symbol signs.Dot ∷ ys → (s ≡ r) × (v ≡ w) × (xs ≡ ys)
 same-words s r v w xs ys e = (cc, cc, cc)
 
 abbrev quantifier : Quant → List ℕ → Quantifier
@@ -132,7 +117,7 @@ same-quantifier q r e f =
     let second : quantifier r.quant q.bound ≡ quantifier r.quant r.bound = ap (λ x. quantifier r.quant x) f in
     first ∙ second
 
-heads-once : (qs rs : List Quantifier) (body other : List Token) → quantifier_tokens qs ++ body ≡ quantifier_tokens rs ++ other → NoWord body → NoWord other → (qs ≡ rs) × (body ≡ other)
+pub heads-once : (qs rs : List Quantifier) (body other : List Token) → quantifier_tokens qs ++ body ≡ quantifier_tokens rs ++ other → NoWord body → NoWord other → (qs ≡ rs) × (body ≡ other)
 heads-once [] [] body other e h k = (refl, e)
 heads-once [] (r ∷ rs) body other e h k = absurd (subst (λ x. NoWord x) e h (is-word r.quant))
 heads-once (q ∷ qs) [] body other e h k = absurd (subst (λ x. NoWord x) (sym e) k (is-word q.quant))

@@ -1,8 +1,12 @@
 -- One token of a text, at a place of it.
-use Rattle.std.proofs.Common.{◌≡◌, ℕ, zero, ◌+◌, List, [], ◌∷◌, ◌++◌, drop, refl, ap, sym, subst, ◌∙◌, append_assoc, append-nil}
+use Rattle.std.proofs.Common.{◌≡◌, ℕ, zero, ◌+◌, List, [], ◌∷◌, ◌++◌, length, length-drop, arith, drop, refl, ap, sym, subst, ◌∙◌, append-nil}
 use Rattle.std.proofs.Math.Seq.{drop-drop}
 use Rattle.hy_read.specs.Tokens.{Token}
+use Rattle.hy_read.specs.declared.token.Placed.{Placed}
+use Rattle.hy_read.specs.Answers.{tokens_of}
+use Rattle.hy_read.specs.Parses.{AreLeft}
 use Rattle.hy_read.specs.Scanning.{Span, first_token, blanks, Spans}
+use Rattle.hy_read.specs.Scans.{plain, span_of, Stands}
 use Rattle.hy_read.proofs.Spanning.{span, same-span}
 
 -- where only blanks are left
@@ -22,22 +26,40 @@ next-span at text (s ∷ spans) c cs t m (b, bs, n, d, r, g, h) e f =
     let two : Spans (at + blanks text + m) (drop m (c ∷ cs)) spans = subst (λ x. Spans (at + blanks text + m) (drop m x) spans) same one in
     (spans, ap (λ x. x ∷ spans) (same-span s (span t (at + blanks text)) tokens g), two)
 
+-- the token that stands there and what is behind it
+pub stands_next : (text : List ℕ) (at : ℕ) (t : Placed) (spans : List Span) → Stands text at t → Spans at (drop at text) spans → (rest : List Span) × (spans ≡ span_of t ∷ rest) × Spans t.behind (drop t.behind text) rest
+stands_next text at t spans stands h = through (drop t.first text) refl
+  where
+    through : (here : List ℕ) → drop t.first text ≡ here → (rest : List Span) × (spans ≡ span_of t ∷ rest) × Spans t.behind (drop t.behind text) rest
+    through [] e =
+        let none = ap length e in
+        let longer = stands.longer in
+        let within = stands.within in
+        absurd (omega (arith, none, longer, within, length-drop t.first text))
+    through (c ∷ cs) e =
+        let here : drop (blanks (drop at text)) (drop at text) ≡ c ∷ cs = drop-drop (blanks (drop at text)) at text ∙ ap (λ n. drop n text) (sym stands.blank) ∙ e in
+        let is : first_token (c ∷ cs) ≡ (plain t.token, stands.size) = ap first_token (sym e) ∙ stands.is in
+        let (others, begins, behind) = next-span at (drop at text) spans c cs (plain t.token) stands.size h here is in
+        let moved : drop stands.size (c ∷ cs) ≡ drop t.behind text = ap (drop stands.size) (sym e) ∙ drop-drop stands.size t.first text ∙ ap (λ n. drop n text) (sym stands.ends) in
+        let place : at + blanks (drop at text) + stands.size ≡ t.behind = ap (λ n. n + stands.size) (sym stands.blank) ∙ sym stands.ends in
+        (others, begins ∙ ap (λ f. span (plain t.token) f ∷ others) (sym stands.blank), subst (λ x. Spans t.behind x others) moved (subst (λ n. Spans n (drop stands.size (c ∷ cs)) others) place behind))
+
+-- the tokens from a place on
+pub stands_left : (text : List ℕ) (at : ℕ) (t : Placed) (tokens : List Token) → Stands text at t → AreLeft text at tokens → (more : List Token) × (tokens ≡ plain t.token ∷ more) × AreLeft text t.behind more
+stands_left text at t tokens stands (spans, split, is) =
+    let (rest, begins, left) = stands_next text at t spans stands split in
+    (tokens_of rest, is ∙ ap tokens_of begins, (rest, left, refl))
+
+pub none_left : (text : List ℕ) (at : ℕ) (tokens : List Token) → drop (at + blanks (drop at text)) text ≡ [] → AreLeft text at tokens → tokens ≡ []
+none_left text at tokens e (spans, split, is) =
+    is ∙ ap tokens_of (no-span at (drop at text) spans split (drop-drop (blanks (drop at text)) at text ∙ e))
+
 -- what is read of the spans of a file, up to a place
 abbrev pub Reached : List ℕ → ℕ → List Span → Type 0
 Reached bytes at front = (spans : List Span) → Spans zero bytes spans → (rest : List Span) × (spans ≡ front ++ rest) × Spans at (drop at bytes) rest
 
 pub reached-none : (bytes : List ℕ) → Reached bytes zero []
 reached-none bytes spans h = (spans, refl, h)
-
--- one more token is read
-pub reached-more : (bytes : List ℕ) (at : ℕ) (front : List Span) (c : ℕ) (cs : List ℕ) (t : Token) (m : ℕ) → Reached bytes at front → drop (at + blanks (drop at bytes)) bytes ≡ c ∷ cs → first_token (c ∷ cs) ≡ (t, m) → Reached bytes (at + blanks (drop at bytes) + m) (front ++ span t (at + blanks (drop at bytes)) ∷ [])
-reached-more bytes at front c cs t m reached e f spans h =
-    let (rest, is, left) = reached spans h in
-    let k : ℕ = at + blanks (drop at bytes) in
-    let here : drop (blanks (drop at bytes)) (drop at bytes) ≡ c ∷ cs = drop-drop (blanks (drop at bytes)) at bytes ∙ e in
-    let (others, begins, behind) = next-span at (drop at bytes) rest c cs t m left here f in
-    let moved : drop m (c ∷ cs) ≡ drop (k + m) bytes = ap (drop m) (sym e) ∙ drop-drop m k bytes in
-    (others, is ∙ ap (λ x. front ++ x) begins ∙ sym (append_assoc front (span t k ∷ []) others), subst (λ x. Spans (k + m) x others) moved behind)
 
 -- all tokens are read
 pub reached-all : (bytes : List ℕ) (at : ℕ) (front spans : List Span) → Reached bytes at front → drop (at + blanks (drop at bytes)) bytes ≡ [] → Spans zero bytes spans → spans ≡ front

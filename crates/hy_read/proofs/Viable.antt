@@ -9,7 +9,7 @@ use Rattle.hy_read.proofs.Deriving.{allowed-text}
 use Rattle.hy_read.proofs.Running.{text-runs}
 
 -- behind tokens that are allowed the reader goes on from its place
-after-append : (many : Bool) (ts us : List Token) (p q : Place) → place_after many p ts ≡ Some q → place_after many p (ts ++ us) ≡ place_after many q us
+pub after-append : (many : Bool) (ts us : List Token) (p q : Place) → place_after many p ts ≡ Some q → place_after many p (ts ++ us) ≡ place_after many q us
 after-append many [] us p q e = ap (λ x. option_and_then (λ y. place_after many y us) x) e
 after-append many (t ∷ ts) us p q e = through (next_place many p (kind_of t)) (λ y. after-append many ts us y q) e
   where

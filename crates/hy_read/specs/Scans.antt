@@ -5,7 +5,7 @@ use Rattle.hy_read.specs.declared.token.Token.{Token as Scanned}
 use Rattle.hy_read.specs.declared.token.Token.TheVariants.{Symbol, Variable, Atom, Nothing}
 use Rattle.hy_read.specs.declared.token.Placed.{Placed}
 use Rattle.hy_read.specs.Tokens.{Token, symbol, variable, atom, nothing}
-use Rattle.hy_read.specs.Scanning.{first_token, blanks}
+use Rattle.hy_read.specs.Scanning.{first_token, blanks, Span}
 
 abbrev pub plain : Scanned → Token
 plain (Symbol s) = symbol s
@@ -30,3 +30,6 @@ pub record Stands (text : List ℕ) (at : ℕ) (t : Placed) : Type 0 where
 abbrev pub IsNext : List ℕ → ℕ → Option Placed → Type 0
 IsNext text at None = drop (at + blanks (drop at text)) text ≡ []
 IsNext text at (Some t) = Stands text at t
+
+abbrev pub span_of : Placed → Span
+span_of t = record { token = plain t.token; first = t.first }

@@ -1,58 +1,24 @@
--- The causes of the answers exclude one another.
-use Rattle.std.proofs.Common.{◌≡◌, ℕ, suc, ◌<◌, ◌⊎◌, List, [], ◌∷◌, length, take, All, Some, inl, inr, ap, sym, subst, ◌∙◌, arith}
+-- The first stage that is met gives one answer.
+use Rattle.std.proofs.Common.{◌≡◌, ℕ, zero, suc, ◌<◌, List, [], ◌∷◌, length, take, All, Some, inl, inr, ap, sym, subst, ◌∙◌, arith, refl, true}
 use Rattle.std.proofs.lemmas.Bool.{cases_lt}
 use Rattle.std.proofs.lemmas.List.{length-take}
-use Rattle.hy_base.specs.declared.limit.Kind.{Kind}
 use Rattle.hy_formula.specs.declared.prefix.Quant.{Quant}
 use Rattle.hy_formula.specs.Trees.{Tree}
+use Rattle.hy_finite.specs.EventFiles.{lines_of}
+use Rattle.hy_finite.specs.Traces.{Trace}
+use Rattle.hy_read.specs.Answers.{Answer as Found, Answers, Plain, faulty, free, over, read_as}
+use Rattle.hy_read.proofs.Spanning.{answer-once}
 use Rattle.hy_top.specs.declared.answer.Answer.{Answer}
-use Rattle.hy_top.specs.declared.answer.Answer.TheVariants as answers
-use Rattle.hy_top.specs.Answers.{HasFormula, HasTraces, Monitors, IsJudged, IsRightVerdict, IsLimited, RefusesSpecs, RefusesTraces, IsRight, FitsWords, IsDecided, Agree}
-use Rattle.hy_base.specs.Shelf.{Files, HasBytes, IsTooLong}
-use Rattle.hy_top.specs.Finite.{Trace, Satisfies, AllSatisfy, ViolatesBy, FirstViolation}
-use Rattle.hy_top.specs.Formulas.{IsFirstFormula}
-use Rattle.hy_top.specs.TraceTexts.{IsTraceFile}
-use Rattle.hy_top.specs.Words.{IsCommand}
-use Rattle.hy_top.proofs.OneFormula.{formula_once}
-use Rattle.hy_top.proofs.OneTraceFile.{traces_once}
+use Rattle.hy_top.specs.declared.answer.Answer.TheVariants.{NoViolation, Violation, Line, Prefix}
+use Rattle.hy_top.specs.Arrivals.{AreUniversal, Satisfies, AllSatisfy, ViolatesBy, FirstViolation}
+use Rattle.hy_top.specs.Commands.{Command, monitor}
+use Rattle.hy_top.specs.Monitoring.{HasSpecs, RefusesFound, RefusesSpecs, RefusesLines, RefusesTraces, RefusesClass, first_class, IsJudged, is_clean, is_violated, Judges, most_quantifiers}
+use Rattle.hy_top.specs.Stages.{Stage, opening, reading, size, text, class, work, Given, Met, First, here, later, Agree}
+use Rattle.hy_top.specs.WholeTraces.{IsTraceFile}
+use Rattle.hy_top.proofs.Arriving.{quantified-all}
 use Rattle.hy_top.proofs.Searches.{picked-take}
-
--- ---- what the words and the files are
-
-same_words : (words : List (List ℕ)) (a b c d : List ℕ) → words ≡ a ∷ b ∷ [] → words ≡ c ∷ d ∷ [] → (a ≡ c) × (b ≡ d)
-same_words words a b c d e f = (cc, cc)
-
-commands_agree : {words : List (List ℕ)} {specs traces first second : List ℕ} → IsCommand words specs traces → IsCommand words first second → (specs ≡ first) × (traces ≡ second)
-commands_agree {words = words} {specs = specs} {traces = traces} {first = first} {second = second} one two =
-    same_words words specs traces first second one.two two.two
-
-same_bytes : (files : Files) (name other bytes read : List ℕ) → name ≡ other → files name ≡ Some bytes → files other ≡ Some read → bytes ≡ read
-same_bytes files name other bytes read e one two =
-    let both : Some bytes ≡ Some read = sym one ∙ ap files e ∙ two in
-    cc
-
-not_long : {files : Files} {name other bytes : List ℕ} → name ≡ other → HasBytes files name bytes → IsTooLong files other → ⊥
-not_long {files = files} {name = name} {other = other} {bytes = bytes} e has long =
-    let same = ap length (same_bytes files name other bytes long.bytes e has.told long.told) in
-    omega (arith, has.few, long.many, same)
-
-formulas_agree : {files : Files} {name other : List ℕ} {p q : List Quant} {s t : Tree} {m n : List (List ℕ)} → name ≡ other → HasFormula files name p s m → HasFormula files other q t n → (p ≡ q) × (s ≡ t) × (m ≡ n)
-formulas_agree {files = files} {name = name} {other = other} {p = p} {q = q} {s = s} {t = t} {m = m} {n = n} e one two =
-    let same = same_bytes files name other one.bytes two.bytes e one.has.told two.has.told in
-    formula_once [] two.bytes p q s t m n (subst (λ x. IsFirstFormula [] x p s m) same one.formula) two.formula
-
--- A file of traces, as the bytes and the names of another reading of it.
-traces_are : (files : Files) (name other : List ℕ) (m n : List (List ℕ)) (bytes : List ℕ) (traces : List Trace) → name ≡ other → m ≡ n → HasTraces files name m traces → HasBytes files other bytes → IsTraceFile n bytes traces
-traces_are files name other m n bytes traces e f one has =
-    let same = same_bytes files name other one.bytes bytes e one.has.told has.told in
-    subst (λ x. IsTraceFile n x traces) same (subst (λ x. IsTraceFile x one.bytes traces) f one.spelled)
-
-monitors_agree : {words : List (List ℕ)} {files : Files} {p q : List Quant} {s t : Tree} {a b : List Trace} → Monitors words files p s a → Monitors words files q t b → (p ≡ q) × (s ≡ t) × (a ≡ b)
-monitors_agree {files = files} {a = a} {b = b} one two =
-    let names = commands_agree one.command two.command in
-    let formulas = formulas_agree names.0 one.specs two.specs in
-    let read = traces_are files one.traces_name two.traces_name one.names two.names two.arrivals.bytes a names.1 formulas.2 one.arrivals two.arrivals.has in
-    (formulas.0, formulas.1, traces_once two.names two.arrivals.bytes a b read two.arrivals.spelled)
+use Rattle.hy_top.proofs.StageOrder.{bytes_once}
+use Rattle.hy_top.proofs.TraceLines.{wrong-once, wrong-or-none, traces-once}
 
 -- ---- two verdicts
 
@@ -91,121 +57,85 @@ one_arrival n tree traces k l pick other one two =
           ]
     ]
 
-judged_agree : (n : ℕ) (tree : Tree) (traces : List Trace) (a b : Answer) → IsJudged n tree traces a → IsJudged n tree traces b → Agree a b
-judged_agree n tree traces (answers.NoViolation count kept live) (answers.NoViolation other left open') (e, f, g, one) (h, i, j, two) =
-    (e ∙ sym h, f ∙ sym i, g ∙ sym j)
-judged_agree n tree traces (answers.NoViolation count kept live) (answers.Violation spec trace tuple) (e, f, g, one) (h, two) =
-    absurd (clean_or_not n tree traces trace tuple one two)
-judged_agree n tree traces (answers.Violation spec trace tuple) (answers.NoViolation other left open') (e, one) (h, i, j, two) =
-    absurd (clean_or_not n tree traces trace tuple two one)
-judged_agree n tree traces (answers.Violation spec trace tuple) (answers.Violation other arrival pick) (e, one) (h, two) =
-    (e ∙ sym h, one_arrival n tree traces trace arrival tuple pick one two)
-judged_agree n tree traces (answers.NoViolation count kept live) _ one two = absurd two
-judged_agree n tree traces (answers.Violation spec trace tuple) _ one two = absurd two
-judged_agree n tree traces _ b one two = absurd one
+same_clean : (count : ℕ) (kept : List ℕ) (live : ℕ) (other : ℕ) (left : List ℕ) (open' : ℕ)
+    → count ≡ other → kept ≡ left → live ≡ open' → NoViolation count kept live ≡ NoViolation other left open'
+same_clean count kept live other left open' e f h = cc
 
-verdicts_agree : (words : List (List ℕ)) (files : Files) (a b : Answer) → IsRightVerdict words files a → IsRightVerdict words files b → Agree a b
-verdicts_agree words files a b one two =
-    let same = monitors_agree one.monitors two.monitors in
-    let counted = subst (λ p. IsJudged (length p) one.tree one.traces a) same.0 one.judged in
-    let shaped = subst (λ t. IsJudged (length two.prefix) t one.traces a) same.1 counted in
-    judged_agree (length two.prefix) two.tree two.traces a b (subst (λ ts. IsJudged (length two.prefix) two.tree ts a) same.2 shaped) two.judged
+judged_agree : (prefix : List Quant) (tree : Tree) (traces : List Trace) (a b : Answer) → AreUniversal prefix → IsJudged prefix tree traces a → IsJudged prefix tree traces b → Agree a b
+judged_agree prefix tree traces _ _ universal (is_clean count kept live one) (is_clean other left open' two) =
+    inl (same_clean count kept live other left open' (one.all ∙ sym two.all) (one.kept_all ∙ sym two.kept_all) (one.none_open ∙ sym two.none_open))
+judged_agree prefix tree traces _ _ universal (is_clean count kept live one) (is_violated trace tuple two) =
+    absurd (clean_or_not (length prefix) tree traces trace tuple (λ pick (long, members). quantified-all (length traces) _ prefix universal one.clean pick long members) two)
+judged_agree prefix tree traces _ _ universal (is_violated trace tuple one) (is_clean other left open' two) =
+    absurd (clean_or_not (length prefix) tree traces trace tuple (λ pick (long, members). quantified-all (length traces) _ prefix universal two.clean pick long members) one)
+judged_agree prefix tree traces _ _ universal (is_violated trace tuple one) (is_violated arrival pick two) =
+    inr (0, trace, tuple, pick, refl, ap (λ t. Violation 0 t pick) (sym (one_arrival (length prefix) tree traces trace arrival tuple pick one two)))
 
--- ---- two causes of different kinds
+-- ---- one stage, one answer
 
-abbrev IsRefused : List (List ℕ) → Files → ℕ → Type 0
-IsRefused words files file = ((file ≡ 0) × RefusesSpecs words files) ⊎ ((file ≡ 1) × RefusesTraces words files)
+refused_once : (found : Found) (a b : Answer) → RefusesFound found a → RefusesFound found b → a ≡ b
+refused_once (faulty token byte) a b e f = e ∙ sym f
+refused_once (free byte) a b e f = e ∙ sym f
+refused_once (over count limit) a b e f = e ∙ sym f
+refused_once (read_as formulas names) a b e f = e.1 ∙ sym f.1
 
-abbrev HasNoCommand : List (List ℕ) → Type 0
-HasNoCommand words = (specs traces : List ℕ) → ¬ IsCommand words specs traces
+lines_once : (lines : List (List ℕ)) (a b : Answer) → RefusesLines lines a → RefusesLines lines b → a ≡ b
+lines_once lines a b (inl (k, wrong, e)) (inl (j, other, f)) = e ∙ ap (λ n. Line 1 n) (wrong-once 1 lines k j wrong other) ∙ sym f
+lines_once lines a b (inl (k, wrong, e)) (inr (none, some, f)) = absurd (wrong-or-none 1 lines k wrong none)
+lines_once lines a b (inr (none, some, e)) (inl (k, wrong, f)) = absurd (wrong-or-none 1 lines k wrong none)
+lines_once lines a b (inr (none, some, e)) (inr (other, also, f)) = e ∙ sym f
 
-module _ {words : List (List ℕ)} {files : Files} where
-  words_or_verdict : {a : Answer} → HasNoCommand words → IsRightVerdict words files a → ⊥
-  words_or_verdict none v = none v.monitors.specs_name v.monitors.traces_name v.monitors.command
+module _ (given : Given) (specs traces : List ℕ) where
+  specs_agree : (s t : List Plain) (m n : List (List ℕ)) → HasSpecs given s m → HasSpecs given t n → read_as s m ≡ read_as t n
+  specs_agree s t m n one two =
+      let P : List ℕ → Type 0 = λ b. Answers true most_quantifiers [] b (read_as s m) in
+      answer-once true most_quantifiers [] two.bytes _ _ (subst P (bytes_once (monitor specs traces) given 0 one.bytes two.bytes one.came two.came) one.read) two.read
 
-  words_or_limit : {kind : Kind} {limit : ℕ} → HasNoCommand words → IsLimited words files kind limit → ⊥
-  words_or_limit none l = none l.reached.specs_name l.reached.traces_name l.reached.command
+  specs_refused_once : (a b : Answer) → RefusesSpecs given a → RefusesSpecs given b → a ≡ b
+  specs_refused_once a b one two =
+      let P : List ℕ → Type 0 = λ x. Answers true most_quantifiers [] x one.found in
+      let same = answer-once true most_quantifiers [] two.bytes one.found two.found (subst P (bytes_once (monitor specs traces) given 0 one.bytes two.bytes one.came two.came) one.read) two.read in
+      let Q : Found → Type 0 = λ found. RefusesFound found a in
+      refused_once two.found a b (subst Q same one.refused) two.refused
 
-  words_or_refused : {file : ℕ} → HasNoCommand words → IsRefused words files file → ⊥
-  words_or_refused none (inl (e, r)) = none r.specs_name r.traces_name r.command
-  words_or_refused none (inr (e, r)) = none r.specs_name r.traces_name r.command
+  traces_refused_once : (a b : Answer) → RefusesTraces given a → RefusesTraces given b → a ≡ b
+  traces_refused_once a b one two =
+      let P : List ℕ → Type 0 = λ x. RefusesLines (lines_of x) a in
+      lines_once (lines_of two.bytes) a b (subst P (bytes_once (monitor specs traces) given 1 one.bytes two.bytes one.came two.came) one.refused) two.refused
 
-  -- A first file that is refused is no formula.
-  refused_or_taken : {specs traces : List ℕ} {prefix : List Quant} {tree : Tree} {names : List (List ℕ)} → RefusesSpecs words files → IsCommand words specs traces → HasFormula files specs prefix tree names → ⊥
-  refused_or_taken {specs = specs} {prefix = prefix} {tree = tree} {names = names} r command f =
-      let same = same_bytes files specs r.specs_name f.bytes r.bytes (commands_agree command r.command).0 f.has.told r.has.told in
-      r.none prefix tree names (subst (λ x. IsFirstFormula [] x prefix tree names) same f.formula)
+  class_refused_once : (a b : Answer) → RefusesClass given a → RefusesClass given b → a ≡ b
+  class_refused_once a b one two =
+      let same = specs_agree one.formulas two.formulas one.names two.names one.specs two.specs in
+      let formulas : one.formulas ≡ two.formulas = cc in
+      let classes : Some one.class ≡ Some two.class = sym one.first ∙ ap first_class formulas ∙ two.first in
+      let class' : one.class ≡ two.class = cc in
+      one.answered ∙ ap (λ x. Prefix 0 x) class' ∙ sym two.answered
 
-  verdict_or_limit : {a : Answer} {kind : Kind} {limit : ℕ} → IsRightVerdict words files a → IsLimited words files kind limit → ⊥
-  verdict_or_limit v l =
-      let named = commands_agree v.monitors.command l.reached.command in
-      elim l.reached.turn [
-        | inl first ↦ not_long (named.0 ∙ sym first.1) v.monitors.specs.has l.long
-        | inr second ↦ not_long (named.1 ∙ sym second.1) v.monitors.arrivals.has l.long
-      ]
+  verdicts_agree : (a b : Answer) → Judges given a → Judges given b → Agree a b
+  verdicts_agree a b one two =
+      let same = specs_agree (one.formula ∷ []) (two.formula ∷ []) one.names two.names one.specs two.specs in
+      let formula : one.formula ≡ two.formula = cc in
+      let names : one.names ≡ two.names = cc in
+      let P : List ℕ → Type 0 = λ x. IsTraceFile one.names x one.traces in
+      let Q : List (List ℕ) → Type 0 = λ n. IsTraceFile n two.bytes one.traces in
+      let read = traces-once two.names two.bytes one.traces two.traces (subst Q names (subst P (bytes_once (monitor specs traces) given 1 one.bytes two.bytes one.came two.came) one.spelled)) two.spelled in
+      let A : Plain → Type 0 = λ p. IsJudged p.prefix p.body one.traces a in
+      let B : List Trace → Type 0 = λ ts. IsJudged two.formula.prefix two.formula.body ts a in
+      judged_agree two.formula.prefix two.formula.body two.traces a b two.universal (subst B read (subst A formula one.judged)) two.judged
 
-  verdict_or_refused : {a : Answer} {file : ℕ} → IsRightVerdict words files a → IsRefused words files file → ⊥
-  verdict_or_refused v (inl (e, r)) = refused_or_taken r v.monitors.command v.monitors.specs
-  verdict_or_refused v (inr (e, r)) =
-      let named = commands_agree v.monitors.command r.command in
-      let formulas = formulas_agree named.0 v.monitors.specs r.specs in
-      r.none v.traces (traces_are files v.monitors.traces_name r.traces_name v.monitors.names r.names r.bytes v.traces named.1 formulas.2 v.monitors.arrivals r.has)
+one_stage : (command : Command) (given : Given) (stage : Stage) (a b : Answer) → Met command given stage a → Met command given stage b → Agree a b
+one_stage command given (opening k) a b e f = inl (e.1 ∙ sym f.1)
+one_stage command given (reading k) a b e f = inl (e.1 ∙ sym f.1)
+one_stage command given (size k) a b e f = inl (e.1 ∙ sym f.1)
+one_stage (monitor specs traces) given (text zero) a b e f = inl (specs_refused_once given specs traces a b e f)
+one_stage (monitor specs traces) given (text (suc zero)) a b e f = inl (traces_refused_once given specs traces a b e f)
+one_stage (monitor specs traces) given (text (suc (suc k))) a b e f = absurd e
+one_stage (monitor specs traces) given class a b e f = inl (class_refused_once given specs traces a b e f)
+one_stage (monitor specs traces) given work a b e f = verdicts_agree given specs traces a b e f
 
-  limit_or_refused : {kind : Kind} {limit file : ℕ} → IsLimited words files kind limit → IsRefused words files file → ⊥
-  limit_or_refused l (inl (e, r)) =
-      elim l.reached.turn [
-        | inl first ↦ not_long ((commands_agree r.command l.reached.command).0 ∙ sym first.1) r.has l.long
-        | inr second ↦ refused_or_taken r l.reached.command second.2.taken
-      ]
-  limit_or_refused l (inr (e, r)) =
-      elim l.reached.turn [
-        | inl first ↦ not_long ((commands_agree r.command l.reached.command).0 ∙ sym first.1) r.specs.has l.long
-        | inr second ↦ not_long ((commands_agree r.command l.reached.command).1 ∙ sym second.1) r.has l.long
-      ]
-
-  same_refused : {file other : ℕ} → IsRefused words files file → IsRefused words files other → file ≡ other
-  same_refused (inl one) (inl two) = one.0 ∙ sym two.0
-  same_refused (inl one) (inr two) = absurd (refused_or_taken one.1 two.1.command two.1.specs)
-  same_refused (inr one) (inl two) = absurd (refused_or_taken two.1 one.1.command one.1.specs)
-  same_refused (inr one) (inr two) = one.0 ∙ sym two.0
-
--- ---- all answers
-
--- Two answers that are right agree, where the words and the files decide both.
-pub answers_agree : (words : List (List ℕ)) (files : Files) (a b : Answer) → IsDecided a → IsDecided b → IsRight words files a → IsRight words files b → Agree a b
-answers_agree words files answers.Words answers.Words d e one two = tt
-answers_agree words files answers.Words (answers.NoViolation count kept live) d e one two = words_or_verdict one two
-answers_agree words files answers.Words (answers.Violation spec trace tuple) d e one two = words_or_verdict one two
-answers_agree words files answers.Words (answers.Limit kind limit) d e one two = words_or_limit one two
-answers_agree words files answers.Words (answers.Unbuilt file) d e one two = words_or_refused one two
-answers_agree words files (answers.NoViolation count kept live) answers.Words d e one two = words_or_verdict two one
-answers_agree words files (answers.NoViolation count kept live) (answers.NoViolation other left open') d e one two = verdicts_agree words files _ _ one two
-answers_agree words files (answers.NoViolation count kept live) (answers.Violation spec trace tuple) d e one two = verdicts_agree words files _ _ one two
-answers_agree words files (answers.NoViolation count kept live) (answers.Limit kind limit) d e one two = verdict_or_limit one two
-answers_agree words files (answers.NoViolation count kept live) (answers.Unbuilt file) d e one two = verdict_or_refused one two
-answers_agree words files (answers.Violation spec trace tuple) answers.Words d e one two = words_or_verdict two one
-answers_agree words files (answers.Violation spec trace tuple) (answers.NoViolation other left open') d e one two = verdicts_agree words files _ _ one two
-answers_agree words files (answers.Violation spec trace tuple) (answers.Violation other arrival pick) d e one two = verdicts_agree words files _ _ one two
-answers_agree words files (answers.Violation spec trace tuple) (answers.Limit kind limit) d e one two = verdict_or_limit one two
-answers_agree words files (answers.Violation spec trace tuple) (answers.Unbuilt file) d e one two = verdict_or_refused one two
-answers_agree words files (answers.Limit kind limit) answers.Words d e one two = words_or_limit two one
-answers_agree words files (answers.Limit kind limit) (answers.NoViolation other left open') d e one two = verdict_or_limit two one
-answers_agree words files (answers.Limit kind limit) (answers.Violation spec trace tuple) d e one two = verdict_or_limit two one
-answers_agree words files (answers.Limit kind limit) (answers.Limit other bound) d e one two = (one.of_bytes ∙ sym two.of_bytes, one.number ∙ sym two.number)
-answers_agree words files (answers.Limit kind limit) (answers.Unbuilt file) d e one two = limit_or_refused one two
-answers_agree words files (answers.Unbuilt file) answers.Words d e one two = words_or_refused two one
-answers_agree words files (answers.Unbuilt file) (answers.NoViolation other left open') d e one two = verdict_or_refused two one
-answers_agree words files (answers.Unbuilt file) (answers.Violation spec trace tuple) d e one two = verdict_or_refused two one
-answers_agree words files (answers.Unbuilt file) (answers.Limit kind limit) d e one two = limit_or_refused two one
-answers_agree words files (answers.Unbuilt file) (answers.Unbuilt other) d e one two = same_refused one two
-answers_agree words files (answers.OpenFault file) b d e one two = absurd d
-answers_agree words files (answers.ReadFault file) b d e one two = absurd d
-answers_agree words files answers.WriteFault b d e one two = absurd d
-answers_agree words files answers.Memory b d e one two = absurd d
-answers_agree words files _ _ d e one two = absurd e
-
--- Words that are no command have one answer beside want of memory.
-pub words_decide : (words : List (List ℕ)) (answer : Answer) → FitsWords words answers.Words → FitsWords words answer → (answer ≡ answers.Words) ⊎ (answer ≡ answers.Memory)
-words_decide words answers.Words none fits = inl cc
-words_decide words answers.Memory none fits = inr cc
-words_decide words _ none fits = absurd (none fits.0 fits.1 fits.2)
+pub first_once : (command : Command) (given : Given) (stages : List Stage) (a b : Answer) → First command given stages a → First command given stages b → Agree a b
+first_once command given [] a b one two = elim one [ ]
+first_once command given (stage ∷ stages) a b (here met) (here other) = one_stage command given stage a b met other
+first_once command given (stage ∷ stages) a b (here met) (later passed two) = absurd (passed a met)
+first_once command given (stage ∷ stages) a b (later passed one) (here met) = absurd (passed b met)
+first_once command given (stage ∷ stages) a b (later passed one) (later again two) = first_once command given stages a b one two

@@ -4,7 +4,8 @@ use Rattle.std.specs.List.{list_any}
 use Rattle.std.proofs.lemmas.Bool.{cases_lt, eqb-true, eqb-false, cases_Bool}
 use Rattle.std.proofs.lemmas.List.{length-append, length-take, get_or-take}
 use Rattle.hy_formula.specs.Trees.{Tree}
-use Rattle.hy_top.specs.Finite.{Trace, Satisfies, AllSatisfy, ViolatesBy, FirstViolation, picked}
+use Rattle.hy_finite.specs.Traces.{Trace, picked}
+use Rattle.hy_top.specs.Arrivals.{Satisfies, AllSatisfy, ViolatesBy, FirstViolation}
 use Rattle.hy_top.specs.Searches.{AllCompletionsSatisfy}
 
 -- Each tuple that begins so, and goes on with a trace from `first` up to one below k, satisfies the tree.

@@ -1,12 +1,15 @@
 -- The text that each answer prints, its error line, and its status.
-use Rattle.std.specs.Prelude.{◌≡◌, ◌⊎◌, ℕ, List, [], ◌∷◌, ◌++◌, map, codes, decimal, nat_eq, if◌then◌else◌, slice_index_or}
+use Rattle.std.specs.Prelude.{◌⊎◌, ℕ, List, [], ◌∷◌, ◌++◌, map, codes, decimal, nat_eq, if◌then◌else◌, slice_index_or}
 use Rattle.std.specs.List.{join_with_byte, flat_map}
-use Rattle.hy_base.specs.Counts.{Rose}
-use Rattle.hy_base.specs.Pieces.{GaveFront}
+use Rattle.std.specs.Borrow.{Bor}
+use Rattle.hy_base.specs.Sink.{GivesWhole, FailsToGive}
+use Rattle.hy_base.specs.declared.sink.Sink.{Ghosts}
 use Rattle.hy_base.specs.declared.limit.Kind.{Kind}
-use Rattle.hy_base.specs.declared.limit.Kind.TheVariants.{Bytes, Specs, Quantifiers, Parens, Height, Names}
+use Rattle.hy_base.specs.declared.limit.Kind.TheVariants as kinds
+use Rattle.hy_formula.specs.declared.classes.Class.{Class}
+use Rattle.hy_formula.specs.declared.classes.Class.TheVariants as classes
 use Rattle.hy_top.specs.declared.answer.Answer.{Answer}
-use Rattle.hy_top.specs.declared.answer.Answer.TheVariants.{NoViolation, Violation, Words, OpenFault, ReadFault, WriteFault, Limit, Unbuilt, Memory}
+use Rattle.hy_top.specs.declared.answer.Answer.TheVariants.{NoViolation, Violation, Words, Syntax, Unbound, Prefix, Line, OpenFault, ReadFault, WriteFault, Limit, Unbuilt, Memory}
 
 -- numbers, each behind a space
 abbrev pub spaced : List ℕ → List ℕ
@@ -22,36 +25,73 @@ out_text (NoViolation traces kept live) = codes "no violation in " ++ decimal tr
 out_text (Violation spec trace tuple) =
     codes "violation of spec " ++ decimal spec ++ codes " at trace " ++ decimal trace ++ codes " by "
     ++ join_with_byte 32 (map decimal tuple) ++ codes "\n"
-out_text _ = []
+out_text Words = []
+out_text (Syntax file token byte) = []
+out_text (Unbound file byte) = []
+out_text (Prefix file class) = []
+out_text (Line file line) = []
+out_text (OpenFault file) = []
+out_text (ReadFault file) = []
+out_text WriteFault = []
+out_text (Limit kind limit) = []
+out_text (Unbuilt file) = []
+out_text Memory = []
 
 abbrev pub kind_text : Kind → List ℕ
-kind_text Bytes = codes "bytes"
-kind_text Specs = codes "specs"
-kind_text Quantifiers = codes "quantifiers"
-kind_text Parens = codes "parens"
-kind_text Height = codes "height"
-kind_text Names = codes "names"
+kind_text kinds.Bytes = codes "bytes"
+kind_text kinds.Specs = codes "specs"
+kind_text kinds.Quantifiers = codes "quantifiers"
+kind_text kinds.Parens = codes "parens"
+kind_text kinds.Height = codes "height"
+kind_text kinds.Names = codes "names"
+kind_text kinds.Instances = codes "instances"
+kind_text kinds.Closure = codes "closure"
+kind_text kinds.Joint = codes "joint"
+kind_text kinds.Atoms = codes "atoms"
+kind_text kinds.Table = codes "table"
+kind_text kinds.Length = codes "length"
+kind_text kinds.Sessions = codes "sessions"
+kind_text kinds.Saves = codes "saves"
+kind_text kinds.Variables = codes "variables"
+kind_text kinds.CnfVariables = codes "cnf-variables"
+kind_text kinds.CnfLiterals = codes "cnf-literals"
 
--- the word that named a file of the command
-abbrev pub file_word : List (List ℕ) → ℕ → List ℕ
-file_word words file = slice_index_or words file []
+abbrev pub class_text : Class → List ℕ
+class_text classes.Exists = codes "exists"
+class_text classes.Forall = codes "forall"
+class_text classes.ExistsForall = codes "exists-forall"
+class_text classes.Other = codes "other"
 
--- what `err` receives
+-- the name of a file of the command, as its words have it
+abbrev pub name_of_file : List (List ℕ) → ℕ → List ℕ
+name_of_file names file = slice_index_or names file []
+
+-- what `err` receives, where the command has files of these names
 abbrev pub error_line : List (List ℕ) → Answer → List ℕ
-error_line words Words = codes "error E1: words\n"
-error_line words (OpenFault file) = codes "error E7 " ++ file_word words file ++ codes "\n"
-error_line words (ReadFault file) = codes "error E6 " ++ file_word words file ++ codes "\n"
-error_line words WriteFault = codes "error E8\n"
-error_line words (Limit kind limit) = codes "error E5: " ++ kind_text kind ++ codes " " ++ decimal limit ++ codes "\n"
-error_line words (Unbuilt file) = codes "error: unbuilt " ++ file_word words file ++ codes "\n"
-error_line words Memory = codes "error: memory\n"
-error_line words _ = []
+error_line names Words = codes "error E1: words\n"
+error_line names (Syntax file token byte) =
+    codes "error E2 " ++ name_of_file names file ++ codes ": token " ++ decimal token ++ codes " byte " ++ decimal byte ++ codes "\n"
+error_line names (Unbound file byte) = codes "error E3 " ++ name_of_file names file ++ codes ": byte " ++ decimal byte ++ codes "\n"
+error_line names (Prefix file class) = codes "error E4 " ++ name_of_file names file ++ codes ": prefix " ++ class_text class ++ codes "\n"
+error_line names (Line file line) = codes "error E9 " ++ name_of_file names file ++ codes ": line " ++ decimal line ++ codes "\n"
+error_line names (OpenFault file) = codes "error E7 " ++ name_of_file names file ++ codes "\n"
+error_line names (ReadFault file) = codes "error E6 " ++ name_of_file names file ++ codes "\n"
+error_line names WriteFault = codes "error E8\n"
+error_line names (Limit kind limit) = codes "error E5: " ++ kind_text kind ++ codes " " ++ decimal limit ++ codes "\n"
+error_line names (Unbuilt file) = codes "error: unbuilt " ++ name_of_file names file ++ codes "\n"
+error_line names Memory = codes "error: memory\n"
+error_line names (NoViolation traces kept live) = []
+error_line names (Violation spec trace tuple) = []
 
 -- the exit status
 abbrev pub status_of : Answer → ℕ
 status_of (NoViolation traces kept live) = 0
 status_of (Violation spec trace tuple) = 1
 status_of Words = 2
+status_of (Syntax file token byte) = 2
+status_of (Unbound file byte) = 2
+status_of (Prefix file class) = 2
+status_of (Line file line) = 2
 status_of (Unbuilt file) = 2
 status_of (OpenFault file) = 3
 status_of (ReadFault file) = 3
@@ -59,7 +99,11 @@ status_of WriteFault = 3
 status_of (Limit kind limit) = 5
 status_of Memory = 6
 
--- A sink received the line, or a front of it and a count that rose.
-abbrev pub Received : List ℕ → List ℕ → List ℕ → ℕ → ℕ → Type 0
-Received line old new faults_before faults_after =
-    (new ≡ old ++ line) ⊎ (Rose faults_before faults_after × GaveFront old new line)
+-- The sink was given the line, or less of it and a put failed.
+abbrev pub Received : {E : Type 0} → Ghosts E → E → E → List ℕ → Type 0
+Received g old new line = GivesWhole g old new line ⊎ FailsToGive g old new line
+
+-- the names that slices hold
+abbrev pub plain : List (Bor (List ℕ)) → List (List ℕ)
+plain [] = []
+plain (name ∷ names) = name.now ∷ plain names

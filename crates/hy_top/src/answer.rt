@@ -1,4 +1,5 @@
 use hy_base::{Kind, NumList};
+use hy_formula::Class;
 
 /// Which tool runs.
 #[derive(Clone, Copy, Debug, PartialEq, Eq)]
@@ -28,6 +29,27 @@ pub enum Answer {
     },
     /// The words are no command.
     Words,
+    /// A formula text is none: the number of tokens before the fault, and its byte.
+    Syntax {
+        file: u8,
+        token: u32,
+        byte: u32,
+    },
+    /// An atom of a formula text has a variable without a quantifier: its first byte.
+    Unbound {
+        file: u8,
+        byte: u32,
+    },
+    /// A formula is of a class that the command does not take.
+    Prefix {
+        file: u8,
+        class: Class,
+    },
+    /// A line of a file, counted from 1, is no text.
+    Line {
+        file: u8,
+        line: u32,
+    },
     /// A file did not open.
     OpenFault {
         file: u8,
@@ -43,7 +65,7 @@ pub enum Answer {
         kind: Kind,
         limit: u64,
     },
-    /// A file holds what is not taken yet, or is no text.
+    /// A file holds what is not built yet.
     Unbuilt {
         file: u8,
     },

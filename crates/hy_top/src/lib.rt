@@ -2,17 +2,16 @@
 #![tactic(auto)]
 
 mod answer;
-mod bytes;
-mod finite;
+mod arrivals;
 mod host;
 mod laws;
 mod output;
-mod read;
 mod refusal;
 mod runs;
-mod words;
+mod rvhyper;
+mod whole_traces;
 
 pub use answer::{Answer, Done, Tool, Tuple};
 pub use host::run_here;
-pub use laws::{one_answer, one_answer_to_words, one_formula, one_trace_file};
+pub use laws::{one_answer, verdict};
 pub use runs::run;

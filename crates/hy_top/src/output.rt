@@ -4,7 +4,7 @@ ghost use Rattle.std.specs.Prelude.{◌≡◌, ◌++◌, ◌≤◌, ◌⊎◌, L
 ghost use Rattle.std.specs.List.{join_with_byte};
 ghost use Rattle.hy_base.specs.Counts.{Rose};
 ghost use Rattle.hy_base.specs.Pieces.{GaveFront};
-ghost use Rattle.hy_top.specs.Outputs.{out_text, spaced, error_line, status_of, kind_text, file_word, open_text};
+ghost use Rattle.hy_top.specs.Outputs.{out_text, spaced, status_of, open_text};
 
 use crate::answer::Answer;
 use hy_base::{Kind, M, Sink, SinkFailed, Text, write_all, write_pieces};
@@ -100,7 +100,12 @@ pub fn status_of(answer: &Answer) -> u8
     match answer {
         Answer::NoViolation { .. } => 0,
         Answer::Violation { .. } => 1,
-        Answer::Words | Answer::Unbuilt { .. } => 2,
+        Answer::Words
+        | Answer::Syntax { .. }
+        | Answer::Unbound { .. }
+        | Answer::Prefix { .. }
+        | Answer::Line { .. }
+        | Answer::Unbuilt { .. } => 2,
         Answer::OpenFault { .. } | Answer::ReadFault { .. } | Answer::WriteFault => 3,
         Answer::Limit { .. } => 5,
         Answer::Memory => 6,

@@ -2,7 +2,7 @@
 
 use crate::escape::{text_of, word_of};
 use anyhow::{Context, Result, bail, ensure};
-use hy_base::{File, FileList, NumList};
+use hy_base::{File, FileList, NumList, Text};
 use hy_top::Tool;
 use std::alloc::Global;
 use std::num::NonZeroU32;
@@ -10,14 +10,14 @@ use std::num::NonZeroU32;
 /// How many bytes a sink has room for where its case does not say.
 const ROOM: u32 = 65_536;
 
-/// A command, the files that it finds, and the calls that fail.
+/// A command, the files that it finds, the calls that fail, and what is expected of it.
 #[derive(Drop)]
 pub struct Case {
     pub name: String,
     /// `None` until the line that names the tool.
     pub tool: Option<Tool>,
     pub words: Vec<String>,
-    pub files: FileList,
+    pub files: Vec<File>,
     pub fail_shelf: NumList,
     pub fail_out: NumList,
     pub fail_err: NumList,
@@ -25,6 +25,10 @@ pub struct Case {
     pub room: u32,
     /// How many bytes one put takes at most.
     pub most: NonZeroU32,
+    /// `None` until the line that says it.
+    pub status: Option<u8>,
+    pub out: Text,
+    pub err: Text,
 }
 
 impl Case {
@@ -36,12 +40,15 @@ impl Case {
             name: String::from_str(alloc, text)?,
             tool: None,
             words: Vec::new(alloc),
-            files: FileList::new(alloc),
+            files: Vec::new(alloc),
             fail_shelf: NumList::new(alloc),
             fail_out: NumList::new(alloc),
             fail_err: NumList::new(alloc),
             room: ROOM,
             most: NonZeroU32::MAX,
+            status: None,
+            out: Text::new(alloc),
+            err: Text::new(alloc),
         })
     }
 
@@ -51,11 +58,15 @@ impl Case {
             "tool" => self.set_tool(text)?,
             "word" => self.words.push(word_of(alloc, text)?)?,
             "file" => self.files.push(file_of(alloc, text)?)?,
+            "repeat" => self.repeat(alloc, text)?,
             "fail-shelf" => add_numbers(&mut self.fail_shelf, text)?,
             "fail-out" => add_numbers(&mut self.fail_out, text)?,
             "fail-err" => add_numbers(&mut self.fail_err, text)?,
             "room" => self.room = text.parse::<u32>().context("no number")?,
             "most" => self.most = text.parse::<NonZeroU32>().context("no number from 1")?,
+            "status" => self.status = Some(text.parse::<u8>().context("no status")?),
+            "out" => self.out = text_of(alloc, text)?,
+            "err" => self.err = text_of(alloc, text)?,
             _ => bail!("no line of a case begins with {directive:?}"),
         }
         Ok(())
@@ -69,6 +80,27 @@ impl Case {
         };
         Ok(())
     }
+
+    /// Adds a text many times to the last file.
+    fn repeat(&mut self, alloc: Global, text: &str) -> Result<()> {
+        let (count, text) = text.split_once(' ').context("no number and text")?;
+        let count = count.parse::<u32>().context("no number")?;
+        let piece = text_of(alloc, text)?;
+        let file = self.files.last_mut().context("no file is there to add to")?;
+        for _ in 0..count {
+            file.bytes.extend(piece.as_slice())?;
+        }
+        Ok(())
+    }
+}
+
+/// The files of a case, as a shelf takes them.
+pub fn shelf_files(alloc: Global, files: Vec<File>) -> Result<FileList> {
+    let mut list = FileList::new(alloc);
+    for file in files {
+        list.push(file)?;
+    }
+    Ok(list)
 }
 
 /// The file of a line: its name up to the first space, and then its bytes.

@@ -1,21 +1,43 @@
-//! What a case gave, as text.
+//! What a case gave, beside what was expected of it.
 
-use crate::case::Case;
+use crate::case::{Case, shelf_files};
 use crate::escape::escaped;
 use anyhow::{Result, bail};
 use hy_base::{MemShelf, MemSink};
 use hy_top::run;
-use std::io;
+use std::fmt;
 
-/// Runs a case and prints its name, the status, and the texts that the output and the error stream
-/// received. A stream that received nothing has no line.
-pub fn report(rt: &HostRuntime, case: Case) -> Result<()> {
+/// How many cases of a file were run, and how many gave another answer than the expected one.
+#[derive(Clone, Copy)]
+pub struct Tally {
+    cases: u64,
+    differ: u64,
+}
+
+impl Tally {
+    /// No case yet.
+    pub fn new() -> Tally {
+        Tally {
+            cases: 0,
+            differ: 0,
+        }
+    }
+}
+
+impl fmt::Display for Tally {
+    fn fmt<W: fmt::Write>(&self, f: &mut fmt::Formatter<W>) -> fmt::Result {
+        write!(f, "{} cases, {} differ", self.cases, self.differ)
+    }
+}
+
+/// Runs a case, counts it, and prints what differs: each part that is not as expected, and then as it is.
+pub fn report(rt: &HostRuntime, tally: &mut Tally, case: Case) -> Result<()> {
     let alloc = rt.alloc();
     let name = case.name;
-    let Some(tool) = case.tool else {
-        bail!("the case {name:?} names no tool");
+    let (Some(tool), Some(status)) = (case.tool, case.status) else {
+        bail!("the case {name:?} lacks its tool or its status");
     };
-    let mut shelf = MemShelf::new(case.files, case.fail_shelf);
+    let mut shelf = MemShelf::new(shelf_files(alloc, case.files)?, case.fail_shelf);
     let mut out = MemSink::new(alloc, case.room, case.most.get(), case.fail_out)?;
     let mut err = MemSink::new(alloc, case.room, case.most.get(), case.fail_err)?;
     let done = run(
@@ -26,19 +48,25 @@ pub fn report(rt: &HostRuntime, case: Case) -> Result<()> {
         &mut out,
         &mut err,
     );
-    println!(rt; "{name}")?;
-    println!(rt; "status {}", done.status)?;
-    print_text(rt, "out", out.bytes())?;
-    print_text(rt, "err", err.bytes())?;
-    println!(rt; "")?;
-    Ok(())
-}
-
-/// Prints what a stream received, on a line that begins with the name of the stream.
-fn print_text(rt: &HostRuntime, stream: &str, bytes: &[u8]) -> io::Result<()> {
-    if bytes.is_empty() {
+    let same = status == done.status
+        && case.out.as_slice() == out.bytes()
+        && case.err.as_slice() == err.bytes();
+    tally.cases = tally.cases.saturating_add(1);
+    if same {
         return Ok(());
     }
-    let text = escaped(rt.alloc(), bytes)?;
-    println!(rt; "{stream} {text}")
+    tally.differ = tally.differ.saturating_add(1);
+    println!(rt; "{name}: status {} for {status}", done.status)?;
+    print_part(rt, "out", case.out.as_slice(), out.bytes())?;
+    print_part(rt, "err", case.err.as_slice(), err.bytes())
+}
+
+/// Prints what a stream received and what it was to receive, where these differ.
+fn print_part(rt: &HostRuntime, stream: &str, wanted: &[u8], given: &[u8]) -> Result<()> {
+    if wanted == given {
+        return Ok(());
+    }
+    println!(rt; "  {stream} wanted {}", escaped(rt.alloc(), wanted)?)?;
+    println!(rt; "  {stream} given  {}", escaped(rt.alloc(), given)?)?;
+    Ok(())
 }

@@ -1,9 +1,9 @@
-use Rattle.std.proofs.Common.{◌<◌, ◌≤◌, ◌≡◌, ◌++◌, [], ◌∷◌, ℕ, length, true, false, map, arith, sym, ap, ◌∙◌, append_assoc}
+use Rattle.std.proofs.Common.{◌<◌, ◌≤◌, ◌≡◌, ◌++◌, [], ◌∷◌, length, true, map, arith, sym, ◌∙◌}
 use Rattle.std.proofs.lemmas.Grind.{common_steps}
-use Rattle.hy_text.specs.Joined.{piece, pieces}
+use Rattle.hy_text.specs.Joined.{pieces}
 use Rattle.hy_text.specs.Names.{spelled}
 use Rattle.hy_text.specs.Sets.{members_of}
-use Rattle.hy_text.proofs.Printing.{NamesLeft, name_printed, name_passed, names_printed, joined_pieces}
+use Rattle.hy_text.proofs.Printing.{name_printed, name_passed, names_printed, joined_pieces}
 use Rattle.hy_text.proofs.sets.push_set.Goals as goal
 use Rattle.hy_text.proofs.sets.push_set.Goals.{then-has+in_ok-push_member, else-has}
 

@@ -1,4 +1,4 @@
-use Rattle.std.proofs.Common.{arith, ◌++◌, [], ◌∷◌, map, true, sym, ap, ◌∙◌}
+use Rattle.std.proofs.Common.{arith, ◌++◌, map, sym, ap, ◌∙◌}
 use Rattle.hy_text.specs.Sets.{printed_set}
 use Rattle.hy_text.proofs.Printing.{sets_printed, joined_pieces}
 use Rattle.hy_text.proofs.words.push_word.Goals as goal

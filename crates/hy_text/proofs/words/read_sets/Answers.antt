@@ -1,8 +1,8 @@
-use Rattle.std.proofs.Common.{◌≡◌, ℕ, ◌+◌, ◌≤◌, List, [], ◌∷◌, ◌++◌, length, nat_lt, if◌then◌else◌, sym, ap, ◌∙◌, arith, append_assoc, subst}
+use Rattle.std.proofs.Common.{◌≡◌, List, ◌++◌, sym, ap, ◌∙◌, arith, append_assoc}
 use Rattle.hy_bits.specs.Letter.{Letter}
 use Rattle.hy_text.specs.Bytes.{past_blanks}
 use Rattle.hy_text.specs.Words.{NoSemicolon}
-use Rattle.hy_text.proofs.ReadingWords.{SetsRead, sets_more, sets_all, sets_lack}
+use Rattle.hy_text.proofs.ReadingWords.{sets_more, sets_all, sets_lack}
 use Rattle.hy_text.proofs.words.read_sets.Goals as goal
 
 more_of : (old letters new added : List Letter) → (more : List Letter) × (letters ≡ old ++ more) → new ≡ letters ++ added → (more : List Letter) × (new ≡ old ++ more)

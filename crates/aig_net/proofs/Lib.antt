@@ -1,0 +1,14 @@
+pub mod Closings
+mod Executing
+mod Follows
+mod GateLemmas
+pub mod Listed
+pub mod Literals
+pub mod Looping
+pub mod Making
+pub mod Rounds
+mod RowLemmas
+mod SignalLemmas
+mod States
+pub mod Valuations
+pub mod Wiring

@@ -1,0 +1,20 @@
+//! Circuits: inputs, latches, ands, constraints and fairness literals, and what they do.
+#![tactic(auto)]
+
+mod gates;
+mod laws;
+mod maker;
+mod net;
+mod parts;
+mod run;
+mod signals;
+mod simulation;
+
+pub use gates::value_of;
+pub use laws::{lassos_repeat, one_execution, one_valuation};
+pub use maker::{Gates, opposite_of};
+pub use net::Net;
+pub use parts::{And, AndList, NameList, NetParts, Reset, ResetList};
+pub use run::{Row, RowList, Run, RunList, ValueLasso};
+pub use signals::{Signal, Signals};
+pub use simulation::simulate;

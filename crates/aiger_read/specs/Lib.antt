@@ -1,0 +1,14 @@
+pub mod Answers
+pub mod Circuits
+pub mod Deltas
+pub mod Files
+pub mod Gates
+pub mod Keeping
+pub mod Outcomes
+pub mod Passes
+pub mod Spelled
+pub mod Symbols
+pub mod Texts
+pub mod Words
+pub mod Uses
+pub mod Takings

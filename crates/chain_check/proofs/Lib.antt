@@ -1,0 +1,9 @@
+pub mod Literals
+pub mod Passing
+pub mod Counting
+pub mod ThreeWays
+pub mod Marking
+pub mod Opening
+pub mod Storing
+pub mod Stepping
+pub mod Opposing

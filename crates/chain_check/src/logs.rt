@@ -1,0 +1,16 @@
+//! Logs of learned clauses, each with the clauses by which it follows.
+
+use hy_base::{List, NumList};
+
+/// Literals: a variable counts from 1, and its negative number is the opposite.
+pub type Clause = List<i32>;
+
+/// A learned clause, and the numbers of the clauses by which it follows.
+#[derive(Drop)]
+pub struct Learned {
+    pub clause: Clause,
+    pub chain: NumList,
+}
+
+/// Learned clauses in order. The given clauses are numbered from 1, and these go on.
+pub type Log = List<Learned>;

@@ -1,0 +1,11 @@
+pub mod Choosing
+pub mod LassoWords
+pub mod Bodies
+pub mod Negating
+pub mod OneForm
+pub mod Periodic
+pub mod Periods
+pub mod Shortening
+pub mod Places
+pub mod Printing
+pub mod Rows

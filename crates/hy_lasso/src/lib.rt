@@ -1,0 +1,18 @@
+//! Lassos: endless words that repeat, and what formulas say of lists of them.
+#![tactic(auto)]
+
+mod choices;
+mod error;
+mod lasso;
+pub mod laws;
+mod meaning;
+mod period;
+mod print;
+mod row;
+mod shorten;
+
+pub use choices::holds;
+pub use error::HoldsError;
+pub use lasso::{Lasso, LassoList};
+pub use meaning::holds_body;
+pub use print::print_lassos;

@@ -1,9 +1,0 @@
-use Rattle.hy_top.proofs.Rows.{globally-told}
-use Rattle.hy_top.proofs.finite.row.globally.Goals as goal
-
-pub returns : goal.returns
-returns c =
-    globally-told c.args.row c.negate.result c.finally.result c.negate-2.result c.negate.ensures.long c.negate.ensures.values
-    (record { long = c.finally.ensures.long; right = c.finally.ensures.right })
-    c.negate-2.ensures.long
-    c.negate-2.ensures.values

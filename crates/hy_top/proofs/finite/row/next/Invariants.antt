@@ -1,7 +1,0 @@
-use Rattle.std.proofs.Common.{◌+◌}
-use Rattle.hy_top.specs.Rows.{value_at}
-use Rattle.hy_top.proofs.Rows.{Rewritten}
-use Rattle.hy_top.proofs.finite.row.next.Given as goal
-
-abbrev pub invariant-loop-i : goal.invariant-loop-i
-invariant-loop-i l = Rewritten l.initial.row l.row (λ k. value_at l.initial.row (k + 1)) l.i

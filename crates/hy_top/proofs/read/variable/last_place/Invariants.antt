@@ -1,7 +1,0 @@
-use Rattle.std.proofs.Common.{◌≡◌, map, take}
-use Rattle.hy_top.specs.Formulas.{last_place_of}
-use Rattle.hy_top.proofs.read.variable.last_place.Given as goal
-
--- the last place among those before
-abbrev pub invariant-loop-i : goal.invariant-loop-i
-invariant-loop-i l = l.last ≡ last_place_of l.bound (map (λ v. v.now) (take l.i l.variables))

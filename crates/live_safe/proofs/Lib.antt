@@ -1,0 +1,6 @@
+mod SafeGates
+mod SafeRange
+mod Saving
+mod Shapes
+mod Starts
+mod Unfolding

@@ -1,0 +1,9 @@
+//! From liveness to safety: a net with a literal `bad` that can be reached exactly where a given net
+//! has a lasso execution.
+#![tactic(auto)]
+
+mod laws;
+mod safe_net;
+
+pub use laws::paths_are_lassos;
+pub use safe_net::{Path, SafeNet};

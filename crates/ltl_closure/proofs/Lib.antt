@@ -1,0 +1,6 @@
+pub mod Closing
+pub mod Inserting
+pub mod Marking
+pub mod Visiting
+pub mod Tasks
+pub mod Roots

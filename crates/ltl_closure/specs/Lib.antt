@@ -1,0 +1,5 @@
+pub mod Closures
+pub mod Jobs
+pub mod Nodes
+pub mod Numbered
+pub mod Plain

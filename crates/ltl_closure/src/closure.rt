@@ -1,0 +1,119 @@
+//! The closure of jobs.
+
+ghost use Rattle.std.specs.Prelude.{◌≡◌, ◌<◌, ◌≤◌, ◌++◌, ℕ, List, All, length, IfOk, OnOk, IsErrOf};
+ghost use Rattle.hy_formula.specs.Trees.{tree_of};
+ghost use Rattle.ltl_closure.specs.Nodes.{node_at, PartsBelow};
+ghost use Rattle.ltl_closure.specs.Plain.{plain_node};
+ghost use Rattle.ltl_closure.specs.Closures.{closure};
+ghost use Rattle.ltl_closure.specs.Jobs.{Task, tasks_by, tasks_of, forms_of, task_nodes, closure_of, IsMapped};
+ghost use Rattle.ltl_closure.specs.Numbered.{Visited};
+
+use crate::closure_error::ClosureError;
+use crate::job::{Job, JobList};
+use crate::node::Node;
+use crate::numbering::Numbering;
+use hy_base::NumList;
+use hy_bits::BitRow;
+use indexmap::IndexSet;
+use std::alloc::Global;
+use std::marker::Model;
+
+/// A set of members of a closure, by their numbers.
+pub type Obl<const W: usize> = BitRow<W>;
+
+/// The distinct parts of the normal forms of some jobs, numbered from 0 at their first visits: the
+/// jobs in order, the maps of a job in order, and of a form its left operand, its right operand,
+/// itself.
+#[derive(Drop)]
+pub struct Closure {
+    members: IndexSet<Node>,
+    roots: NumList,
+}
+
+impl Model for Closure {
+    ghost use Rattle.std.specs.Prelude.{map};
+    ghost use Rattle.ltl_closure.specs.Jobs.{Rooted};
+    ghost use Rattle.ltl_closure.specs.Plain.{plain_node};
+    ghost use Rattle.ltl_closure.specs.Numbered.{IsClosure};
+
+    ghost Value = { Rooted };
+
+    ghost view = { λ c. record { nodes = map plain_node c.members.keys; roots = c.roots } };
+
+    ghost invariant = { λ c. IsClosure (map plain_node c.members.keys) c.roots };
+}
+
+impl Closure {
+    /// The closure of the normal forms of the jobs' bodies, negated where a job is not positive,
+    /// under each of its maps.
+    ///
+    /// `Limit` comes exactly where there are more than 1,024 members, and as soon as one more is
+    /// met. In time linear in the bodies, each times the number of its maps.
+    pub fn new(alloc: Global, jobs: &JobList) -> Result<Closure, ClosureError>
+        requires mapped { All IsMapped jobs.now }
+        ensures closure { IfOk result (λ c. c ≡ closure_of (tasks_of jobs.now)) }
+        ensures few { OnOk result (length (task_nodes (tasks_of jobs.now)) ≤ 1024) }
+        ensures limit { IsErrOf result ClosureError.Limit
+            → 1024 < length (task_nodes (tasks_of jobs.now)) }
+    {
+        let mut numbering = Numbering::new(alloc);
+        let mut roots = NumList::new(alloc);
+        for job in jobs.as_slice() {
+            visit_job(&mut numbering, job, &mut roots)?;
+        }
+        Ok(Closure {
+            members: numbering.members,
+            roots,
+        })
+    }
+
+    /// How many members there are: at most 1,024.
+    pub fn len(&self) -> usize
+        ensures len { result ≡ length self.now.nodes }
+        ensures few { length self.now.nodes ≤ 1024 }
+        // Operands stand before what they belong to.
+        ensures operands { (k : ℕ) → k < length self.now.nodes
+            → PartsBelow k (node_at self.now.nodes k) }
+    {
+        self.members.len()
+    }
+
+    /// The member with number `i`.
+    pub fn node(&self, i: u16) -> Node
+        requires { i < length self.now.nodes }
+        ensures node { plain_node result ≡ node_at self.now.nodes i }
+        ensures operands { PartsBelow i (plain_node result) }
+    {
+        self.members.as_slice()[usize::from(i)]
+    }
+
+    /// The numbers of the whole normal forms, one for each map of each job, in their order.
+    pub fn roots(&self) -> &NumList
+        ensures roots { result.now ≡ self.now.roots }
+        ensures within { All (λ k. k < length self.now.nodes) self.now.roots }
+    {
+        &self.roots
+    }
+}
+
+/// Visits the normal form of a job's body under each of its maps, and adds their numbers.
+fn visit_job(numbering: &mut Numbering, job: &Job, roots: &mut NumList) -> Result<(), ClosureError>
+    requires mapped { IsMapped job.now }
+    requires few { length numbering.old.members.keys ≤ 1024 }
+    ensures few { length numbering.new.members.keys ≤ 1024 }
+    ensures visited { OnOk result ((tasks : List Task) → Visited tasks numbering.old roots.old
+        → Visited (tasks ++ tasks_by (tree_of job.now.body) job.now.positive job.now.maps)
+        numbering.new roots.new) }
+    ensures limit { IsErrOf result ClosureError.Limit
+        → (tasks : List Task) → Visited tasks numbering.old roots.old → 1024 < length (closure
+        (forms_of (tasks ++ tasks_by (tree_of job.now.body) job.now.positive job.now.maps))) }
+{
+    for map in job.maps.as_slice() {
+        let root = numbering.visit(&job.body, map.as_slice(), job.positive, None)?;
+        if numbering.full {
+            return Err(ClosureError::Limit);
+        }
+        roots.push(u32::from(root))?;
+    }
+    Ok(())
+}

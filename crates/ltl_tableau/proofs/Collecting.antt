@@ -1,0 +1,95 @@
+-- Branches that are collected one list after another.
+use Rattle.std.proofs.Common.{◌≡◌, ℕ, zero, suc, ◌+◌, ◌<◌, ◌≤◌, Bool, true, false, ◌&&◌, ◌||◌, not, cond, nat_eq, if◌then◌else◌, List, [], ◌∷◌, ◌++◌, length, inl, inr, refl, sym, ap, ◌∙◌, subst, arith, length-append}
+use Rattle.std.specs.List.{list_any}
+use Rattle.std.specs.FinSet.{is_subset, is_subset-contains, contains}
+use Rattle.std.proofs.lemmas.Bool.{cases_lt, eqb-true, eq-eqb}
+use Rattle.hy_bits.specs.Binary.{ones, number}
+use Rattle.hy_bits.specs.BinaryLaws.{ones-number}
+use Rattle.ltl_closure.specs.Nodes.{Node, node_at}
+use Rattle.ltl_tableau.specs.Branches.{Members, Branch, same_branch, with_branch, with_all, expand, branches_below}
+use Rattle.ltl_tableau.specs.Collected.{Collects}
+use Rattle.ltl_tableau.proofs.Distinct.{equal-branch, same-branch_itself}
+
+longer-one : (list : List Branch) (b : Branch) → length list ≤ length (with_branch list b)
+longer-one list b = step (list_any (same_branch b) list)
+  where
+    step : (c : Bool) → length list ≤ length (cond c list (list ++ b ∷ []))
+    step true = omega arith
+    step false = omega (arith, length-append list (b ∷ []))
+
+pub longer : (list bs : List Branch) → length list ≤ length (with_all list bs)
+longer list [] = omega arith
+longer list (b ∷ bs) = omega (arith, longer-one list b, longer (with_branch list b) bs)
+
+pub with-append : (list xs ys : List Branch) → with_all list (xs ++ ys) ≡ with_all (with_all list xs) ys
+with-append list [] ys = refl
+with-append list (x ∷ xs) ys = with-append (with_branch list x) xs ys
+
+pub collects-none : (most : ℕ) (list : List Branch) → Collects most list [] list
+collects-none most list = record { all = λ _. refl; many = λ lt. lt }
+
+pub collects-enough : (most : ℕ) (list bs : List Branch) → most < length list → Collects most list bs list
+collects-enough most list bs lt = record { all = λ le. absurd (omega arith); many = λ _. omega (arith, longer list bs) }
+
+pub collects-append : (most : ℕ) (old mid new xs ys : List Branch) → Collects most old xs mid → Collects most mid ys new → Collects most old (xs ++ ys) new
+collects-append most old mid new xs ys p q =
+    record {
+      all = λ le.
+          let e : new ≡ with_all mid ys = q.all le in
+          let few : length mid ≤ most = omega (arith, longer mid ys, ap length e) in
+          e ∙ ap (λ l. with_all l ys) (p.all few) ∙ sym (with-append old xs ys);
+      many = λ lt.
+          let e : with_all old (xs ++ ys) ≡ with_all (with_all old xs) ys = with-append old xs ys in
+          elim (cases_lt most (length mid)) [
+            | inl over ↦ let more = p.many over in omega (arith, longer (with_all old xs) ys, ap length e)
+            | inr few ↦ let same : with_all mid ys ≡ with_all old (xs ++ ys) = ap (λ l. with_all l ys) (p.all few) ∙ sym e in let more = q.many lt in omega (arith, ap length same)
+          ];
+    }
+
+-- ---- one branch, put into a set
+
+pub number-same : (s t : Members) → nat_eq (number s) (number t) ≡ true → s ≡ t
+number-same s t e = sym (ones-number s) ∙ ap ones (eqb-true _ _ e) ∙ ones-number t
+
+-- what `==` of two branches computes
+abbrev pub equal : Branch → Branch → Bool
+equal a b = nat_eq (number a.now) (number b.now) && nat_eq (number a.later) (number b.later)
+
+both-true : (a b : Bool) → (a && b) ≡ true → (a ≡ true) × (b ≡ true)
+both-true true b e = (refl, e)
+both-true false b e = absurd (cc)
+
+true-both : (a b : Bool) → a ≡ true → b ≡ true → (a && b) ≡ true
+true-both true b e f = f
+true-both false b e f = absurd (cc)
+
+pub equal-same : (a b : Branch) → equal a b ≡ true → a ≡ b
+equal-same a b e =
+    let (n, l) = both-true (nat_eq (number a.now) (number b.now)) (nat_eq (number a.later) (number b.later)) e in
+    let now : a.now ≡ b.now = number-same a.now b.now n in
+    let later : a.later ≡ b.later = number-same a.later b.later l in
+    ap (λ x. let made : Branch = record { now = x; later = a.later } in made) now ∙ ap (λ x. let made : Branch = record { now = b.now; later = x } in made) later
+
+pub equal-itself : (a b : Branch) → a ≡ b → equal a b ≡ true
+equal-itself a b e = true-both _ _ (eq-eqb (number a.now) (number b.now) (ap (λ (x : Branch). number x.now) e)) (eq-eqb (number a.later) (number b.later) (ap (λ (x : Branch). number x.later) e))
+
+both-ways : (a b : Bool) → (a ≡ true → b ≡ true) → (b ≡ true → a ≡ true) → a ≡ b
+both-ways true b f g = sym (f refl)
+both-ways false true f g = g refl
+both-ways false false f g = refl
+
+pub equal-is : (a b : Branch) → equal a b ≡ same_branch a b
+equal-is a b = both-ways (equal a b) (same_branch a b) (λ e. same-branch_itself a b (equal-same a b e)) (λ e. equal-itself a b (equal-branch a b e))
+
+any-same : (f g : Branch → Bool) → ((b : Branch) → f b ≡ g b) → (list : List Branch) → list_any f list ≡ list_any g list
+any-same f g same list = λ i. list_any (λ b. same b i) list
+
+pub collects-one : (most : ℕ) (old new : List Branch) (b : Branch) → new ≡ (if list_any (λ x. equal b x) old then old else old ++ b ∷ []) → Collects most old (b ∷ []) new
+collects-one most old new b is =
+    let e : new ≡ with_branch old b = is ∙ ap (λ c. cond c old (old ++ b ∷ [])) (any-same (λ x. equal b x) (same_branch b) (equal-is b) old) in
+    record { all = λ _. e; many = λ lt. omega (arith, ap length e) }
+
+-- where nothing is left to do there is one branch
+pub at-end : (nodes : List Node) (below : ℕ) (todo now later : Members) → below ≤ 0 → branches_below nodes below todo now later ≡ record { now = now; later = later } ∷ []
+at-end nodes zero todo now later le = refl
+at-end nodes (suc f) todo now later le = absurd (omega arith)

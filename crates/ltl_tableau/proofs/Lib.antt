@@ -1,0 +1,15 @@
+pub mod Bounded
+pub mod Choosing
+pub mod Distinct
+pub mod Gone
+pub mod Pigeons
+pub mod Refuting
+pub mod Running
+pub mod Saturating
+pub mod Sets
+pub mod Sounding
+pub mod TasksTogether
+pub mod Walking
+pub mod Collecting
+pub mod Exploring
+pub mod Drawing

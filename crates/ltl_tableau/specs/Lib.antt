@@ -1,0 +1,7 @@
+pub mod Branches
+pub mod Collected
+pub mod Ranks
+pub mod Reached
+pub mod Tasks
+pub mod WalkWords
+pub mod Walks

@@ -1,0 +1,15 @@
+//! The tableau of a closure: branches of sets of members, and what walks of branches say of words.
+#![tactic(auto)]
+
+mod branch;
+mod collect;
+mod draw;
+mod explored;
+pub mod laws;
+mod tableau;
+mod tableau_error;
+
+pub use branch::{Branch, BranchList, postpones};
+pub use collect::branches;
+pub use tableau::Tableau;
+pub use tableau_error::TableauError;

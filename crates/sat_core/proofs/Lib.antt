@@ -1,0 +1,10 @@
+pub mod Trailing
+pub mod Readying
+pub mod Propagating
+pub mod Analysing
+pub mod Resolving
+pub mod Pointing
+pub mod Backing
+pub mod Taught
+pub mod Searching
+pub mod Watching

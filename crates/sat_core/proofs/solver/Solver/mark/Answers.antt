@@ -1,0 +1,99 @@
+use Rattle.std.proofs.Common.{◌≡◌, ◌<◌, ◌+◌, ◌-◌, ℕ, List, [], ◌∷◌, ◌++◌, take, length, get_or, arith, sym, subst, ap, ◌∙◌, true, false}
+use Rattle.std.specs.Prelude.{ℤ, pos, neg_ℤ, unsigned_abs}
+use Rattle.std.specs.List.{Contains}
+use Rattle.std.proofs.lemmas.List.{take_more, take_all, get_or_default}
+use Rattle.std.proofs.lemmas.List.Elements.{Contains-get_or}
+use Rattle.std.proofs.lemmas.Option.{get_or_from_slice_get}
+use Rattle.chain_check.specs.Clauses.{Clause, IsLiteral}
+use Rattle.sat_core.specs.Analyses.{AreMarkable, AreMarked}
+use Rattle.sat_core.proofs.Propagating.{no-more-than}
+use Rattle.sat_core.proofs.Analysing.{IsMarking, marking-skips, marking-sees, markable-at, count-few}
+use Rattle.sat_core.specs.declared.analysis.Analysis.{Analysis}
+use Rattle.sat_core.proofs.solver.Solver.mark.Goals as goal
+use Rattle.sat_core.proofs.solver.Solver.mark.Goals.{then-place-p+in_ok-see, else-place-p}
+
+pub index-place-requires : goal.index-place-requires
+index-place-requires c =
+    let its : get_or c.args.self.now.clauses (c.args.number - 1) [] ≡ c.clause-l-items.result.now =
+    get_or_from_slice_get c.args.self.now.clauses
+    (c.args.number - 1) c.clause-l-items.result.now [] c.clause-l-items.ensures in
+    let P : Clause → Type 0 = Contains c.args.self.now.clauses in
+    let there : P c.clause-l-items.result.now =
+    subst P its (Contains-get_or c.args.self.now.clauses (c.args.number - 1) []
+    (omega (arith, c.requires.counted, c.requires.within))) in
+    let right : IsLiteral c.args.self.now.partial.variables c.l-item.result =
+    c.requires.ready.right c.clause-l-items.result.now there c.l-item.result
+    (c.loop-l.l-index, c.loop-l-test.true, sym c.l-item.is) in
+    omega (arith, right.1, c.variable.ensures, c.requires.ready.sized)
+
+pub see-requires-clause-room : goal.see-requires-clause-room
+see-requires-clause-room c = omega (
+  arith,
+  c.loop-l.invariant.is.counted,
+  count-few c.loop-l.analysis.seen.items c.args.start c.args.p,
+  c.loop-l.invariant.is.below_end,
+  no-more-than c.args.self.now c.requires.ready,
+  c.requires.ready.few_variables,
+)
+
+pub loop-l-preserved : goal.loop-l-preserved
+loop-l-preserved c =
+    let trail : List ℤ = c.args.self.now.partial.literals in
+    let places : List ℕ = c.args.self.now.places.items in
+    let clause : Clause = c.clause-l-items.result.now in
+    let its : get_or c.args.self.now.clauses (c.args.number - 1) [] ≡ c.clause-l-items.result.now =
+    get_or_from_slice_get c.args.self.now.clauses
+    (c.args.number - 1) c.clause-l-items.result.now [] c.clause-l-items.ensures in
+    let A : Clause → Type 0 = AreMarkable trail places c.args.p in
+    let B : Clause → Type 0 = Contains c.args.self.now.clauses in
+    let here : Contains clause c.l-item.result =
+    (c.loop-l.l-index, c.loop-l-test.true, sym c.l-item.is) in
+    let there : B c.clause-l-items.result.now =
+    subst B its (Contains-get_or c.args.self.now.clauses (c.args.number - 1) []
+    (omega (arith, c.requires.counted, c.requires.within))) in
+    let right : IsLiteral c.args.self.now.partial.variables c.l-item.result =
+    c.requires.ready.right c.clause-l-items.result.now there c.l-item.result here in
+    let small : c.variable.result < length places =
+    omega (arith, right.1, c.variable.ensures, c.requires.ready.sized) in
+    let place : c.index-place.result.now ≡ get_or places (unsigned_abs c.l-item.result) 0 =
+    c.index-place.ensures ∙ get_or_default places c.variable.result c.index-place.result.now 0
+    small ∙ ap (λ v. get_or places v 0) c.variable.ensures in
+    let more : take (c.loop-l.l-index + 1) clause ≡ take c.loop-l.l-index clause ++ c.l-item.result
+    ∷ [] =
+    take_more clause c.loop-l.l-index c.l-item.result c.loop-l-test.true ∙
+    ap (λ z. take c.loop-l.l-index clause ++ z ∷ []) (sym c.l-item.is) in
+    let P : Clause → Type 0 = λ d. IsMarking trail c.args.start c.args.p c.args.analysis.now d
+    c.if-place-p.analysis in
+    let Q : Analysis → Type 0 = IsMarking trail c.args.start c.args.p c.args.analysis.now
+    (take c.loop-l.l-index clause ++ c.l-item.result ∷ []) in
+    subst P (sym more)
+    (elim c.if-place-p.branch [
+      | then-place-p+in_ok-see w ↦
+          let R : ℕ → Type 0 = λ k. get_or trail k (pos 0) ≡ neg_ℤ c.l-item.result in
+          let S : ℕ → Type 0 = λ k. get_or w.see.new.self.seen.items k false ≡ true in
+          let at = markable-at trail places c.args.p clause c.l-item.result c.requires.ready.placed
+          c.loop-l.invariant.is.below_end (subst A its c.requires.markable) here
+          (omega (arith, w.if-place-p.true, place)) in
+          subst Q (sym w.analysis-is) (marking-sees trail places c.args.start c.args.p
+          c.args.analysis.now c.loop-l.analysis w.see.new.self
+          (take c.loop-l.l-index clause) c.l-item.result c.requires.ready.placed
+          c.loop-l.invariant
+          (w.in_ok-see.ensures.kept trail c.args.p c.loop-l.invariant.is
+          (subst R (sym place) at) w.if-place-p.true) w.in_ok-see.ensures.more
+          (subst S place w.in_ok-see.ensures.seen) w.in_ok-see.ensures.chain)
+      | else-place-p w ↦
+          subst Q (sym w.analysis-is) (marking-skips trail places c.args.start c.args.p
+          c.args.analysis.now c.loop-l.analysis
+          (take c.loop-l.l-index clause) c.l-item.result c.requires.ready.placed
+          (omega (arith, w.if-place-p.false, place)) c.loop-l.invariant)
+    ])
+
+pub returns-clause-marked : goal.returns-clause-marked
+returns-clause-marked c =
+    let its : get_or c.args.self.now.clauses (c.args.number - 1) [] ≡ c.clause-l-items.result.now =
+    get_or_from_slice_get c.args.self.now.clauses
+    (c.args.number - 1) c.clause-l-items.result.now [] c.clause-l-items.ensures in
+    let P : Clause → Type 0 = AreMarked c.args.self.now.partial.literals c.args.p
+    c.loop-l.analysis.seen.items in
+    subst P (take_all c.loop-l.l-index c.clause-l-items.result.now c.loop-l-test.false ∙ sym its)
+    c.loop-l.invariant.marked

@@ -1,0 +1,12 @@
+use Rattle.sat_core.specs.Analyses.{IsAnalysis, IsRefuting}
+use Rattle.sat_core.proofs.solver.Solver.refute.Given as goal
+
+abbrev pub invariant-loop-p : goal.invariant-loop-p
+invariant-loop-p l =
+    IsAnalysis l.self.partial.literals 0 l.p l.analysis.seen.items l.analysis.lower.items
+    l.analysis.highest l.analysis.unsettled ×
+    IsRefuting l.self.clauses l.self.partial.literals l.p l.analysis.seen.items
+    l.analysis.chain.items
+
+abbrev pub decreases-loop-p : goal.decreases-loop-p
+decreases-loop-p l = l.p

@@ -1,0 +1,130 @@
+ghost use Rattle.std.specs.Prelude.{◌≡◌, ◌<◌, ◌+◌, ◌∷◌, ◌++◌, unsigned_abs, [], length, slice_set, OnOk, IfOk, MatchOption};
+ghost use Rattle.chain_check.specs.Clauses.{IsLiteral};
+ghost use Rattle.sat_core.specs.Trails.{IsOpenIn, IsStep, AreSettled};
+ghost use Rattle.sat_core.specs.Solvers.{IsReady, GoesOn, IsConflict};
+ghost use Rattle.sat_core.specs.Passes.{IsPass};
+
+use chain_check::{Clauses, Literal, Open, Partial};
+use hy_base::M;
+use std::alloc::Global;
+
+/// A search for an assignment.
+#[derive(Drop)]
+pub struct Solver {
+    /// The given clauses and then the learned ones.
+    pub clauses: Clauses,
+    /// What is true, in the order in which it became so.
+    pub partial: Partial,
+    /// By place: the number of the clause by which it became true, or 0 for a decision.
+    pub reasons: Vec<u32>,
+    /// By variable: its place.
+    pub places: Vec<usize>,
+    /// By level: the place of its decision.
+    pub limits: Vec<usize>,
+}
+
+impl Solver {
+    /// Makes `l` true, for that reason.
+    pub(crate) fn push(&mut self, l: Literal, reason: u32) -> M<()>
+        requires right { IsLiteral self.old.partial.variables l }
+        requires open_yet { IsOpenIn self.old.partial.literals l }
+        requires sized { self.old.partial.variables < length self.old.places.items }
+        ensures clauses { self.new.clauses ≡ self.old.clauses }
+        ensures limits { self.new.limits ≡ self.old.limits }
+        ensures reasons { OnOk result (self.new.reasons.items ≡ self.old.reasons.items ++ reason ∷
+            []) }
+        ensures places { self.new.places.items ≡ slice_set self.old.places.items (unsigned_abs l)
+            (length self.old.partial.literals) }
+        ensures pushed { OnOk result (self.new.partial ≡ record self.old.partial
+            { literals = self.old.partial.literals ++ l ∷ [] }) }
+    {
+        let place = self.partial.len();
+        self.places[l.variable()] = place;
+        self.reasons.push(reason)?;
+        self.partial.make_true(l)
+    }
+
+    /// Makes `l` true by the clause with this number.
+    pub(crate) fn imply(&mut self, l: Literal, number: u32) -> M<()>
+        requires ready { IsReady self.old }
+        requires step { IsStep self.old.partial.variables self.old.clauses self.old.limits.items
+            self.old.partial.literals l number }
+        ensures ready { OnOk result (IsReady self.new) }
+        ensures goes_on { OnOk result (GoesOn self.old self.new) }
+        ensures pushed { OnOk result (self.new.partial ≡ record self.old.partial
+            { literals = self.old.partial.literals ++ l ∷ [] }) }
+    {
+        self.push(l, number)
+    }
+
+    /// Makes `l` true by a decision.
+    pub(crate) fn decide(&mut self, l: Literal) -> M<()>
+        requires ready { IsReady self.old }
+        requires settled { AreSettled self.old.clauses self.old.partial.literals }
+        requires right { IsLiteral self.old.partial.variables l }
+        requires open_yet { IsOpenIn self.old.partial.literals l }
+        ensures ready { OnOk result (IsReady self.new) }
+        ensures clauses { OnOk result (self.new.clauses ≡ self.old.clauses) }
+        ensures pushed { OnOk result (self.new.partial ≡ record self.old.partial
+            { literals = self.old.partial.literals ++ l ∷ [] }) }
+    {
+        self.limits.push(self.partial.len())?;
+        self.push(l, 0)
+    }
+}
+
+/// What a pass over all clauses found.
+#[derive(Clone, Copy)]
+pub enum Pass {
+    /// The clause with this number has only false literals.
+    Conflict(u32),
+    Changed,
+    Complete,
+}
+
+impl Solver {
+    /// Goes over all clauses once.
+    pub(crate) fn pass(&mut self) -> M<Pass>
+        requires { IsReady self.old }
+        ensures ready { OnOk result (IsReady self.new) }
+        ensures goes_on { OnOk result (GoesOn self.old self.new) }
+        ensures found { IfOk result (λ p. IsPass self.old self.new p) }
+    {
+        let mut changed = false;
+        for i in 0..self.clauses.len() {
+            match self.partial.openness(self.clauses.clause(i)) {
+                Open::Nothing => return Ok(Pass::Conflict(i as u32 + 1)),
+                Open::One(l) => {
+                    if !self.partial.is_true(l) {
+                        self.imply(l, i as u32 + 1)?;
+                        changed = true;
+                    }
+                }
+                Open::More => {}
+            }
+        }
+        Ok(if changed {
+            Pass::Changed
+        } else {
+            Pass::Complete
+        })
+    }
+
+    /// Makes true what follows by single clauses. The number of a clause with only false literals,
+    /// or none, where each clause has a true literal or two that are not false.
+    pub(crate) fn propagate(&mut self) -> M<Option<u32>>
+        requires { IsReady self.old }
+        ensures ready { OnOk result (IsReady self.new) }
+        ensures goes_on { OnOk result (GoesOn self.old self.new) }
+        ensures found { IfOk result (λ found. MatchOption found
+            (AreSettled self.new.clauses self.new.partial.literals) (λ k. IsConflict self.new k)) }
+    {
+        'passes: loop {
+            match self.pass()? {
+                Pass::Conflict(number) => return Ok(Some(number)),
+                Pass::Changed => {}
+                Pass::Complete => return Ok(None),
+            }
+        }
+    }
+}

@@ -1,0 +1,4 @@
+mod Copying
+mod Periods
+mod Rooms
+mod Tuples

@@ -1,0 +1,9 @@
+//! Copies of a net side by side, whose executions are the tuples of its executions.
+#![tactic(auto)]
+
+mod composing;
+mod copied;
+mod laws;
+
+pub use composing::compose;
+pub use laws::{executions_are_tuples, lassos_are_tuples};
