@@ -1,3 +1,5 @@
+//! Why a line or a file of events was not read.
+
 ghost use Rattle.std.specs.Prelude.{◌≡◌};
 ghost use Rattle.hy_finite.specs.declared.error.LineError.TheVariants.{Memory as OutOfMemory};
 

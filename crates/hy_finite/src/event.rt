@@ -1,3 +1,5 @@
+//! Events of a run: traces, letters of sessions and their ends, saves and returns.
+
 ghost use Rattle.std.specs.Prelude.{◌≡◌};
 
 use crate::trace::Trace;

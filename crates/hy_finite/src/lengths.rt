@@ -1,3 +1,5 @@
+//! The rule for the length on which a tuple of traces is judged.
+
 /// On how many positions a tuple of traces is judged.
 #[derive(Clone, Copy, Debug, PartialEq, Eq)]
 pub enum Lengths {

@@ -1,3 +1,5 @@
+//! What a body means on a tuple of finite traces.
+
 ghost use Rattle.std.specs.Prelude.{◌≡◌, ℕ, ◌+◌, ◌*◌, ◌<◌, ◌≤◌, ◌↔◌, [], length, IfOk, OnOk, IsTrue, All, slice_index_or};
 ghost use Rattle.hy_formula.specs.Trees.{tree_of, vars_below, atom};
 ghost use Rattle.hy_finite.specs.Traces.{of_two, judged, picked, Meets};

@@ -1,3 +1,5 @@
+//! Finite traces.
+
 ghost use Rattle.std.specs.Prelude.{◌≡◌, ◌<◌, ◌≤◌, length, slice_get, slice_index_or, Some, None, IfSome, IfNone, ◌⊎◌};
 ghost use Rattle.std.specs.FinSet.{empty};
 
