@@ -36,13 +36,16 @@ searched-members {A} (y ∷ ys) P d =
     step (inl p) _ = inl (y, contains-here y ys, p)
     step (inr n) (inl (x, c, p)) = inl (x, contains-later y x ys c, p)
     step (inr n) (inr none) =
-        inr (λ (x, c, p). elim (contains-cases y x ys c) [ inl e ↦ n (subst P
-            (sym e) p) | inr later ↦ none (x, later, p) ])
+        inr (λ (x, c, p). elim (contains-cases y x ys c) [
+          | inl e ↦ n (subst P
+              (sym e) p)
+          | inr later ↦ none (x, later, p)
+        ])
 
 module _ {A : Type 0} (Member : A → Type 0) where
   pub some-tuple : (Body : List A → Type 0) (n : ℕ)
       → Quantified Member Body (repeated Exists n) ↔
-          ((tuple : List A) × IsTuple Member n tuple × Body tuple)
+      ((tuple : List A) × IsTuple Member n tuple × Body tuple)
   some-tuple Body zero = (λ b. ([], record { count = refl; members = tt }, b), back)
     where
       back : ((tuple : List A) × IsTuple Member 0 tuple × Body tuple) → Body []
@@ -58,15 +61,25 @@ module _ {A : Type 0} (Member : A → Type 0) where
       back : ((x : A) → ((tuple : List A) × IsTuple Member n tuple × Body (x ∷ tuple))
           → Quantified Member (λ tuple. Body (x ∷ tuple)) (repeated Exists n))
           → ((tuple : List A) × IsTuple Member (suc n) tuple × Body tuple) → Quantified Member Body
-              (repeated Exists (suc n))
+          (repeated Exists (suc n))
       back f ([], t, b) = absurd (omega (arith, t.count))
-      back f (x ∷ xs, t, b) =
-          (x, t.members.0, f x (xs, record { count = omega
-              (arith, t.count); members = t.members.1 }, b))
+      back f (x ∷ xs, t, b) = (
+        x,
+        t.members.0,
+        f x (
+          xs,
+          record {
+            count = omega
+                (arith, t.count);
+            members = t.members.1;
+          },
+          b,
+        ),
+      )
 
   pub every-tuple : (Body : List A → Type 0) (n : ℕ)
       → Quantified Member Body (repeated Forall n) ↔
-          ((tuple : List A) → IsTuple Member n tuple → Body tuple)
+      ((tuple : List A) → IsTuple Member n tuple → Body tuple)
   every-tuple Body zero = (there, λ all. all [] (record { count = refl; members = tt }))
     where
       there : Body [] → (tuple : List A) → IsTuple Member 0 tuple → Body tuple
@@ -82,8 +95,11 @@ module _ {A : Type 0} (Member : A → Type 0) where
       there : ((x : A) → Quantified Member (λ tuple. Body (x ∷ tuple)) (repeated Forall n)
           → (tuple : List A) → IsTuple Member n tuple → Body (x ∷ tuple))
           → Quantified Member Body (repeated Forall (suc n)) → (tuple : List A) → IsTuple Member
-              (suc n) tuple → Body tuple
+          (suc n) tuple → Body tuple
       there f q [] t = absurd (omega (arith, t.count))
       there f q (x ∷ xs) t =
-          f x (q x t.members.0) xs (record { count = omega
-              (arith, t.count); members = t.members.1 })
+          f x (q x t.members.0) xs (record {
+            count = omega
+                (arith, t.count);
+            members = t.members.1;
+          })

@@ -24,7 +24,7 @@ names_once here (x ∷ w ∷ names) (y ∷ z ∷ others) rest end (b, n, e, comm
     let left = behind_byte 44 (past_blanks b) n m comma (ap past_blanks same.1 ∙ other) in
     let P : List ℕ → Type 0 = λ t. SpellsNames (past_blanks t) (w ∷ names) rest in
     let later = names_once (past_blanks m) (w ∷ names) (z ∷ others) rest end
-        (subst P left one) two in
+    (subst P left one) two in
     ap (λ v. v ∷ w ∷ names) same.0 ∙ ap (λ vs. y ∷ vs) later
 
 set_once : (text : List ℕ) (names others : List (List ℕ)) (rest end : List ℕ)
@@ -66,7 +66,7 @@ one-word text (x ∷ w ∷ sets) (y ∷ z ∷ others) rest end (b, next, one, se
     let same = behind_byte 59 (past_blanks b) next m semicolon (ap past_blanks behind ∙ other) in
     let P : List ℕ → Type 0 = λ t. SpellsWord (past_blanks t) (w ∷ sets) rest in
     let (later, left) = one-word (past_blanks m) (w ∷ sets) (z ∷ others) rest end
-        (subst P same more) tail in
+    (subst P same more) tail in
     (ap (λ v. v ∷ w ∷ sets) names ∙ ap (λ vs. y ∷ vs) later, left)
 
 pub ruleset laws = (one-word)

@@ -50,8 +50,7 @@ pub set_read : (names : List (List ℕ)) (rest : List ℕ) → AreNames names �
 set_read [] rest are = (125 ∷ rest, refl, refl)
 set_read (name ∷ names) rest are =
     let joined : List ℕ = join_with_byte 44 (map spelled (name ∷ names)) in
-    let whole : (joined ++ 125 ∷ []) ++ rest ≡ joined ++ 125 ∷ rest = append_assoc joined (125 ∷ []) rest in
-    (
+    let whole : (joined ++ 125 ∷ []) ++ rest ≡ joined ++ 125 ∷ rest = append_assoc joined (125 ∷ []) rest in (
       joined ++ 125 ∷ rest,
       ap (λ l. 123 ∷ l) whole,
       subst (λ l. SpellsMembers l (name ∷ names) rest) (sym (joined_no_blank name names (125 ∷ rest))) (names_read name names rest are),
@@ -71,8 +70,7 @@ pub word_read : (names : List (List ℕ)) (sets : List (List (List ℕ))) (rest 
 word_read names [] rest are blank none = (rest, set_read names rest are.0, blank, none)
 word_read names (more ∷ sets) rest are blank none =
     let next : List ℕ = join_with_byte 59 (map braced (more ∷ sets)) ++ rest in
-    let whole : (braced names ++ 59 ∷ join_with_byte 59 (map braced (more ∷ sets))) ++ rest ≡ braced names ++ 59 ∷ next = append_assoc (braced names) (59 ∷ join_with_byte 59 (map braced (more ∷ sets))) rest in
-    (
+    let whole : (braced names ++ 59 ∷ join_with_byte 59 (map braced (more ∷ sets))) ++ rest ≡ braced names ++ 59 ∷ next = append_assoc (braced names) (59 ∷ join_with_byte 59 (map braced (more ∷ sets))) rest in (
       59 ∷ next,
       next,
       subst (λ l. SpellsSet l names (59 ∷ next)) (sym whole) (set_read names (59 ∷ next) are.0),

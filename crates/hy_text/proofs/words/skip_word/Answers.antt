@@ -19,10 +19,10 @@ pub returns-in_default-past_byte : goal.returns-in_default-past_byte
 returns-in_default-past_byte c =
     let set = c.in-Some.ensures.found in
     let bare : NoSemicolon (past_blanks c.in-Some.set.rest.now) = λ next e.
-        c.in_default-past_byte.ensures.found next (c.past_blanks-rest.ensures.behind ∙ e) in
+    c.in_default-past_byte.ensures.found next (c.past_blanks-rest.ensures.behind ∙ e) in
     let whole = sets_all c.args.names.now 0 [] c.args.text.now c.loop-set.here.now c.loop-set.sets
-        [] set.0 c.in-Some.set.letter c.in-Some.set.rest.now c.loop-set.invariant.read set.1 set.2
-        bare in
+    [] set.0 c.in-Some.set.letter c.in-Some.set.rest.now c.loop-set.invariant.read set.1 set.2
+    bare in
     rw c.past_blanks-rest.ensures.behind
     (whole.0, whole.1, whole.2, sym (none_kept c.loop-set.sets c.in-Some.set.letter) ∙ whole.3)
 
@@ -32,15 +32,20 @@ loop-set-preserved c =
     let set = c.in-Some.ensures.found in
     let semicolon = sym c.past_blanks-rest.ensures.behind ∙ c.in-Some-past_byte.ensures.found in
     let read = sets_more c.args.names.now 0 [] c.args.text.now c.loop-set.here.now c.loop-set.sets
-        [] set.0 c.in-Some.set.letter c.in-Some.set.rest.now c.in-Some-past_byte.next.now
-        c.loop-set.invariant.read set.1 set.2 semicolon in
+    [] set.0 c.in-Some.set.letter c.in-Some.set.rest.now c.in-Some-past_byte.next.now
+    c.loop-set.invariant.read set.1 set.2 semicolon in
     let P : List Letter → Type 0 = SetsRead c.args.names.now 0 [] c.args.text.now
-        (past_blanks c.in-Some-past_byte.next.now) (c.loop-set.sets + 1) in
+    (past_blanks c.in-Some-past_byte.next.now) (c.loop-set.sets + 1) in
     record {
       read =
           rw c.past_blanks-here.ensures.behind (subst P
-              (none_kept c.loop-set.sets c.in-Some.set.letter) read);
+          (none_kept c.loop-set.sets c.in-Some.set.letter) read);
       within =
-          omega (arith, c.past_blanks-here.ensures.within, c.in-Some-past_byte.ensures.within,
-              c.past_blanks-rest.ensures.within, c.in-Some.ensures.within);
+          omega (
+            arith,
+            c.past_blanks-here.ensures.within,
+            c.in-Some-past_byte.ensures.within,
+            c.past_blanks-rest.ensures.within,
+            c.in-Some.ensures.within,
+          );
     }
