@@ -1,0 +1,36 @@
+//! Runs a single layer on real files, for benches and for comparison with other tools.
+//!
+//! ```text
+//! lab solve CONFLICTS FILE [--log]    solves clauses in DIMACS, and prints as solvers do
+//! lab check FILE LOG                  tries a log of refutation against clauses in DIMACS
+//! ```
+#![tactic(auto)]
+
+mod check;
+mod dimacs;
+mod files;
+mod solve;
+
+use anyhow::{Result, bail};
+use std::env;
+use std::process::ExitCode;
+
+fn main(rt: HostRuntime) -> Result<ExitCode> {
+    let mut words = Vec::new(rt.alloc());
+    for word in env::args(&rt)?.skip(1) {
+        words.push(word)?;
+    }
+    match words.as_slice() {
+        [command, rest @ ..] => run(&rt, command.as_str(), rest),
+        [] => bail!("the first word is a command: solve, check"),
+    }
+}
+
+/// Runs the command on the words behind it.
+fn run(rt: &HostRuntime, command: &str, words: &[String]) -> Result<ExitCode> {
+    match command {
+        "solve" => solve::run(rt, words),
+        "check" => check::run(rt, words),
+        _ => bail!("no command is called {command:?}"),
+    }
+}
