@@ -169,7 +169,6 @@ module _ (h : Header) (bytes : List ℕ) where
               ]
         ]
 
-
   -- ---- what the lines of the ASCII form define
 
   abbrev firsts : Section → List ℕ
@@ -185,9 +184,9 @@ module _ (h : Header) (bytes : List ℕ) where
       ap (λ is. map (λ l. l / 2) (is ++ map own_literal (content h bytes).latches) ++ map (λ (g : Gate). g.lhs / 2) (content h bytes).gates) inputs
       ∙ ap (λ gs. map (λ l. l / 2) (map first_number (section_rows h bytes Inputs) ++ map own_literal (content h bytes).latches) ++ map (λ (g : Gate). g.lhs / 2) gs) gates
       ∙ ap (λ l. l ++ map (λ (g : Gate). g.lhs / 2) (map gate_of (section_rows h bytes Gates)))
-        (map-joined (λ l. l / 2) (map first_number (section_rows h bytes Inputs)) (map own_literal (map latch_of (section_rows h bytes Latches)))
-        ∙ ap (λ l. l ++ map (λ l. l / 2) (map own_literal (map latch_of (section_rows h bytes Latches)))) (map-twice first_number (λ l. l / 2) (section_rows h bytes Inputs))
-        ∙ ap (λ l. firsts Inputs ++ l) (ap (map (λ l. l / 2)) (map-twice latch_of own_literal (section_rows h bytes Latches)) ∙ map-twice first_number (λ l. l / 2) (section_rows h bytes Latches)))
+      (map-joined (λ l. l / 2) (map first_number (section_rows h bytes Inputs)) (map own_literal (map latch_of (section_rows h bytes Latches)))
+      ∙ ap (λ l. l ++ map (λ l. l / 2) (map own_literal (map latch_of (section_rows h bytes Latches)))) (map-twice first_number (λ l. l / 2) (section_rows h bytes Inputs))
+      ∙ ap (λ l. firsts Inputs ++ l) (ap (map (λ l. l / 2)) (map-twice latch_of own_literal (section_rows h bytes Latches)) ∙ map-twice first_number (λ l. l / 2) (section_rows h bytes Latches)))
       ∙ ap (λ l. (firsts Inputs ++ firsts Latches) ++ l) (map-twice gate_of (λ (g : Gate). g.lhs / 2) (section_rows h bytes Gates))
 
   first-holds : (s : Section) (j v : ℕ) → j < slice_index (plan h bytes) (number_in s) → v ≡ first_number (row h bytes (before (plan h bytes) s + j)) / 2 → holds v (firsts s) ≡ true

@@ -55,9 +55,6 @@ first_all ends (x ∷ xs) (suc i) le = first_all ends xs i (omega arith)
 
 -- ---- words
 
-
-
-
 one_word : (text : List ℕ) → prefix_len (λ b. not (is_space b)) text ≡ length text → slice_split is_space text ≡ text ∷ []
 one_word [] e = refl
 one_word (x ∷ xs) e = grind (arith, one_word xs)

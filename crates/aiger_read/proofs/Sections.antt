@@ -61,7 +61,6 @@ in-section cs s j nine lt =
     let small : number_in s < length cs = omega (arith, number-small s, nine) in
     (section-at cs all_sections (number_in s) j small (number-small s) lt ∙ named s, omega (arith, part-of cs (number_in s) small, lt))
 
-
 -- ---- and the other way round: each counted line is of one
 
 pub record IsIn (cs : List ℕ) (sections : List Section) (k : ℕ) : Type 0 where

@@ -271,9 +271,9 @@ module _ (gates : List Gate) (users : List ℕ) (p : ℕ) (list : List ℕ) (mar
     full = λ j lt e. elim (are.full j lt e) [
       | inl there ↦ inl (pushed j (omega arith) ∙ or-second (nat_eq j _) _ there)
       | inr (q, le, less, is) ↦ elim (cases_eq q p) [
-          | inl same ↦ inl (pushed j (omega arith) ∙ or-first _ _ (eq-eqb j _ (sym is ∙ ap (λ n. get_or users n 0) same)))
-          | inr other ↦ inr (q, omega arith, less, is)
-        ]
+        | inl same ↦ inl (pushed j (omega arith) ∙ or-first _ _ (eq-eqb j _ (sym is ∙ ap (λ n. get_or users n 0) same)))
+        | inr other ↦ inr (q, omega arith, less, is)
+      ]
     ];
   }
 
@@ -286,14 +286,14 @@ module _ (gates : List Gate) (users : List ℕ) (p : ℕ) (list : List ℕ) (mar
     full = λ j lt e. elim (are.full j lt e) [
       | inl there ↦ inl there
       | inr (q, le, less, is) ↦ elim (cases_eq q p) [
-          | inl same ↦
-              let here : get_or users p 0 ≡ j = ap (λ n. get_or users n 0) (sym same) ∙ is in
-              elim why [
-                | inl waiting ↦ let parts = and-both (not (holds j list)) _ e in let idle = not-true _ parts.1 in let also : waits gates list j ≡ true = ap (waits gates list) (sym here) ∙ waiting in absurd (cc)
-                | inr past ↦ absurd (omega arith)
-              ]
-          | inr other ↦ inr (q, omega arith, less, is)
-        ]
+        | inl same ↦
+            let here : get_or users p 0 ≡ j = ap (λ n. get_or users n 0) (sym same) ∙ is in
+            elim why [
+              | inl waiting ↦ let parts = and-both (not (holds j list)) _ e in let idle = not-true _ parts.1 in let also : waits gates list j ≡ true = ap (waits gates list) (sym here) ∙ waiting in absurd (cc)
+              | inr past ↦ absurd (omega arith)
+            ]
+        | inr other ↦ inr (q, omega arith, less, is)
+      ]
     ];
   }
 

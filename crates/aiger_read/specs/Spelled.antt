@@ -18,4 +18,3 @@ end_of false = 10 ∷ []
 
 abbrev pub line_of : List ℕ → List ℕ
 line_of row = spelled row ++ 10 ∷ []
-

@@ -4,7 +4,6 @@ ghost use Rattle.std.specs.Prelude.{◌≡◌, ◌≤◌, length, IfOk, IfSome};
 ghost use Rattle.aiger_read.specs.Files.{form_of, header_of, header_with, is_header};
 ghost use Rattle.aiger_read.specs.Answers.{IsShort, IsHeaderAnswer, IsJudged};
 
-
 use crate::content::number;
 use crate::error::{AigKind, AigerError};
 use crate::text::{is_whole, line_at, read_numbers, text_of};

@@ -55,4 +55,3 @@ pub fn lines_right()
 pub fn sorted_order()
     ensures { (first : ℕ) (gates : List Gate) → AreSorted first gates → order gates ≡ range_with_len 0 (length gates) }
 {}
-

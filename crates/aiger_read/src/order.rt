@@ -211,12 +211,7 @@ fn take_one(
 }
 
 /// Takes the next and, if one can be taken.
-fn take_next(
-    gates: &[Gate],
-    definers: &Definers,
-    users: &Users,
-    taking: &mut Taking,
-) -> M<()>
+fn take_next(gates: &[Gate], definers: &Definers, users: &Users, taking: &mut Taking) -> M<()>
     requires set { AreSetUp gates.now definers.now }
     requires users { AreUsers gates.now (length gates.now) users.now.items }
     requires taken { AreTaken gates.now taking.old.order taking.old.taken taking.old.ready }

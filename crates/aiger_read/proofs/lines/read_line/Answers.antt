@@ -44,8 +44,7 @@ pub returns : goal.returns
 returns c =
     let r = read c.read_row.new.row c.as_slice-row.result.now c.defined.result c.requires.fits c.requires.section c.in_ok-next.ensures c.as_slice-row.ensures c.defined.ensures in
     let few : c.args.lines.now.line ≤ 67108864 = omega (arith, c.requires.lines.start.early, c.requires.lines.start.within) in
-    let said = c.in_ok-keep.ensures ∙ ap (λ t. keep c.args.section t c.args.lines.now.content) c.as_slice-row.ensures in
-    (
+    let said = c.in_ok-keep.ensures ∙ ap (λ t. keep c.args.section t c.args.lines.now.content) c.as_slice-row.ensures in (
       record {
         count = omega arith;
         start = c.in_ok-next.ensures.start;
@@ -53,5 +52,5 @@ returns c =
         marks = read_marks r c.args.lines.now.marks c.define.new.marks c.requires.lines.marks c.if-not-define.ensures.ascii;
         small = (let P : Content → Type 0 = λ d. d.justice ≤ 10000000000 * suc c.args.lines.now.line in subst P (sym said) (keep_small c.args.section c.read_row.new.row c.args.lines.now.content c.args.lines.now.line c.requires.lines.small (said_small r few)));
       },
-      said ∙ ap (λ t. keep c.args.section t c.args.lines.now.content) c.in_ok-next.ensures.same
+      said ∙ ap (λ t. keep c.args.section t c.args.lines.now.content) c.in_ok-next.ensures.same,
     )

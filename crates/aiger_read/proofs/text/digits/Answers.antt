@@ -24,8 +24,7 @@ overflow_add-n c = omega (arith, front_small c.args.word.now c.loop-b.b-index (o
 
 pub loop-b-preserved : goal.loop-b-preserved
 loop-b-preserved c =
-    let digit : digit_value (get_or c.args.word.now c.loop-b.b-index 0) + 48 ≡ get_or c.args.word.now c.loop-b.b-index 0 = digit_value_digit (get_or c.args.word.now c.loop-b.b-index 0) (search rules) in
-    (
+    let digit : digit_value (get_or c.args.word.now c.loop-b.b-index 0) + 48 ≡ get_or c.args.word.now c.loop-b.b-index 0 = digit_value_digit (get_or c.args.word.now c.loop-b.b-index 0) (search rules) in (
       digits_more 10 c.args.word.now c.loop-b.b-index (omega arith) c.loop-b.invariant.0 (omega arith),
-      omega (arith, digits_value_more 10 c.args.word.now c.loop-b.b-index (omega arith), c.from.ensures)
+      omega (arith, digits_value_more 10 c.args.word.now c.loop-b.b-index (omega arith), c.from.ensures),
     )
