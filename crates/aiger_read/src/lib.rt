@@ -12,6 +12,8 @@ mod lines;
 mod order;
 mod ready;
 mod section;
+#[cfg(test)]
+mod tests;
 mod text;
 mod uses;
 
