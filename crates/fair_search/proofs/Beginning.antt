@@ -21,7 +21,16 @@ module _ (g : Shape) where
   n = length g.nodes
 
   abbrev pub Begun : Pass
-  Begun = record { places = replicate n New; explored = replicate n 0; loops = replicate n false; stack = []; pending = []; starts = []; reasons = []; begun = 0 }
+  Begun = record {
+    places = replicate n New;
+    explored = replicate n 0;
+    loops = replicate n false;
+    stack = [];
+    pending = [];
+    starts = [];
+    reasons = [];
+    begun = 0;
+  }
 
   unseen : (v : ℕ) → place_of Begun v ≡ New
   unseen v = all_alike n New v

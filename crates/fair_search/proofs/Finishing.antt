@@ -31,7 +31,8 @@ module _ (g : Shape) (p : Pass) (over : IsOver g p) where
       elim (cases_lt v (length p.places)) [
         | inl lt ↦ get_or-map rank_at p.places v New None lt
         | inr le ↦
-            get_or_past (map rank_at p.places) v None (omega (arith, le, length-map p.places rank_at))
+            get_or_past (map rank_at p.places) v None
+            (omega (arith, le, length-map p.places rank_at))
             ∙ sym (ap rank_at (get_or_past p.places v New le))
       ]
 
@@ -49,7 +50,8 @@ module _ (g : Shape) (p : Pass) (over : IsOver g p) where
       let S : Option ℕ → Type 0 = IsSome in
       subst S (sym (rank_is v)) (some_at (place_of p v) seen (shut v))
 
-  given_falls : (v w k : ℕ) → IsEdge g v w → rank_of Given v ≡ Some k → (j : ℕ) × (rank_of Given w ≡ Some j) × (j ≤ k)
+  given_falls : (v w k : ℕ) → IsEdge g v w → rank_of Given v ≡ Some k
+      → (j : ℕ) × (rank_of Given w ≡ Some j) × (j ≤ k)
   given_falls v w k edge at =
       let (s, there, le) = over.pass.closed v w k (is_done v k at) edge in
       (s, rank_is w ∙ ap rank_at there, le)
@@ -64,7 +66,8 @@ module _ (g : Shape) (p : Pass) (over : IsOver g p) where
         | inl lt ↦ explains k (get_or p.reasons k None) (over.pass.explained k lt)
         | inr le ↦
             let P : Option ℕ → Type 0 = Explains g Given k in
-            subst P (sym (get_or_past p.reasons k None le)) (λ v w edge at there. omega (arith, over.pass.ranked v k (is_done v k at), le))
+            subst P (sym (get_or_past p.reasons k None le))
+            (λ v w edge at there. omega (arith, over.pass.ranked v k (is_done v k at), le))
       ]
 
   pub given_ranked : IsRanked g Given

@@ -9,7 +9,8 @@ use Rattle.std.proofs.lemmas.List.{get_or_default, take_more, take_all, take_at}
 use Rattle.fair_search.specs.Passing.{IsUp}
 use Rattle.std.proofs.lemmas.Option.{get_or_from_slice_get}
 
-pub last_apart : (xs : List ℕ) (x : ℕ) → 0 < length xs → slice_get xs (length xs - 1) ≡ Some x → xs ≡ take (length xs - 1) xs ++ x ∷ []
+pub last_apart : (xs : List ℕ) (x : ℕ) → 0 < length xs → slice_get xs (length xs - 1) ≡ Some x
+    → xs ≡ take (length xs - 1) xs ++ x ∷ []
 last_apart xs x some at =
     let same : length xs - 1 + 1 ≡ length xs = omega arith in
     sym (take_all (length xs) xs (omega arith))
@@ -18,16 +19,19 @@ last_apart xs x some at =
     ∙ ap (λ y. take (length xs - 1) xs ++ y ∷ []) (get_or_from_slice_get xs (length xs - 1) x 0 at)
 
 -- the list without its last element
-pub without_last : (xs front : List ℕ) (x : ℕ) → xs ≡ front ++ x ∷ [] → take (length xs - 1) xs ≡ front
+pub without_last : (xs front : List ℕ) (x : ℕ) → xs ≡ front ++ x ∷ []
+    → take (length xs - 1) xs ≡ front
 without_last xs front x e =
-    (λ i. take (length (e i) - 1) (e i)) ∙ take_at front (x ∷ []) _ (omega (arith, length-append front (x ∷ [])))
+    (λ i. take (length (e i) - 1) (e i)) ∙ take_at front (x ∷ []) _
+    (omega (arith, length-append front (x ∷ [])))
 
 -- what follows where the answer is not an error
 pub ok-then : {T E : Type 0} (r : Result T E) {P Q : Type 0} → (P → Q) → OnOk r P → OnOk r Q
 ok-then (Ok x) f there = f there
 ok-then (Err e) f there = tt
 
-pub ok-each : {T E : Type 0} (r : Result T E) {P Q : T → Type 0} → ((x : T) → P x → Q x) → IfOk r P → IfOk r Q
+pub ok-each : {T E : Type 0} (r : Result T E) {P Q : T → Type 0} → ((x : T) → P x → Q x) → IfOk r P
+    → IfOk r Q
 ok-each (Ok x) f there = f x there
 ok-each (Err e) f there = tt
 
@@ -35,9 +39,16 @@ ok-each (Err e) f there = tt
 pub up-last : (xs front : List ℕ) (b x : ℕ) → IsUp xs → xs ≡ front ++ b ∷ [] → Contains xs x → x ≤ b
 up-last xs front b x rises ends (k, lt, at) =
     let long : length xs ≡ length front + 1 = ap length ends ∙ length-append front (b ∷ []) in
-    let last : get_or xs (length front) 0 ≡ b = ap (λ ys. get_or ys (length front) 0) ends ∙ get_or-append_seam front b [] 0 in
+    let last : get_or xs (length front) 0 ≡ b = ap (λ ys. get_or ys (length front) 0) ends
+    ∙ get_or-append_seam front b [] 0 in
     let here : get_or xs k 0 ≡ x = get_or_default xs k 0 x lt ∙ at in
     elim (cases_eq k (length front)) [
       | inl e ↦ omega (arith, here, ap (λ k. get_or xs k 0) e, last)
-      | inr apart ↦ omega (arith, here, last, rises k (length front) (omega (arith, lt, long, apart)) (omega (arith, long)))
+      | inr apart ↦ omega (
+        arith,
+        here,
+        last,
+        rises k (length front)
+            (omega (arith, lt, long, apart)) (omega (arith, long)),
+      )
     ]

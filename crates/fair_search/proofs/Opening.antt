@@ -15,7 +15,8 @@ use Rattle.fair_search.specs.Paths.{Leads}
 use Rattle.fair_search.specs.Passing.{place_of, is_seen, degree_of, looks_of, IsUp, NoStart, SettledAt, IsSettled, ExplainsDone, IsPass, MayOpen}
 
 -- a list that rises, with a greater number last
-pub up-push : (xs : List ℕ) (n : ℕ) → IsUp xs → ((x : ℕ) → Contains xs x → x < n) → IsUp (xs ++ n ∷ [])
+pub up-push : (xs : List ℕ) (n : ℕ) → IsUp xs → ((x : ℕ) → Contains xs x → x < n)
+    → IsUp (xs ++ n ∷ [])
 up-push xs n rises below i j lt there =
     let in_i : i < length xs = omega (arith, length-append xs (n ∷ [])) in
     let first = get_or-append xs (n ∷ []) 0 i in_i in
@@ -61,7 +62,8 @@ module _ (g : Shape) (p : Pass) (is : IsPass g p) (v : ℕ) (may : MayOpen g p v
   was_open : (w i : ℕ) → place_of Opened w ≡ Open i → ((w ≡ v) × (i ≡ n)) ⊎ (place_of p w ≡ Open i)
   was_open w i at =
       elim (cases_eq w v) [
-        | inl e ↦ let f : Open i ≡ Open n = sym at ∙ ap (place_of Opened) e ∙ open_here in inl (e, cc)
+        | inl e ↦ let f : Open i ≡ Open n = sym at ∙ ap (place_of Opened) e
+            ∙ open_here in inl (e, cc)
         | inr apart ↦ inr (sym (else w apart) ∙ at)
       ]
 
@@ -85,7 +87,8 @@ module _ (g : Shape) (p : Pass) (is : IsPass g p) (v : ℕ) (may : MayOpen g p v
   unlooked : looks_of p v ≡ 0
   unlooked = is.fresh v may.unseen
 
-  open_stacked : (i : ℕ) → i < length Opened.stack → place_of Opened (get_or Opened.stack i 0) ≡ Open i
+  open_stacked : (i : ℕ) → i < length Opened.stack
+      → place_of Opened (get_or Opened.stack i 0) ≡ Open i
   open_stacked i lt =
       elim (cases_eq i n) [
         | inl e ↦
@@ -98,7 +101,8 @@ module _ (g : Shape) (p : Pass) (is : IsPass g p) (v : ℕ) (may : MayOpen g p v
             ∙ is.stacked i low
       ]
 
-  open_opened : (w i : ℕ) → place_of Opened w ≡ Open i → (i < length Opened.stack) × (get_or Opened.stack i 0 ≡ w)
+  open_opened : (w i : ℕ) → place_of Opened w ≡ Open i
+      → (i < length Opened.stack) × (get_or Opened.stack i 0 ≡ w)
   open_opened w i at =
       elim (was_open w i at) [
         | inl (e, f) ↦ (omega (arith, long), (λ k. get_or Opened.stack (f k) 0) ∙ last ∙ sym e)
@@ -109,7 +113,8 @@ module _ (g : Shape) (p : Pass) (is : IsPass g p) (v : ℕ) (may : MayOpen g p v
 
   open_few : length Opened.stack + length p.reasons ≤ count_by is_seen Opened.places
   open_few =
-      let count = sum_by-set (λ x. cond (is_seen x) 1 0) p.places v (Open n) New (omega (arith, is.places_long, may.made)) in
+      let count = sum_by-set (λ x. cond (is_seen x) 1 0) p.places v (Open n) New
+      (omega (arith, is.places_long, may.made)) in
       let weight : Place → ℕ = λ x. cond (is_seen x) 1 0 in
       let was : weight (place_of p v) ≡ 0 = ap weight may.unseen in
       omega (arith, count, was, long, is.few)
@@ -119,7 +124,8 @@ module _ (g : Shape) (p : Pass) (is : IsPass g p) (v : ℕ) (may : MayOpen g p v
       let P : ℕ → Type 0 = Contains (members_of g 0) in
       elim (cases_eq n 0) [
         | inl e ↦ subst P (sym ((λ k. get_or Opened.stack (sym e k) 0) ∙ last)) (may.starting e)
-        | inr apart ↦ let low : 0 < n = omega (arith, apart) in subst P (sym (old 0 low)) (is.rooted low)
+        | inr apart ↦ let low : 0 < n = omega (arith, apart) in subst P (sym (old 0 low))
+            (is.rooted low)
       ]
 
   -- no start after i up to j, as it was
@@ -133,7 +139,8 @@ module _ (g : Shape) (p : Pass) (is : IsPass g p) (v : ℕ) (may : MayOpen g p v
         | inr e ↦ omega (arith, e, le, low)
       ]
 
-  open_up : (i j : ℕ) → i < j → j < length Opened.stack → Leads g (get_or Opened.stack i 0) (get_or Opened.stack j 0)
+  open_up : (i j : ℕ) → i < j → j < length Opened.stack
+      → Leads g (get_or Opened.stack i 0) (get_or Opened.stack j 0)
   open_up i j lt there =
       let low_i : i < n = omega (arith, long) in
       let P : ℕ → Type 0 = λ x. Leads g x (get_or Opened.stack j 0) in
@@ -141,19 +148,23 @@ module _ (g : Shape) (p : Pass) (is : IsPass g p) (v : ℕ) (may : MayOpen g p v
       subst P (sym (old i low_i))
       (elim (cases_eq j n) [
         | inl e ↦ subst Q (sym ((λ k. get_or Opened.stack (e k) 0) ∙ last)) (may.reached i low_i)
-        | inr apart ↦ let low_j : j < n = omega (arith, long) in subst Q (sym (old j low_j)) (is.up i j lt low_j)
+        | inr apart ↦ let low_j : j < n = omega (arith, long) in subst Q (sym (old j low_j))
+            (is.up i j lt low_j)
       ])
 
-  open_down : (i j : ℕ) → i < j → j < length Opened.stack → NoStart Opened i j → Leads g (get_or Opened.stack j 0) (get_or Opened.stack i 0)
+  open_down : (i j : ℕ) → i < j → j < length Opened.stack → NoStart Opened i j
+      → Leads g (get_or Opened.stack j 0) (get_or Opened.stack i 0)
   open_down i j lt there none =
       elim (cases_eq j n) [
-        | inl e ↦ absurd (none n (Contains-push p.starts n) (omega (arith, e, lt)) (omega (arith, e)))
+        | inl e ↦ absurd (none n (Contains-push p.starts n) (omega (arith, e, lt))
+            (omega (arith, e)))
         | inr apart ↦
             let low_j : j < n = omega (arith, long) in
             let low_i : i < n = omega (arith, lt) in
             let P : ℕ → Type 0 = λ x. Leads g x (get_or Opened.stack i 0) in
             let Q : ℕ → Type 0 = Leads g (get_or p.stack j 0) in
-            subst P (sym (old j low_j)) (subst Q (sym (old i low_i)) (is.down i j lt low_j (none_before i j none)))
+            subst P (sym (old j low_j)) (subst Q (sym (old i low_i))
+            (is.down i j lt low_j (none_before i j none)))
       ]
 
   still_settled : (i : ℕ) (x : Place) → i < n → SettledAt p i x → SettledAt Opened i x
@@ -169,30 +180,36 @@ module _ (g : Shape) (p : Pass) (is : IsPass g p) (v : ℕ) (may : MayOpen g p v
   pub open_settled : (i w : ℕ) → i < n → IsSettled p i w → IsSettled Opened i w
   open_settled i w low there =
       let P : Place → Type 0 = SettledAt Opened i in
-      subst P (sym (stays w (settled_seen i (place_of p w) there))) (still_settled i (place_of p w) low there)
+      subst P (sym (stays w (settled_seen i (place_of p w) there)))
+      (still_settled i (place_of p w) low there)
 
-  open_looked : (w i k : ℕ) → place_of Opened w ≡ Open i → k < looks_of p w → IsSettled Opened i (get_or (successors_of g w) k 0)
+  open_looked : (w i k : ℕ) → place_of Opened w ≡ Open i → k < looks_of p w
+      → IsSettled Opened i (get_or (successors_of g w) k 0)
   open_looked w i k at lt =
       elim (was_open w i at) [
         | inl (e, f) ↦ absurd (omega (arith, lt, ap (looks_of p) e, unlooked))
         | inr before ↦ open_settled i _ (is.opened w i before).0 (is.looked w i k before lt)
       ]
 
-  open_loop : (w i k : ℕ) → place_of Opened w ≡ Open i → k < looks_of p w → get_or (successors_of g w) k 0 ≡ w → get_or p.loops w false ≡ true
+  open_loop : (w i k : ℕ) → place_of Opened w ≡ Open i → k < looks_of p w
+      → get_or (successors_of g w) k 0 ≡ w → get_or p.loops w false ≡ true
   open_loop w i k at lt same =
       elim (was_open w i at) [
         | inl (e, f) ↦ absurd (omega (arith, lt, ap (looks_of p) e, unlooked))
         | inr before ↦ is.loop_seen w i k before lt same
       ]
 
-  open_waiting : (w i : ℕ) → place_of Opened w ≡ Open i → looks_of p w < degree_of g w → Contains Opened.pending i
+  open_waiting : (w i : ℕ) → place_of Opened w ≡ Open i → looks_of p w < degree_of g w
+      → Contains Opened.pending i
   open_waiting w i at left =
       elim (was_open w i at) [
-        | inl (e, f) ↦ let P : ℕ → Type 0 = Contains Opened.pending in subst P (sym f) (Contains-push p.pending n)
+        | inl (e, f) ↦ let P : ℕ → Type 0 = Contains Opened.pending in subst P (sym f)
+            (Contains-push p.pending n)
         | inr before ↦ Contains-append_left p.pending (n ∷ []) i (is.waiting w i before left)
       ]
 
-  open_below : (xs : List ℕ) → ((x : ℕ) → Contains xs x → x < n) → (x : ℕ) → Contains (xs ++ n ∷ []) x → x < length Opened.stack
+  open_below : (xs : List ℕ) → ((x : ℕ) → Contains xs x → x < n) → (x : ℕ)
+      → Contains (xs ++ n ∷ []) x → x < length Opened.stack
   open_below xs below x there =
       elim (Contains-push_cases xs n x there) [
         | inl before ↦ omega (arith, long, below x before)
@@ -204,17 +221,21 @@ module _ (g : Shape) (p : Pass) (is : IsPass g p) (v : ℕ) (may : MayOpen g p v
       let P : ℕ → Type 0 = Contains Opened.starts in
       elim (cases_eq n 0) [
         | inl e ↦ subst P e (Contains-push p.starts n)
-        | inr apart ↦ Contains-append_left p.starts (n ∷ []) 0 (is.first_start (omega (arith, apart)))
+        | inr apart ↦ Contains-append_left p.starts (n ∷ []) 0
+            (is.first_start (omega (arith, apart)))
       ]
 
-  open_closed : (u w r : ℕ) → place_of Opened u ≡ Done r → IsEdge g u w → (s : ℕ) × (place_of Opened w ≡ Done s) × (s ≤ r)
+  open_closed : (u w r : ℕ) → place_of Opened u ≡ Done r → IsEdge g u w
+      → (s : ℕ) × (place_of Opened w ≡ Done s) × (s ≤ r)
   open_closed u w r at edge =
       let (s, there, le) = is.closed u w r (was_done u r at) edge in
       (s, stays w (λ e. done≢new s (sym there ∙ e)) ∙ there, le)
 
-  open_explains : (r : ℕ) (reason : Option ℕ) → ExplainsDone g p r reason → ExplainsDone g Opened r reason
+  open_explains : (r : ℕ) (reason : Option ℕ) → ExplainsDone g p r reason
+      → ExplainsDone g Opened r reason
   open_explains r (Some until) why = λ u at. why u (was_done u r at)
-  open_explains r None why = λ u w edge at there. why u w edge (was_done u r at) (was_done w r there)
+  open_explains r None why = λ u w edge at there. why u w edge (was_done u r at)
+      (was_done w r there)
 
   open_seen : (w : ℕ) → place_of p w ≢ New → place_of Opened w ≢ New
   open_seen w seen e = seen (sym (stays w seen) ∙ e)

@@ -10,7 +10,8 @@ use Rattle.fair_search.specs.Passing.{place_of, IsUp, SettledAt, IsPass, MayOpen
 use Rattle.fair_search.proofs.Opening.{Opened, opened_pass, open_here}
 use Rattle.fair_search.proofs.Merging.{from_all, Merged, merged_pass, merged_settled}
 
-module _ (g : Shape) (p : Pass) (is : IsPass g p) (i w : ℕ) (last : IsLast p i) (edge : IsEdge g (get_or p.stack i 0) w) where
+module _ (g : Shape) (p : Pass) (is : IsPass g p) (i w : ℕ) (last : IsLast p i)
+    (edge : IsEdge g (get_or p.stack i 0) w) where
   pub may_open : place_of p w ≡ New → w < length g.nodes → MayOpen g p w
   may_open unseen made = record {
     unseen = unseen;
@@ -25,27 +26,37 @@ module _ (g : Shape) (p : Pass) (is : IsPass g p) (i w : ℕ) (last : IsLast p i
       pass = opened_pass g p is w (may_open unseen made);
       settled =
           (let P : Place → Type 0 = SettledAt (Opened g p is w (may_open unseen made)) i in
-          subst P (sym (open_here g p is w (may_open unseen made))) (λ b there lt le. omega (arith, lt, le, last.0)));
+          subst P (sym (open_here g p is w (may_open unseen made)))
+          (λ b there lt le. omega (arith, lt, le, last.0)));
       explored = refl;
       begun = refl;
       standing = omega (arith, length-append p.stack (w ∷ []), last.0);
       node = get_or-append p.stack (w ∷ []) 0 i last.0;
-      size = omega (arith, length-append p.stack (w ∷ []), length-append p.pending (length p.stack ∷ []));
+      size = omega (
+        arith,
+        length-append p.stack (w ∷ []),
+        length-append p.pending (length p.stack ∷ []),
+      );
     }
 
-  module _ (j : ℕ) (at : place_of p w ≡ Open j) (starts : List ℕ) (rises : IsUp starts) (was : (b : ℕ) → Contains starts b → Contains p.starts b × (b ≤ j)) (kept : (b : ℕ) → Contains p.starts b → b ≤ j → Contains starts b) where
+  module _ (j : ℕ) (at : place_of p w ≡ Open j) (starts : List ℕ) (rises : IsUp starts)
+      (was : (b : ℕ) → Contains starts b → Contains p.starts b × (b ≤ j))
+      (kept : (b : ℕ) → Contains p.starts b → b ≤ j → Contains starts b) where
     node_j : get_or p.stack j 0 ≡ w
     node_j = (is.opened w j at).1
 
     pub edge_j : IsEdge g (get_or p.stack i 0) (get_or p.stack j 0)
     edge_j = let P : ℕ → Type 0 = IsEdge g (get_or p.stack i 0) in subst P (sym node_j) edge
 
-    pub reached_open : HasReached g p (Merged g p is i j last edge_j (is.opened w j at).0 starts rises was kept) i w
+    pub reached_open : HasReached g p (Merged g p is i j last edge_j (is.opened w j at).0 starts
+        rises was kept) i w
     reached_open = record {
       pass = merged_pass g p is i j last edge_j (is.opened w j at).0 starts rises was kept;
       settled =
-          (let P : Place → Type 0 = SettledAt (Merged g p is i j last edge_j (is.opened w j at).0 starts rises was kept) i in
-          subst P (ap (place_of p) node_j) (merged_settled g p is i j last edge_j (is.opened w j at).0 starts rises was kept));
+          (let P : Place → Type 0 = SettledAt (Merged g p is i j last edge_j (is.opened w j at).0
+          starts rises was kept) i in
+          subst P (ap (place_of p) node_j) (merged_settled g p is i j last edge_j
+          (is.opened w j at).0 starts rises was kept));
       explored = refl;
       begun = refl;
       standing = last.0;

@@ -19,7 +19,8 @@ done-none r old = record {
   kept = λ v none. refl;
 }
 
-module _ (xs : List ℕ) (r : ℕ) (old new : List Place) (so : AreDone xs r old new) (v : ℕ) (made : v < length old) (was : is_seen (get_or old v New) ≡ true) where
+module _ (xs : List ℕ) (r : ℕ) (old new : List Place) (so : AreDone xs r old new) (v : ℕ)
+    (made : v < length old) (was : is_seen (get_or old v New) ≡ true) where
   abbrev Next : List Place
   Next = set new v (Done r)
 
@@ -35,7 +36,8 @@ module _ (xs : List ℕ) (r : ℕ) (old new : List Place) (so : AreDone xs r old
   next_seen : (w : ℕ) → is_seen (get_or Next w New) ≡ is_seen (get_or old w New)
   next_seen w =
       elim (cases_eq w v) [
-        | inl e ↦ ap (λ w. is_seen (get_or Next w New)) e ∙ ap is_seen here ∙ sym was ∙ sym (ap (λ w. is_seen (get_or old w New)) e)
+        | inl e ↦ ap (λ w. is_seen (get_or Next w New)) e ∙ ap is_seen here ∙ sym was
+            ∙ sym (ap (λ w. is_seen (get_or old w New)) e)
         | inr apart ↦ ap is_seen (other w apart) ∙ so.seen w
       ]
 
@@ -53,7 +55,8 @@ module _ (xs : List ℕ) (r : ℕ) (old new : List Place) (so : AreDone xs r old
   next_kept : (w : ℕ) → ¬ Contains (xs ++ v ∷ []) w → get_or Next w New ≡ get_or old w New
   next_kept w none =
       let P : ℕ → Type 0 = Contains (xs ++ v ∷ []) in
-      other w (λ e. none (subst P (sym e) (Contains-push xs v))) ∙ so.kept w (λ before. none (Contains-append_left xs (v ∷ []) w before))
+      other w (λ e. none (subst P (sym e) (Contains-push xs v)))
+      ∙ so.kept w (λ before. none (Contains-append_left xs (v ∷ []) w before))
 
   pub done-more : AreDone (xs ++ v ∷ []) r old Next
   done-more = record {
@@ -69,10 +72,16 @@ module _ (xs : List ℕ) (r : ℕ) (old new : List Place) (so : AreDone xs r old
   }
 
 -- the step of the loop at index i
-pub done-step : (nodes : List ℕ) (i r : ℕ) (old new : List Place) → i < length nodes → All (λ v. v < length old) nodes → All (λ v. is_seen (get_or old v New) ≡ true) nodes → AreDone (take i nodes) r old new → AreDone (take (i + 1) nodes) r old (set new (get_or nodes i 0) (Done r))
+pub done-step : (nodes : List ℕ) (i r : ℕ) (old new : List Place) → i < length nodes
+    → All (λ v. v < length old) nodes → All (λ v. is_seen (get_or old v New) ≡ true) nodes
+    → AreDone (take i nodes) r old new → AreDone (take (i + 1) nodes) r old
+    (set new (get_or nodes i 0) (Done r))
 done-step nodes i r old new lt made seen so =
     let P : List ℕ → Type 0 = λ xs. AreDone xs r old (set new (get_or nodes i 0) (Done r)) in
-    subst P (sym (take_more nodes i 0 lt)) (done-more (take i nodes) r old new so (get_or nodes i 0) (made i 0 lt) (seen i 0 lt))
+    subst P (sym (take_more nodes i 0 lt)) (done-more (take i nodes) r old new so (get_or nodes i 0)
+    (made i 0 lt) (seen i 0 lt))
 
-pub done-all : (nodes : List ℕ) (i r : ℕ) (old new : List Place) → length nodes ≤ i → AreDone (take i nodes) r old new → AreDone nodes r old new
-done-all nodes i r old new le so = let P : List ℕ → Type 0 = λ xs. AreDone xs r old new in subst P (take_all i nodes le) so
+pub done-all : (nodes : List ℕ) (i r : ℕ) (old new : List Place) → length nodes ≤ i
+    → AreDone (take i nodes) r old new → AreDone nodes r old new
+done-all nodes i r old new le so = let P : List ℕ
+    → Type 0 = λ xs. AreDone xs r old new in subst P (take_all i nodes le) so

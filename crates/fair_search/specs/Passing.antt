@@ -59,7 +59,8 @@ IsSettled p i w = SettledAt p i (place_of p w)
 -- what a reason says of the done nodes of rank r
 abbrev pub ExplainsDone : Shape → Pass → ℕ → Option ℕ → Type 0
 ExplainsDone g p r (Some until) = (v : ℕ) → place_of p v ≡ Done r → Postpones g v until
-ExplainsDone g p r None = (v w : ℕ) → IsEdge g v w → place_of p v ≡ Done r → ¬ (place_of p w ≡ Done r)
+ExplainsDone g p r None = (v w : ℕ) → IsEdge g v w → place_of p v ≡ Done r
+    → ¬ (place_of p w ≡ Done r)
 
 pub record IsPass (g : Shape) (p : Pass) : Type 0 where
   pub places_long : length p.places ≡ length g.nodes
@@ -67,31 +68,39 @@ pub record IsPass (g : Shape) (p : Pass) : Type 0 where
   pub loops_long : length p.loops ≡ length g.nodes
   -- the stack, and where its nodes stand
   pub stacked : (i : ℕ) → i < length p.stack → place_of p (slice_index p.stack i) ≡ Open i
-  pub opened : (v i : ℕ) → place_of p v ≡ Open i → (i < length p.stack) × (slice_index p.stack i ≡ v)
+  pub opened : (v i : ℕ) → place_of p v ≡ Open i
+      → (i < length p.stack) × (slice_index p.stack i ≡ v)
   pub few : length p.stack + length p.reasons ≤ count_by is_seen p.places
   pub rooted : 0 < length p.stack → Contains (members_of g 0) (slice_index p.stack 0)
   -- components
   pub starts_up : IsUp p.starts
   pub starts_open : (b : ℕ) → Contains p.starts b → b < length p.stack
   pub first_start : 0 < length p.stack → Contains p.starts 0
-  pub up : (i j : ℕ) → i < j → j < length p.stack → Leads g (slice_index p.stack i) (slice_index p.stack j)
-  pub down : (i j : ℕ) → i < j → j < length p.stack → NoStart p i j → Leads g (slice_index p.stack j) (slice_index p.stack i)
+  pub up : (i j : ℕ) → i < j → j < length p.stack
+      → Leads g (slice_index p.stack i) (slice_index p.stack j)
+  pub down : (i j : ℕ) → i < j → j < length p.stack → NoStart p i j
+      → Leads g (slice_index p.stack j) (slice_index p.stack i)
   -- what was looked at
   pub fresh : (v : ℕ) → place_of p v ≡ New → looks_of p v ≡ 0
   pub within : (v : ℕ) → looks_of p v ≤ degree_of g v
-  pub looked : (v i k : ℕ) → place_of p v ≡ Open i → k < looks_of p v → IsSettled p i (slice_index (successors_of g v) k)
-  pub loop_seen : (v i k : ℕ) → place_of p v ≡ Open i → k < looks_of p v → slice_index (successors_of g v) k ≡ v → slice_index_or p.loops v false ≡ true
+  pub looked : (v i k : ℕ) → place_of p v ≡ Open i → k < looks_of p v
+      → IsSettled p i (slice_index (successors_of g v) k)
+  pub loop_seen : (v i k : ℕ) → place_of p v ≡ Open i → k < looks_of p v
+      → slice_index (successors_of g v) k ≡ v → slice_index_or p.loops v false ≡ true
   pub loop_there : (v : ℕ) → slice_index_or p.loops v false ≡ true → IsEdge g v v
-  pub waiting : (v i : ℕ) → place_of p v ≡ Open i → looks_of p v < degree_of g v → Contains p.pending i
+  pub waiting : (v i : ℕ) → place_of p v ≡ Open i → looks_of p v < degree_of g v
+      → Contains p.pending i
   pub pending_up : IsUp p.pending
   pub pending_open : (i : ℕ) → Contains p.pending i → i < length p.stack
   -- the starting group, as far as it was looked at
   pub begun_within : p.begun ≤ length (members_of g 0)
   pub begun_seen : (k : ℕ) → k < p.begun → place_of p (slice_index (members_of g 0) k) ≢ New
   -- finished components
-  pub closed : (v w r : ℕ) → place_of p v ≡ Done r → IsEdge g v w → (s : ℕ) × (place_of p w ≡ Done s) × (s ≤ r)
+  pub closed : (v w r : ℕ) → place_of p v ≡ Done r → IsEdge g v w
+      → (s : ℕ) × (place_of p w ≡ Done s) × (s ≤ r)
   pub ranked : (v r : ℕ) → place_of p v ≡ Done r → r < length p.reasons
-  pub explained : (r : ℕ) → r < length p.reasons → ExplainsDone g p r (slice_index_or p.reasons r None)
+  pub explained : (r : ℕ) → r < length p.reasons
+      → ExplainsDone g p r (slice_index_or p.reasons r None)
 
 -- Each open node leads to this one, which is a start where there is no open node.
 pub record MayOpen (g : Shape) (p : Pass) (v : ℕ) : Type 0 where
@@ -135,7 +144,8 @@ left g p = 3 * (edges g - looks p) + (length p.pending + length p.stack)
 -- somewhere not postponed.
 pub record IsFairPart (g : Shape) (nodes : List ℕ) : Type 0 where
   pub inner : (length nodes ≡ 1) → IsEdge g (slice_index nodes 0) (slice_index nodes 0)
-  pub free : (until : ℕ) → Postpones g (slice_index nodes 0) until → (v : ℕ) × Contains nodes v × ¬ Postpones g v until
+  pub free : (until : ℕ) → Postpones g (slice_index nodes 0) until
+      → (v : ℕ) × Contains nodes v × ¬ Postpones g v until
 
 -- A step of the pass: it holds still, less is left, and the steps count the looks.
 pub record Goes (g : Shape) (old new : Pass) (before after : ℕ) : Type 0 where

@@ -47,9 +47,13 @@ leaving g (b ∷ bs) (n ∷ ns) = cond b (length (members_of g n.next_group)) 0 
 pub record IsSpread (g : Shape) (seen : List Bool) (reached : List Reached) : Type 0 where
   pub long : length seen ≡ length g.nodes
   pub some : 0 < length reached
-  pub tree : (j : ℕ) → 0 < j → j < length reached → ((reached_at reached j).from < j) × IsEdge g (reached_at reached (reached_at reached j).from).node (reached_at reached j).node
-  pub marked : (j : ℕ) → j < length reached → slice_index_or seen (reached_at reached j).node false ≡ true
-  pub listed : (v : ℕ) → slice_index_or seen v false ≡ true → (j : ℕ) × (j < length reached) × ((reached_at reached j).node ≡ v)
+  pub tree : (j : ℕ) → 0 < j → j < length reached
+      → ((reached_at reached j).from < j) × IsEdge g
+      (reached_at reached (reached_at reached j).from).node (reached_at reached j).node
+  pub marked : (j : ℕ) → j < length reached → slice_index_or seen (reached_at reached j).node false
+      ≡ true
+  pub listed : (v : ℕ) → slice_index_or seen v false ≡ true
+      → (j : ℕ) × (j < length reached) × ((reached_at reached j).node ≡ v)
   pub counted : length reached ≡ count_by (λ b. b) seen
   pub weighed : sum_by (outgoing g) reached ≡ leaving g seen g.nodes
 
@@ -58,19 +62,26 @@ abbrev pub IsSpent : Shape → ℕ → List Bool → ℕ → Type 0
 IsSpent g to seen v = (w : ℕ) → IsEdge g v w → (w ≢ to) × (slice_index_or seen w false ≡ true)
 
 -- More was reached.
-pub record Grows (seen : List Bool) (reached : List Reached) (seen' : List Bool) (reached' : List Reached) : Type 0 where
+pub record Grows (seen : List Bool) (reached : List Reached) (seen' : List Bool)
+    (reached' : List Reached) : Type 0 where
   pub longer : (rest : List Reached) × (reached' ≡ reached ++ rest)
   pub still : (v : ℕ) → slice_index_or seen v false ≡ true → slice_index_or seen' v false ≡ true
 
 -- What comes of reaching one node from the one at a place.
 pub record IsAdded (old new : Spread) (node from : ℕ) : Type 0 where
   pub was_seen : slice_index_or old.seen node false ≡ true → new ≡ old
-  pub was_new : slice_index_or old.seen node false ≡ false → new ≡ record { seen = slice_set old.seen node true; reached = old.reached ++ record { node = node; from = from } ∷ [] }
+  pub was_new : slice_index_or old.seen node false ≡ false
+      → new ≡ record {
+        seen = slice_set old.seen node true;
+        reached = old.reached ++ record
+            { node = node; from = from } ∷ [];
+      }
 
 -- How far a search has come that has spent the nodes before a place.
-pub record IsSearched (g : Shape) (from to before : ℕ) (now : Spread) (head after : ℕ) : Type 0 where
-  pub spread : IsSpread g now.seen now.reached
-  pub first : (reached_at now.reached 0).node ≡ from
-  pub within : head ≤ length now.reached
-  pub done : (j : ℕ) → j < head → IsSpent g to now.seen (reached_at now.reached j).node
-  pub counted : after ≤ before + sum_by (outgoing g) (take head now.reached)
+pub record IsSearched (g : Shape) (from to before : ℕ) (now : Spread) (head after : ℕ) : Type 0
+  where
+    pub spread : IsSpread g now.seen now.reached
+    pub first : (reached_at now.reached 0).node ≡ from
+    pub within : head ≤ length now.reached
+    pub done : (j : ℕ) → j < head → IsSpent g to now.seen (reached_at now.reached j).node
+    pub counted : after ≤ before + sum_by (outgoing g) (take head now.reached)

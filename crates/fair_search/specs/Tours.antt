@@ -10,13 +10,18 @@ pub record IsJoined (g : Shape) (nodes : List ℕ) : Type 0 where
   pub some : 0 < length nodes
   pub made : (v : ℕ) → Contains nodes v → v < length g.nodes
   pub leads : (v w : ℕ) → Contains nodes v → Contains nodes w → Leads g v w
-  pub free : (until : ℕ) → Postpones g (slice_index nodes 0) until → (v : ℕ) × Contains nodes v × ¬ Postpones g v until
+  pub free : (until : ℕ) → Postpones g (slice_index nodes 0) until
+      → (v : ℕ) × Contains nodes v × ¬ Postpones g v until
 
 -- How far a tour from the first node has come: where it is, that the first untils are free at one of
 -- its nodes, and what it cost.
-pub record IsTour (g : Shape) (nodes untils : List ℕ) (i : ℕ) (cycle : List ℕ) (at before after : ℕ) : Type 0 where
+pub record IsTour (g : Shape) (nodes untils : List ℕ) (i : ℕ) (cycle : List ℕ) (at before after : ℕ)
+    : Type 0 where
   pub goes : IsPath g cycle at
   pub starts : first_or cycle at ≡ slice_index nodes 0
   pub here : Contains nodes at
-  pub free : (k : ℕ) → k < i → (v : ℕ) × (Contains cycle v ⊎ (v ≡ at)) × ¬ Postpones g v (slice_index untils k)
-  pub paid : (met : List ℕ) × IsDistinct nat_eq met × ((x : ℕ) → Contains met x → Contains (take i untils) x) × (after ≤ before + length met * edges g)
+  pub free : (k : ℕ) → k < i → (v : ℕ) × (Contains cycle v ⊎ (v ≡ at)) × ¬ Postpones g v
+      (slice_index untils k)
+  pub paid : (met : List ℕ) × IsDistinct nat_eq met ×
+      ((x : ℕ) → Contains met x → Contains (take i untils) x) ×
+      (after ≤ before + length met * edges g)

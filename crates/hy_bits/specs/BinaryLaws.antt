@@ -29,33 +29,43 @@ below_power zero = zero-lt-suc zero
 below_power (suc n) = lt_of_le_of_lt (below_power n) (pow_below n (suc n) (lt-suc_self n))
 
 pub contains-insert_same : (s : NumberSet) (k : ℕ) → contains (insert s k) k ≡ true
-contains-insert_same s k = contains-insert nat_cmp_total s k k ∙ ap (λ b. b || contains s k) (unsigned_tied k k ∙ eq-eqb k k refl)
+contains-insert_same s k = contains-insert nat_cmp_total s k k
+    ∙ ap (λ b. b || contains s k) (unsigned_tied k k ∙ eq-eqb k k refl)
 
-pub contains-insert_other : (s : NumberSet) (k q : ℕ) → q ≢ k → contains (insert s k) q ≡ contains s q
-contains-insert_other s k q apart = contains-insert nat_cmp_total s k q ∙ ap (λ b. b || contains s q) (unsigned_tied q k ∙ ne_eqb q k apart)
+pub contains-insert_other : (s : NumberSet) (k q : ℕ) → q ≢ k
+    → contains (insert s k) q ≡ contains s q
+contains-insert_other s k q apart = contains-insert nat_cmp_total s k q
+    ∙ ap (λ b. b || contains s q) (unsigned_tied q k ∙ ne_eqb q k apart)
 
 pub contains-remove_same : (s : NumberSet) (k : ℕ) → contains (remove s k) k ≡ false
-contains-remove_same s k = contains-remove nat_cmp_total s k k ∙ ap (λ b. not b && contains s k) (unsigned_tied k k ∙ eq-eqb k k refl)
+contains-remove_same s k = contains-remove nat_cmp_total s k k
+    ∙ ap (λ b. not b && contains s k) (unsigned_tied k k ∙ eq-eqb k k refl)
 
-pub contains-remove_other : (s : NumberSet) (k q : ℕ) → q ≢ k → contains (remove s k) q ≡ contains s q
-contains-remove_other s k q apart = contains-remove nat_cmp_total s k q ∙ ap (λ b. not b && contains s q) (unsigned_tied q k ∙ ne_eqb q k apart)
+pub contains-remove_other : (s : NumberSet) (k q : ℕ) → q ≢ k
+    → contains (remove s k) q ≡ contains s q
+contains-remove_other s k q apart = contains-remove nat_cmp_total s k q
+    ∙ ap (λ b. not b && contains s q) (unsigned_tied q k ∙ ne_eqb q k apart)
 
 -- ---- a number's ones
 
-ones_below-suc_other : (n k q : ℕ) → q ≢ k → contains (ones_below n (suc k)) q ≡ contains (ones_below n k) q
+ones_below-suc_other : (n k q : ℕ) → q ≢ k → contains (ones_below n (suc k)) q ≡ contains
+    (ones_below n k) q
 ones_below-suc_other n k q apart =
-    elim (has_one n k) as (λ b. contains (cond b (insert (ones_below n k) k) (ones_below n k)) q ≡ contains (ones_below n k) q) [
+    elim (has_one n k) as (λ b. contains (cond b (insert (ones_below n k) k) (ones_below n k)) q ≡
+    contains (ones_below n k) q) [
       | true ↦ contains-insert_other _ k q apart
       | false ↦ refl
     ]
 
 above_ones_below : (n k q : ℕ) → k ≤ q → contains (ones_below n k) q ≡ false
 above_ones_below n zero q le = contains-empty nat_cmp q
-above_ones_below n (suc k) q le = ones_below-suc_other n k q (apart_above k q le) ∙ above_ones_below n k q (le_of_suc-le le)
+above_ones_below n (suc k) q le = ones_below-suc_other n k q (apart_above k q le)
+    ∙ above_ones_below n k q (le_of_suc-le le)
 
 ones_below-suc_same : (n k : ℕ) → contains (ones_below n (suc k)) k ≡ has_one n k
 ones_below-suc_same n k =
-    elim (has_one n k) as (λ b. contains (cond b (insert (ones_below n k) k) (ones_below n k)) k ≡ b) [
+    elim (has_one n k) as (λ b. contains (cond b (insert (ones_below n k) k) (ones_below n k)) k ≡
+    b) [
       | true ↦ contains-insert_same _ k
       | false ↦ above_ones_below n k k (le_refl k)
     ]
@@ -64,12 +74,15 @@ contains-ones_below : (n k q : ℕ) → q < k → contains (ones_below n k) q �
 contains-ones_below n zero q lt = absurd (not-suc-le-zero lt)
 contains-ones_below n (suc k) q lt =
     elim (cases_eq q k) [
-      | inl e ↦ let P : ℕ → Type 0 = λ j. contains (ones_below n (suc k)) j ≡ has_one n j in subst P (sym e) (ones_below-suc_same n k)
-      | inr apart ↦ ones_below-suc_other n k q apart ∙ contains-ones_below n k q (step_down q k lt apart)
+      | inl e ↦ let P : ℕ → Type 0 = λ j. contains (ones_below n (suc k)) j ≡ has_one n j in subst P
+          (sym e) (ones_below-suc_same n k)
+      | inr apart ↦ ones_below-suc_other n k q apart
+          ∙ contains-ones_below n k q (step_down q k lt apart)
     ]
 
 no_one_above : (n q : ℕ) → n ≤ q → has_one n q ≡ false
-no_one_above n q le = ap (λ b. nat_eq b 1) (bit_at_above n q q (lt_of_lt_of_le (below_power n) (pow_mono le)) (le_refl q))
+no_one_above n q le = ap (λ b. nat_eq b 1) (bit_at_above n q q
+    (lt_of_lt_of_le (below_power n) (pow_mono le)) (le_refl q))
 
 pub contains-ones : (n q : ℕ) → contains (ones n) q ≡ has_one n q
 unfolding ones
@@ -89,7 +102,8 @@ member_other : (b : Bool) (k q : ℕ) → q ≢ k → bit_at (cond b (2 ^ k) 0) 
 member_other true k q apart = bit_at-pow_other k q apart
 member_other false k q apart = bit_at-zero q
 
-number_below-suc_other : (s : NumberSet) (k q : ℕ) → q ≢ k → bit_at (number_below s (suc k)) q ≡ bit_at (number_below s k) q
+number_below-suc_other : (s : NumberSet) (k q : ℕ) → q ≢ k
+    → bit_at (number_below s (suc k)) q ≡ bit_at (number_below s k) q
 number_below-suc_other s k q apart =
     bit_at_or (cond (contains s k) (2 ^ k) 0) (number_below s k) q
     ∙ ap (λ b. max b (bit_at (number_below s k) q)) (member_other (contains s k) k q apart)
@@ -97,27 +111,35 @@ number_below-suc_other s k q apart =
 
 above_number_below : (s : NumberSet) (k q : ℕ) → k ≤ q → bit_at (number_below s k) q ≡ 0
 above_number_below s zero q le = bit_at-zero q
-above_number_below s (suc k) q le = number_below-suc_other s k q (apart_above k q le) ∙ above_number_below s k q (le_of_suc-le le)
+above_number_below s (suc k) q le = number_below-suc_other s k q (apart_above k q le)
+    ∙ above_number_below s k q (le_of_suc-le le)
 
-number_below-suc_same : (s : NumberSet) (k : ℕ) → bit_at (number_below s (suc k)) k ≡ cond (contains s k) 1 0
+number_below-suc_same : (s : NumberSet) (k : ℕ)
+    → bit_at (number_below s (suc k)) k ≡ cond (contains s k) 1 0
 number_below-suc_same s k =
     bit_at_or (cond (contains s k) (2 ^ k) 0) (number_below s k) k
-    ∙ ap (λ b. max (bit_at (cond (contains s k) (2 ^ k) 0) k) b) (above_number_below s k k (le_refl k))
+    ∙ ap (λ b. max (bit_at (cond (contains s k) (2 ^ k) 0) k) b)
+    (above_number_below s k k (le_refl k))
     ∙ max-zero _
     ∙ member_one (contains s k) k
 
-bit_at-number_below : (s : NumberSet) (k q : ℕ) → q < k → bit_at (number_below s k) q ≡ cond (contains s q) 1 0
+bit_at-number_below : (s : NumberSet) (k q : ℕ) → q < k
+    → bit_at (number_below s k) q ≡ cond (contains s q) 1 0
 bit_at-number_below s zero q lt = absurd (not-suc-le-zero lt)
 bit_at-number_below s (suc k) q lt =
     elim (cases_eq q k) [
-      | inl e ↦ let P : ℕ → Type 0 = λ j. bit_at (number_below s (suc k)) j ≡ cond (contains s j) 1 0 in subst P (sym e) (number_below-suc_same s k)
-      | inr apart ↦ number_below-suc_other s k q apart ∙ bit_at-number_below s k q (step_down q k lt apart)
+      | inl e ↦ let P : ℕ → Type 0 = λ j. bit_at (number_below s (suc k)) j ≡ cond (contains s j) 1
+          0 in subst P (sym e) (number_below-suc_same s k)
+      | inr apart ↦ number_below-suc_other s k q apart
+          ∙ bit_at-number_below s k q (step_down q k lt apart)
     ]
 
 above_member : (xs : List ℕ) (q : ℕ) → above_all xs ≤ q → list_any (eq_by_cmp nat_cmp q) xs ≡ false
 above_member [] q le = refl
 above_member (x ∷ xs) q le =
-    ap (λ b. b || list_any (eq_by_cmp nat_cmp q) xs) (unsigned_tied q x ∙ ne_eqb q x (apart_above x q (le_trans (le-max_left (suc x) (above_all xs)) le)))
+    ap (λ b. b || list_any (eq_by_cmp nat_cmp q) xs)
+    (unsigned_tied q x ∙ ne_eqb q x (apart_above x q
+    (le_trans (le-max_left (suc x) (above_all xs)) le)))
     ∙ above_member xs q (le_trans (le-max_right (suc x) (above_all xs)) le)
 
 above_members : (s : NumberSet) (q : ℕ) → above_all (items s) ≤ q → contains s q ≡ false
@@ -153,4 +175,5 @@ bit_is (suc (suc b)) lt = absurd (not-suc-le-zero (le_of_suc-le-suc (le_of_suc-l
 
 pub number-ones : (n : ℕ) → number (ones n) ≡ n
 number-ones n =
-    same_from_bits _ _ (λ q. bit_at-number (ones n) q ∙ ap (λ b. cond b 1 0) (contains-ones n q) ∙ bit_is (bit_at n q) (bit_at-lt n q))
+    same_from_bits _ _ (λ q. bit_at-number (ones n) q ∙ ap (λ b. cond b 1 0) (contains-ones n q)
+    ∙ bit_is (bit_at n q) (bit_at-lt n q))

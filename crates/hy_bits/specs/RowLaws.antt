@@ -24,14 +24,18 @@ div-joined n w fits = omega arith
 pub words_of-joined : (ws : List ℕ) → AreWords ws → words_of (length ws) (joined ws) ≡ ws
 words_of-joined [] fit = refl
 words_of-joined (w ∷ ws) fit =
-    (λ i. mod-mul-add (joined ws) (2 ^ 64) w (fit 0) i ∷ words_of (length ws) (div-joined (joined ws) w (fit 0) i))
+    (λ i. mod-mul-add (joined ws) (2 ^ 64) w (fit 0) i ∷ words_of (length ws)
+    (div-joined (joined ws) w (fit 0) i))
     ∙ ap (λ vs. w ∷ vs) (words_of-joined ws (later w ws fit))
 
-pub words_of-members : (n : ℕ) (ws : List ℕ) → length ws ≡ n → AreWords ws → words_of n (number (members ws)) ≡ ws
-words_of-members n ws e fit = (λ i. words_of (sym e i) (number-ones (joined ws) i)) ∙ words_of-joined ws fit
+pub words_of-members : (n : ℕ) (ws : List ℕ) → length ws ≡ n → AreWords ws
+    → words_of n (number (members ws)) ≡ ws
+words_of-members n ws e fit = (λ i. words_of (sym e i) (number-ones (joined ws) i))
+    ∙ words_of-joined ws fit
 
 -- sets that `==` takes as equal are hashed alike
-pub same_input : (n : ℕ) (s t : NumberSet) → nat_eq (number s) (number t) ≡ true → fed.slice fed.u64 (words_of n (number s)) ≡ fed.slice fed.u64 (words_of n (number t))
+pub same_input : (n : ℕ) (s t : NumberSet) → nat_eq (number s) (number t) ≡ true
+    → fed.slice fed.u64 (words_of n (number s)) ≡ fed.slice fed.u64 (words_of n (number t))
 same_input n s t e = ap (λ m. fed.slice fed.u64 (words_of n m)) (eqb-true _ _ e)
 
 -- a place of the first word, and one past it
@@ -41,13 +45,15 @@ first_word q low = (omega arith, omega arith)
 later_word : (q : ℕ) → 64 ≤ q → (q / 64 ≡ suc ((q - 64) / 64)) × (q % 64 ≡ (q - 64) % 64)
 later_word q high = (omega arith, omega arith)
 
-pub bit_at-joined : (ws : List ℕ) (q : ℕ) → AreWords ws → bit_at (joined ws) q ≡ bit_at (get_or ws (q / 64) 0) (q % 64)
+pub bit_at-joined : (ws : List ℕ) (q : ℕ) → AreWords ws
+    → bit_at (joined ws) q ≡ bit_at (get_or ws (q / 64) 0) (q % 64)
 bit_at-joined [] q fit = bit_at-zero q ∙ sym (bit_at-zero (q % 64))
 bit_at-joined (w ∷ ws) q fit =
     elim (cases_lt q 64) [
       | inl low ↦
           let (word, place) = first_word q low in
-          bit_at_cat_low (joined ws) 64 w q low ∙ sym (λ i. bit_at (get_or (w ∷ ws) (word i) 0) (place i))
+          bit_at_cat_low (joined ws) 64 w q low
+          ∙ sym (λ i. bit_at (get_or (w ∷ ws) (word i) 0) (place i))
       | inr high ↦
           let (word, place) = later_word q high in
           bit_at_cat_high (joined ws) 64 w q (fit 0) high
@@ -59,8 +65,10 @@ bit_at-joined (w ∷ ws) q fit =
 abbrev pub bit : List ℕ → ℕ → ℕ
 bit ws q = bit_at (get_or ws (q / 64) 0) (q % 64)
 
-pub contains-members : (ws : List ℕ) (q : ℕ) → AreWords ws → contains (members ws) q ≡ nat_eq (bit ws q) 1
-contains-members ws q fit = contains-ones (joined ws) q ∙ ap (λ b. nat_eq b 1) (bit_at-joined ws q fit)
+pub contains-members : (ws : List ℕ) (q : ℕ) → AreWords ws
+    → contains (members ws) q ≡ nat_eq (bit ws q) 1
+contains-members ws q fit = contains-ones (joined ws) q
+    ∙ ap (λ b. nat_eq b 1) (bit_at-joined ws q fit)
 
 pub members-below : (ws : List ℕ) → AreWords ws → AreBelow (64 * length ws) (members ws)
 members-below ws fit q member =
@@ -68,6 +76,8 @@ members-below ws fit q member =
       | inl low ↦ low
       | inr high ↦
           let past : length ws ≤ q / 64 = omega arith in
-          let none = contains-members ws q fit ∙ ap (λ w. nat_eq (bit_at w (q % 64)) 1) (get_or_past ws (q / 64) 0 past) ∙ ap (λ b. nat_eq b 1) (bit_at-zero (q % 64)) in
+          let none = contains-members ws q fit
+          ∙ ap (λ w. nat_eq (bit_at w (q % 64)) 1) (get_or_past ws (q / 64) 0 past)
+          ∙ ap (λ b. nat_eq b 1) (bit_at-zero (q % 64)) in
           absurd (cc (none, member))
     ]

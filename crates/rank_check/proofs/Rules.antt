@@ -23,7 +23,8 @@ module _ (g : Shape) (r : Ranks) where
   pub ranked-starts : IsRanked g r → All (λ v. IsSome (rank_of r v)) (members_of g 0)
   ranked-starts ranked = all_from _ (members_of g 0) ranked.starts
 
-  follows-at : IsRanked g r → (v k : ℕ) → v < length g.nodes → rank_of r v ≡ Some k → (reason : Option ℕ) → Explains g r k reason → FollowsAt g r v k reason
+  follows-at : IsRanked g r → (v k : ℕ) → v < length g.nodes → rank_of r v ≡ Some k
+      → (reason : Option ℕ) → Explains g r k reason → FollowsAt g r v k reason
   follows-at ranked v k there is (Some until) why = (
     why v there is,
     all_from _ (successors_of g v) (λ w next.
@@ -42,18 +43,24 @@ module _ (g : Shape) (r : Ranks) where
       λ k is. follows-at ranked v k there is (reason_of r k) (ranked.explained k)
 
   -- without a reason the rank falls
-  under : (v w k : ℕ) → FollowsAt g r v k None → Contains (successors_of g v) w → (j : ℕ) × (rank_of r w ≡ Some j) × (j < k)
+  under : (v w k : ℕ) → FollowsAt g r v k None → Contains (successors_of g v) w
+      → (j : ℕ) × (rank_of r w ≡ Some j) × (j < k)
   under v w k holds next =
-      and_some (rank_of r w) (λ j. j < k) (All-contains (λ w. IsSomeAnd (rank_of r w) (λ j. j < k)) (successors_of g v) w holds next)
+      and_some (rank_of r w) (λ j. j < k) (All-contains (λ w. IsSomeAnd (rank_of r w) (λ j. j < k))
+      (successors_of g v) w holds next)
 
-  falls-at : (v w k : ℕ) → IsEdge g v w → (reason : Option ℕ) → FollowsAt g r v k reason → (j : ℕ) × (rank_of r w ≡ Some j) × (j ≤ k)
+  falls-at : (v w k : ℕ) → IsEdge g v w → (reason : Option ℕ) → FollowsAt g r v k reason
+      → (j : ℕ) × (rank_of r w ≡ Some j) × (j ≤ k)
   falls-at v w k edge (Some until) holds =
-      and_some (rank_of r w) (λ j. j ≤ k) (All-contains (λ w. IsSomeAnd (rank_of r w) (λ j. j ≤ k)) (successors_of g v) w holds.1 edge.1)
+      and_some (rank_of r w) (λ j. j ≤ k) (All-contains (λ w. IsSomeAnd (rank_of r w) (λ j. j ≤ k))
+      (successors_of g v) w holds.1 edge.1)
   falls-at v w k edge None holds =
       let (j, at, below) = under v w k holds edge.1 in
       (j, at, omega arith)
 
-  explained-at : (k : ℕ) (reason : Option ℕ) → ((v : ℕ) → v < length g.nodes → rank_of r v ≡ Some k → FollowsAt g r v k reason) → Explains g r k reason
+  explained-at : (k : ℕ) (reason : Option ℕ) →
+      ((v : ℕ) → v < length g.nodes → rank_of r v ≡ Some k → FollowsAt g r v k reason)
+      → Explains g r k reason
   explained-at k (Some until) each = λ v there is. (each v there is).0
   explained-at k None each = λ v w edge is same.
       let (j, at, below) = under v w k (each v edge.0 is) edge.1 in
@@ -61,9 +68,11 @@ module _ (g : Shape) (r : Ranks) where
       let clash : j ≡ k = cc in
       lt_irrefl k (let P : ℕ → Type 0 = λ n. n < k in subst P clash below)
 
-  pub ranked-from : All (λ v. IsSome (rank_of r v)) (members_of g 0) → ((v : ℕ) → v < length g.nodes → Follows g r v) → IsRanked g r
+  pub ranked-from : All (λ v. IsSome (rank_of r v)) (members_of g 0)
+      → ((v : ℕ) → v < length g.nodes → Follows g r v) → IsRanked g r
   ranked-from starts each = record {
-    starts = λ v in_start. All-contains (λ v. IsSome (rank_of r v)) (members_of g 0) v starts in_start;
+    starts = λ v in_start. All-contains (λ v. IsSome (rank_of r v)) (members_of g 0) v starts
+        in_start;
     falls = λ v w k edge is. falls-at v w k edge (reason_of r k) (each v edge.0 k is);
     explained = λ k. explained-at k (reason_of r k) (λ v there is. each v there k is);
   }

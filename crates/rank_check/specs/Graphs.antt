@@ -42,7 +42,8 @@ pub record IsWhole (g : Shape) : Type 0 where
 -- the node at a place of a stem and a cycle that is gone round for ever
 abbrev pub place_of : List ℕ → List ℕ → ℕ → ℕ
 place_of stem cycle i =
-    cond (nat_lt i (length stem)) (slice_index stem i) (slice_index cycle ((i - length stem) % length cycle))
+    cond (nat_lt i (length stem)) (slice_index stem i)
+    (slice_index cycle ((i - length stem) % length cycle))
 
 -- A walk: from the starting group along edges, with a cycle that is not empty.
 pub record IsWalk (g : Shape) (stem cycle : List ℕ) : Type 0 where

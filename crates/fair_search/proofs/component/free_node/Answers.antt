@@ -10,4 +10,5 @@ pub returns : goal.returns
 returns c v there =
     let (k, lt, at) = there in
     let P : ℕ → Type 0 = λ v. Postpones c.args.g.now v c.args.until in
-    subst P (get_or_default c.args.nodes.now k 0 v lt ∙ at) (c.loop-v.invariant k (omega (arith, lt)))
+    subst P (get_or_default c.args.nodes.now k 0 v lt ∙ at)
+    (c.loop-v.invariant k (omega (arith, lt)))

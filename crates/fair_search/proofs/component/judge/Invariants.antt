@@ -5,4 +5,5 @@ use Rattle.fair_search.proofs.component.judge.Given as goal
 
 abbrev pub invariant-loop-until : goal.invariant-loop-until
 invariant-loop-until l =
-    (k : ℕ) → k < l.until-index → (v : ℕ) × Contains l.nodes v × ¬ Postpones l.g v (get_or (node_of l.g (get_or l.nodes 0 0)).postponed k 0)
+    (k : ℕ) → k < l.until-index → (v : ℕ) × Contains l.nodes v × ¬ Postpones l.g v
+    (get_or (node_of l.g (get_or l.nodes 0 0)).postponed k 0)

@@ -5,4 +5,5 @@ use Rattle.fair_search.proofs.lasso.tour.Given as goal
 
 abbrev pub invariant-loop-i : goal.invariant-loop-i
 invariant-loop-i g l =
-    IsTour l.g l.nodes (node_of l.g (get_or l.nodes 0 0)).postponed l.i l.cycle l.at l.initial.steps l.steps
+    IsTour l.g l.nodes (node_of l.g (get_or l.nodes 0 0)).postponed l.i l.cycle l.at l.initial.steps
+    l.steps

@@ -9,7 +9,9 @@ pub returns : goal.returns
 returns c g over =
     let items = c.as_slice-place-items.result.now in
     let all : c.loop-place.ranks ≡ map rank_at c.args.self.places =
-    c.loop-place.invariant ∙ ap (map rank_at) (take_all c.loop-place.place-index items c.loop-place-test.false ∙ c.as_slice-place-items.ensures)
+    c.loop-place.invariant ∙ ap (map rank_at) (take_all c.loop-place.place-index items
+    c.loop-place-test.false ∙ c.as_slice-place-items.ensures)
     in
-    let P : List (Option ℕ) → Type 0 = λ xs. IsRanked g (record { ranks = xs; reasons = c.args.self.reasons }) in
+    let P : List (Option ℕ) → Type 0 = λ xs. IsRanked g
+    (record { ranks = xs; reasons = c.args.self.reasons }) in
     subst P (sym all) (given_ranked g c.args.self over)

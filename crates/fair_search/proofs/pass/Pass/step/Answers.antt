@@ -11,5 +11,10 @@ look-requires-clause-last g c =
     let (before, last) = c.in-Some-last_from.ensures.1 in
     let P : List ℕ → Type 0 = λ xs. Contains xs place in (
       c.requires.pending_open place (subst P (sym last) (Contains-push before place)),
-      λ b there. omega (arith, up-last c.args.self.now.starts front c.in-Some.start b c.requires.starts_up ends there, c.in-Some-last_from.ensures.0),
+      λ b there. omega (
+        arith,
+        up-last c.args.self.now.starts front c.in-Some.start b
+            c.requires.starts_up ends there,
+        c.in-Some-last_from.ensures.0,
+      ),
     )

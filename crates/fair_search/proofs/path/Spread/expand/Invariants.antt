@@ -7,6 +7,7 @@ abbrev pub invariant-loop-i : goal.invariant-loop-i
 invariant-loop-i g l = record {
   spread : IsSpread l.g l.self.seen l.self.reached;
   grows : Grows l.initial.self.seen l.initial.self.reached l.self.seen l.self.reached;
-  done : (k : ℕ) → k < l.i → (get_or (members_of l.g l.group) k 0 ≢ l.to) × (get_or l.self.seen (get_or (members_of l.g l.group) k 0) false ≡ true);
+  done : (k : ℕ) → k < l.i → (get_or (members_of l.g l.group) k 0 ≢ l.to) ×
+      (get_or l.self.seen (get_or (members_of l.g l.group) k 0) false ≡ true);
   counted : l.steps ≡ l.initial.steps + l.i;
 }

@@ -7,7 +7,8 @@ use Rattle.hy_bits.proofs.bit_row.BitRow.is_subset.Goals as goal
 
 pub returns-then-self-j : goal.returns-then-self-j
 returns-then-self-j g c =
-    sym (is_subset-beyond c.self.inside.words c.other.inside.words c.self.invariant.2 c.other.invariant.2 c.loop-j.j c.if-self-j.true)
+    sym (is_subset-beyond c.self.inside.words c.other.inside.words c.self.invariant.2
+    c.other.invariant.2 c.loop-j.j c.if-self-j.true)
     ∙ (λ i. is_subset (c.self.view_is i) (c.other.view_is i))
 
 pub returns : goal.returns

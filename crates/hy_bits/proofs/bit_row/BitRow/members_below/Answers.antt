@@ -8,4 +8,5 @@ pub returns : goal.returns
 returns g c =
     let P : NumberSet → Type 0 = AreBelow (64 * g.row.W) in
     let Q : ℕ → Type 0 = λ n. AreBelow (64 * n) (members c.self.inside.words) in
-    subst P c.self.view_is (subst Q c.self.invariant.1 (members-below c.self.inside.words c.self.invariant.2))
+    subst P c.self.view_is (subst Q c.self.invariant.1
+    (members-below c.self.inside.words c.self.invariant.2))

@@ -9,8 +9,12 @@ invariant_of-result g c =
     let ys = c.other.inside.words in
     let whole : c.loop-j.j ≡ length xs = omega (arith, c.self.invariant.1) in
     let P : ℕ → Type 0 = λ j. AreOred xs ys j c.loop-j.words in
-    let each = ored-all xs ys c.loop-j.words (c.other.invariant.1 ∙ sym c.self.invariant.1) (subst P whole c.loop-j.invariant) in
-    (c.requires, c.loop-j.invariant.long ∙ c.self.invariant.1, ored-words xs ys c.loop-j.words c.self.invariant.2 c.other.invariant.2 each)
+    let each = ored-all xs ys c.loop-j.words (c.other.invariant.1 ∙ sym c.self.invariant.1)
+    (subst P whole c.loop-j.invariant) in (
+      c.requires,
+      c.loop-j.invariant.long ∙ c.self.invariant.1,
+      ored-words xs ys c.loop-j.words c.self.invariant.2 c.other.invariant.2 each,
+    )
 
 pub returns : goal.returns
 returns g c =
@@ -18,6 +22,8 @@ returns g c =
     let ys = c.other.inside.words in
     let whole : c.loop-j.j ≡ length xs = omega (arith, c.self.invariant.1) in
     let P : ℕ → Type 0 = λ j. AreOred xs ys j c.loop-j.words in
-    let each = ored-all xs ys c.loop-j.words (c.other.invariant.1 ∙ sym c.self.invariant.1) (subst P whole c.loop-j.invariant) in
-    members-union xs ys c.self.invariant.2 c.other.invariant.2 c.loop-j.words (ored-words xs ys c.loop-j.words c.self.invariant.2 c.other.invariant.2 each) each
+    let each = ored-all xs ys c.loop-j.words (c.other.invariant.1 ∙ sym c.self.invariant.1)
+    (subst P whole c.loop-j.invariant) in
+    members-union xs ys c.self.invariant.2 c.other.invariant.2 c.loop-j.words
+    (ored-words xs ys c.loop-j.words c.self.invariant.2 c.other.invariant.2 each) each
     ∙ (λ i. union (c.self.view_is i) (c.other.view_is i))

@@ -12,8 +12,11 @@ invariant_of-result g c =
     let k = c.args.i / 64 in
     let within : k < length ws = omega (arith, c.self.invariant.1) in
     let word = bit_or (get_or ws k 0) (1 * 2 ^ (c.args.i % 64) % 2 ^ 64) in
-    let fits : word < 2 ^ 64 = or_lt 64 _ _ (c.self.invariant.2 k) (mod_below _ _ (pow_pos 64)) in
-    (c.self.invariant.0, length-set ws k word ∙ c.self.invariant.1, words-set ws k word c.self.invariant.2 within fits)
+    let fits : word < 2 ^ 64 = or_lt 64 _ _ (c.self.invariant.2 k) (mod_below _ _ (pow_pos 64)) in (
+      c.self.invariant.0,
+      length-set ws k word ∙ c.self.invariant.1,
+      words-set ws k word c.self.invariant.2 within fits,
+    )
 
 pub returns : goal.returns
 returns g c =

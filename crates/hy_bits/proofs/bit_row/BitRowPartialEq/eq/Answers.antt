@@ -10,6 +10,7 @@ returns g c =
     let xs = c.self.inside.words in
     let ys = c.other.inside.words in
     c.eq.ensures
-    ∙ same_joined xs ys c.self.invariant.2 c.other.invariant.2 (c.self.invariant.1 ∙ sym c.other.invariant.1)
+    ∙ same_joined xs ys c.self.invariant.2 c.other.invariant.2
+    (c.self.invariant.1 ∙ sym c.other.invariant.1)
     ∙ sym (λ i. nat_eq (number-ones (joined xs) i) (number-ones (joined ys) i))
     ∙ (λ i. nat_eq (number (c.self.view_is i)) (number (c.other.view_is i)))

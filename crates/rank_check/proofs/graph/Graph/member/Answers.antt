@@ -13,6 +13,11 @@ invariant_of-self-2 c =
     let F : Shape → Type 0 = λ g. length (members_of g c.args.group) < 2 ^ 32 - 1 in
     let there = subst G (sym c.self.view_is) c.requires.group in
     let whole =
-    whole-member g c.self.invariant c.args.group c.args.node there (subst N (sym c.self.view_is) c.requires.node) (subst F (sym c.self.view_is) c.requires.few)
+    whole-member g c.self.invariant c.args.group c.args.node there
+    (subst N (sym c.self.view_is) c.requires.node) (subst F (sym c.self.view_is) c.requires.few)
     in
-    rw (c.in_ok-push.ensures.added, get_or_read groups c.args.group c.index_mut.result.now there c.index_mut.ensures.value []) whole
+    rw (
+      c.in_ok-push.ensures.added,
+      get_or_read groups c.args.group c.index_mut.result.now there
+          c.index_mut.ensures.value [],
+    ) whole

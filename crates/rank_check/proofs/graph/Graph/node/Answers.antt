@@ -8,4 +8,5 @@ invariant_of-self-2 c =
     let G : Shape → Type 0 = λ g. c.args.next_group < length g.groups in
     let F : Shape → Type 0 = λ g. length g.nodes < 2 ^ 32 - 1 in
     rw c.in_ok-push.ensures.items
-    (whole-node _ c.self.invariant _ (subst G (sym c.self.view_is) c.requires.group) (subst F (sym c.self.view_is) c.requires.few))
+    (whole-node _ c.self.invariant _ (subst G (sym c.self.view_is) c.requires.group)
+    (subst F (sym c.self.view_is) c.requires.few))
