@@ -1,3 +1,4 @@
+pub mod PrintedLetters
 pub mod PrintedWords
 pub mod Printing
 pub mod ReadingSets

@@ -4,6 +4,7 @@
 
 mod bytes;
 mod class;
+mod laws;
 mod names;
 mod sets;
 #[cfg(test)]
@@ -12,6 +13,7 @@ mod words;
 
 pub use bytes::{begins_with_letter, is_variable, is_word_byte, past_blanks, past_byte};
 pub use class::Class;
+pub use laws::{printed_letters_are_read, printed_word_is_read};
 pub use names::{push_name, read_name};
 pub use sets::{SetRead, push_set, read_set};
 pub use words::{WordRead, push_word, read_word};
