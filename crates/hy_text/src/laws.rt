@@ -11,13 +11,15 @@ ghost use Rattle.hy_text.specs.Words.{NoSemicolon, SpellsWord, printed_word};
 /// A printed word over a reader's names is read, to its end.
 #[tactic(auto, using(crate::proofs::PrintedWords::printed_word_read))]
 pub fn printed_word_is_read()
-    ensures { (table : List (List ℕ)) (letter : Letter) (letters : List Letter) (rest : List ℕ) → AreNames table → past_blanks rest ≡ rest → NoSemicolon rest
+    ensures { (table : List (List ℕ)) (letter : Letter) (letters : List Letter) (rest : List ℕ)
+        → AreNames table → past_blanks rest ≡ rest → NoSemicolon rest
         → SpellsWord (printed_word table (letter ∷ letters) ++ rest) (map (members_of table) (letter ∷ letters)) rest }
 {}
 
 /// What is read of a printed word, with the same table, is the word.
 #[tactic(auto, using(crate::proofs::PrintedLetters::letters_read))]
 pub fn printed_letters_are_read()
-    ensures { (table : List (List ℕ)) (letters : List Letter) → IsTrue (are_distinct table) → All (IsOver table) letters
+    ensures { (table : List (List ℕ)) (letters : List Letter) → IsTrue (are_distinct table)
+        → All (IsOver table) letters
         → map (letter_of table) (map (members_of table) letters) ≡ letters }
 {}
