@@ -237,11 +237,6 @@ module _ (Means : List ℕ → List ℕ → Tree → Type 0) where
         followed = subst (λ x. IsFollowed text x rest) (sym follow) parsed.followed;
       }
 
-  pub no_parens : (text : List ℕ) (n high : ℕ) (ts : List Token) (e : BuildError) → n ≡ 0 → Builds Means text n 0 high (symbol signs.OpenParen ∷ ts) (Err e)
-  no_parens text n high ts e none tree rest d stops =
-      let (m, is, inner) = grouped_parts d in
-      absurd (omega arith)
-
   pub group_refused : (text : List ℕ) (n high : ℕ) (ts : List Token) (e : BuildError) → Builds Means text (n - 1) loosest high ts (Err e) → Builds Means text n 0 high (symbol signs.OpenParen ∷ ts) (Err e)
   group_refused text n high ts e built tree rest d stops =
       let (m, is, inner) = grouped_parts d in

@@ -107,10 +107,6 @@ free_step : (o later : Option ℕ) → is_some o ≡ false → here_unless o lat
 free_step None later e = refl
 free_step (Some k) later e = absurd cc
 
-pub pass_bound : (front : List Span) (s : Span) (vs : List (List ℕ)) (u : Option ℕ) (name v : List ℕ) → s.token ≡ atom name v → is_some (last_place_of v vs) ≡ true → Binds front vs u → Binds (front ++ s ∷ []) vs u
-pass_bound front s vs u name v is bound before =
-    pass_on front s vs vs u (λ rest. ap (λ t. unbound_at vs (t ∷ rest)) is ∙ bound_step (last_place_of v vs) (unbound_at vs rest) bound) before
-
 pub pass_free : (front : List Span) (s : Span) (vs : List (List ℕ)) (u : Option ℕ) (name v : List ℕ) → s.token ≡ atom name v → is_none u ≡ true → is_some (last_place_of v vs) ≡ false → Binds front vs u → Binds (front ++ s ∷ []) vs (Some s.first)
 pass_free front s vs None name v is new free before =
     binds_not front s vs vs (λ rest. ap (λ t. unbound_at vs (t ∷ rest)) is ∙ free_step (last_place_of v vs) (unbound_at vs rest) free) before
