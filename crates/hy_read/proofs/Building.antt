@@ -96,16 +96,6 @@ module _ (Means : List ℕ → List ℕ → Tree → Type 0) where
   grouped_parts (prefixed k d) = absurd cc
   grouped_parts (grouped {n = m} d) = (m, refl, d)
 
-  no_constant : (s : Symbol) (tree : Tree) → s ≢ signs.True → s ≢ signs.False → constant_of s ≡ Some tree → ⊥
-  no_constant signs.True tree h k e = h refl
-  no_constant signs.False tree h k e = k refl
-  no_constant _ tree h k e = cc
-
-  pub no_symbol_operand : {n : ℕ} {s : Symbol} {tree : Tree} {ts rest : List Token} → s ≢ signs.OpenParen → s ≢ signs.True → s ≢ signs.False → unary_of s ≡ None → Within Means n 0 (symbol s ∷ ts) tree rest → ⊥
-  no_symbol_operand {s = s} h k l u (constant {tree = tree} e) = no_constant s tree k l e
-  no_symbol_operand h k l u (prefixed e d) = cc
-  no_symbol_operand h k l u (grouped d) = h refl
-
   -- ---- expressions, by what stands behind their left part
 
   pub record Joined (n k : ℕ) (ts : List Token) (tree : Tree) (rest : List Token) : Type 0 where
@@ -236,11 +226,6 @@ module _ (Means : List ℕ → List ℕ → Tree → Type 0) where
         counted = omega arith;
         followed = subst (λ x. IsFollowed text x rest) (sym follow) parsed.followed;
       }
-
-  pub no_parens : (text : List ℕ) (n high : ℕ) (ts : List Token) (e : BuildError) → n ≡ 0 → Builds Means text n 0 high (symbol signs.OpenParen ∷ ts) (Err e)
-  no_parens text n high ts e none tree rest d stops =
-      let (m, is, inner) = grouped_parts d in
-      absurd (omega arith)
 
   pub group_refused : (text : List ℕ) (n high : ℕ) (ts : List Token) (e : BuildError) → Builds Means text (n - 1) loosest high ts (Err e) → Builds Means text n 0 high (symbol signs.OpenParen ∷ ts) (Err e)
   group_refused text n high ts e built tree rest d stops =

@@ -1,5 +1,5 @@
 -- The formulas of a text, built one after another.
-use Rattle.std.proofs.Common.{◌≡◌, ℕ, zero, suc, max, ◌-◌, ◌<◌, ◌≤◌, List, [], ◌∷◌, ◌++◌, length, map, Bool, Option, Result, Ok, Err, refl, ap, sym, subst, ◌∙◌, arith, append_assoc, append-nil}
+use Rattle.std.proofs.Common.{◌≡◌, ℕ, zero, suc, max, ◌-◌, ◌<◌, ◌≤◌, List, [], ◌∷◌, ◌++◌, length, map, Bool, Option, Result, Ok, Err, ap, sym, subst, ◌∙◌, arith, append_assoc, append-nil}
 use Rattle.std.proofs.lemmas.List.{length-map, map-append}
 use Rattle.hy_formula.specs.Trees.{Tree, tree_of, height}
 use Rattle.hy_formula.specs.declared.formula.Formula.{Formula}
@@ -79,21 +79,6 @@ pub record Progress (o : Option (List (List ℕ))) (many : Bool) (text : List �
   pub high : 200 < most_of_heights more → 200 < most_of_heights fs
   pub few : most_of_quantifiers more ≤ 8
   pub there : StandAt o many text at more
-
-pub progress_none : (o : Option (List (List ℕ))) (many : Bool) (text : List ℕ) (count : ℕ) (fs : List Read) (tokens : List Token) → AreLeft text 0 tokens → AreFormulas (meaning_in o) many fs tokens → length fs ≡ count → most_of_quantifiers fs ≤ 8 → most_open zero tokens ≤ 200 → Progress o many text 0 [] count fs
-progress_none o many text count fs tokens left are long few low = record {
-  more = fs;
-  made = refl;
-  count = sym long;
-  low = λ h. h;
-  high = λ h. h;
-  few = few;
-  there = there fs are;
-}
-  where
-    there : (fs : List Read) → AreFormulas (meaning_in o) many fs tokens → StandAt o many text 0 fs
-    there [] are = tt
-    there (f ∷ fs) are = (tokens, left, are, low)
 
 -- the next formula, and how what is behind it is found
 pub record NextOf (o : Option (List (List ℕ))) (many : Bool) (text : List ℕ) (at : ℕ) (formulas : List Formula) (fs : List Read) : Type 0 where

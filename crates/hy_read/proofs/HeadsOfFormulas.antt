@@ -22,9 +22,6 @@ pub record IsHeadedSoFar (text : List ℕ) (at : ℕ) (quants : List Quant) (var
   pub variables_are : variables ++ variables_of more ≡ variables_of qs
   pub left : AreLeft text at (quantifier_tokens more ++ body)
 
-pub headed_none : (text : List ℕ) (at : ℕ) (qs : List Quantifier) (body : List Token) → AreLeft text at (quantifier_tokens qs ++ body) → IsHeadedSoFar text at [] [] qs body
-headed_none text at qs body left = record { more = qs; quants_are = refl; variables_are = refl; left = left }
-
 no_word_there : (q : Quant) (v : List ℕ) (rest body : List Token) → body ≡ quantified q v rest → NoWord body → ⊥
 no_word_there q v rest body e none = subst (λ x. NoWord x) e none (is-word q)
 

@@ -5,7 +5,6 @@ pub mod Chains
 pub mod Collecting
 pub mod CountingFormulas
 pub mod Deriving
-pub mod Examples
 pub mod Faulting
 pub mod Fitting
 pub mod FlatFormulas

@@ -63,16 +63,6 @@ length_more front s = length-append front (s ∷ [])
 tokens_more : (front : List Span) (s : Span) (rest : List Token) → tokens_of (front ++ s ∷ []) ++ rest ≡ tokens_of front ++ s.token ∷ rest
 tokens_more front s rest = ap (λ x. x ++ rest) (map-append (λ x. x.token) front (s ∷ [])) ∙ append_assoc (tokens_of front) (s.token ∷ []) rest
 
-shifted : (n : ℕ) (o : Option ℕ) → option_map (λ k. n + k) (option_map suc o) ≡ option_map (λ k. n + 1 + k) o
-shifted n None = refl
-shifted n (Some k) = ap Some (omega arith)
-
--- a token that is no unbound atom
-pub binds_on : (front : List Span) (s : Span) (old new : List (List ℕ)) → ((rest : List Token) → unbound_at old (s.token ∷ rest) ≡ option_map suc (unbound_at new rest)) → Binds front old None → Binds (front ++ s ∷ []) new None
-binds_on front s old new step before rest =
-    ap (unbound_at []) (tokens_more front s rest) ∙ before (s.token ∷ rest) ∙ ap (option_map (λ k. length front + k)) (step rest)
-    ∙ shifted (length front) (unbound_at new rest) ∙ ap (λ n. option_map (λ k. n + k) (unbound_at new rest)) (sym (length_more front s))
-
 -- the first unbound atom
 pub binds_not : (front : List Span) (s : Span) (old new : List (List ℕ)) → ((rest : List Token) → unbound_at old (s.token ∷ rest) ≡ Some 0) → Binds front old None → Binds (front ++ s ∷ []) new (Some s.first)
 binds_not front s old new stop before = (
@@ -81,35 +71,9 @@ binds_not front s old new stop before = (
   λ bytes more. ap (λ l. first_of bytes (drop (length front) l)) (append_assoc front (s ∷ []) more) ∙ ap (first_of bytes) (drop-append_seam front (s ∷ more)),
 )
 
--- a token behind it
-pub binds_past : (front : List Span) (s : Span) (old new : List (List ℕ)) (byte : ℕ) → Binds front old (Some byte) → Binds (front ++ s ∷ []) new (Some byte)
-binds_past front s old new byte (k, is, at) = (
-  k,
-  λ rest. ap (unbound_at []) (tokens_more front s rest) ∙ is (s.token ∷ rest),
-  λ bytes more. ap (λ l. first_of bytes (drop k l)) (append_assoc front (s ∷ []) more) ∙ at bytes (s ∷ more),
-)
-
--- A token that is no unbound atom leaves what was found.
-pub pass_on : (front : List Span) (s : Span) (old new : List (List ℕ)) (u : Option ℕ) → ((rest : List Token) → unbound_at old (s.token ∷ rest) ≡ option_map suc (unbound_at new rest)) → Binds front old u → Binds (front ++ s ∷ []) new u
-pass_on front s old new None step before = binds_on front s old new step before
-pass_on front s old new (Some byte) step before = binds_past front s old new byte before
-
--- A token behind an unbound atom changes nothing.
-pub pass_behind : (front : List Span) (s : Span) (old new : List (List ℕ)) (u : Option ℕ) → is_none u ≡ false → Binds front old u → Binds (front ++ s ∷ []) new u
-pass_behind front s old new None found before = absurd cc
-pass_behind front s old new (Some byte) found before = binds_past front s old new byte before
-
-bound_step : (o later : Option ℕ) → is_some o ≡ true → here_unless o later ≡ option_map suc later
-bound_step None later e = absurd cc
-bound_step (Some k) later e = refl
-
 free_step : (o later : Option ℕ) → is_some o ≡ false → here_unless o later ≡ Some 0
 free_step None later e = refl
 free_step (Some k) later e = absurd cc
-
-pub pass_bound : (front : List Span) (s : Span) (vs : List (List ℕ)) (u : Option ℕ) (name v : List ℕ) → s.token ≡ atom name v → is_some (last_place_of v vs) ≡ true → Binds front vs u → Binds (front ++ s ∷ []) vs u
-pass_bound front s vs u name v is bound before =
-    pass_on front s vs vs u (λ rest. ap (λ t. unbound_at vs (t ∷ rest)) is ∙ bound_step (last_place_of v vs) (unbound_at vs rest) bound) before
 
 pub pass_free : (front : List Span) (s : Span) (vs : List (List ℕ)) (u : Option ℕ) (name v : List ℕ) → s.token ≡ atom name v → is_none u ≡ true → is_some (last_place_of v vs) ≡ false → Binds front vs u → Binds (front ++ s ∷ []) vs (Some s.first)
 pass_free front s vs None name v is new free before =

@@ -201,9 +201,3 @@ pub last_is_only : (limit : ℕ) (old table : List (List ℕ)) (bytes : List ℕ
 last_is_only limit old table bytes all xs x e a =
     let moved = subst (λ l. Answers false limit old bytes (read_as (plain_formulas l) table)) e a in
     subst (λ ps. Answers false limit old bytes (read_as ps table)) (only xs x (one_answer limit old table bytes (plain_formulas (xs ++ x ∷ [])) moved)) moved
-
-pub some_formula : (limit : ℕ) (old table : List (List ℕ)) (bytes : List ℕ) (all : List Formula) → all ≡ [] → Answers false limit old bytes (read_as (plain_formulas all) table) → ⊥
-some_formula limit old table bytes all e a =
-    let one = one_answer limit old table bytes (plain_formulas all) a in
-    let none = ap (λ l. length (plain_formulas l)) e in
-    omega arith

@@ -58,9 +58,6 @@ none_left text at tokens e (spans, split, is) =
 abbrev pub Reached : List ℕ → ℕ → List Span → Type 0
 Reached bytes at front = (spans : List Span) → Spans zero bytes spans → (rest : List Span) × (spans ≡ front ++ rest) × Spans at (drop at bytes) rest
 
-pub reached-none : (bytes : List ℕ) → Reached bytes zero []
-reached-none bytes spans h = (spans, refl, h)
-
 -- all tokens are read
 pub reached-all : (bytes : List ℕ) (at : ℕ) (front spans : List Span) → Reached bytes at front → drop (at + blanks (drop at bytes)) bytes ≡ [] → Spans zero bytes spans → spans ≡ front
 reached-all bytes at front spans reached e h =

@@ -1,6 +1,6 @@
 //! What a pass over the tokens of a text counts.
 
-ghost use Rattle.std.specs.Prelude.{◌≡◌, ◌+◌, ◌-◌, ◌<◌, ◌≤◌, ◌^◌, ◌++◌, ℕ, [], ◌∷◌, List};
+ghost use Rattle.std.specs.Prelude.{◌≡◌, ◌+◌, ◌-◌, ◌≤◌, ◌^◌, ◌++◌, ℕ, [], ◌∷◌, List};
 ghost use Rattle.hy_read.specs.Counting.{IsCounted, IsFew, ended_by, opened_by, quantified_by};
 ghost use Rattle.hy_read.specs.Moves.{kind_of};
 ghost use Rattle.hy_read.specs.Tokens as tokens;
@@ -41,7 +41,8 @@ impl Counts {
     /// The counts behind one more token, of this kind.
     pub fn behind(self, kind: Kind) -> Counts
         requires { IsFew (2 ^ 32 - 2) self }
-        ensures counted { (front : List tokens.Token) (t : tokens.Token) → tokens.kind_of t ≡ kind_of kind
+        ensures counted { (front : List tokens.Token) (t : tokens.Token)
+            → tokens.kind_of t ≡ kind_of kind
             → IsCounted front self → IsCounted (front ++ t ∷ []) result }
         ensures parens { result.parens ≡ opened_by (kind_of kind) self.parens }
         ensures few { (n : ℕ) → IsFew n self → IsFew (n + 1) result }

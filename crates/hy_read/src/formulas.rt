@@ -46,7 +46,8 @@ fn build_formula(
     requires { at ≤ length text.now }
     ensures within { IfOk result (λ b. IsWithin (length text.now) b.follow) }
     ensures built { (f : Read) (tokens rest : PlainList PlainToken) → AreLeft text.now at tokens
-        → IsFormula (meaning_in (option_map (λ n. n.now) names.entry)) f tokens rest → length f.quantifiers ≤ 8
+        → IsFormula (meaning_in (option_map (λ n. n.now) names.entry)) f tokens rest
+        → length f.quantifiers ≤ 8
         → most_open zero tokens ≤ 200 → Stops loosest rest → IsFormulaBuilt text.now f rest result }
 {
     let heading = read_heading(alloc, text, at)?;
@@ -78,8 +79,10 @@ pub fn build_formulas(
     count: u32,
     names: Option<&NameTable>,
 ) -> Result<SpecList, BuildError>
-    ensures { (many : Bool) (fs : PlainList Read) (tokens : PlainList PlainToken) → AreLeft text.now 0 tokens
-        → AreFormulas (meaning_in (option_map (λ n. n.now) names.entry)) many fs tokens → length fs ≡ count
+    ensures { (many : Bool) (fs : PlainList Read) (tokens : PlainList PlainToken)
+        → AreLeft text.now 0 tokens
+        → AreFormulas (meaning_in (option_map (λ n. n.now) names.entry)) many fs tokens
+        → length fs ≡ count
         → most_of_quantifiers fs ≤ 8 → most_open zero tokens ≤ 200 → AreBuilt fs result }
 {
     let mut formulas = List::new(alloc);

@@ -63,7 +63,9 @@ fn read_head(text: &[u8], at: usize) -> Option<Head<'_>>
 
 /// The quantifier that a token is the word of.
 fn quantifier_of(token: Token<'_>) -> Option<Quant>
-    ensures { MatchOption result ((quant : PlainQuant) → plain token.entry ≢ symbol (quantifier_word quant)) (λ quant. plain token.entry ≡ symbol (quantifier_word quant)) }
+    ensures { MatchOption result ((quant : PlainQuant)
+        → plain token.entry ≢ symbol (quantifier_word quant))
+        (λ quant. plain token.entry ≡ symbol (quantifier_word quant)) }
 {
     match token {
         Token::Symbol(Symbol::Exists) => Some(Quant::Exists),

@@ -19,53 +19,68 @@ pub fn allowed_is_derived()
 /// The viable lists are the beginnings of texts.
 #[tactic(auto, using(crate::proofs::Proved::laws))]
 pub fn viable_begins_text()
-    ensures { (many : Bool) (tokens : List Token) → IsViable many tokens ↔ ((rest : List Token) × IsText many (tokens ++ rest)) }
+    ensures { (many : Bool) (tokens : List Token) → IsViable many tokens
+        ↔ ((rest : List Token) × IsText many (tokens ++ rest)) }
 {}
 
 /// There is one longest viable prefix.
 #[tactic(auto, using(crate::proofs::Proved::laws))]
 pub fn one_fault()
     ensures some { (many : Bool) (tokens : List Token) → (k : ℕ) × IsLongest many tokens k }
-    ensures once { (many : Bool) (tokens : List Token) (j k : ℕ) → IsLongest many tokens j → IsLongest many tokens k → j ≡ k }
+    ensures once { (many : Bool) (tokens : List Token) (j k : ℕ) → IsLongest many tokens j
+        → IsLongest many tokens k → j ≡ k }
 {}
 
 /// Where a reader stops is the fault: a token that is not allowed behind those that are, or an end.
 #[tactic(auto, using(crate::proofs::Proved::laws))]
 pub fn fault_found()
-    ensures token { (many : Bool) (front : List Token) (q : Place) (t : Token) (rest : List Token) → place_after many start front ≡ Some q → next_place many q (kind_of t) ≡ None → ¬ IsText many (front ++ t ∷ rest) × IsLongest many (front ++ t ∷ rest) (length front) }
-    ensures end { (many : Bool) (tokens : List Token) (q : Place) → place_after many start tokens ≡ Some q → (q ≡ operator zero → ⊥) → ¬ IsText many tokens × IsLongest many tokens (length tokens) }
+    ensures token { (many : Bool) (front : List Token) (q : Place) (t : Token) (rest : List Token)
+        → place_after many start front ≡ Some q → next_place many q (kind_of t) ≡ None
+        → ¬ IsText many (front ++ t ∷ rest) × IsLongest many (front ++ t ∷ rest) (length front) }
+    ensures end { (many : Bool) (tokens : List Token) (q : Place)
+        → place_after many start tokens ≡ Some q → (q ≡ operator zero → ⊥) → ¬ IsText many tokens
+        × IsLongest many tokens (length tokens) }
 {}
 
 /// Tokens derive one list of formulas.
 #[tactic(auto, using(crate::proofs::Proved::laws))]
 pub fn one_reading()
-    ensures { (names : List (List ℕ)) (many : Bool) (fs gs : List Read) (tokens : List Token) → AreFormulas (Bound names) many fs tokens → AreFormulas (Bound names) many gs tokens → fs ≡ gs }
+    ensures { (names : List (List ℕ)) (many : Bool) (fs gs : List Read) (tokens : List Token)
+        → AreFormulas (Bound names) many fs tokens → AreFormulas (Bound names) many gs tokens
+        → fs ≡ gs }
 {}
 
 /// There is one answer to each list of tokens.
 #[tactic(auto, using(crate::proofs::Proved::laws))]
 pub fn one_answer()
-    ensures some { (many : Bool) (limit : ℕ) (old : List (List ℕ)) (tokens : List Token) → (r : Result) × Reads many limit old tokens r }
+    ensures some { (many : Bool) (limit : ℕ) (old : List (List ℕ)) (tokens : List Token)
+        → (r : Result) × Reads many limit old tokens r }
     ensures once { (many : Bool) (limit : ℕ) (old : List (List ℕ)) (tokens : List Token) (r s : Result) → Reads many limit old tokens r → Reads many limit old tokens s → r ≡ s }
 {}
 
 /// There is one answer to each list of bytes.
 #[tactic(auto, using(crate::proofs::Proved::laws))]
 pub fn one_answer_to_bytes()
-    ensures some { (many : Bool) (limit : ℕ) (old : List (List ℕ)) (bytes : List ℕ) → (a : Answer) × Answers many limit old bytes a }
-    ensures once { (many : Bool) (limit : ℕ) (old : List (List ℕ)) (bytes : List ℕ) (a b : Answer) → Answers many limit old bytes a → Answers many limit old bytes b → a ≡ b }
+    ensures some { (many : Bool) (limit : ℕ) (old : List (List ℕ)) (bytes : List ℕ) → (a : Answer)
+        × Answers many limit old bytes a }
+    ensures once { (many : Bool) (limit : ℕ) (old : List (List ℕ)) (bytes : List ℕ) (a b : Answer)
+        → Answers many limit old bytes a → Answers many limit old bytes b → a ≡ b }
 {}
 
 /// A body derives with a bound on open parentheses exactly where their count is within it.
 #[tactic(auto, using(crate::proofs::Proved::laws))]
 pub fn parens_are_counted()
-    ensures { (names variables : List (List ℕ)) (n : ℕ) (tokens : List Token) (tree : Tree) → Within (IsBound names variables) n loosest tokens tree [] ↔ (Derives (IsBound names variables) loosest tokens tree [] × (most_open zero tokens ≤ n)) }
+    ensures { (names variables : List (List ℕ)) (n : ℕ) (tokens : List Token) (tree : Tree)
+        → Within (IsBound names variables) n loosest tokens tree []
+        ↔ (Derives (IsBound names variables) loosest tokens tree [] × (most_open zero tokens ≤ n)) }
 {}
 
 /// The height of a body is that of its tree with `true` for each atom.
 #[tactic(auto, using(crate::proofs::Proved::laws))]
 pub fn height_without_names()
-    ensures { (names variables : List (List ℕ)) (tokens : List Token) (a b : Tree) → Derives (IsBound names variables) loosest tokens a [] → Derives Flat loosest tokens b [] → height a ≡ height b }
+    ensures { (names variables : List (List ℕ)) (tokens : List Token) (a b : Tree)
+        → Derives (IsBound names variables) loosest tokens a [] → Derives Flat loosest tokens b []
+        → height a ≡ height b }
 {}
 
 /// A reader that stops at a token, or at the end, has its answer.
@@ -78,5 +93,6 @@ pub fn fault_answered()
 /// The numbers of a fault are at most the file's length.
 #[tactic(auto, using(crate::proofs::Proved::laws))]
 pub fn fault_fits()
-    ensures { (many : Bool) (limit : ℕ) (old : List (List ℕ)) (bytes : List ℕ) (k b : ℕ) → Answers many limit old bytes (faulty k b) → (k ≤ length bytes) × (b ≤ length bytes) }
+    ensures { (many : Bool) (limit : ℕ) (old : List (List ℕ)) (bytes : List ℕ) (k b : ℕ)
+        → Answers many limit old bytes (faulty k b) → (k ≤ length bytes) × (b ≤ length bytes) }
 {}

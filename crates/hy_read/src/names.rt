@@ -14,8 +14,10 @@ use std::alloc::Global;
 /// Adds the names of the atoms of `text` to the table, in the order of their first occurrence. In
 /// time linear in the text. A refusal may leave new names in the table, behind the old ones.
 pub fn collect_names(alloc: Global, text: &[u8], names: &mut NameTable) -> Result<(), NameError>
-    ensures collected { OnOk result ((tokens : List PlainToken) → AreLeft text.now 0 tokens → (names.new ≡ names_of names.old tokens) × (length names.new ≤ 64)) }
-    ensures limit { result ≡ Err NameError.Limit → (tokens : List PlainToken) → AreLeft text.now 0 tokens → 64 < length (names_of names.old tokens) }
+    ensures collected { OnOk result ((tokens : List PlainToken) → AreLeft text.now 0 tokens
+        → (names.new ≡ names_of names.old tokens) × (length names.new ≤ 64)) }
+    ensures limit { result ≡ Err NameError.Limit → (tokens : List PlainToken)
+        → AreLeft text.now 0 tokens → 64 < length (names_of names.old tokens) }
     ensures kept { (more : List (List ℕ)) × (names.new ≡ names.old ++ more) }
 {
     let mut at = 0;
@@ -30,7 +32,8 @@ pub fn collect_names(alloc: Global, text: &[u8], names: &mut NameTable) -> Resul
 /// Adds the name of a token, where it is an atom. A refusal leaves the table.
 fn add_name(alloc: Global, token: Token<'_>, names: &mut NameTable) -> Result<(), NameError>
     ensures added { OnOk result (names.new ≡ names_of names.old (plain token.entry ∷ [])) }
-    ensures limit { result ≡ Err NameError.Limit → 64 < length (names_of names.old (plain token.entry ∷ [])) }
+    ensures limit { result ≡ Err NameError.Limit
+        → 64 < length (names_of names.old (plain token.entry ∷ [])) }
     ensures refused { OnErr result (names.new ≡ names.old) }
 {
     match token {

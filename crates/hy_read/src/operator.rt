@@ -45,7 +45,8 @@ pub enum Binary {
 impl Rank {
     /// The next rank that binds tighter, where there is one.
     pub fn tighter(self) -> Option<Rank>
-        ensures { MatchOption result (rank_number self ≡ 0) (λ r. rank_number self ≡ suc (rank_number r)) }
+        ensures { MatchOption result (rank_number self ≡ 0)
+            (λ r. rank_number self ≡ suc (rank_number r)) }
     {
         match self {
             Rank::Unary => None,
@@ -61,7 +62,8 @@ impl Rank {
 impl Unary {
     /// The operator that a symbol is, if it stands before an operand.
     pub fn of(symbol: Symbol) -> Option<Unary>
-        ensures { MatchOption result (unary_of symbol ≡ None) (λ u. unary_of symbol ≡ Some (makes u)) }
+        ensures { MatchOption result (unary_of symbol ≡ None)
+            (λ u. unary_of symbol ≡ Some (makes u)) }
     {
         match symbol {
             Symbol::Not => Some(Unary::Not),
@@ -89,7 +91,8 @@ impl Unary {
 impl Binary {
     /// The operator that a symbol is, if it stands between operands.
     pub fn of(symbol: Symbol) -> Option<Binary>
-        ensures { MatchOption result (binary_of symbol ≡ None) (λ b. binary_of symbol ≡ Some (rank_of b, joins b)) }
+        ensures { MatchOption result (binary_of symbol ≡ None)
+            (λ b. binary_of symbol ≡ Some (rank_of b, joins b)) }
     {
         match symbol {
             Symbol::And => Some(Binary::And),

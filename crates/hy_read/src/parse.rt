@@ -2,7 +2,7 @@
 //! once. The text is known to be one of the grammar, and how many parentheses are open at most; this
 //! and the greatest height bound the recursion.
 
-ghost use Rattle.std.specs.Prelude.{◌≡◌, ◌≤◌, ◌<◌, ℕ, suc, List, ◌∷◌, length, Some, IfOk};
+ghost use Rattle.std.specs.Prelude.{◌≡◌, ◌≤◌, ◌<◌, ℕ, List, ◌∷◌, length, Some, IfOk};
 ghost use Rattle.hy_read.specs.Grammar.{unary_of};
 ghost use Rattle.hy_read.specs.Operators.{rank_number, makes};
 ghost use Rattle.hy_read.specs.Parses.{means, AreLeft, Builds, IsFollowed, IsSized, IsWithin};
@@ -31,7 +31,8 @@ impl<'a> Parser<'a> {
         high: u32,
     ) -> Result<Parsed, BuildError>
         requires { at ≤ length self.now.text.now }
-        ensures sized { IfOk result (λ p. IsSized (length self.now.text.now) high (length self.now.variables.now) p) }
+        ensures sized { IfOk result
+            (λ p. IsSized (length self.now.text.now) high (length self.now.variables.now) p) }
         ensures built { (tokens : List PlainToken) → AreLeft self.now.text.now at tokens
             → Builds (means self.now) self.now.text.now parens (rank_number rank) high tokens result }
     {
@@ -59,7 +60,8 @@ impl<'a> Parser<'a> {
     #[cycle(parse)]
     fn operand(&self, at: usize, parens: u32, high: u32) -> Result<Parsed, BuildError>
         requires { at ≤ length self.now.text.now }
-        ensures sized { IfOk result (λ p. IsSized (length self.now.text.now) high (length self.now.variables.now) p) }
+        ensures sized { IfOk result
+            (λ p. IsSized (length self.now.text.now) high (length self.now.variables.now) p) }
         ensures built { (tokens : List PlainToken) → AreLeft self.now.text.now at tokens
             → Builds (means self.now) self.now.text.now parens 0 high tokens result }
     {
@@ -88,7 +90,8 @@ impl<'a> Parser<'a> {
     ) -> Result<Parsed, BuildError>
         requires within { behind ≤ length self.now.text.now }
         requires high { 0 < high }
-        ensures sized { IfOk result (λ p. IsSized (length self.now.text.now) high (length self.now.variables.now) p) }
+        ensures sized { IfOk result
+            (λ p. IsSized (length self.now.text.now) high (length self.now.variables.now) p) }
         ensures built { (tokens : List PlainToken) → AreLeft self.now.text.now behind tokens
             → Builds (means self.now) self.now.text.now parens 0 high (symbol_token symbol ∷ tokens) result }
     {
@@ -114,8 +117,10 @@ impl<'a> Parser<'a> {
     ) -> Result<Parsed, BuildError>
         requires within { at ≤ length self.now.text.now }
         requires high { 0 < high }
-        ensures sized { IfOk result (λ p. IsSized (length self.now.text.now) high (length self.now.variables.now) p) }
-        ensures built { (s : PlainSymbol) (tokens : List PlainToken) → unary_of s ≡ Some (makes operator) → AreLeft self.now.text.now at tokens
+        ensures sized { IfOk result
+            (λ p. IsSized (length self.now.text.now) high (length self.now.variables.now) p) }
+        ensures built { (s : PlainSymbol) (tokens : List PlainToken)
+            → unary_of s ≡ Some (makes operator) → AreLeft self.now.text.now at tokens
             → Builds (means self.now) self.now.text.now parens 0 high (symbol_token s ∷ tokens) result }
     {
         let operand = self.operand(at, parens, high - 1)?;
@@ -131,7 +136,8 @@ impl<'a> Parser<'a> {
     #[cycle(parse)]
     fn group(&self, at: usize, parens: u32, high: u32) -> Result<Parsed, BuildError>
         requires { at ≤ length self.now.text.now }
-        ensures sized { IfOk result (λ p. IsSized (length self.now.text.now) high (length self.now.variables.now) p) }
+        ensures sized { IfOk result
+            (λ p. IsSized (length self.now.text.now) high (length self.now.variables.now) p) }
         ensures built { (tokens : List PlainToken) → AreLeft self.now.text.now at tokens
             → Builds (means self.now) self.now.text.now parens 0 high (symbol_token Symbol.OpenParen ∷ tokens) result }
     {
@@ -155,7 +161,8 @@ impl<'a> Parser<'a> {
         ensures body { result.body ≡ body }
         ensures height { result.height ≡ 1 }
         ensures within { IsWithin (length self.now.text.now) result.follow }
-        ensures followed { (rest : List PlainToken) → AreLeft self.now.text.now behind rest → IsFollowed self.now.text.now result.follow rest }
+        ensures followed { (rest : List PlainToken) → AreLeft self.now.text.now behind rest
+            → IsFollowed self.now.text.now result.follow rest }
     {
         Parsed {
             body,
@@ -167,8 +174,10 @@ impl<'a> Parser<'a> {
     /// The operand that the atom of this name and this variable is, behind which `behind` is.
     fn atom(&self, name: &[u8], variable: &[u8], behind: usize) -> Result<Parsed, BuildError>
         requires within { behind ≤ length self.now.text.now }
-        ensures sized { IfOk result (λ p. IsSized (length self.now.text.now) 1 (length self.now.variables.now) p) }
-        ensures built { (parens high : ℕ) (tokens : List PlainToken) → AreLeft self.now.text.now behind tokens
+        ensures sized { IfOk result
+            (λ p. IsSized (length self.now.text.now) 1 (length self.now.variables.now) p) }
+        ensures built { (parens high : ℕ) (tokens : List PlainToken)
+            → AreLeft self.now.text.now behind tokens
             → Builds (means self.now) self.now.text.now parens 0 high (atom_token name.now variable.now ∷ tokens) result }
     {
         let Some(names) = self.names else {

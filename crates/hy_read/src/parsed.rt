@@ -35,7 +35,8 @@ pub struct Parsed {
 pub fn what_follows(text: &[u8], at: usize) -> Follow
     requires { at ≤ length text.now }
     ensures within { IsWithin (length text.now) result }
-    ensures followed { (rest : List PlainToken) → AreLeft text.now at rest → IsFollowed text.now result rest }
+    ensures followed { (rest : List PlainToken) → AreLeft text.now at rest
+        → IsFollowed text.now result rest }
 {
     match next_token(text, at) {
         None => Follow::End,
@@ -49,7 +50,8 @@ pub fn what_follows(text: &[u8], at: usize) -> Follow
 impl Follow {
     /// The operator of this rank that stands here, and the place just behind it.
     pub fn operator(&self, rank: Rank) -> Option<(Binary, usize)>
-        ensures { MatchOption result (HasNoOperator (rank_number rank) self.now) (λ found. IsOperator (rank_number rank) self.now found.0 found.1) }
+        ensures { MatchOption result (HasNoOperator (rank_number rank) self.now)
+            (λ found. IsOperator (rank_number rank) self.now found.0 found.1) }
     {
         match *self {
             Follow::Symbol(symbol, behind) => {
@@ -66,7 +68,9 @@ impl Follow {
 
     /// The place just behind the closing parenthesis that stands here.
     pub fn closing(&self) -> Option<usize>
-        ensures { MatchOption result ((behind : ℕ) → self.now ≢ Follow.Symbol Symbol.CloseParen behind) (λ behind. self.now ≡ Follow.Symbol Symbol.CloseParen behind) }
+        ensures { MatchOption result ((behind : ℕ)
+            → self.now ≢ Follow.Symbol Symbol.CloseParen behind)
+            (λ behind. self.now ≡ Follow.Symbol Symbol.CloseParen behind) }
     {
         match *self {
             Follow::Symbol(Symbol::CloseParen, behind) => Some(behind),
@@ -76,7 +80,8 @@ impl Follow {
 
     /// The place just behind the symbol that stands here, and else `at`.
     pub fn past(&self, at: usize) -> usize
-        ensures past { (text : List ℕ) (s : PlainSymbol) (more : List PlainToken) → IsFollowed text self.now (symbol s ∷ more) → AreLeft text result more }
+        ensures past { (text : List ℕ) (s : PlainSymbol) (more : List PlainToken)
+            → IsFollowed text self.now (symbol s ∷ more) → AreLeft text result more }
         ensures within { (end : ℕ) → at ≤ end → IsWithin end self.now → result ≤ end }
     {
         match *self {

@@ -1,6 +1,6 @@
 //! The printer of formulas.
 
-ghost use Rattle.std.specs.Prelude.{◌≡◌, ◌<◌, ◌++◌, ◌∷◌, [], slice_index_or, codes, IfOk, OnOk};
+ghost use Rattle.std.specs.Prelude.{◌≡◌, ◌<◌, ◌++◌, [], slice_index_or, IfOk, OnOk};
 ghost use Rattle.hy_formula.specs.Trees.{tree_of};
 ghost use Rattle.hy_read.specs.Builds.{plain_formula};
 ghost use Rattle.hy_read.specs.Printing.{variable_at, printed_quantifier, printed_quantifiers, printed_atom, printed_before, printed_between, printed_body, printed};

@@ -1,6 +1,6 @@
 //! The readers: from bytes to the formulas that they are, or to what is wrong with them.
 
-ghost use Rattle.std.specs.Prelude.{◌≡◌, ◌≤◌, ◌<◌, ◌^◌, ◌++◌, ◌∷◌, [], ℕ, suc, List as PlainList, Bool, true, false, length};
+ghost use Rattle.std.specs.Prelude.{◌≡◌, ◌≤◌, ◌<◌, ◌^◌, ◌++◌, ◌∷◌, [], ℕ, List as PlainList, Bool, true, false, length};
 ghost use Rattle.hy_read.specs.Builds.{plain_formula, plain_formulas};
 ghost use Rattle.hy_read.specs.Contract.{IsAnswer};
 ghost use Rattle.hy_read.specs.Judged.{HasNames, HasTooManyNames, IsJudged, IsMeasured};
@@ -35,7 +35,8 @@ pub fn read_formula(
 ) -> Result<Formula, ReadError>
     requires small { length bytes.now < 2 ^ 32 }
     requires few { quantifiers ≤ 8 }
-    ensures answer { IsAnswer (λ f. plain_formula f ∷ []) false quantifiers names.old names.new bytes.now result }
+    ensures answer { IsAnswer
+        (λ f. plain_formula f ∷ []) false quantifiers names.old names.new bytes.now result }
     ensures kept { (more : PlainList (PlainList ℕ)) × (names.new ≡ names.old ++ more) }
 {
     let mut formulas = read_text(alloc, bytes, false, quantifiers, names)?;
@@ -113,8 +114,10 @@ fn past(kind: Kind, number: u32) -> ReadError
 
 /// The first `count` formulas of `text`, all of whose names are in the table.
 fn build(alloc: Global, text: &[u8], count: u32, names: &NameTable) -> Result<SpecList, ReadError>
-    ensures { (many : Bool) (limit : ℕ) (old : PlainList (PlainList ℕ)) → IsMeasured many limit text.now count
-        → HasNames old names.now text.now → IsAnswer plain_formulas many limit old names.now text.now result }
+    ensures { (many : Bool) (limit : ℕ) (old : PlainList (PlainList ℕ))
+        → IsMeasured many limit text.now count
+        → HasNames old names.now text.now
+        → IsAnswer plain_formulas many limit old names.now text.now result }
 {
     match build_formulas(alloc, text, count, Some(names)) {
         Ok(formulas) => Ok(formulas),
@@ -125,8 +128,10 @@ fn build(alloc: Global, text: &[u8], count: u32, names: &NameTable) -> Result<Sp
 
 /// What is wrong with a text that has too many names: a formula of it may be too high too.
 fn judge_heights(alloc: Global, text: &[u8], count: u32) -> ReadError
-    ensures { (many : Bool) (limit : ℕ) (old table : PlainList (PlainList ℕ)) → IsMeasured many limit text.now count
-        → HasTooManyNames old text.now → IsAnswer plain_formulas many limit old table text.now (Err result) }
+    ensures { (many : Bool) (limit : ℕ) (old table : PlainList (PlainList ℕ))
+        → IsMeasured many limit text.now count
+        → HasTooManyNames old text.now
+        → IsAnswer plain_formulas many limit old table text.now (Err result) }
 {
     match build_formulas(alloc, text, count, None) {
         Ok(_) => past(Kind::Names, MAX_NAMES),

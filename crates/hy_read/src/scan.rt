@@ -96,7 +96,8 @@ fn quoted_at(text: &[u8]) -> Option<(Token<'_>, usize)>
 /// The sign whose spelling begins the text.
 fn sign_at(text: &[u8]) -> Option<Symbol>
     ensures found { result ≡ find (λ s. starts_with nat_eq text.now (spelling s)) signs }
-    ensures within { IfSome result (λ s. (0 < length (spelling s)) × (length (spelling s) ≤ length text.now)) }
+    ensures within { IfSome result (λ s. (0 < length (spelling s))
+        × (length (spelling s) ≤ length text.now)) }
 {
     match text {
         [b'(', ..] => Some(Symbol::OpenParen),

@@ -1,6 +1,6 @@
 //! The variables that are bound at a place of a text, and the first atom that none of them binds.
 
-ghost use Rattle.std.specs.Prelude.{◌≡◌, ◌++◌, ◌∷◌, [], List, ◌<◌, ◌^◌, OnOk, OnErr, is_some, map};
+ghost use Rattle.std.specs.Prelude.{◌≡◌, ◌++◌, ◌∷◌, [], List, ◌<◌, ◌^◌, OnOk, is_some};
 ghost use Rattle.hy_read.specs.Results.{last_place_of};
 ghost use Rattle.hy_read.specs.Scanning.{Span};
 ghost use Rattle.hy_read.specs.Scans.{span_of};
@@ -34,7 +34,8 @@ impl<'a> Scope<'a> {
     /// Passes one more token.
     pub fn pass(&mut self, next: Placed<'a>) -> M<()>
         requires { next.first < 2 ^ 32 }
-        ensures { OnOk result ((front : List Span) → IsScoped front self.old → IsScoped (front ++ span_of next.entry ∷ []) self.new) }
+        ensures { OnOk result ((front : List Span) → IsScoped front self.old
+            → IsScoped (front ++ span_of next.entry ∷ []) self.new) }
     {
         match next.token {
             Token::Symbol(Symbol::Semicolon) => self.variables.clear(),

@@ -1,7 +1,7 @@
 //! The first pass over a text: each token is scanned once, none is kept. It settles the syntax, looks
 //! for an unbound atom, and counts what can be counted without building.
 
-ghost use Rattle.std.specs.Prelude.{◌≡◌, ◌<◌, ◌^◌, ℕ, List, length};
+ghost use Rattle.std.specs.Prelude.{◌<◌, ◌^◌, ℕ, List, length};
 ghost use Rattle.hy_read.specs.Surveys.{IsSurveyed};
 
 use crate::counts::Counts;

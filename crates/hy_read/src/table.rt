@@ -90,7 +90,8 @@ fn stage_behind(kind: Kind) -> Stage
 /// open. `many`: whether several formulas may stand in the text.
 pub fn next_stage(many: bool, stage: Stage, parens: u32, kind: Kind) -> Option<Stage>
     requires { IsPlaced stage parens }
-    ensures next { option_map (λ s. place_of s (opened_by (kind_of kind) parens)) result ≡ next_place many (place_of stage parens) (kind_of kind) }
+    ensures next { option_map
+        (λ s. place_of s (opened_by (kind_of kind) parens)) result ≡ next_place many (place_of stage parens) (kind_of kind) }
     ensures placed { IfSome result (λ s. IsPlaced s (opened_by (kind_of kind) parens)) }
 {
     if !is_allowed(stage, kind) {

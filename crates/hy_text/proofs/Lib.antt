@@ -1,4 +1,5 @@
 pub mod Once
+pub mod PrintedLetters
 pub mod PrintedWords
 pub mod Printing
 pub mod ReadingSets

@@ -3,7 +3,7 @@
 --     set := '{' '}' | '{' name (',' name)* '}'
 --
 -- Space, tab and carriage return are ignored between these parts. A name that the table lacks is passed over.
-use Rattle.std.specs.Prelude.{◌≡◌, ℕ, suc, if◌then◌else◌, List, [], ◌∷◌, ◌++◌, Option, Some, None, map}
+use Rattle.std.specs.Prelude.{◌≡◌, ℕ, suc, ◌<◌, true, if◌then◌else◌, List, [], ◌∷◌, ◌++◌, length, Option, Some, None, map}
 use Rattle.std.specs.List.{fold, join_with_byte}
 use Rattle.std.specs.FinSet as set
 use Rattle.hy_bits.specs.Letter.{Letter}
@@ -61,3 +61,7 @@ braced names = 123 ∷ join_with_byte 44 (map spelled names) ++ 125 ∷ []
 -- how a letter is printed
 abbrev pub printed_set : List (List ℕ) → Letter → List ℕ
 printed_set table letter = braced (members_of table letter)
+
+-- Each name of the letter is one of the table.
+abbrev pub IsOver : List (List ℕ) → Letter → Type 0
+IsOver table letter = (k : ℕ) → set.contains letter k ≡ true → k < length table

@@ -110,7 +110,8 @@ pub fn past_blanks(text: &[u8]) -> &[u8]
 
 /// The text behind its first byte, where that is `byte`.
 pub fn past_byte(text: &[u8], byte: u8) -> Option<&[u8]>
-    ensures found { MatchOption result ((rest : List ℕ) → text.now ≢ byte ∷ rest) (λ rest. text.now ≡ byte ∷ rest.now) }
+    ensures found { MatchOption result ((rest : List ℕ) → text.now ≢ byte ∷ rest)
+        (λ rest. text.now ≡ byte ∷ rest.now) }
     ensures within { IfSome result (λ rest. length rest.now < length text.now) }
 {
     match text {

@@ -28,7 +28,8 @@ pub fn read_word<'a>(
     most: usize,
     letters: &mut Letters,
 ) -> M<Option<WordRead<'a>>>
-    ensures found { IfOk result (λ found. IsWordFound names.now most letters.old letters.new text.now found) }
+    ensures found { IfOk result
+        (λ found. IsWordFound names.now most letters.old letters.new text.now found) }
     ensures refused { OnErr result (letters.new ≡ letters.old) }
 {
     let before = letters.len();
@@ -68,7 +69,8 @@ fn read_sets<'a>(
     most: usize,
     letters: &mut Letters,
 ) -> M<Option<WordRead<'a>>>
-    ensures found { IfOk result (λ found. IsWordHere names.now most letters.old letters.new text.now found) }
+    ensures found { IfOk result
+        (λ found. IsWordHere names.now most letters.old letters.new text.now found) }
     ensures kept { (more : List Letter) × (letters.new ≡ letters.old ++ more) }
 {
     let mut here = text;
