@@ -1,6 +1,6 @@
 //! What no clause says: that memory can suffice, and the closure of a worked example.
 
-ghost use Rattle.std.specs.Prelude.{◌<◌, IfOk, IsTrue, length};
+ghost use Rattle.std.specs.Prelude.{◌≡◌, IfOk, IsTrue, length};
 ghost use Rattle.hy_formula.specs.Trees.{tree_of, vars_below};
 
 use crate::{Closure, ClosureError, Job, JobList, MapList, Node, VariableMap};
@@ -22,25 +22,33 @@ fn body(alloc: Global) -> Result<Body, Memory>
 }
 
 fn map_to_zero(alloc: Global) -> Result<VariableMap, Memory>
-    ensures { IfOk result (λ m. 0 < length m) }
+    ensures { IfOk result (λ m. length m ≡ 1) }
 {
     let mut map = VariableMap::new(alloc);
     map.push(0)?;
     Ok(map)
 }
 
-#[test]
-fn numbers_in_order_of_first_visits(rt: HostRuntime) -> Result<(), ClosureError> {
-    let alloc = rt.alloc();
+/// The closure of one body under the map of variable 0 to itself.
+fn closure_of(alloc: Global, body: Body) -> Result<Closure, ClosureError>
+    requires { IsTrue (vars_below 1 (tree_of body)) }
+{
+    let map = map_to_zero(alloc)?;
     let mut maps = MapList::new(alloc);
-    maps.push(map_to_zero(alloc)?)?;
+    maps.push(map)?;
     let mut jobs = JobList::new(alloc);
     jobs.push(Job {
-        body: body(alloc)?,
+        body,
         positive: true,
         maps,
     })?;
-    let closure = Closure::new(alloc, &jobs)?;
+    Closure::new(alloc, &jobs)
+}
+
+#[test]
+fn numbers_in_order_of_first_visits(rt: HostRuntime) -> Result<(), ClosureError> {
+    let alloc = rt.alloc();
+    let closure = closure_of(alloc, body(alloc)?)?;
     assert_eq!(rt; closure.len(), 7);
     let b = Atom { name: 1, var: 0 };
     assert_eq!(rt;
