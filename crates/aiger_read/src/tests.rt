@@ -42,10 +42,18 @@ fn finds_faults(rt: HostRuntime) {
         (b"aig 1 0 0 0 1\n\x00\x00", Delta, 14),
         (b"aig 1 0 0 0 1\n\x03\x00", Delta, 14),
         (b"aig 1 0 0 0 1\n\x02", Truncated, 15),
-        (b"aig 1 0 0 0 1\n\x80\x80\x80\x80\x80\x80\x80\x80\x80\x80\x00\x00", Delta, 14),
+        (
+            b"aig 1 0 0 0 1\n\x80\x80\x80\x80\x80\x80\x80\x80\x80\x80\x00\x00",
+            Delta,
+            14,
+        ),
     ];
     for (bytes, kind, byte) in cases {
-        assert_eq!(rt; fault(rt.alloc(), bytes), Some(AigerError::Bad { kind, byte }), "{byte}");
+        assert_eq!(rt;
+            fault(rt.alloc(), bytes),
+            Some(AigerError::Bad { kind, byte }),
+            "{byte}"
+        );
     }
     let limit = Limit {
         kind: Kind::Variables,
@@ -70,5 +78,8 @@ fn reads_what_has_no_fault(rt: HostRuntime) {
     }
     let promise = b"aag 0 0 0 9999999999 0\n";
     let kind = Truncated;
-    assert_eq!(rt; fault(rt.alloc(), promise), Some(AigerError::Bad { kind, byte: 23 }));
+    assert_eq!(rt;
+        fault(rt.alloc(), promise),
+        Some(AigerError::Bad { kind, byte: 23 })
+    );
 }

@@ -73,7 +73,7 @@ module _ (table : List (List ℕ)) (letter : Letter) (q : ℕ) (distinct : IsTru
       let placed = get-place_of name table k distinct first in
       let next_below : set.contains letter q ≡ true → q < suc k + length names = λ e. let b = below e in omega arith in
       let next : (i : ℕ) (x : List ℕ) → slice_get names i ≡ Some x → slice_get table (suc k + i) ≡ Some x =
-          λ i x e. subst (λ n. slice_get table n ≡ Some x) (omega arith) (places (suc i) x e) in
+      λ i x e. subst (λ n. slice_get table n ≡ Some x) (omega arith) (places (suc i) x e) in
       through (set.contains letter k) refl placed (folds names (with_member table a name) (suc k) next_below next) (folds names a (suc k) next_below next)
     where
       through : (b : Bool) → set.contains letter k ≡ b → place_of name table ≡ Some k → Folds (with_member table a name) (suc k) names → Folds a (suc k) names → set.contains (fold (with_member table) a (if b then name ∷ members_from (suc k) letter names else members_from (suc k) letter names)) q ≡ (set.contains a q || From k letter q)
