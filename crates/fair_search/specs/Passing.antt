@@ -3,7 +3,7 @@
 -- The open nodes stand on a stack in the order in which they were first seen. Its components begin at
 -- the places in `starts`: the nodes of one component lead to one another, and each node leads to the
 -- later ones. Done nodes are those of finished components, ranked in the order in which they ended.
-use Rattle.std.specs.Prelude.{◌≡◌, ◌≢◌, ℕ, ◌+◌, ◌-◌, ◌*◌, ◌<◌, ◌≤◌, Bool, true, false, List, [], ◌∷◌, ◌++◌, drop, length, slice_index, slice_index_or, sum, count_by, Option, Some, None}
+use Rattle.std.specs.Prelude.{◌≡◌, ◌≢◌, ℕ, ◌+◌, ◌-◌, ◌*◌, ◌<◌, ◌≤◌, Bool, true, false, List, [], ◌∷◌, ◌++◌, drop, length, slice_index, slice_index_or, slice_set, sum, count_by, Option, Some, None}
 use Rattle.std.specs.List.{Contains, sum_by}
 use Rattle.rank_check.specs.Graphs.{Shape, members_of, successors_of, IsEdge, Postpones}
 use Rattle.fair_search.specs.declared.pass.Place.{Place}
@@ -101,6 +101,15 @@ pub record IsPass (g : Shape) (p : Pass) : Type 0 where
   pub ranked : (v r : ℕ) → place_of p v ≡ Done r → r < length p.reasons
   pub explained : (r : ℕ) → r < length p.reasons
       → ExplainsDone g p r (slice_index_or p.reasons r None)
+
+-- the pass with one more node on the stack, as a component of its own
+abbrev pub opened_at : Pass → ℕ → Pass
+opened_at p v = record p {
+  places = slice_set p.places v (Open (length p.stack));
+  stack = p.stack ++ v ∷ [];
+  pending = p.pending ++ length p.stack ∷ [];
+  starts = p.starts ++ length p.stack ∷ [];
+}
 
 -- Each open node leads to this one, which is a start where there is no open node.
 pub record MayOpen (g : Shape) (p : Pass) (v : ℕ) : Type 0 where

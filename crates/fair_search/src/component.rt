@@ -22,7 +22,8 @@ pub(crate) enum Verdict {
 /// A node of the component that does not postpone the until.
 pub(crate) fn free_node(g: &Graph, nodes: &[u32], until: u32) -> Option<u32>
     requires { All (λ v. v < length g.now.nodes) nodes.now }
-    ensures { MatchOption result ((v : ℕ) → Contains nodes.now v → Postpones g.now v until) (λ v. Contains nodes.now v × ¬ Postpones g.now v until) }
+    ensures { MatchOption result ((v : ℕ) → Contains nodes.now v → Postpones g.now v until)
+        (λ v. Contains nodes.now v × ¬ Postpones g.now v until) }
 {
     for v in nodes {
         if !g.postpones(*v, until) {
@@ -37,8 +38,10 @@ pub(crate) fn free_node(g: &Graph, nodes: &[u32], until: u32) -> Option<u32>
 pub(crate) fn judge(g: &Graph, nodes: &[u32], looped: bool) -> Verdict
     requires some { 0 < length nodes.now }
     requires made { All (λ v. v < length g.now.nodes) nodes.now }
-    requires no_loop { looped ≡ false → ¬ IsEdge g.now (slice_index nodes.now 0) (slice_index nodes.now 0) }
-    requires loop_there { looped ≡ true → IsEdge g.now (slice_index nodes.now 0) (slice_index nodes.now 0) }
+    requires no_loop { looped ≡ false → ¬ IsEdge g.now (slice_index nodes.now 0)
+        (slice_index nodes.now 0) }
+    requires loop_there { looped ≡ true → IsEdge g.now (slice_index nodes.now 0)
+        (slice_index nodes.now 0) }
     ensures { Judges g.now nodes.now result }
 {
     let root = nodes[0];

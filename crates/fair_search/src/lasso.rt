@@ -1,12 +1,12 @@
 //! A fair walk by way of a component that is fair.
 
-ghost use Rattle.std.specs.Prelude.{◌≡◌, ◌<◌, ◌≤◌, ◌+◌, ◌*◌, ℕ, [], length, slice_index, take, IsTrue, ◌↔◌, IfOk, OnOk, ◌++◌};
+ghost use Rattle.std.specs.Prelude.{◌≡◌, ◌<◌, ◌≤◌, ◌+◌, ◌*◌, ℕ, length, slice_index, take, IsTrue, ◌↔◌, IfOk, OnOk, ◌++◌};
 ghost use Rattle.std.specs.List.{Contains};
-ghost use Rattle.rank_check.specs.Graphs.{IsWalk, IsFair, Postpones, node_of, members_of};
+ghost use Rattle.rank_check.specs.Graphs.{IsWalk, IsFair, members_of};
 ghost use Rattle.fair_search.specs.Answers.{untils};
 ghost use Rattle.fair_search.specs.Passing.{edges, IsFairAt};
 ghost use Rattle.fair_search.specs.Paths.{IsPath, IsPathFrom, first_or};
-ghost use Rattle.fair_search.specs.Tours.{IsJoined, IsTour};
+ghost use Rattle.fair_search.specs.Tours.{IsJoined, IsTour, root_untils};
 
 use crate::component::free_node;
 use crate::found::FairLasso;
@@ -47,10 +47,13 @@ fn visit<L: Ledger>(
     steps: &mut Steps<L>,
 ) -> M<u32>
     requires joined { IsJoined g.now nodes.now }
-    requires place { i < length (node_of g.now (slice_index nodes.now 0)).postponed }
+    requires place { i < length (root_untils g.now nodes.now) }
     requires here { Contains nodes.now at }
-    ensures tour { (before : ℕ) → IsTour g.now nodes.now (node_of g.now (slice_index nodes.now 0)).postponed i cycle.old at before steps.old → IfOk result (λ next. IsTour g.now nodes.now (node_of g.now (slice_index nodes.now 0)).postponed (i + 1) cycle.new next before steps.new) }
-    ensures most { (before : ℕ) → IsTour g.now nodes.now (node_of g.now (slice_index nodes.now 0)).postponed i cycle.old at before steps.old → steps.new ≤ before + untils g.now * edges g.now }
+    ensures tour { (before : ℕ) → IsTour g.now nodes.now (root_untils g.now nodes.now) i cycle.old
+        at before steps.old → IfOk result (λ next. IsTour g.now nodes.now
+        (root_untils g.now nodes.now) (i + 1) cycle.new next before steps.new) }
+    ensures most { (before : ℕ) → IsTour g.now nodes.now (root_untils g.now nodes.now) i cycle.old
+        at before steps.old → steps.new ≤ before + untils g.now * edges g.now }
 {
     let root = nodes[0];
     let untils = g.postponed(root);
@@ -70,7 +73,8 @@ fn visit<L: Ledger>(
 /// postponed.
 fn tour<L: Ledger>(alloc: Global, g: &Graph, nodes: &[u32], steps: &mut Steps<L>) -> M<NumList>
     requires { IsJoined g.now nodes.now }
-    ensures path { IfOk result (IsPathFrom g.now (slice_index nodes.now 0) (slice_index nodes.now 0)) }
+    ensures path { IfOk result (IsPathFrom g.now (slice_index nodes.now 0)
+        (slice_index nodes.now 0)) }
     ensures fair { IfOk result (IsFair g.now) }
     ensures most { steps.new ≤ steps.old + (untils g.now + 1) * edges g.now }
 {
@@ -96,7 +100,8 @@ fn approach<L: Ledger>(
 ) -> M<NumList>
     requires { IsFairAt g.now pass.now start }
     ensures path { IfOk result (λ stem. IsPath g.now stem (slice_index pass.now.stack start)) }
-    ensures starts { IfOk result (λ stem. Contains (members_of g.now 0) (first_or stem (slice_index pass.now.stack start))) }
+    ensures starts { IfOk result (λ stem. Contains (members_of g.now 0)
+        (first_or stem (slice_index pass.now.stack start))) }
     ensures most { steps.new ≤ steps.old + edges g.now }
 {
     if start == 0 {

@@ -8,7 +8,7 @@ ghost use Rattle.std.specs.Prelude.{◌≡◌, ◌<◌, ◌≤◌, ◌+◌, ◌-
 ghost use Rattle.std.specs.Bool.{OnTrue, OnFalse};
 ghost use Rattle.std.specs.List.{Contains};
 ghost use Rattle.rank_check.specs.Graphs.{Shape, members_of, IsEdge};
-ghost use Rattle.fair_search.specs.Passing.{edges, left, looks, IsUp, IsPass, IsLast, HasReached, IsFairPart, Goes, IsOver, IsFairAt, rank_at};
+ghost use Rattle.fair_search.specs.Passing.{edges, left, looks, IsUp, IsPass, IsLast, HasReached, IsFairPart, Goes, IsOver, IsFairAt, rank_at, opened_at};
 ghost use Rattle.rank_check.specs.Ranking.{IsRanked};
 ghost use Rattle.fair_search.specs.Verdicts.{Follows};
 
@@ -73,7 +73,8 @@ pub(crate) enum Next {
 
 /// The last number of a list.
 fn last(numbers: &NumList) -> Option<u32>
-    ensures { MatchOption result (numbers.now ≡ []) (λ x. (front : Sequence ℕ) × (numbers.now ≡ front ++ x ∷ [])) }
+    ensures { MatchOption result (numbers.now ≡ [])
+        (λ x. (front : Sequence ℕ) × (numbers.now ≡ front ++ x ∷ [])) }
 {
     let len = numbers.len();
     if len == 0 {
@@ -85,7 +86,8 @@ fn last(numbers: &NumList) -> Option<u32>
 /// The last number of an ascending list, where it is at least `least`.
 fn last_from(numbers: &NumList, least: u32) -> Option<u32>
     requires { IsUp numbers.now }
-    ensures { MatchOption result ((x : ℕ) → Contains numbers.now x → x < least) (λ x. (least ≤ x) × ((front : Sequence ℕ) × (numbers.now ≡ front ++ x ∷ []))) }
+    ensures { MatchOption result ((x : ℕ) → Contains numbers.now x → x < least)
+        (λ x. (least ≤ x) × ((front : Sequence ℕ) × (numbers.now ≡ front ++ x ∷ []))) }
 {
     match last(numbers) {
         Some(number) if number >= least => Some(number),
@@ -141,7 +143,7 @@ impl Pass {
     fn open(&mut self, node: u32) -> M<()>
         requires made { node < length self.old.places }
         requires few { length self.old.stack < 2 ^ 32 }
-        ensures { OnOk result (self.new ≡ record self.old { places = slice_set self.old.places node (Place.Open (length self.old.stack)); stack = self.old.stack ++ node ∷ []; pending = self.old.pending ++ length self.old.stack ∷ []; starts = self.old.starts ++ length self.old.stack ∷ [] }) }
+        ensures { OnOk result (self.new ≡ opened_at self.old node) }
     {
         let place = self.stack.len() as u32;
         self.places.set(node as usize, Place::Open(place));
@@ -217,8 +219,11 @@ impl Pass {
         requires pass { IsPass g.now self.old }
         requires ends { (front : Sequence ℕ) × (self.old.starts ≡ front ++ start ∷ []) }
         requires spent { (i : ℕ) → Contains self.old.pending i → i < start }
-        ensures ended { IfOk result (λ ended. OnTrue ended (IsPass g.now self.new × (left g.now self.new < left g.now self.old) × (looks self.new ≡ looks self.old))) }
-        ensures fair { IfOk result (λ ended. OnFalse ended (IsFairPart g.now (drop start self.old.stack) × (self.new ≡ self.old))) }
+        ensures ended { IfOk result (λ ended. OnTrue ended
+            (IsPass g.now self.new × (left g.now self.new < left g.now self.old) ×
+            (looks self.new ≡ looks self.old))) }
+        ensures fair { IfOk result (λ ended. OnFalse ended
+            (IsFairPart g.now (drop start self.old.stack) × (self.new ≡ self.old))) }
     {
         g.whole();
         let nodes = from_place(&self.stack, start);
@@ -268,7 +273,8 @@ impl Pass {
     pub(crate) fn run<L: Ledger>(&mut self, g: &Graph, steps: &mut Steps<L>) -> M<Option<u32>>
         requires pass { IsPass g.now self.old }
         requires none { looks self.old ≡ 0 }
-        ensures ends { IfOk result (λ found. MatchOption found (IsOver g.now self.new) (IsFairAt g.now self.new)) }
+        ensures ends { IfOk result (λ found. MatchOption found (IsOver g.now self.new)
+            (IsFairAt g.now self.new)) }
         ensures most { steps.new ≤ steps.old + edges g.now }
     {
         'steps: loop {

@@ -30,7 +30,8 @@ impl Spread {
     /// One node that was reached.
     fn new(alloc: Global, g: &Graph, node: u32) -> M<Spread>
         requires { node < length g.now.nodes }
-        ensures { IfOk result (λ s. IsSpread g.now s.seen s.reached × ((reached_at s.reached 0).node ≡ node)) }
+        ensures { IfOk result (λ s. IsSpread g.now s.seen s.reached ×
+            ((reached_at s.reached 0).node ≡ node)) }
     {
         let mut seen = List::filled(alloc, false, g.nodes() as usize)?;
         let mut reached = List::new(alloc);
@@ -50,10 +51,14 @@ impl Spread {
         requires spread { IsSpread g.now self.old.seen self.old.reached }
         requires there { head < length self.old.reached }
         ensures spread { OnOk result (IsSpread g.now self.new.seen self.new.reached) }
-        ensures grows { OnOk result (Grows self.old.seen self.old.reached self.new.seen self.new.reached) }
-        ensures found { IfOk result (λ found. OnTrue found (IsEdge g.now (reached_at self.old.reached head).node to)) }
-        ensures spent { IfOk result (λ found. OnFalse found (IsSpent g.now to self.new.seen (reached_at self.old.reached head).node)) }
-        ensures most { steps.new ≤ steps.old + length (successors_of g.now (reached_at self.old.reached head).node) }
+        ensures grows { OnOk result (Grows self.old.seen self.old.reached self.new.seen
+            self.new.reached) }
+        ensures found { IfOk result (λ found. OnTrue found
+            (IsEdge g.now (reached_at self.old.reached head).node to)) }
+        ensures spent { IfOk result (λ found. OnFalse found
+            (IsSpent g.now to self.new.seen (reached_at self.old.reached head).node)) }
+        ensures most { steps.new ≤ steps.old + length
+            (successors_of g.now (reached_at self.old.reached head).node) }
     {
         g.whole();
         let node = self.reached.at(head).node;
@@ -83,8 +88,11 @@ impl Spread {
     /// The nodes from the first one to the one at place `last`.
     fn trace(&self, alloc: Global, last: usize) -> M<NumList>
         requires last { last < length self.now.reached }
-        requires falls { (j : ℕ) → 0 < j → j < length self.now.reached → (reached_at self.now.reached j).from < j }
-        ensures { (g : Shape) (to : ℕ) → IsSpread g self.now.seen self.now.reached → IsEdge g (reached_at self.now.reached last).node to → IfOk result (IsPathFrom g (reached_at self.now.reached 0).node to) }
+        requires falls { (j : ℕ) → 0 < j → j < length self.now.reached
+            → (reached_at self.now.reached j).from < j }
+        ensures { (g : Shape) (to : ℕ) → IsSpread g self.now.seen self.now.reached
+            → IsEdge g (reached_at self.now.reached last).node to
+            → IfOk result (IsPathFrom g (reached_at self.now.reached 0).node to) }
     {
         let mut nodes = NumList::new(alloc);
         let mut place = last;

@@ -9,7 +9,8 @@ use crate::ranks::Ranks;
 
 /// Under ranks that pass there is no fair walk.
 pub fn no_fair_walk()
-    ensures { (g : Shape) (r : Ranks) → IsRanked g r → (stem cycle : List ℕ) → IsWalk g stem cycle → ¬ IsFair g cycle }
+    ensures { (g : Shape) (r : Ranks) → IsRanked g r → (stem cycle : List ℕ) → IsWalk g stem cycle
+        → ¬ IsFair g cycle }
 {}
 
 impl Ranks {

@@ -64,7 +64,8 @@ impl Graph {
         requires few { length self.old.nodes < 2 ^ 32 - 1 }
         ensures number { IfOk result (λ v. v ≡ length self.old.nodes) }
         ensures groups { self.new.groups ≡ self.old.groups }
-        ensures added { OnOk result (self.new.nodes ≡ self.old.nodes ++ record { next_group = next_group; postponed = postponed } ∷ []) }
+        ensures added { OnOk result (self.new.nodes ≡ self.old.nodes ++ record
+            { next_group = next_group; postponed = postponed } ∷ []) }
         ensures refused { OnErr result (self.new ≡ self.old) }
     {
         let number = self.nodes.len() as u32;
@@ -81,7 +82,8 @@ impl Graph {
         requires node { node < length self.old.nodes }
         requires few { length (members_of self.old group) < 2 ^ 32 - 1 }
         ensures nodes { self.new.nodes ≡ self.old.nodes }
-        ensures added { OnOk result (self.new.groups ≡ slice_set self.old.groups group (members_of self.old group ++ node ∷ [])) }
+        ensures added { OnOk result (self.new.groups ≡ slice_set self.old.groups group
+            (members_of self.old group ++ node ∷ [])) }
         ensures refused { OnErr result (self.new ≡ self.old) }
     {
         self.groups[group as usize].push(node)?;
