@@ -8,6 +8,8 @@ mod explored;
 pub mod laws;
 mod tableau;
 mod tableau_error;
+#[cfg(test)]
+mod tests;
 
 pub use branch::{Branch, BranchList, postpones};
 pub use collect::branches;
