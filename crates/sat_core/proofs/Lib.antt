@@ -9,5 +9,7 @@ pub mod Taught
 pub mod Searching
 pub mod Covering
 pub mod Holding
+pub mod Rounds
+pub mod Adding
 pub mod Visiting
 pub mod Stamping

@@ -16,7 +16,9 @@ use Rattle.sat_core.specs.Lists.{place_of}
 use Rattle.sat_core.specs.Watches.{IsHeld, IsWatching, IsOther, IsReplacement, AreAdded, no_pair}
 use Rattle.sat_core.specs.Visits.{IsMoved, IsVisit}
 use Rattle.sat_core.proofs.Propagating.{the-clause}
-use Rattle.sat_core.proofs.Holding.{IsPassing, watching-on, watching-added, held-first, held-fixed, added-long, added-old, added-cases, added-first, added-second, passing-kept, passing-moved, removed, place-inside}
+use Rattle.sat_core.proofs.Rounds.{IsPassing, passing-kept, passing-moved, removed}
+use Rattle.sat_core.proofs.Holding.{watching-on, place-inside}
+use Rattle.sat_core.proofs.Adding.{watching-added, held-first, held-fixed, added-long, added-old, added-cases, added-first, added-second}
 
 pub other-there : (c : Clause) (pair : Pair) (l o : ℤ) → Contains c pair.first →
     Contains c pair.second → IsOther pair l o → Contains c o

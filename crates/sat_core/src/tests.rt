@@ -1,7 +1,5 @@
 //! What no clause says: that memory can suffice; and worked examples, each log tried by the checker.
 
-ghost use Rattle.std.specs.Prelude.{◌<◌};
-
 use crate::{Outcome, solve};
 use chain_check::{Cnf, Log, check, print_log};
 use hy_base::M;
@@ -69,6 +67,56 @@ fn satisfies_one_clause(rt: HostRuntime) -> M<()> {
         Outcome::Satisfied(values) => {
             assert_eq!(rt; values.len(), 2);
             assert!(rt; *values.at(0) || !*values.at(1));
+        }
+        _ => assert!(rt; false),
+    }
+    Ok(())
+}
+
+/// Adds a clause, where its literals are of the variables.
+fn add(cnf: &mut Cnf, clause: &[i32]) -> M<()> {
+    if cnf.takes(clause) {
+        cnf.add_literals(clause)?;
+    }
+    Ok(())
+}
+
+/// From variable `k` follows the next.
+fn add_step(cnf: &mut Cnf, k: i32) -> M<()> {
+    if 0 < k && k <= 400_000 {
+        add(cnf, &[-k, k + 1])?;
+    }
+    Ok(())
+}
+
+/// Steps from 1 up to the last variable, in an order in which a pass over all clauses finds at most
+/// three new literals, and at their end a contradiction.
+fn far_chain(alloc: Global) -> M<Cnf> {
+    let mut cnf = Cnf::new(alloc, 400_001)?;
+    for k in (1..400_001).rev() {
+        if k % 2 == 0 {
+            add_step(&mut cnf, k)?;
+        }
+    }
+    for k in 1..400_000 {
+        if k % 2 == 1 {
+            add_step(&mut cnf, k)?;
+        }
+    }
+    add(&mut cnf, &[-400_000, -400_001])?;
+    add(&mut cnf, &[1])?;
+    Ok(cnf)
+}
+
+#[test]
+fn refutes_a_far_chain(rt: HostRuntime) -> M<()> {
+    let alloc = rt.alloc();
+    let cnf = far_chain(alloc)?;
+    assert_eq!(rt; cnf.clauses.len(), 400_002);
+    match solve(alloc, &cnf, 1)? {
+        Outcome::Refuted(log) => {
+            assert_eq!(rt; log.len(), 1);
+            assert!(rt; check(alloc, &cnf, &log)?);
         }
         _ => assert!(rt; false),
     }

@@ -6,7 +6,7 @@ use Rattle.sat_core.specs.Lists.{place_of}
 use Rattle.sat_core.specs.Watches.{IsWatching}
 use Rattle.sat_core.specs.Visits.{IsVisit}
 use Rattle.sat_core.proofs.Propagating.{goes-nowhere, goes-further}
-use Rattle.sat_core.proofs.Holding.{IsPassing, passing-starts, passing-ends}
+use Rattle.sat_core.proofs.Rounds.{IsPassing, passing-starts, passing-ends}
 use Rattle.sat_core.proofs.Visiting.{visited-pair, visited-clause, visited-first, visited-second, visited-kept, visited-conflict, visited-moved, the-moved, moved-inside}
 use Rattle.sat_core.proofs.solver.Solver.pass.Goals as goal
 

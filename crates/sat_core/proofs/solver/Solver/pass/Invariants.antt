@@ -1,6 +1,6 @@
 use Rattle.std.proofs.Common.{◌≡◌, ◌-◌, length}
 use Rattle.sat_core.specs.Solvers.{IsReady, GoesOn}
-use Rattle.sat_core.proofs.Holding.{IsPassing}
+use Rattle.sat_core.proofs.Rounds.{IsPassing}
 use Rattle.sat_core.proofs.solver.Solver.pass.Given as goal
 
 abbrev pub invariant-visits : goal.invariant-visits

@@ -1,7 +1,7 @@
 use Rattle.std.proofs.Common.{◌≡◌, [], subst, arith}
 use Rattle.std.specs.Prelude.{ℤ, Option, MatchOption}
 use Rattle.sat_core.specs.Lessons.{IsSecond}
-use Rattle.sat_core.proofs.Holding.{taught-two, taught-one, taught-inside}
+use Rattle.sat_core.proofs.Adding.{taught-two, taught-one, taught-inside}
 use Rattle.sat_core.proofs.solving.Search.learn.Goals as goal
 
 pub add-requires-clause-first_inside : goal.add-requires-clause-first_inside
