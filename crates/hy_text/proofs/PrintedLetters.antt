@@ -7,7 +7,7 @@ use Rattle.std.specs.Ordering.{nat_cmp}
 use Rattle.std.proofs.lemmas.Bool.{cases_order}
 use Rattle.std.proofs.lemmas.Bool.Decides.{nat_tests}
 use Rattle.hy_bits.specs.Letter.{Letter}
-use Rattle.hy_bits.specs.BinaryLaws.{contains-insert_same, contains-insert_other, same_letter}
+use Rattle.hy_bits.specs.BinaryLaws.{contains-insert_same, contains-insert_other, same_members}
 use Rattle.hy_formula.specs.Names.{are_distinct, place_of}
 use Rattle.hy_formula.proofs.Names.{get-place_of}
 use Rattle.hy_text.specs.Sets.{IsOver, letter_of, members_from, members_of, with_member, with_number}
@@ -81,7 +81,7 @@ module _ (table : List (List ℕ)) (letter : Letter) (q : ℕ) (distinct : IsTru
       through false e placed with without = without ∙ passed a k e
 
 pub letter_read : (table : List (List ℕ)) (letter : Letter) → IsTrue (are_distinct table) → IsOver table letter → letter_of table (members_of table letter) ≡ letter
-letter_read table letter distinct over = same_letter (letter_of table (members_of table letter)) letter (λ q.
+letter_read table letter distinct over = same_members (letter_of table (members_of table letter)) letter (λ q.
     folds table letter q distinct table none 0 (λ e. let b = over q e in omega arith) (λ i x e. subst (λ n. slice_get table n ≡ Some x) (omega arith) e)
     ∙ from_start letter q)
 
