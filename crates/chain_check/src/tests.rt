@@ -1,14 +1,10 @@
 //! What no clause says: that memory can suffice; and worked examples of logs and of their text.
 
-ghost use Rattle.std.specs.Prelude.{◌≡◌, IfOk};
-
 use crate::{Clause, Cnf, Learned, Log, check, print_log};
 use hy_base::{List, M, NumList};
 use std::alloc::Global;
 
-fn clause_of(alloc: Global, numbers: &[i32]) -> M<Clause>
-    ensures { IfOk result (λ clause. clause ≡ numbers.now) }
-{
+fn clause_of(alloc: Global, numbers: &[i32]) -> M<Clause> {
     let mut clause = List::new(alloc);
     for number in numbers {
         clause.push(*number)?;
@@ -33,7 +29,7 @@ fn log_of(alloc: Global, clause: &[i32], chain: &[u32]) -> M<Log> {
 fn checks_one_step(rt: HostRuntime) -> M<()> {
     let alloc = rt.alloc();
     let mut cnf = Cnf::new(alloc, 2)?;
-    cnf.add(clause_of(alloc, &[1, 2])?)?;
+    cnf.add_literals(&[1, 2])?;
     cnf.add_literals(&[1, -2])?;
     assert!(rt; check(alloc, &cnf, &log_of(alloc, &[1], &[1, 2])?)?);
     assert!(rt; !check(alloc, &cnf, &log_of(alloc, &[1], &[1])?)?);
