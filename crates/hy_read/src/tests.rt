@@ -3,6 +3,8 @@
 use crate::{ReadError, print_formula, read_formula, read_specs};
 use hy_base::{Kind, Limit, M};
 use hy_formula::NameTable;
+use std::alloc::Global;
+use std::process::Abort;
 
 fn fault(token: u32, byte: u32) -> Option<ReadError> {
     Some(ReadError::Syntax { token, byte })
@@ -13,9 +15,10 @@ fn past(kind: Kind, limit: u64) -> Option<ReadError> {
 }
 
 /// How a formula text is refused.
-fn refusal(rt: HostRuntime, text: &[u8]) -> M<Option<ReadError>> {
-    let mut names = NameTable::new(rt.alloc())?;
-    Ok(read_formula(rt.alloc(), text, 8, &mut names).err())
+fn refusal(rt: &impl Abort, alloc: Global, text: &[u8]) -> M<Option<ReadError>> {
+    assert!(rt; text.len() <= 4096);
+    let mut names = NameTable::new(alloc)?;
+    Ok(read_formula(alloc, text, 8, &mut names).err())
 }
 
 #[test]
@@ -35,8 +38,13 @@ fn cut_texts_end_at_their_end(rt: HostRuntime) -> M<()> {
         (13, None),
     ];
     for (len, want) in tokens {
+        assert!(rt; len <= text.len());
         let (front, _) = text.split_at(len);
-        assert_eq!(rt; refusal(rt, front)?, want, "the first {len} bytes");
+        assert_eq!(rt;
+            refusal(&rt, rt.alloc(), front)?,
+            want,
+            "the first {len} bytes"
+        );
     }
     Ok(())
 }
@@ -55,7 +63,7 @@ fn faults_have_exact_places(rt: HostRuntime) -> M<()> {
         (b"exists p. \"a\"_p_q", fault(4, 15)),
     ];
     for (text, want) in texts {
-        assert_eq!(rt; refusal(rt, text)?, want);
+        assert_eq!(rt; refusal(&rt, rt.alloc(), text)?, want);
     }
     Ok(())
 }
@@ -98,7 +106,7 @@ fn counts_are_tested_in_order(rt: HostRuntime) -> M<()> {
     ];
     for (quantifiers, parens, signs, names, want) in texts {
         let text = text_of(rt, quantifiers, parens, signs, names)?;
-        assert_eq!(rt; refusal(rt, text.as_slice())?, want);
+        assert_eq!(rt; refusal(&rt, rt.alloc(), text.as_slice())?, want);
     }
     Ok(())
 }
