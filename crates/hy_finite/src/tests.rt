@@ -54,10 +54,10 @@ fn next_ends_with_the_judged_length(rt: HostRuntime) -> Result<(), Fail> {
     assert_eq!(rt; list.len(), 2);
     let failing = Body::Not(a_of(alloc, 1)?);
     let next = Body::Next(Box::new(alloc, failing)?);
-    for rule in [Lengths::Min, Lengths::Pad] {
-        assert!(rt; !finite_holds(alloc, &next, &list, &[0, 0], rule)?);
-        assert!(rt; finite_holds(alloc, &next, &list, &[1, 1], rule)?);
-    }
+    assert!(rt; !finite_holds(alloc, &next, &list, &[0, 0], Lengths::Min)?);
+    assert!(rt; !finite_holds(alloc, &next, &list, &[0, 0], Lengths::Pad)?);
+    assert!(rt; finite_holds(alloc, &next, &list, &[1, 1], Lengths::Min)?);
+    assert!(rt; finite_holds(alloc, &next, &list, &[1, 1], Lengths::Pad)?);
     assert!(rt; !finite_holds(alloc, &next, &list, &[1, 0], Lengths::Min)?);
     assert!(rt; finite_holds(alloc, &next, &list, &[1, 0], Lengths::Pad)?);
     Ok(())
@@ -91,25 +91,38 @@ fn names(alloc: Global) -> Result<NameTable, Fail> {
 }
 
 #[test]
-fn lines_say_events(rt: HostRuntime) -> Result<(), Fail> {
+fn a_line_says_letters(rt: HostRuntime) -> Result<(), Fail> {
     let alloc = rt.alloc();
     let table = names(alloc)?;
     let whole = read_event(alloc, b"\t{ \"a b\" ,go,else };{}\r", &table)?.ok_or("nothing")?;
     let letters = whole.into_letters(alloc);
     assert_eq!(rt; letters.as_slice(), [letter(b'c'), letter(b'.')].as_slice());
-    let said = read_event(alloc, b"@ 1 {}", &table);
-    assert!(rt; matches!(said, Err(LineError::Syntax { line: 1 })));
-    let said = read_event(alloc, b" @120 {go} ", &table)?.ok_or("nothing")?;
-    assert!(rt; matches!(said, Event::Letter { session: 120, .. }));
-    let said = read_event(alloc, b"@0end", &table)?.ok_or("nothing")?;
-    assert!(rt; matches!(said, Event::End { session: 0 }));
-    let said = read_event(alloc, b"!save ", &table)?.ok_or("nothing")?;
-    assert!(rt; matches!(said, Event::Save));
-    let said = read_event(alloc, b"!back", &table)?.ok_or("nothing")?;
-    assert!(rt; matches!(said, Event::Back));
     assert!(rt; read_event(alloc, b" # {", &table)?.is_none());
+    Ok(())
+}
+
+#[test]
+fn lines_say_sessions_and_saves(rt: HostRuntime) -> Result<(), Fail> {
+    let alloc = rt.alloc();
+    let table = names(alloc)?;
+    let said = read_event(alloc, b" @120 {go} ", &table)?;
+    assert!(rt; matches!(said, Some(Event::Letter { session: 120, .. })));
+    let said = read_event(alloc, b"@0end", &table)?;
+    assert!(rt; matches!(said, Some(Event::End { session: 0 })));
+    let said = read_event(alloc, b"!save ", &table)?;
+    assert!(rt; matches!(said, Some(Event::Save)));
+    let said = read_event(alloc, b"!back", &table)?;
+    assert!(rt; matches!(said, Some(Event::Back)));
+    Ok(())
+}
+
+#[test]
+fn lines_that_say_nothing_are_refused(rt: HostRuntime) -> Result<(), Fail> {
+    let alloc = rt.alloc();
+    let table = names(alloc)?;
     for text in [
-        b"@01{}".as_slice(),
+        b"@ 1 {}".as_slice(),
+        b"@01{}",
         b"@1234567890{}",
         b"@1e nd",
         b"! save",
