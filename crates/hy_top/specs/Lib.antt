@@ -1,9 +1,7 @@
-pub mod Arrivals
-pub mod Commands
-pub mod Monitoring
-pub mod Outputs
-pub mod Refusals
+pub mod Classes
+pub mod Contents
+pub mod Files
+pub mod Judging
 pub mod Runs
-pub mod Searches
 pub mod Stages
-pub mod WholeTraces
+pub mod Steps

@@ -1,16 +1,17 @@
-//! Error lines. They are written without taking memory.
+//! How files are refused, and error lines, which are written without taking memory.
 
 ghost use Rattle.std.specs.Prelude.{◌≡◌, ◌++◌, ◌≤◌, ◌⊎◌, List, [], ◌∷◌, ℕ, OnOk, OnErr, codes, decimal};
 ghost use Rattle.hy_base.specs.Counts.{Rose};
 ghost use Rattle.hy_base.specs.Sink.{KeepsSink, GivesWhole, FailsToGive};
 ghost use Rattle.hy_base.specs.Pieces.{GaveFront};
-ghost use Rattle.hy_top.specs.Refusals.{IsTextAnswer};
-ghost use Rattle.hy_top.specs.Outputs.{error_line, kind_text, class_text, Received, plain, name_of_file};
+ghost use Rattle.hy_answer.specs.Refusals.{IsTextAnswer, fault_answer, line_answer};
+ghost use Rattle.hy_answer.specs.Outputs.{error_line, kind_text, class_text, Received, plain, name_of_file};
 
 use crate::answer::Answer;
-use hy_base::{Kind, Sink, SinkFailed, write_all, write_pieces};
+use hy_base::{BYTES_LIMIT, FileError, Kind, Sink, SinkFailed, write_all, write_pieces};
 use hy_formula::Class;
 use hy_read::ReadError;
+use hy_text::LineError;
 use itoa::Buffer;
 
 /// How a kind of limit is printed.
@@ -121,6 +122,21 @@ fn name_of_file<'a>(names: &[&'a str], file: u8) -> &'a str
     if i < names.len() { names[i] } else { "" }
 }
 
+/// The answer that a file was not read.
+pub fn fault_answer(error: FileError, file: u8) -> Answer
+    ensures { result ≡ fault_answer error file }
+{
+    match error {
+        FileError::OpenFailed => Answer::OpenFault { file },
+        FileError::ReadFailed => Answer::ReadFault { file },
+        FileError::Limit => Answer::Limit {
+            kind: Kind::Bytes,
+            limit: BYTES_LIMIT as u64,
+        },
+        FileError::Memory => Answer::Memory,
+    }
+}
+
 /// The answer that the text of a file is refused.
 pub fn text_answer(error: ReadError, file: u8) -> Answer
     ensures { IsTextAnswer file error result }
@@ -136,6 +152,20 @@ pub fn text_answer(error: ReadError, file: u8) -> Answer
     }
 }
 
+/// The answer that a line of a file is refused.
+pub fn line_answer(error: LineError, file: u8) -> Answer
+    ensures { result ≡ line_answer file error }
+{
+    match error {
+        LineError::Syntax { line } => Answer::Line { file, line },
+        LineError::Limit => Answer::Limit {
+            kind: Kind::Length,
+            limit: Kind::Length.most(),
+        },
+        LineError::Memory => Answer::Memory,
+    }
+}
+
 /// Writes the error line of an answer; nothing for a verdict.
 fn write_line<E: Sink>(answer: &Answer, names: &[&str], err: &mut E) -> Result<(), SinkFailed>
     ensures keeps { KeepsSink E.Sink err.old err.new }
@@ -143,7 +173,13 @@ fn write_line<E: Sink>(answer: &Answer, names: &[&str], err: &mut E) -> Result<(
     ensures refused { OnErr result (FailsToGive E.Sink err.old err.new (error_line (plain names.now) answer.now)) }
 {
     match answer {
-        Answer::NoViolation { .. } | Answer::Violation { .. } => write_all(err, b""),
+        Answer::Sat { .. }
+        | Answer::NotImplied { .. }
+        | Answer::NotEquivalent { .. }
+        | Answer::OnTrue
+        | Answer::OnFalse
+        | Answer::NoViolation { .. }
+        | Answer::Violation { .. } => write_all(err, b""),
         Answer::Words => write_all(err, b"error E1: words\n"),
         Answer::Syntax { file, token, byte } => {
             write_syntax(err, name_of_file(names, *file), *token, *byte)
@@ -180,6 +216,11 @@ fn write_line<E: Sink>(answer: &Answer, names: &[&str], err: &mut E) -> Result<(
                 line,
             )
         }
+        Answer::Session { line } => {
+            let mut buffer = Buffer::new();
+            let line = buffer.format(*line).as_bytes();
+            write_pieces(err, &[b"error E10: line ", line, b"\n"])
+        }
         Answer::OpenFault { file } => write_with_name(
             err,
             b"error E7 ",
@@ -192,6 +233,11 @@ fn write_line<E: Sink>(answer: &Answer, names: &[&str], err: &mut E) -> Result<(
         ),
         Answer::WriteFault => write_all(err, b"error E8\n"),
         Answer::Limit { kind, limit } => write_limit(err, *kind, *limit),
+        Answer::States { n } => {
+            let mut buffer = Buffer::new();
+            let n = buffer.format(*n).as_bytes();
+            write_pieces(err, &[b"error E13: states ", n, b"\n"])
+        }
         Answer::Unbuilt { file } => {
             write_with_name(err, b"error: unbuilt ", name_of_file(names, *file))
         }

@@ -1,5 +1,5 @@
 -- The text that each answer prints, its error line, and its status.
-use Rattle.std.specs.Prelude.{◌⊎◌, ℕ, List, [], ◌∷◌, ◌++◌, map, codes, decimal, nat_eq, if◌then◌else◌, slice_index_or}
+use Rattle.std.specs.Prelude.{◌⊎◌, ℕ, zero, suc, List, [], ◌∷◌, ◌++◌, map, codes, decimal, nat_eq, if◌then◌else◌, slice_index_or}
 use Rattle.std.specs.List.{join_with_byte, flat_map}
 use Rattle.std.specs.Borrow.{Bor}
 use Rattle.hy_base.specs.Sink.{GivesWhole, FailsToGive}
@@ -8,34 +8,57 @@ use Rattle.hy_base.specs.declared.limit.Kind.{Kind}
 use Rattle.hy_base.specs.declared.limit.Kind.TheVariants as kinds
 use Rattle.hy_formula.specs.declared.classes.Class.{Class}
 use Rattle.hy_formula.specs.declared.classes.Class.TheVariants as classes
-use Rattle.hy_top.specs.declared.answer.Answer.{Answer}
-use Rattle.hy_top.specs.declared.answer.Answer.TheVariants.{NoViolation, Violation, Words, Syntax, Unbound, Prefix, Line, OpenFault, ReadFault, WriteFault, Limit, Unbuilt, Memory}
+use Rattle.hy_lasso.specs.Printed.{printed_lassos}
+use Rattle.hy_answer.specs.declared.answer.Answer.{Answer}
+use Rattle.hy_answer.specs.declared.answer.Answer.TheVariants.{Sat, NotImplied, NotEquivalent, OnTrue, OnFalse, NoViolation, Violation}
+use Rattle.hy_answer.specs.declared.answer.Answer.TheVariants.{Words, Syntax, Unbound, Prefix, Line, Session, OpenFault, ReadFault}
+use Rattle.hy_answer.specs.declared.answer.Answer.TheVariants.{WriteFault, Limit, States, Unbuilt, Memory}
+use Rattle.hy_answer.specs.declared.answer.Extras.{Extras}
 
 -- numbers, each behind a space
 abbrev pub spaced : List ℕ → List ℕ
 spaced numbers = flat_map (λ n. 32 ∷ decimal n) numbers
 
+-- how many traces were kept for each formula
+abbrev pub kept_text : List ℕ → List ℕ
+kept_text kept = codes ", kept" ++ spaced kept
+
 -- how many sessions are open, where some are
 abbrev pub open_text : ℕ → List ℕ
 open_text live = if nat_eq live 0 then [] else (codes ", open " ++ decimal live)
 
--- what `out` receives
-abbrev pub out_text : Answer → List ℕ
-out_text (NoViolation traces kept live) = codes "no violation in " ++ decimal traces ++ codes " traces" ++ open_text live ++ codes "\n"
-out_text (Violation spec trace tuple) =
+-- which formula lassos satisfy alone
+abbrev pub side_text : ℕ → List ℕ
+side_text zero = codes "first"
+side_text (suc side) = codes "second"
+
+-- what `out` receives, where lassos are printed with these names
+abbrev pub out_text : Extras → List (List ℕ) → Answer → List ℕ
+out_text extras names (Sat list) = codes "sat\n" ++ printed_lassos names list
+out_text extras names (NotImplied list) = codes "not implied\n" ++ printed_lassos names list
+out_text extras names (NotEquivalent side list) =
+    codes "not equivalent " ++ side_text side ++ codes "\n" ++ printed_lassos names list
+out_text extras names OnTrue = codes "true\n"
+out_text extras names OnFalse = codes "false\n"
+out_text extras names (NoViolation traces kept live) =
+    codes "no violation in " ++ decimal traces ++ codes " traces" ++ (if extras.kept then kept_text kept else [])
+    ++ open_text live ++ codes "\n"
+out_text extras names (Violation spec trace tuple) =
     codes "violation of spec " ++ decimal spec ++ codes " at trace " ++ decimal trace ++ codes " by "
     ++ join_with_byte 32 (map decimal tuple) ++ codes "\n"
-out_text Words = []
-out_text (Syntax file token byte) = []
-out_text (Unbound file byte) = []
-out_text (Prefix file class) = []
-out_text (Line file line) = []
-out_text (OpenFault file) = []
-out_text (ReadFault file) = []
-out_text WriteFault = []
-out_text (Limit kind limit) = []
-out_text (Unbuilt file) = []
-out_text Memory = []
+out_text extras names Words = []
+out_text extras names (Syntax file token byte) = []
+out_text extras names (Unbound file byte) = []
+out_text extras names (Prefix file class) = []
+out_text extras names (Line file line) = []
+out_text extras names (Session line) = []
+out_text extras names (OpenFault file) = []
+out_text extras names (ReadFault file) = []
+out_text extras names WriteFault = []
+out_text extras names (Limit kind limit) = []
+out_text extras names (States n) = []
+out_text extras names (Unbuilt file) = []
+out_text extras names Memory = []
 
 abbrev pub kind_text : Kind → List ℕ
 kind_text kinds.Bytes = codes "bytes"
@@ -74,17 +97,29 @@ error_line names (Syntax file token byte) =
 error_line names (Unbound file byte) = codes "error E3 " ++ name_of_file names file ++ codes ": byte " ++ decimal byte ++ codes "\n"
 error_line names (Prefix file class) = codes "error E4 " ++ name_of_file names file ++ codes ": prefix " ++ class_text class ++ codes "\n"
 error_line names (Line file line) = codes "error E9 " ++ name_of_file names file ++ codes ": line " ++ decimal line ++ codes "\n"
+error_line names (Session line) = codes "error E10: line " ++ decimal line ++ codes "\n"
 error_line names (OpenFault file) = codes "error E7 " ++ name_of_file names file ++ codes "\n"
 error_line names (ReadFault file) = codes "error E6 " ++ name_of_file names file ++ codes "\n"
 error_line names WriteFault = codes "error E8\n"
 error_line names (Limit kind limit) = codes "error E5: " ++ kind_text kind ++ codes " " ++ decimal limit ++ codes "\n"
+error_line names (States n) = codes "error E13: states " ++ decimal n ++ codes "\n"
 error_line names (Unbuilt file) = codes "error: unbuilt " ++ name_of_file names file ++ codes "\n"
 error_line names Memory = codes "error: memory\n"
+error_line names (Sat list) = []
+error_line names (NotImplied list) = []
+error_line names (NotEquivalent side list) = []
+error_line names OnTrue = []
+error_line names OnFalse = []
 error_line names (NoViolation traces kept live) = []
 error_line names (Violation spec trace tuple) = []
 
 -- the exit status
 abbrev pub status_of : Answer → ℕ
+status_of (Sat list) = 0
+status_of (NotImplied list) = 1
+status_of (NotEquivalent side list) = 1
+status_of OnTrue = 0
+status_of OnFalse = 1
 status_of (NoViolation traces kept live) = 0
 status_of (Violation spec trace tuple) = 1
 status_of Words = 2
@@ -93,10 +128,12 @@ status_of (Unbound file byte) = 2
 status_of (Prefix file class) = 2
 status_of (Line file line) = 2
 status_of (Unbuilt file) = 2
+status_of (Session line) = 2
 status_of (OpenFault file) = 3
 status_of (ReadFault file) = 3
 status_of WriteFault = 3
 status_of (Limit kind limit) = 5
+status_of (States n) = 5
 status_of Memory = 6
 
 -- The sink was given the line, or less of it and a put failed.

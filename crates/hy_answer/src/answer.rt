@@ -1,12 +1,8 @@
+//! The answers of all tools.
+
 use hy_base::{Kind, NumList};
 use hy_formula::Class;
-
-/// Which tool runs.
-#[derive(Clone, Copy, Debug, PartialEq, Eq)]
-pub enum Tool {
-    /// Monitors a file of finite traces.
-    RvHyper,
-}
+use hy_lasso::LassoList;
 
 /// The numbers of traces, one for each quantifier, in order.
 pub type Tuple = NumList;
@@ -14,6 +10,24 @@ pub type Tuple = NumList;
 /// What a run answers. `file` is 0 for the first file of the command, and 1 for the second.
 #[derive(Drop)]
 pub enum Answer {
+    /// The formula is satisfiable: these lassos satisfy it.
+    Sat {
+        list: LassoList,
+    },
+    /// The first formula does not imply the second: these lassos satisfy the first alone.
+    NotImplied {
+        list: LassoList,
+    },
+    /// The formulas are not equivalent: these lassos satisfy one alone, the first for side 0, the
+    /// second for side 1.
+    NotEquivalent {
+        side: u8,
+        list: LassoList,
+    },
+    /// The given lassos satisfy the formula.
+    OnTrue,
+    /// The given lassos do not satisfy the formula.
+    OnFalse,
     /// No tuple of the traces violates. `kept` has the number of kept traces for each formula, and
     /// `live` is the number of sessions that are open.
     NoViolation {
@@ -45,9 +59,13 @@ pub enum Answer {
         file: u8,
         class: Class,
     },
-    /// A line of a file, counted from 1, is no text.
+    /// A line of a file, counted from 1, is no text; line 0 where a file of lassos has none.
     Line {
         file: u8,
+        line: u32,
+    },
+    /// The event of a line is refused: it ends a session that is not open, or goes back without a save.
+    Session {
         line: u32,
     },
     /// A file did not open.
@@ -65,6 +83,10 @@ pub enum Answer {
         kind: Kind,
         limit: u64,
     },
+    /// More than `n` branches are reachable.
+    States {
+        n: u32,
+    },
     /// A file holds what is not built yet.
     Unbuilt {
         file: u8,
@@ -73,9 +95,11 @@ pub enum Answer {
     Memory,
 }
 
-/// The end of a run: its exit status, and what it answered.
-#[derive(Drop)]
-pub struct Done {
-    pub status: u8,
-    pub answer: Answer,
+/// What the text of an answer shows beside the verdict.
+#[derive(Clone, Copy)]
+pub struct Extras {
+    /// How many traces were kept for each formula.
+    pub kept: bool,
+    /// The proof of a verdict that has one.
+    pub proof: bool,
 }

@@ -1,6 +1,6 @@
 use Rattle.std.proofs.Common.{◌≡◌, ◌++◌, take}
-use Rattle.hy_top.specs.Outputs.{spaced}
-use Rattle.hy_top.proofs.output.push_spaced.Given as goal
+use Rattle.hy_answer.specs.Outputs.{spaced}
+use Rattle.hy_answer.proofs.output.push_spaced.Given as goal
 
 -- the numbers so far have been added
 abbrev pub invariant-loop-number : goal.invariant-loop-number

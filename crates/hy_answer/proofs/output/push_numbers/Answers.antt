@@ -1,6 +1,6 @@
 use Rattle.std.proofs.Common.{append_assoc}
-use Rattle.hy_top.proofs.Texts.{joined_numbers}
-use Rattle.hy_top.proofs.output.push_numbers.Goals as goal
+use Rattle.hy_answer.proofs.Texts.{joined_numbers}
+use Rattle.hy_answer.proofs.output.push_numbers.Goals as goal
 
 pub returns : goal.returns
 returns c =
