@@ -1,9 +1,8 @@
-//! Why a line or a file of events was not read.
+//! Why a line or a file of lines was not read.
 
 ghost use Rattle.std.specs.Prelude.{◌≡◌};
-ghost use Rattle.hy_finite.specs.declared.error.LineError.TheVariants.{Memory as OutOfMemory};
+ghost use Rattle.hy_text.specs.declared.line_error.LineError.TheVariants.{Memory as OutOfMemory};
 
-use crate::trace::MOST_LETTERS;
 use hy_base::Memory;
 use std::error::Error;
 use std::fmt;
@@ -11,9 +10,9 @@ use std::fmt;
 /// A line or a file was not read.
 #[derive(Clone, Copy, Debug, PartialEq, Eq)]
 pub enum LineError {
-    /// Line `line`, counted from 1, is no text.
+    /// Line `line`, counted from 1, is no text. Line 0 stands for a line that is missing.
     Syntax { line: u32 },
-    /// A whole trace has more than 1,024 letters.
+    /// A trace has too many letters.
     Limit,
     Memory,
 }
@@ -22,7 +21,7 @@ impl fmt::Display for LineError {
     fn fmt<W: fmt::Write>(&self, f: &mut fmt::Formatter<W>) -> fmt::Result {
         match self {
             LineError::Syntax { line } => write!(f, "line {line}"),
-            LineError::Limit => write!(f, "more than {MOST_LETTERS} letters"),
+            LineError::Limit => write!(f, "too many letters"),
             LineError::Memory => write!(f, "{Memory}"),
         }
     }

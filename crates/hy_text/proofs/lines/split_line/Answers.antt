@@ -1,9 +1,8 @@
 use Rattle.std.proofs.Common.{◌<◌, ◌∙◌, sym, ap, arith, length, ◌∷◌}
-use Rattle.std.specs.List.{slice_split}
-use Rattle.hy_text.specs.Bytes.{is_line_feed}
 use Rattle.std.proofs.lemmas.Bool.{eqb-true, eqb-false}
-use Rattle.hy_finite.proofs.Splitting.{last_line, next_line}
-use Rattle.hy_finite.proofs.lines.split_line.Goals as goal
+use Rattle.hy_text.specs.Lines.{lines_of}
+use Rattle.hy_text.proofs.Splitting.{last_line, next_line}
+use Rattle.hy_text.proofs.lines.split_line.Goals as goal
 
 pub returns-then-is_empty-clause-lines : goal.returns-then-is_empty-clause-lines
 returns-then-is_empty-clause-lines c =
@@ -16,4 +15,4 @@ returns-clause-lines c =
     let some : 0 < length c.split.result.1.now = omega (arith, apart) in
     let line = next_line c.args.text.now c.split.result.0.now c.split.result.1.now
     c.split.ensures.run c.split.ensures.rest some in
-    line ∙ ap (λ t. c.split.result.0.now ∷ slice_split is_line_feed t) (sym c.split_at.ensures.back)
+    line ∙ ap (λ t. c.split.result.0.now ∷ lines_of t) (sym c.split_at.ensures.back)

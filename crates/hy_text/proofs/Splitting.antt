@@ -7,16 +7,17 @@ use Rattle.std.proofs.lemmas.List.Splits.{slice_split_first}
 use Rattle.std.proofs.lemmas.List.{length-drop, drop-drop}
 use Rattle.std.proofs.Math.Seq.{take-length}
 use Rattle.hy_text.specs.Bytes.{is_line_feed, is_in_line}
+use Rattle.hy_text.specs.Lines.{lines_of}
 
 one_line : (text : List ℕ) → prefix_len is_in_line text ≡ length text
-    → slice_split is_line_feed text ≡ text ∷ []
+    → lines_of text ≡ text ∷ []
 one_line [] e = refl
 one_line (x ∷ xs) e = grind (arith, one_line xs)
 
 -- the only line
 pub last_line : (text line behind : List ℕ) → line ≡ take_while is_in_line text
     → behind ≡ drop (length line) text → length behind ≡ 0
-    → slice_split is_line_feed text ≡ line ∷ []
+    → lines_of text ≡ line ∷ []
 last_line text line behind run rest none =
     let long : length line ≡ prefix_len is_in_line text = ap length run
     ∙ length-prefix_len is_in_line text in
@@ -33,7 +34,7 @@ last_line text line behind run rest none =
 -- a line, and more behind its line feed
 pub next_line : (text line behind : List ℕ) → line ≡ take_while is_in_line text
     → behind ≡ drop (length line) text → 0 < length behind
-    → slice_split is_line_feed text ≡ line ∷ slice_split is_line_feed (drop 1 behind)
+    → lines_of text ≡ line ∷ slice_split is_line_feed (drop 1 behind)
 next_line text line behind run rest some =
     let long : length line ≡ prefix_len is_in_line text = ap length run
     ∙ length-prefix_len is_in_line text in
