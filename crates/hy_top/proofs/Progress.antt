@@ -29,7 +29,7 @@ module _ (command : Command) where
   text_still given more k old formulas new has =
       record { bytes = has.bytes; came = came_still given more k (Ok has.bytes) has.came; is = has.is }
 
-  texts_still : (given more : Given) (k : ℕ) (formulas : List Plain) (names : List (List ℕ))
+  pub texts_still : (given more : Given) (k : ℕ) (formulas : List Plain) (names : List (List ℕ))
       → HasTexts command given k formulas names → HasTexts command (given ++ more) k formulas names
   texts_still given more zero formulas names has = has
   texts_still given more (suc k) formulas names (before, later, old, has, last, e) =

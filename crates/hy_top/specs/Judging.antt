@@ -7,7 +7,7 @@ use Rattle.hy_formula.specs.Lassos.{Lasso}
 use Rattle.hy_formula.specs.Trees.{Tree}
 use Rattle.hy_formula.specs.declared.prefix.Quant.{Quant}
 use Rattle.hy_lasso.specs.Joint.{IsJudged}
-use Rattle.hy_lasso.specs.LassoFiles.{IsLassoAnswer}
+use Rattle.hy_lasso.specs.LassoFiles.{IsLassosAnswer}
 use Rattle.hy_lasso.specs.Words.{Satisfies}
 use Rattle.hy_read.specs.Answers.{Plain}
 use Rattle.hy_answer.specs.declared.answer.Answer.{Answer}
@@ -21,7 +21,7 @@ pub record HasLassos (command : Command) (given : Given) (formula : Plain) (list
   pub first : HasTexts command given 1 (formula ∷ []) names
   pub bytes : List ℕ
   pub came : Came given 1 (Ok bytes)
-  pub read : IsLassoAnswer names bytes (Ok list)
+  pub read : IsLassosAnswer names bytes (Ok list)
 
 abbrev pub IsJudging : Command → Type 0
 IsJudging (monitor specs traces) = ⊥

@@ -1,7 +1,12 @@
+pub mod Arrivals
 pub mod Classes
 pub mod Contents
+pub mod Deciding
 pub mod Files
 pub mod Judging
+pub mod Monitoring
 pub mod Runs
+pub mod Searches
 pub mod Stages
 pub mod Steps
+pub mod WholeTraces

@@ -15,6 +15,7 @@ use Rattle.hy_top.specs.Files.{Given, Came, RefusesText}
 use Rattle.hy_top.specs.Classes.{RefusesClass}
 use Rattle.hy_top.specs.Deciding as deciding
 use Rattle.hy_top.specs.Judging as judging
+use Rattle.hy_top.specs.Monitoring as monitoring
 
 -- what is counted over all formulas of a command before the work
 pub data Quantity : Type 0 where
@@ -82,7 +83,7 @@ IsPast command given table = ⊥
 
 -- The work of the command comes to this answer.
 abbrev pub ComesTo : Command → Given → Answer → Type 0
-ComesTo (monitor specs traces) given answer = ⊥
+ComesTo (monitor specs traces) given answer = monitoring.Monitors (monitor specs traces) given answer
 ComesTo (judge formula list) given answer = judging.Judges (judge formula list) given answer
 ComesTo (decide formula states proof) given answer = deciding.Determines (decide formula states proof) given answer
 ComesTo (imply first second states proof) given answer = deciding.Determines (imply first second states proof) given answer

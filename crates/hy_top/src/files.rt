@@ -1,21 +1,25 @@
 //! Files that are read whole and taken, or end the run.
 
-ghost use Rattle.std.specs.Prelude.{◌∷◌, [], Ok, IfOk, IfErr};
-ghost use Rattle.hy_base.specs.Shelf.{KeepsShelf, ReadsFile};
-ghost use Rattle.hy_read.specs.Builds.{plain_formula};
-ghost use Rattle.hy_lasso.specs.LassoFiles.{IsLassoAnswer};
-ghost use Rattle.hy_top.specs.Contents.{Content, one_formula, lassos};
-ghost use Rattle.hy_top.specs.Steps.{Takes, Ends, TakesLassos};
+ghost use Rattle.std.specs.Prelude.{◌∷◌, ◌↔◌, [], IfOk, IfErr, IsTrue};
+ghost use Rattle.hy_base.specs.Shelf.{KeepsShelf};
+ghost use Rattle.hy_read.specs.Builds.{plain_formula, plain_formulas};
+ghost use Rattle.hy_top.specs.Contents.{specifications, one_formula, events, lassos, AreBuilt};
+ghost use Rattle.hy_top.specs.Steps.{Takes, TakesTraces, TakesLassos, Ends};
 
+use crate::whole_traces::read_traces;
 use hy_answer::{Answer, fault_answer, line_answer, text_answer};
 use hy_base::{Shelf, read_all};
+use hy_finite::TraceList;
 use hy_formula::{Formula, NameTable};
 use hy_lasso::{LassoList, read_lassos};
-use hy_read::read_formula;
+use hy_read::{SpecList, read_formula, read_specs};
 use std::alloc::Global;
 
 /// Most quantifiers of a formula of `eahyper`.
 const MOST_QUANTIFIERS: u8 = 8;
+
+/// Most quantifiers of a formula of `rvhyper`.
+const MOST_OF_SPECS: u8 = 4;
 
 /// The formula that file `file` of the command is, whose names are added to the table; or the answer
 /// with which the run ends there.
@@ -40,6 +44,61 @@ pub fn formula_in<S: Shelf>(
         Ok(formula) => Ok(formula),
         Err(error) => Err(text_answer(error, file)),
     }
+}
+
+/// The formulas that the first file of the command is, whose names are added to the table; or the
+/// answer with which the run ends there.
+pub fn specs_in<S: Shelf>(
+    alloc: Global,
+    shelf: &mut S,
+    name: &str,
+    names: &mut NameTable,
+) -> Result<SpecList, Answer>
+    ensures keeps { KeepsShelf S.Shelf shelf.old shelf.new }
+    ensures taken { IfOk result (λ specs. Takes S.Shelf shelf.old shelf.new name.now 4 names.old
+        specifications (plain_formulas specs) names.new) }
+    ensures ended { IfErr result (λ answer. Ends S.Shelf shelf.old shelf.new name.now 4 names.old
+        0 specifications answer) }
+{
+    let bytes = match read_all(alloc, shelf, name) {
+        Ok(bytes) => bytes,
+        Err(error) => return Err(fault_answer(error, 0)),
+    };
+    let specs = match read_specs(alloc, bytes.as_slice(), MOST_OF_SPECS, names) {
+        Ok(specs) => specs,
+        Err(error) => return Err(text_answer(error, 0)),
+    };
+    if !are_built(&specs) {
+        return Err(Answer::Unbuilt { file: 0 });
+    }
+    Ok(specs)
+}
+
+/// Whether there is one formula, with at most two quantifiers.
+fn are_built(specs: &SpecList) -> bool
+    ensures { IsTrue result ↔ AreBuilt (plain_formulas specs.now) }
+{
+    specs.len() == 1 && specs.at(0).prefix.len() <= 2
+}
+
+/// The traces that the second file of the command has, or the answer with which the run ends there.
+pub fn traces_in<S: Shelf>(
+    alloc: Global,
+    shelf: &mut S,
+    name: &str,
+    names: &NameTable,
+) -> Result<TraceList, Answer>
+    ensures keeps { KeepsShelf S.Shelf shelf.old shelf.new }
+    ensures taken { IfOk result (λ traces. TakesTraces S.Shelf shelf.old shelf.new name.now
+        names.now traces) }
+    ensures ended { IfErr result (λ answer. Ends S.Shelf shelf.old shelf.new name.now 4 names.now
+        1 events answer) }
+{
+    let bytes = match read_all(alloc, shelf, name) {
+        Ok(bytes) => bytes,
+        Err(error) => return Err(fault_answer(error, 1)),
+    };
+    read_traces(alloc, bytes.as_slice(), names)
 }
 
 /// The lassos that file `file` of the command has, or the answer with which the run ends there.
