@@ -9,8 +9,10 @@ use Rattle.hy_base.specs.declared.limit.Kind.TheVariants as kinds
 use Rattle.hy_formula.specs.declared.classes.Class.{Class}
 use Rattle.hy_formula.specs.declared.classes.Class.TheVariants as classes
 use Rattle.hy_lasso.specs.Printed.{printed_lassos}
+use Rattle.ea_core.specs.declared.rank_proof.RankProof.{RankProof}
+use Rattle.ea_core.specs.ProofTexts.{proof_text}
 use Rattle.hy_answer.specs.declared.answer.Answer.{Answer}
-use Rattle.hy_answer.specs.declared.answer.Answer.TheVariants.{Sat, NotImplied, NotEquivalent, OnTrue, OnFalse, NoViolation, Violation}
+use Rattle.hy_answer.specs.declared.answer.Answer.TheVariants.{Sat, Unsat, Implied, NotImplied, Equivalent, NotEquivalent, OnTrue, OnFalse, NoViolation, Violation}
 use Rattle.hy_answer.specs.declared.answer.Answer.TheVariants.{Words, Syntax, Unbound, Prefix, Line, Session, OpenFault, ReadFault}
 use Rattle.hy_answer.specs.declared.answer.Answer.TheVariants.{WriteFault, Limit, States, Unbuilt, Memory}
 use Rattle.hy_answer.specs.declared.answer.Extras.{Extras}
@@ -32,10 +34,18 @@ abbrev pub side_text : ℕ → List ℕ
 side_text zero = codes "first"
 side_text (suc side) = codes "second"
 
+-- a proof, where proofs are shown
+abbrev pub shown_proof : Extras → RankProof → List ℕ
+shown_proof extras proof = if extras.proof then proof_text proof else []
+
 -- what `out` receives, where lassos are printed with these names
 abbrev pub out_text : Extras → List (List ℕ) → Answer → List ℕ
 out_text extras names (Sat list) = codes "sat\n" ++ printed_lassos names list
+out_text extras names (Unsat proof) = codes "unsat\n" ++ shown_proof extras proof
+out_text extras names (Implied proof) = codes "implied\n" ++ shown_proof extras proof
 out_text extras names (NotImplied list) = codes "not implied\n" ++ printed_lassos names list
+out_text extras names (Equivalent first second) =
+    codes "equivalent\n" ++ shown_proof extras first ++ shown_proof extras second
 out_text extras names (NotEquivalent side list) =
     codes "not equivalent " ++ side_text side ++ codes "\n" ++ printed_lassos names list
 out_text extras names OnTrue = codes "true\n"
@@ -106,7 +116,10 @@ error_line names (States n) = codes "error E13: states " ++ decimal n ++ codes "
 error_line names (Unbuilt file) = codes "error: unbuilt " ++ name_of_file names file ++ codes "\n"
 error_line names Memory = codes "error: memory\n"
 error_line names (Sat list) = []
+error_line names (Unsat proof) = []
+error_line names (Implied proof) = []
 error_line names (NotImplied list) = []
+error_line names (Equivalent first second) = []
 error_line names (NotEquivalent side list) = []
 error_line names OnTrue = []
 error_line names OnFalse = []
@@ -116,7 +129,10 @@ error_line names (Violation spec trace tuple) = []
 -- the exit status
 abbrev pub status_of : Answer → ℕ
 status_of (Sat list) = 0
+status_of (Unsat proof) = 1
+status_of (Implied proof) = 0
 status_of (NotImplied list) = 1
+status_of (Equivalent first second) = 0
 status_of (NotEquivalent side list) = 1
 status_of OnTrue = 0
 status_of OnFalse = 1

@@ -1,5 +1,6 @@
 //! The answers of all tools.
 
+use ea_core::RankProof;
 use hy_base::{Kind, NumList};
 use hy_formula::Class;
 use hy_lasso::LassoList;
@@ -14,9 +15,22 @@ pub enum Answer {
     Sat {
         list: LassoList,
     },
+    /// No list of lassos satisfies the formula.
+    Unsat {
+        proof: RankProof,
+    },
+    /// The first formula implies the second: no list satisfies the first and not the second.
+    Implied {
+        proof: RankProof,
+    },
     /// The first formula does not imply the second: these lassos satisfy the first alone.
     NotImplied {
         list: LassoList,
+    },
+    /// The formulas are equivalent: the first implies the second, and the second the first.
+    Equivalent {
+        first: RankProof,
+        second: RankProof,
     },
     /// The formulas are not equivalent: these lassos satisfy one alone, the first for side 0, the
     /// second for side 1.

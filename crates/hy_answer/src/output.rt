@@ -3,9 +3,10 @@
 ghost use Rattle.std.specs.Prelude.{◌≡◌, ◌++◌, ◌∷◌, [], zero, IfOk, OnOk, map, decimal, codes, if◌then◌else◌};
 ghost use Rattle.std.specs.List.{join_with_byte};
 ghost use Rattle.hy_lasso.specs.Printed.{printed_lassos};
-ghost use Rattle.hy_answer.specs.Outputs.{out_text, spaced, kept_text, side_text, status_of, open_text};
+ghost use Rattle.hy_answer.specs.Outputs.{out_text, spaced, kept_text, shown_proof, side_text, status_of, open_text};
 
 use crate::answer::{Answer, Extras};
+use ea_core::{RankProof, print_rank_proof};
 use hy_base::{M, Text};
 use hy_formula::NameTable;
 use hy_lasso::{LassoList, print_lassos};
@@ -109,6 +110,35 @@ fn with_lassos(alloc: Global, line: &[u8], list: &LassoList, names: &NameTable) 
     Ok(text)
 }
 
+/// Adds a proof, where proofs are shown.
+fn push_proof(alloc: Global, text: &mut Text, extras: Extras, proof: &RankProof) -> M<()>
+    ensures { OnOk result (text.new ≡ text.old ++ shown_proof extras proof.now) }
+{
+    if !extras.proof {
+        return Ok(());
+    }
+    text.extend(print_rank_proof(alloc, proof)?.as_slice())
+}
+
+/// A line, and a proof behind it, where proofs are shown.
+fn with_proof(alloc: Global, extras: Extras, line: &[u8], proof: &RankProof) -> M<Text>
+    ensures { IfOk result (λ t. t ≡ line.now ++ shown_proof extras proof.now) }
+{
+    let mut text = line_text(alloc, line)?;
+    push_proof(alloc, &mut text, extras, proof)?;
+    Ok(text)
+}
+
+/// The text of an equivalence, with the proofs of both directions, where proofs are shown.
+fn equivalent_text(alloc: Global, extras: Extras, first: &RankProof, second: &RankProof) -> M<Text>
+    ensures { IfOk result (λ t. t ≡ codes "equivalent\n" ++ shown_proof extras first.now
+        ++ shown_proof extras second.now) }
+{
+    let mut text = with_proof(alloc, extras, b"equivalent\n", first)?;
+    push_proof(alloc, &mut text, extras, second)?;
+    Ok(text)
+}
+
 /// The line that names the formula which lassos satisfy alone.
 fn side_line(side: u8) -> &'static [u8]
     ensures { result.now ≡ codes "not equivalent " ++ side_text side ++ codes "\n" }
@@ -140,7 +170,12 @@ pub fn out_text(
 {
     match answer {
         Answer::Sat { list } => with_lassos(alloc, b"sat\n", list, names),
+        Answer::Unsat { proof } => with_proof(alloc, extras, b"unsat\n", proof),
+        Answer::Implied { proof } => with_proof(alloc, extras, b"implied\n", proof),
         Answer::NotImplied { list } => with_lassos(alloc, b"not implied\n", list, names),
+        Answer::Equivalent { first, second } => {
+            equivalent_text(alloc, extras, first, second)
+        }
         Answer::NotEquivalent { side, list } => {
             with_lassos(alloc, side_line(*side), list, names)
         }
@@ -173,8 +208,13 @@ pub fn status_of(answer: &Answer) -> u8
     ensures { result ≡ status_of answer.now }
 {
     match answer {
-        Answer::Sat { .. } | Answer::OnTrue | Answer::NoViolation { .. } => 0,
-        Answer::NotImplied { .. }
+        Answer::Sat { .. }
+        | Answer::Implied { .. }
+        | Answer::Equivalent { .. }
+        | Answer::OnTrue
+        | Answer::NoViolation { .. } => 0,
+        Answer::Unsat { .. }
+        | Answer::NotImplied { .. }
         | Answer::NotEquivalent { .. }
         | Answer::OnFalse
         | Answer::Violation { .. } => 1,

@@ -174,7 +174,10 @@ fn write_line<E: Sink>(answer: &Answer, names: &[&str], err: &mut E) -> Result<(
 {
     match answer {
         Answer::Sat { .. }
+        | Answer::Unsat { .. }
+        | Answer::Implied { .. }
         | Answer::NotImplied { .. }
+        | Answer::Equivalent { .. }
         | Answer::NotEquivalent { .. }
         | Answer::OnTrue
         | Answer::OnFalse

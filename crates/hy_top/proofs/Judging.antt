@@ -19,7 +19,7 @@ use Rattle.hy_top.specs.Steps.{Takes, Ends, TakesLassos}
 use Rattle.hy_top.proofs.Formulas.{class_passed, instances_passed, closure_passed}
 use Rattle.hy_top.proofs.Progress.{Progress, begun, goes_on, ends_here, answers_behind, runs_short, texts_once, texts_still}
 use Rattle.hy_top.proofs.Reading.{bytes_once}
-use Rattle.hy_lasso.proofs.OneAnswer.{one-lassos_answer}
+use Rattle.hy_lasso.proofs.OneAnswer.{one_answer}
 
 module _ (command : Command) (given : Given) where
   -- The formula and the lassos are one.
@@ -30,7 +30,7 @@ module _ (command : Command) (given : Given) where
       let bytes = bytes_once given 1 one.bytes two.bytes one.came two.came in
       let P : List ℕ → Type 0 = λ b. IsLassosAnswer one.names b (Ok list) in
       let Q : List (List ℕ) → Type 0 = λ n. IsLassosAnswer n two.bytes (Ok list) in
-      let lists = one-lassos_answer two.names two.bytes (Ok list) (Ok other) (λ e. cc) (λ e. cc) (subst Q names (subst P bytes one.read)) two.read in
+      let lists = one_answer two.names two.bytes (Ok list) (Ok other) (λ e. cc) (λ e. cc) (subst Q names (subst P bytes one.read)) two.read in
       (cc, cc)
 
   joint_passed : (f : Plain) (list : List (Lasso Letter)) → HasLassos command given f list → IsJudged list → Passed command given (count joint)

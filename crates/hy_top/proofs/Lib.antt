@@ -1,9 +1,11 @@
 pub mod Arriving
-pub mod FirstSpecs
-pub mod MonitorPipeline
-pub mod OneAnswer
-pub mod Outputting
+pub mod Deciding
+pub mod Formulas
+pub mod Judging
+pub mod Progress
+pub mod Reading
 pub mod Searches
+pub mod Silence
 pub mod StageOrder
 pub mod Texts
 pub mod TraceLines

@@ -5,7 +5,7 @@ use Rattle.hy_formula.specs.Lassos.{Lasso}
 use Rattle.hy_text.specs.Lines.{lines_of}
 use Rattle.hy_text.specs.declared.line_error.LineError.TheVariants as faults
 use Rattle.hy_lasso.specs.LassoFiles.{IsLassosAnswer}
-use Rattle.hy_lasso.proofs.OneAnswer.{one-lassos_answer}
+use Rattle.hy_lasso.proofs.OneAnswer.{one_answer}
 use Rattle.hy_read.specs.Answers.{Answer as Found, Answers, Plain, faulty, free, over, read_as}
 use Rattle.hy_read.proofs.Spanning.{answer-once}
 use Rattle.hy_answer.specs.declared.answer.Answer.{Answer}
@@ -92,7 +92,7 @@ text_not_refused quantifiers old k bytes one_formula formulas new a is (found, a
 text_not_refused quantifiers old k bytes events formulas new a (right, built, _, _) refused =
     whole_not_refused k (lines_of bytes) a right built refused
 text_not_refused quantifiers old k bytes lassos formulas new a ((list, read), _, _) (line, refused, e) =
-    let same = one-lassos_answer old bytes (Ok list) (Err (faults.Syntax line)) (λ e. cc) (λ e. cc) read refused in cc
+    let same = one_answer old bytes (Ok list) (Err (faults.Syntax line)) (λ e. cc) (λ e. cc) read refused in cc
 
 pub refused_once : (quantifiers : ℕ) (old : List (List ℕ)) (k : ℕ) (bytes : List ℕ) (content : Content) (a b : Answer)
     → IsRefused quantifiers old k bytes content a → IsRefused quantifiers old k bytes content b → a ≡ b
@@ -102,4 +102,4 @@ refused_once quantifiers old k bytes one_formula a b (found, one, e) (other, two
     refusal_once false quantifiers old bytes k found other a b one two e f
 refused_once quantifiers old k bytes events a b one two = lines_once k (lines_of bytes) a b one two
 refused_once quantifiers old k bytes lassos a b (line, one, e) (other, two, f) =
-    let same = one-lassos_answer old bytes (Err (faults.Syntax line)) (Err (faults.Syntax other)) (λ e. cc) (λ e. cc) one two in cc
+    let same = one_answer old bytes (Err (faults.Syntax line)) (Err (faults.Syntax other)) (λ e. cc) (λ e. cc) one two in cc

@@ -58,6 +58,21 @@ pub fn run<S: Shelf, O: Sink, E: Sink>(
             let due = eahyper::judge(alloc, shelf, formula, lassos, &mut names);
             finish(alloc, due, plain, &names, &[formula, lassos], out, err)
         }
+        Some(Command::Decide { formula, states, proof }) => {
+            let due = eahyper::decide(alloc, shelf, formula, states, &mut names);
+            let extras = Extras { kept: false, proof };
+            finish(alloc, due, extras, &names, &[formula], out, err)
+        }
+        Some(Command::Imply { first, second, states, proof }) => {
+            let due = eahyper::imply(alloc, shelf, (first, second), states, &mut names);
+            let extras = Extras { kept: false, proof };
+            finish(alloc, due, extras, &names, &[first, second], out, err)
+        }
+        Some(Command::Compare { first, second, states, proof }) => {
+            let due = eahyper::compare(alloc, shelf, (first, second), states, &mut names);
+            let extras = Extras { kept: false, proof };
+            finish(alloc, due, extras, &names, &[first, second], out, err)
+        }
     }
 }
 
