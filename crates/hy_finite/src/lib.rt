@@ -27,4 +27,5 @@ pub use lengths::Lengths;
 pub use line::read_event;
 pub use lines::{EventLines, split_line};
 pub use meaning::finite_holds;
+pub use number::read_number;
 pub use trace::{MOST_LETTERS, Trace, TraceList};
