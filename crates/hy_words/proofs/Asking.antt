@@ -36,7 +36,7 @@ values_small Implies given = omega (arith, modes_small given.mode)
 values_small Equivalent given = omega (arith, modes_small given.mode)
 values_small States given = value_small given.states
 
-flag_small : (b : Bool) → length (let flags : List Flag = if b then Proof ∷ [] else [] in flags) ≤ 1
+flag_small : (b : Bool) → length (if b then Proof ∷ [] else []) ≤ 1
 flag_small true = omega arith
 flag_small false = omega arith
 
@@ -69,15 +69,18 @@ question_of items (imply f g n b) asks = (f, [], g ∷ [], [], n, b, asks, refl)
 question_of items (compare f g n b) asks = (f, [], [], g ∷ [], n, b, asks, refl)
 question_of items (monitor s t) e = absurd e
 
-monitors_fit : (items : List Item) (command : Command) → Orders RvHyper items command → length (files_in items) ≤ 2
-monitors_fit items (monitor s t) e = omega (arith, ap length e)
-monitors_fit items (judge f l) e = absurd e
-monitors_fit items (decide f n b) e = absurd e
-monitors_fit items (imply f g n b) e = absurd e
-monitors_fit items (compare f g n b) e = absurd e
+-- The files that a command of `rvhyper` is.
+pub monitoring_of : (items : List Item) (command : Command) → Orders RvHyper items command
+    → (specs traces : List ℕ) × (files_in items ≡ specs ∷ traces ∷ []) × (command ≡ monitor specs traces)
+monitoring_of items (monitor s t) e = (s, t, e, refl)
+monitoring_of items (judge f l) e = absurd e
+monitoring_of items (decide f n b) e = absurd e
+monitoring_of items (imply f g n b) e = absurd e
+monitoring_of items (compare f g n b) e = absurd e
 
 orders_fit : (tool : Tool) (items : List Item) (command : Command) → Orders tool items command → length (files_in items) ≤ 2
-orders_fit RvHyper items command orders = monitors_fit items command orders
+orders_fit RvHyper items command orders =
+    let (s, t, files, is) = monitoring_of items command orders in omega (arith, ap length files)
 orders_fit EaHyper items command orders =
     let (f, on, implied, equal, n, b, asks, is) = question_of items command orders in omega (arith, ap length asks.files)
 

@@ -4,7 +4,7 @@ use Rattle.std.specs.Prelude.{String}
 use Rattle.std.specs.List.{All, flat_map}
 use Rattle.std.proofs.lemmas.Grind.{flat_map-append}
 use Rattle.std.proofs.lemmas.List.{append-nil, append_assoc, length-append}
-use Rattle.std.proofs.lemmas.List.Elements.{All-nil, All-head, All-push}
+use Rattle.std.proofs.lemmas.List.Elements.{All-head, All-push}
 use Rattle.hy_words.specs.declared.item.Tool.{Tool}
 use Rattle.hy_words.specs.declared.item.Flag.TheVariants.{Proof}
 use Rattle.hy_words.specs.declared.item.ValueOption.TheVariants.{On, Implies, Equivalent, States}
@@ -19,10 +19,6 @@ pub record Gathers (tool : Tool) (words : List (List ℕ)) (given : Given) (rest
   pub spelled : words ≡ flat_map item_words front ++ rest
   pub known : All (IsItem tool) front
   pub holds : Holds given front
-
--- Nothing is gathered at the start.
-pub gathers_nothing : (tool : Tool) (words : List (List ℕ)) (given : Given) → Holds given [] → Gathers tool words given words
-gathers_nothing tool words given holds = record { front = []; spelled = refl; known = All-nil (IsItem tool); holds = holds }
 
 holds_more : (given after : Given) (front : List Item) (item : Item) → Holds given front → Adds given item after → Holds after (front ++ item ∷ [])
 holds_more given after front item holds adds = record {
@@ -49,11 +45,6 @@ gathers_more tool words given after rest behind item gathers known begins adds =
   holds = holds_more given after gathers.front item gathers.holds adds;
 }
 
--- All is gathered at the end.
-pub gathers_all : (tool : Tool) (words : List (List ℕ)) (given : Given) → Gathers tool words given [] → (items : List Item) × Says tool words items × Holds given items
-gathers_all tool words given gathers =
-    (gathers.front, record { spelled = gathers.spelled ∙ append-nil (flat_map item_words gathers.front); known = gathers.known }, gathers.holds)
-
 -- Where no item begins the rest, the words are none.
 pub no_item : (tool : Tool) (words : List (List ℕ)) (given : Given) (rest : List (List ℕ)) → Gathers tool words given rest → rest ≢ []
     → ((item : Item) (behind : List (List ℕ)) → IsItem tool item → rest ≢ item_words item ++ behind)
@@ -67,8 +58,7 @@ no_item tool words given rest gathers more none items says =
     nothing_left (item ∷ tail) behind = none item (flat_map item_words tail) (All-head (IsItem tool) item tail behind.known) behind.spelled
 
 at_least : {A : Type 0} (f : Item → List A) (front tail : List Item) (item : Item) → length (flat_map f front) + length (f item) ≤ length (flat_map f ((front ++ item ∷ []) ++ tail))
-at_least f front tail item =
-    simp (flat_map-append, length-append) (omega arith)
+at_least f front tail item = simp (flat_map-append, length-append) (omega arith)
 
 too_many_modes : (given : Given) (front tail : List Item) (item : Item) → Holds given front
     → 1 ≤ length (given_values On given) + length (given_values Implies given) + length (given_values Equivalent given)
@@ -92,9 +82,9 @@ too_many given front tail (flag Proof) holds full fits =
     omega (arith, ap length (holds.flags Proof), at_least (item_flags Proof) front tail (flag Proof), fits.proper.flags Proof)
 too_many given front tail (value States v) holds full fits =
     omega (arith, ap length (holds.values States), at_least (item_values States) front tail (value States v), fits.proper.options States)
-too_many given front tail (value On v) holds full fits = too_many_modes given front tail (value On v) holds full fits.proper (refl)
-too_many given front tail (value Implies v) holds full fits = too_many_modes given front tail (value Implies v) holds full fits.proper (refl)
-too_many given front tail (value Equivalent v) holds full fits = too_many_modes given front tail (value Equivalent v) holds full fits.proper (refl)
+too_many given front tail (value On v) holds full fits = too_many_modes given front tail (value On v) holds full fits.proper refl
+too_many given front tail (value Implies v) holds full fits = too_many_modes given front tail (value Implies v) holds full fits.proper refl
+too_many given front tail (value Equivalent v) holds full fits = too_many_modes given front tail (value Equivalent v) holds full fits.proper refl
 
 -- Where the next item finds no room, the words have too many items.
 pub no_room : (tool : Tool) (words : List (List ℕ)) (given : Given) (rest behind : List (List ℕ)) (item : Item) → Gathers tool words given rest
@@ -107,5 +97,5 @@ no_room tool words given rest behind item gathers known begins full items says f
 
 -- words that are left
 pub words_left : {Z : Type 0} (ws : List (String Z)) → nat_eq (length ws) 0 ≡ false → texts ws ≢ []
-words_left [] more = absurd (cc)
+words_left [] more = absurd cc
 words_left (w ∷ ws) more = λ e. cc

@@ -52,13 +52,13 @@ same_option States Equivalent e = cc
 
 one_item : (tool : Tool) (a b : Item) (ws vs : List (List ℕ)) → IsItem tool a → IsItem tool b → item_words a ++ ws ≡ item_words b ++ vs → (a ≡ b) × (ws ≡ vs)
 one_item tool (file m) (file n) ws vs known other e = (cc, cc)
-one_item tool (file m) (flag g) ws vs known other e = absurd (flag_names_none g m known (cc))
-one_item tool (file m) (value p w) ws vs known other e = absurd (option_names_none p m known (cc))
-one_item tool (flag f) (file n) ws vs known other e = absurd (flag_names_none f n other (cc))
-one_item tool (flag f) (flag g) ws vs known other e = (ap flag (same_flag f g (cc)), cc)
-one_item tool (flag f) (value p w) ws vs known other e = absurd (flag_or_option f p (cc))
-one_item tool (value o v) (file n) ws vs known other e = absurd (option_names_none o n other (cc))
-one_item tool (value o v) (flag g) ws vs known other e = absurd (flag_or_option g o (cc))
+one_item tool (file m) (flag g) ws vs known other e = absurd (flag_names_none g m known cc)
+one_item tool (file m) (value p w) ws vs known other e = absurd (option_names_none p m known cc)
+one_item tool (flag f) (file n) ws vs known other e = absurd (flag_names_none f n other cc)
+one_item tool (flag f) (flag g) ws vs known other e = (ap flag (same_flag f g cc), cc)
+one_item tool (flag f) (value p w) ws vs known other e = absurd (flag_or_option f p cc)
+one_item tool (value o v) (file n) ws vs known other e = absurd (option_names_none o n other cc)
+one_item tool (value o v) (flag g) ws vs known other e = absurd (flag_or_option g o cc)
 one_item tool (value o v) (value p w) ws vs known other e =
     let same = same_option o p (cc) in (cc, cc)
 

@@ -4,8 +4,8 @@ use Rattle.hy_words.specs.declared.item.Tool.{Tool}
 use Rattle.hy_words.specs.declared.item.Tool.TheVariants.{EaHyper, RvHyper}
 use Rattle.hy_words.specs.declared.item.ValueOption.TheVariants.{States}
 use Rattle.hy_words.specs.Words.{Item, values_in}
-use Rattle.hy_words.specs.Commands.{Command, monitor, judge, decide, imply, compare, AreStates, Asks, Orders, IsCommand}
-use Rattle.hy_words.proofs.Asking.{question_of}
+use Rattle.hy_words.specs.Commands.{Command, AreStates, Asks, Orders, IsCommand}
+use Rattle.hy_words.proofs.Asking.{question_of, monitoring_of}
 use Rattle.hy_words.proofs.Items.{one_reading}
 
 abbrev number_said : Option (ℕ × List ℕ) → ℕ
@@ -37,16 +37,11 @@ one_decision items a b one two =
     cc
 
 one_monitoring : (items : List Item) (a b : Command) → Orders RvHyper items a → Orders RvHyper items b → a ≡ b
-one_monitoring items (monitor s t) (monitor u v) one two =
-    let same : s ∷ t ∷ [] ≡ u ∷ v ∷ [] = sym one ∙ two in cc
-one_monitoring items (monitor s t) (judge f l) one two = absurd two
-one_monitoring items (monitor s t) (decide f n p) one two = absurd two
-one_monitoring items (monitor s t) (imply f g n p) one two = absurd two
-one_monitoring items (monitor s t) (compare f g n p) one two = absurd two
-one_monitoring items (judge f l) b one two = absurd one
-one_monitoring items (decide f n p) b one two = absurd one
-one_monitoring items (imply f g n p) b one two = absurd one
-one_monitoring items (compare f g n p) b one two = absurd one
+one_monitoring items a b one two =
+    let (s, t, files, is_a) = monitoring_of items a one in
+    let (u, v, files', is_b) = monitoring_of items b two in
+    let same : s ∷ t ∷ [] ≡ u ∷ v ∷ [] = sym files ∙ files' in
+    cc
 
 one_order : (tool : Tool) (items : List Item) (a b : Command) → Orders tool items a → Orders tool items b → a ≡ b
 one_order EaHyper items a b one two = one_decision items a b one two

@@ -61,7 +61,8 @@ pub enum Command<'a> {
 /// rvhyper    SPECS TRACES
 /// ```
 /// Flags and options stand anywhere among the names of files, each at most once. A name or a value
-/// is not empty, and begins with a dash only where it is one.
+/// is not empty, and begins with a dash only where it is one. N is from 1 to 4,194,304, and 100,000
+/// where it is not given; beside `--on` neither it nor `--proof` changes anything.
 pub fn command_of(tool: Tool, words: &[String]) -> Option<Command<'_>>
     ensures some { IfSome result (λ c. IsCommand tool (texts words.now) (said_by c)) }
     ensures none { IfNone result (HasNoCommand tool (texts words.now)) }

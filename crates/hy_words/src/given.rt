@@ -112,7 +112,8 @@ fn with_states<'a>(given: Given<'a>, states: &'a str) -> Option<Given<'a>>
 
 /// With a question, where none was asked yet.
 fn with_mode<'a>(given: Given<'a>, mode: Mode<'a>) -> Option<Given<'a>>
-    ensures some { IfSome result (λ g. (given.entry.mode ≡ Alone) × (g ≡ record given.entry { mode = mode.entry })) }
+    ensures some { IfSome result (λ g. (given.entry.mode ≡ Alone)
+        × (g ≡ record given.entry { mode = mode.entry })) }
     ensures none { IfNone result (given.entry.mode ≢ Alone) }
 {
     match given.mode {
