@@ -1,0 +1,9 @@
+pub mod Clear
+pub mod Ending
+pub mod Marking
+pub mod Named
+pub mod Outcomes
+pub mod Parts
+pub mod OwnPlaces
+pub mod Places
+pub mod Renumbering

@@ -1,0 +1,13 @@
+//! The reader of circuit texts: of every file it says which net it is, or what is wrong and where.
+#![tactic(auto)]
+
+pub mod laws;
+mod names;
+mod numbering;
+mod read;
+mod symbol;
+#[cfg(test)]
+mod tests;
+
+pub use aiger_body::{AigKind, AigerError};
+pub use read::read_aiger;
