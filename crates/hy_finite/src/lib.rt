@@ -26,4 +26,5 @@ pub use lengths::Lengths;
 pub use line::read_event;
 pub use lines::EventLines;
 pub use meaning::finite_holds;
+pub use number::read_number;
 pub use trace::{MOST_LETTERS, Trace, TraceList};

@@ -12,6 +12,8 @@ mod print;
 mod read;
 mod row;
 mod shorten;
+#[cfg(test)]
+mod tests;
 
 pub use choices::holds;
 pub use error::HoldsError;

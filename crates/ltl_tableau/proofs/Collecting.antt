@@ -1,12 +1,11 @@
 -- Branches that are collected one list after another.
-use Rattle.std.proofs.Common.{◌≡◌, ℕ, zero, suc, ◌+◌, ◌<◌, ◌≤◌, Bool, true, false, ◌&&◌, ◌||◌, not, cond, nat_eq, if◌then◌else◌, List, [], ◌∷◌, ◌++◌, length, inl, inr, refl, sym, ap, ◌∙◌, subst, arith, length-append}
+use Rattle.std.proofs.Common.{◌≡◌, ℕ, zero, suc, ◌<◌, ◌≤◌, Bool, true, false, ◌&&◌, cond, nat_eq, if◌then◌else◌, List, [], ◌∷◌, ◌++◌, length, inl, inr, refl, sym, ap, ◌∙◌, arith, length-append}
 use Rattle.std.specs.List.{list_any}
-use Rattle.std.specs.FinSet.{is_subset, is_subset-contains, contains}
 use Rattle.std.proofs.lemmas.Bool.{cases_lt, eqb-true, eq-eqb}
 use Rattle.hy_bits.specs.Binary.{ones, number}
 use Rattle.hy_bits.specs.BinaryLaws.{ones-number}
-use Rattle.ltl_closure.specs.Nodes.{Node, node_at}
-use Rattle.ltl_tableau.specs.Branches.{Members, Branch, same_branch, with_branch, with_all, expand, branches_below}
+use Rattle.ltl_closure.specs.Nodes.{Node}
+use Rattle.ltl_tableau.specs.Branches.{Members, Branch, same_branch, with_branch, with_all, branches_below}
 use Rattle.ltl_tableau.specs.Collected.{Collects}
 use Rattle.ltl_tableau.proofs.Distinct.{equal-branch, same-branch_itself}
 

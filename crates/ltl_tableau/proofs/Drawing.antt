@@ -1,18 +1,17 @@
 -- The graph of the branches that were explored.
-use Rattle.std.proofs.Common.{◌≡◌, ◌≢◌, ℕ, zero, suc, ◌+◌, ◌<◌, ◌≤◌, ◌⊎◌, ◌↔◌, Bool, true, false, not, ◌&&◌, ◌||◌, nat_eq, nat_lt, cond, List, [], ◌∷◌, ◌++◌, length, map, take, get_or, position, slice_get, Option, Some, None, inl, inr, refl, sym, ap, ◌∙◌, subst, arith, length-append}
-use Rattle.std.specs.List.{Contains, list_any, position_or_len}
+use Rattle.std.proofs.Common.{◌≡◌, ◌≢◌, ℕ, zero, suc, ◌+◌, ◌<◌, ◌≤◌, ◌↔◌, Bool, true, false, not, nat_lt, cond, List, [], ◌∷◌, ◌++◌, length, map, get_or, position, slice_get, Some, None, inl, inr, refl, sym, ap, ◌∙◌, subst, arith}
+use Rattle.std.specs.List.{Contains, position_or_len}
 use Rattle.std.specs.FinSet.{empty}
-use Rattle.std.proofs.lemmas.Bool.{cases_lt, cases_eq, eq-eqb, eqb-true}
+use Rattle.std.proofs.lemmas.Bool.{cases_lt, cases_eq}
 use Rattle.std.proofs.lemmas.List.{get_or_append_left, get_or_past}
 use Rattle.std.proofs.lemmas.List.Elements.{Contains-append_left, Contains-append_right, Contains-push, Contains-push_cases}
-use Rattle.hy_bits.specs.Binary.{number}
 use Rattle.rank_check.specs.declared.graph.Node.{Node as Vertex}
 use Rattle.rank_check.specs.Graphs.{Shape, members_of, no_node}
-use Rattle.ltl_closure.specs.Nodes.{Node, always, never, literal, and, or, next, weak_next, until, release, node_at}
+use Rattle.ltl_closure.specs.Nodes.{Node, always, node_at}
 use Rattle.ltl_tableau.specs.Branches.{Members, Branch, branches, IsBranch, postponed_by, postpones}
-use Rattle.ltl_tableau.specs.Reached.{IsReachable, first, after, branch_at, set_at, group_at, AreDistinct, IsTableau, Explores, AreGroups, IsNodeOf, AreNodes}
+use Rattle.ltl_tableau.specs.Reached.{IsReachable, first, after, branch_at, set_at, group_at, IsTableau, Explores, AreGroups, IsNodeOf, AreNodes}
 use Rattle.ltl_tableau.proofs.Collecting.{number-same}
-use Rattle.ltl_tableau.proofs.Exploring.{contains-at, place-of, last-of, equal_sets, take-whole}
+use Rattle.ltl_tableau.proofs.Exploring.{contains-at, place-of, last-of, equal_sets}
 
 -- ---- groups
 

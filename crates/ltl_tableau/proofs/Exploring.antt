@@ -2,7 +2,7 @@
 use Rattle.std.proofs.Common.{◌≡◌, ℕ, zero, suc, ◌+◌, ◌<◌, ◌≤◌, ◌⊎◌, Bool, true, false, not, ◌||◌, nat_eq, cond, if◌then◌else◌, List, [], ◌∷◌, ◌++◌, length, map, take, get_or, slice_get, Some, inl, inr, refl, sym, ap, ◌∙◌, subst, arith, length-append}
 use Rattle.std.specs.List.{Contains, list_any}
 use Rattle.std.specs.FinSet.{empty}
-use Rattle.std.proofs.lemmas.Bool.{cases_lt, cases_eq, eq-eqb, eqb-true}
+use Rattle.std.proofs.lemmas.Bool.{cases_lt, cases_eq, eq-eqb}
 use Rattle.std.proofs.lemmas.List.{get_or_append_left, get_or_past, length-map, map-append, take_more}
 use Rattle.std.proofs.lemmas.List.Elements.{Contains-append_left, Contains-append_right, Contains-push, Contains-push_cases}
 use Rattle.hy_bits.specs.Binary.{number}
@@ -10,7 +10,7 @@ use Rattle.ltl_closure.specs.Nodes.{Node}
 use Rattle.ltl_tableau.specs.Branches.{Members, Branch, same_branch, with_branch, with_all, branches, branches_below, IsBranch}
 use Rattle.ltl_tableau.specs.Walks.{no_branch}
 use Rattle.ltl_tableau.specs.Collected.{Collects}
-use Rattle.ltl_tableau.specs.Reached.{IsReachable, first, after, branch_at, set_at, group_at, AreDistinct, HasMore, Explores, AreGroups, Grows, PutsBranch, PutsSet}
+use Rattle.ltl_tableau.specs.Reached.{IsReachable, after, branch_at, set_at, group_at, AreDistinct, HasMore, Explores, AreGroups, Grows, PutsBranch, PutsSet}
 use Rattle.ltl_tableau.proofs.Collecting.{equal, equal-same, equal-itself, number-same}
 use Rattle.ltl_tableau.proofs.Distinct.{equal-branch, same-branch_itself}
 

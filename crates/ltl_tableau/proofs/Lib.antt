@@ -13,3 +13,4 @@ pub mod Walking
 pub mod Collecting
 pub mod Exploring
 pub mod Drawing
+pub mod GraphWalking

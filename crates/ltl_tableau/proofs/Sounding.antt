@@ -1,8 +1,8 @@
 -- On the words of a fair run its members hold.
-use Rattle.std.proofs.Common.{◌≡◌, ℕ, zero, suc, ◌+◌, ◌-◌, ◌<◌, ◌≤◌, ◌⊎◌, Bool, true, false, not, ◌&&◌, List, length, IsTrue, inl, inr, refl, sym, subst, arith, add-one}
-use Rattle.hy_formula.specs.Temporal.{endless, Words, IsUntil}
+use Rattle.std.proofs.Common.{◌≡◌, ℕ, zero, suc, ◌<◌, ◌≤◌, Bool, true, false, not, ◌&&◌, List, length, inl, inr, refl, subst, arith}
+use Rattle.hy_formula.specs.Temporal.{endless}
 use Rattle.hy_formula.specs.Normals.{Normal, HoldsAt}
-use Rattle.ltl_closure.specs.Nodes.{Node, always, never, literal, and, or, next, weak_next, until, release, node_at, form_of, PartsBelow, Numbers, Local, AreMarks}
+use Rattle.ltl_closure.specs.Nodes.{Node, always, never, literal, and, or, next, weak_next, until, release, node_at, PartsBelow, Numbers, Local}
 use Rattle.ltl_tableau.specs.Branches.{Members, Has, Branch, postponed_by, IsRun, IsFair, words_of}
 use Rattle.ltl_closure.proofs.Marking.{marked}
 use Rattle.ltl_tableau.proofs.Saturating.{letter, saturated}

@@ -1,22 +1,19 @@
 -- Tasks hold together exactly where there is an accepting walk, and never under a rank proof.
-use Rattle.std.proofs.Common.{◌≡◌, ℕ, ◌<◌, ◌↔◌, Bool, true, false, List, [], ◌∷◌, length, map, inl, inr, sym, ◌∙◌, subst, arith}
+use Rattle.std.proofs.Common.{◌≡◌, ℕ, ◌<◌, List, [], ◌∷◌, length, map, inl, inr, sym, subst, arith}
 use Rattle.std.proofs.lemmas.List.{length-map}
 use Rattle.hy_formula.specs.Temporal.{Span, endless, Words, IsDecided}
-use Rattle.hy_formula.specs.Normals.{Normal, HoldsAt, Signed}
-use Rattle.hy_formula.specs.Renamed.{renamed}
+use Rattle.hy_formula.specs.Normals.{Normal, HoldsAt}
 use Rattle.hy_formula.specs.Lassos.{Lasso}
 use Rattle.hy_bits.specs.Letter.{Letter}
 use Rattle.hy_lasso.specs.Words.{lasso_words, AreLassos}
 use Rattle.ltl_tableau.specs.Branches.{Members, Has, Branch}
-use Rattle.ltl_closure.specs.Closures.{with_form, with_forms, closure, number_in, form_in, node_of}
+use Rattle.ltl_closure.specs.Closures.{closure, number_in, form_in, node_of}
 use Rattle.ltl_tableau.specs.Ranks.{RankProof, IsRankProof}
 use Rattle.ltl_tableau.specs.Walks.{IsWalk, IsAccepting}
 use Rattle.ltl_tableau.specs.WalkWords.{lassos_of}
-use Rattle.ltl_closure.specs.Jobs.{Task, AreMappedBelow, variable_in, Holds, AllHold, form_of_task, forms_of, task_nodes, task_roots}
+use Rattle.ltl_closure.specs.Jobs.{Task, AreMappedBelow, AllHold, form_of_task, forms_of, task_nodes}
 use Rattle.ltl_tableau.specs.Tasks.{set_of, root_set}
 use Rattle.ltl_tableau.proofs.Sets.{has-new, has-old, has-cases, has-none}
-use Rattle.hy_formula.proofs.Normalising.{normal-right}
-use Rattle.hy_formula.proofs.Renaming.{renamed-right}
 use Rattle.hy_lasso.proofs.LassoWords.{has-period, tuple-repeats, decided-lassos}
 use Rattle.ltl_closure.proofs.Closing.{number-found, closure-numbers}
 use Rattle.ltl_closure.proofs.Tasks.{AllThere, forms-there}

@@ -1,5 +1,6 @@
 pub mod Branches
 pub mod Collected
+pub mod GraphWalks
 pub mod Ranks
 pub mod Reached
 pub mod Tasks

@@ -1,15 +1,21 @@
 //! Laws of branches: walks stand for words, and ranks rule walks out.
 
-ghost use Rattle.std.specs.Prelude.{ℕ, ◌<◌, List, length};
+ghost use Rattle.std.specs.Prelude.{◌≡◌, ℕ, ◌<◌, List, length, IsSome};
 ghost use Rattle.hy_bits.specs.Letter.{Letter};
 ghost use Rattle.hy_formula.specs.Temporal.{Words, endless, IsDecided, Repeats};
 ghost use Rattle.hy_formula.specs.Normals.{Normal, HoldsAt};
 ghost use Rattle.hy_formula.specs.Lassos.{Lasso};
 ghost use Rattle.hy_lasso.specs.Words.{AreLassos, lasso_words};
+ghost use Rattle.rank_check.specs.Graphs as graphs;
+ghost use Rattle.rank_check.specs.Graphs.{Shape, IsWhole};
+ghost use Rattle.rank_check.specs.Ranking.{rank_of, IsRanked};
+ghost use Rattle.rank_check.specs.declared.ranks.Ranks.{Ranks};
 ghost use Rattle.ltl_closure.specs.Nodes.{Node, Numbers};
 ghost use Rattle.ltl_closure.specs.Jobs.{Task, AreMappedBelow, AllHold, task_nodes};
 ghost use Rattle.ltl_tableau.specs.Branches.{Members, Has, Branch, IsRun, IsFair};
+ghost use Rattle.ltl_tableau.specs.GraphWalks.{walk_of, HasRanks};
 ghost use Rattle.ltl_tableau.specs.Ranks.{RankProof, IsRankProof};
+ghost use Rattle.ltl_tableau.specs.Reached.{IsTableau};
 ghost use Rattle.ltl_tableau.specs.Tasks.{root_set};
 ghost use Rattle.ltl_tableau.specs.Walks.{IsWalk, IsAccepting};
 ghost use Rattle.ltl_tableau.specs.WalkWords.{VariablesBelow, lassos_of};
@@ -60,4 +66,26 @@ pub fn together()
     ensures never { (tasks : List Task) (proof : RankProof)
         → IsRankProof (task_nodes tasks) (root_set tasks) proof
         → (words : Words) → IsDecided endless words → ¬ AllHold endless words tasks }
+{}
+
+/// A fair walk of the graph of a tableau is an accepting walk of its branches, and each accepting
+/// walk is one. Ranks of the graph that pass give each branch a rank, and are a rank proof.
+pub fn graph_walks()
+    ensures accepting { (nodes : List Node) (roots : Members) (list : List Branch) (graph : Shape)
+        → IsTableau nodes roots list graph → (stem cycle : List ℕ)
+        → graphs.IsWalk graph stem cycle → graphs.IsFair graph cycle
+        → IsWalk nodes roots (walk_of list stem cycle)
+        × IsAccepting nodes (walk_of list stem cycle) }
+    ensures fair { (nodes : List Node) (roots : Members) (list : List Branch) (graph : Shape)
+        → IsTableau nodes roots list graph → IsWhole graph → (walk : Lasso Branch)
+        → IsWalk nodes roots walk → IsAccepting nodes walk
+        → (stem : List ℕ) × (cycle : List ℕ) × (walk_of list stem cycle ≡ walk)
+        × graphs.IsWalk graph stem cycle × graphs.IsFair graph cycle }
+    ensures ranked { (nodes : List Node) (roots : Members) (list : List Branch) (graph : Shape)
+        → IsTableau nodes roots list graph → IsWhole graph → (ranks : Ranks)
+        → IsRanked graph ranks → (v : ℕ) → v < length list → IsSome (rank_of ranks v) }
+    ensures proof { (nodes : List Node) (roots : Members) (list : List Branch) (graph : Shape)
+        → IsTableau nodes roots list graph → IsWhole graph → (ranks : Ranks)
+        → IsRanked graph ranks → (proof : RankProof) → HasRanks nodes list ranks proof
+        → IsRankProof nodes roots proof }
 {}

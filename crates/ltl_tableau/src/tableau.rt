@@ -1,6 +1,7 @@
 //! The tableau of a closure.
 
 ghost use Rattle.std.specs.Prelude.{◌≡◌, ◌≤◌, ◌<◌, ◌*◌, ◌-◌, ◌^◌, length, slice_get, Some, IfOk, OnOk, IsErrOf};
+ghost use Rattle.rank_check.specs.Graphs.{IsWhole};
 ghost use Rattle.ltl_tableau.specs.Tasks.{set_of};
 ghost use Rattle.ltl_tableau.specs.Reached.{IsTableau, HasMore};
 
@@ -69,8 +70,10 @@ impl<const W: usize> Tableau<W> {
 
     /// The graph of the branches, by their numbers.
     pub fn graph(&self) -> &Graph
-        ensures { result.now ≡ self.now.graph }
+        ensures same { result.now ≡ self.now.graph }
+        ensures whole { IsWhole result.now }
     {
+        self.graph.whole();
         &self.graph
     }
 }

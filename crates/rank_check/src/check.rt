@@ -14,8 +14,8 @@ pub fn no_fair_walk()
 {}
 
 impl Ranks {
-    /// The rank of a node.
-    fn rank(&self, node: u32) -> Option<u32>
+    /// The rank of a node, or none.
+    pub fn rank(&self, node: u32) -> Option<u32>
         ensures { result ≡ rank_of self.now node }
     {
         if (node as usize) < self.ranks.len() {
@@ -25,8 +25,8 @@ impl Ranks {
         }
     }
 
-    /// The reason of a rank.
-    fn reason(&self, rank: u32) -> Option<u32>
+    /// The reason of a rank: an until, or none.
+    pub fn reason(&self, rank: u32) -> Option<u32>
         ensures { result ≡ reason_of self.now rank }
     {
         if (rank as usize) < self.reasons.len() {

@@ -1,4 +1,4 @@
-use Rattle.std.proofs.Common.{◌≤◌, List, length}
+use Rattle.std.proofs.Common.{◌≤◌, List}
 use Rattle.ltl_tableau.specs.Branches.{Branch}
 use Rattle.ltl_tableau.specs.Collected.{Collects, branches_of}
 use Rattle.ltl_tableau.proofs.collect.+expand.Given as goal

@@ -1,4 +1,4 @@
-use Rattle.std.proofs.Common.{List, [], ap, subst, arith}
+use Rattle.std.proofs.Common.{[], ap, subst, arith}
 use Rattle.ltl_tableau.specs.Branches.{Members, Branch}
 use Rattle.ltl_tableau.specs.Reached.{PutsSet}
 use Rattle.ltl_tableau.proofs.Exploring.{more-than, explores-on}

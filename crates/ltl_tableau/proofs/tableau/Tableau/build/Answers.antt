@@ -1,4 +1,4 @@
-use Rattle.std.proofs.Common.{◌≡◌, List, ℕ, length, refl, sym, ap, ◌∙◌, subst, arith}
+use Rattle.std.proofs.Common.{List, length, refl, sym, ap, ◌∙◌, subst, arith}
 use Rattle.rank_check.specs.declared.graph.Node.{Node as Vertex}
 use Rattle.ltl_closure.proofs.Tasks.{same-error}
 use Rattle.ltl_tableau.specs.Branches.{Members}
