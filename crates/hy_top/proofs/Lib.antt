@@ -1,7 +1,10 @@
 pub mod Arriving
 pub mod Deciding
+pub mod Ending
+pub mod FirstSpecs
 pub mod Formulas
 pub mod Judging
+pub mod Monitoring
 pub mod Progress
 pub mod Reading
 pub mod Searches

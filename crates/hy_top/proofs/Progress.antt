@@ -207,6 +207,12 @@ module _ {S : Type 0} (g : Ghosts S) (command : Command) (old : S) where
       })))
       (refused-silent (most_quantifiers command) names (length given) bytes (content_of command (length given)) answer is)
 
+  -- A run that ends at the first file has come to its answer.
+  pub ends_first : (new : S) (shown : List (List ℕ)) (name : List ℕ) (a : Answer) → slice_get (files_of command) 0 ≡ Some name
+      → Ends g old new name (most_quantifiers command) [] 0 (content_of command 0) a
+      → Follows g old new command a (out_text (extras_of command) shown a)
+  ends_first new shown name a there ends = ends_here old new [] [] [] shown name a begun there ends
+
   -- Where all files were taken, memory may run out.
   pub runs_short : (new : S) (given : Given) (formulas : List Plain) (names : List (List ℕ)) → Progress new given formulas names
       → Follows g old new command answers.Memory []

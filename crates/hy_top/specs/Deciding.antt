@@ -17,7 +17,7 @@ use Rattle.ea_core.specs.declared.decision.Both.TheVariants as both
 use Rattle.ea_core.specs.declared.ea_error.EaError.{EaError}
 use Rattle.ea_core.specs.declared.ea_error.EaError.TheVariants as errors
 use Rattle.ea_core.specs.Decided.{Decides, DecidesImplication, DecidesEquivalence, Implies}
-use Rattle.ea_core.specs.Undecided.{HasManyMembers, IsCounted, IsWithin, HasBeyond}
+use Rattle.ea_core.specs.Undecided.{HasManyMembers, IsCounted, IsWithin, AreWithin, HasFewBranches, HasManyBranches}
 use Rattle.hy_answer.specs.declared.answer.Answer.{Answer}
 use Rattle.hy_answer.specs.declared.answer.Answer.TheVariants.{Sat, Unsat, Implied, NotImplied, Equivalent, NotEquivalent, States, Prefix, Limit, Memory}
 use Rattle.hy_words.specs.Commands.{Command, monitor, judge, decide, imply, compare}
@@ -58,7 +58,7 @@ pub record HasLargeClosure (command : Command) (given : Given) : Type 0 where
 pub data DecidesOne (f : Plain) (n : ℕ) : Answer → Type 0 where
   sat : (list : List (Lasso Letter)) → Decides f.prefix f.body (decisions.Sat list) → IsWithin (plan_of f) n → DecidesOne f n (Sat list)
   unsat : (proof : RankProof) → Decides f.prefix f.body (decisions.Unsat proof) → IsWithin (plan_of f) n → DecidesOne f n (Unsat proof)
-  states : HasBeyond (plan_of f) n → DecidesOne f n (States n)
+  beyond : HasManyBranches (plan_of f) n → DecidesOne f n (States n)
 
 -- A formula implies another or not, or the plan of that reaches more than n branches.
 pub data DecidesTwo (f g : Plain) (n : ℕ) : Answer → Type 0 where
@@ -66,19 +66,22 @@ pub data DecidesTwo (f g : Plain) (n : ℕ) : Answer → Type 0 where
       → IsWithin (plan_against f g) n → DecidesTwo f g n (Implied proof)
   not_implied : (list : List (Lasso Letter)) → DecidesImplication f.prefix f.body g.prefix g.body (decisions.Sat list)
       → IsWithin (plan_against f g) n → DecidesTwo f g n (NotImplied list)
-  states : HasBeyond (plan_against f g) n → DecidesTwo f g n (States n)
+  beyond : HasManyBranches (plan_against f g) n → DecidesTwo f g n (States n)
 
 -- Two formulas are equivalent, or one alone is satisfied by a list, the first before the second; or a plan reaches more
 -- than n branches, that of the second direction where the first formula implies the second.
 pub data ComparesTwo (f g : Plain) (n : ℕ) : Answer → Type 0 where
-  equivalent : (first second : RankProof) → DecidesEquivalence f.prefix f.body g.prefix g.body n (both.Same first second)
+  equivalent : (first second : RankProof) → DecidesEquivalence f.prefix f.body g.prefix g.body (both.Same first second)
+      → AreWithin f.prefix f.body g.prefix g.body n (both.Same first second)
       → ComparesTwo f g n (Equivalent first second)
-  first_alone : (list : List (Lasso Letter)) → DecidesEquivalence f.prefix f.body g.prefix g.body n (both.First list)
+  first_alone : (list : List (Lasso Letter)) → DecidesEquivalence f.prefix f.body g.prefix g.body (both.First list)
+      → AreWithin f.prefix f.body g.prefix g.body n (both.First list)
       → ComparesTwo f g n (NotEquivalent 0 list)
-  second_alone : (list : List (Lasso Letter)) → DecidesEquivalence f.prefix f.body g.prefix g.body n (both.Second list)
+  second_alone : (list : List (Lasso Letter)) → DecidesEquivalence f.prefix f.body g.prefix g.body (both.Second list)
+      → AreWithin f.prefix f.body g.prefix g.body n (both.Second list)
       → ComparesTwo f g n (NotEquivalent 1 list)
-  states : HasBeyond (plan_against f g) n
-      ⊎ (IsWithin (plan_against f g) n × Implies f.prefix f.body g.prefix g.body × HasBeyond (plan_against g f) n)
+  many_branches : HasManyBranches (plan_against f g) n
+      ⊎ (HasFewBranches (plan_against f g) n × Implies f.prefix f.body g.prefix g.body × HasManyBranches (plan_against g f) n)
       → ComparesTwo f g n (States n)
 
 -- The work of the command on its formulas comes to this answer.

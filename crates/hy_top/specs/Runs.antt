@@ -9,7 +9,7 @@ use Rattle.hy_answer.specs.declared.answer.Answer.{Answer}
 use Rattle.hy_answer.specs.declared.answer.Answer.TheVariants.{Words, WriteFault, Memory}
 use Rattle.hy_answer.specs.declared.answer.Extras.{Extras}
 use Rattle.hy_answer.specs.Outputs.{out_text}
-use Rattle.hy_words.specs.declared.tool.Tool.{Tool}
+use Rattle.hy_words.specs.declared.item.Tool.{Tool}
 use Rattle.hy_words.specs.Commands.{Command, monitor, judge, decide, imply, compare, IsCommand, HasNoCommand, files_of}
 use Rattle.hy_top.specs.Files.{Given, HasAll}
 use Rattle.hy_top.specs.Stages.{IsRight, InTurn}

@@ -1,0 +1,6 @@
+use Rattle.hy_top.specs.Stages.{stages_of}
+use Rattle.hy_top.proofs.OneAnswer.{first_once}
+use Rattle.hy_top.proofs.laws.one_answer.Goals as goal
+
+pub returns : goal.returns
+returns c command given a b one two = first_once command given (stages_of command) a b one two
