@@ -16,11 +16,7 @@ use std::alloc::Global;
 ///
 /// Syntax with the first line that is no text, counted from 1, or with line 0 where all lines are
 /// texts and none says a lasso. Limit is no answer.
-pub fn read_lassos(
-    alloc: Global,
-    bytes: &[u8],
-    names: &NameTable,
-) -> Result<LassoList, LineError>
+pub fn read_lassos(alloc: Global, bytes: &[u8], names: &NameTable) -> Result<LassoList, LineError>
     requires { length bytes.now ≤ BYTES_LIMIT }
     ensures { IsLassosAnswer names.now bytes.now result }
 {

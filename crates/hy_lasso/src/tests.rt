@@ -40,9 +40,15 @@ fn lasso(alloc: Global, text: &[u8]) -> Result<Lasso, Fail>
 fn files_are_read_and_printed(rt: HostRuntime) -> Result<(), Fail> {
     let alloc = rt.alloc();
     let table = names(alloc)?;
-    let list = read(alloc, b"# two\n\t{else , a};{}|{\"b c\",a} \r\n\n | {} ; {a}")?;
+    let list = read(
+        alloc,
+        b"# two\n\t{else , a};{}|{\"b c\",a} \r\n\n | {} ; {a}",
+    )?;
     let text = print_lassos(alloc, &list, &table)?;
-    assert_eq!(rt; text.as_slice(), b"{a};{}|{a,\"b c\"}\n|{};{a}\n".as_slice());
+    assert_eq!(rt;
+        text.as_slice(),
+        b"{a};{}|{a,\"b c\"}\n|{};{a}\n".as_slice()
+    );
     Ok(())
 }
 
@@ -50,11 +56,26 @@ fn files_are_read_and_printed(rt: HostRuntime) -> Result<(), Fail> {
 fn the_first_faulty_line_is_named(rt: HostRuntime) -> Result<(), Fail> {
     let alloc = rt.alloc();
     assert_eq!(rt; read(alloc, b"").err(), Some(LineError::Syntax { line: 0 }));
-    assert_eq!(rt; read(alloc, b"\n # |{a}\n").err(), Some(LineError::Syntax { line: 0 }));
-    assert_eq!(rt; read(alloc, b"{a}").err(), Some(LineError::Syntax { line: 1 }));
-    assert_eq!(rt; read(alloc, b"{a}|\n").err(), Some(LineError::Syntax { line: 1 }));
-    assert_eq!(rt; read(alloc, b"\n|{a};\n{").err(), Some(LineError::Syntax { line: 2 }));
-    assert_eq!(rt; read(alloc, b"|{}\n#\n{}|{}|{}").err(), Some(LineError::Syntax { line: 3 }));
+    assert_eq!(rt;
+        read(alloc, b"\n # |{a}\n").err(),
+        Some(LineError::Syntax { line: 0 })
+    );
+    assert_eq!(rt;
+        read(alloc, b"{a}").err(),
+        Some(LineError::Syntax { line: 1 })
+    );
+    assert_eq!(rt;
+        read(alloc, b"{a}|\n").err(),
+        Some(LineError::Syntax { line: 1 })
+    );
+    assert_eq!(rt;
+        read(alloc, b"\n|{a};\n{").err(),
+        Some(LineError::Syntax { line: 2 })
+    );
+    assert_eq!(rt;
+        read(alloc, b"|{}\n#\n{}|{}|{}").err(),
+        Some(LineError::Syntax { line: 3 })
+    );
     Ok(())
 }
 
