@@ -1,5 +1,5 @@
 -- Reading the lines of a file one after another.
-use Rattle.std.proofs.Common.{◌≡◌, ◌≢◌, ℕ, suc, ◌+◌, ◌<◌, true, List, [], ◌∷◌, ◌++◌, length, Ok, Err, inl, inr, refl, sym, ap, ◌∙◌, subst, arith, append_assoc, append-nil, length-append}
+use Rattle.std.proofs.Common.{◌≡◌, ◌≢◌, ℕ, suc, ◌+◌, ◌<◌, ◌≤◌, true, List, [], ◌∷◌, ◌++◌, length, Ok, Err, inl, inr, refl, sym, ap, ◌∙◌, subst, arith, append_assoc, append-nil, length-append}
 use Rattle.hy_bits.specs.Letter.{Letter}
 use Rattle.hy_formula.specs.Lassos.{Lasso}
 use Rattle.hy_formula.specs.Quantifiers.{Each}
@@ -26,6 +26,13 @@ gathered_none table lines = record {
 
 not_empty : (list : List (Lasso Letter)) (l : Lasso Letter) → list ++ l ∷ [] ≢ []
 not_empty list l none = omega (arith, ap length none, length-append list (l ∷ []))
+
+-- A line says one lasso at most.
+pub taken_few : (table : List (List ℕ)) (line : List ℕ) (list new : List (Lasso Letter))
+    → IsTaken table line list new true → length new ≤ length list + 1
+taken_few table line list new (inl (nothing, same)) = omega (arith, ap length same)
+taken_few table line list new (inr (said, says, added)) =
+    omega (arith, ap length added, length-append list (lasso_of table said ∷ []))
 
 -- the first line of those that are left
 pub gathered_more : (table lines : List (List ℕ)) (n : ℕ) (left : List (List ℕ))
