@@ -103,13 +103,13 @@ module _ (b : Bool) (net : NetParts) (is : IsNet net) (few : net.inputs + length
   abbrev h : Header
   h = own_header b net
 
-  rows-few : sum (plan_of b net) ≤ 67108864
-  rows-few =
+  pub rows_few : sum (plan_of b net) ≤ 67108864
+  rows_few =
       omega (arith, stacked_long (row_in b net) 0 (plan_of b net), some-lines (rows_of b net), ap length e, small,
       length-append (word_of b ++ line_of (header_row net)) (flat_map line_of (rows_of b net) ++ rest_of b net), length-append (flat_map line_of (rows_of b net)) (rest_of b net))
 
   short-header : AreShort (header_row net)
-  short-header = (omega arith, (omega arith, (omega arith, (omega (arith, rows-few), (omega arith, trimmed-short (length net.constraints) (length net.fairs) (omega (arith, rows-few)) (omega (arith, rows-few)))))))
+  short-header = (omega arith, (omega arith, (omega arith, (omega (arith, rows_few), (omega arith, trimmed-short (length net.constraints) (length net.fairs) (omega (arith, rows_few)) (omega (arith, rows_few)))))))
 
   -- each row is one of a section
   in-row : (P : List ℕ → Type 0) → ((s : Section) (j : ℕ) → j < slice_index (plan_of b net) (number_in s) → P (printed b net s j)) → (k : ℕ) → k < length (rows_of b net) → P (get_or (rows_of b net) k [])
