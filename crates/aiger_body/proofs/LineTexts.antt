@@ -28,7 +28,7 @@ last-of ends (b ∷ c ∷ text) e = let (x, end, is) = last-of ends (c ∷ text)
 
 -- ---- what is free of a byte
 
-all-free : (c : ℕ) (bytes : List ℕ) → All (λ x. nat_eq x c ≡ false) bytes → Free (λ x. nat_eq x c) bytes
+pub all-free : (c : ℕ) (bytes : List ℕ) → All (λ x. nat_eq x c ≡ false) bytes → Free (λ x. nat_eq x c) bytes
 all-free c [] all = tt
 all-free c (b ∷ bytes) all = (all 0 0 (omega arith), all-free c bytes (λ k d lt. all (suc k) d (omega arith)))
 

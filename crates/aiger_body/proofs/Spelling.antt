@@ -19,7 +19,7 @@ bytes-same (x ∷ xs) = both-and (nat_eq x x) (bytes_eq xs xs) (search rules) (b
 wide : (n : ℕ) → n < 10 ^ 10 → n < 2 ^ 64
 wide n lt = omega (arith, lt)
 
-number-decimal : (n : ℕ) → n < 10 ^ 10 → number_of (decimal n) ≡ Some n
+pub number-decimal : (n : ℕ) → n < 10 ^ 10 → number_of (decimal n) ≡ Some n
 number-decimal n lt =
     let value : digits_value 10 (decimal n) ≡ n = (decimal_is_IsNumeral n (wide n lt)).1 in
     let short : nat_le (length (decimal n)) 10 ≡ true = le-leb _ _ (length-decimal-le 10 n (omega arith) lt (wide n lt)) in

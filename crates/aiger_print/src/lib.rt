@@ -2,6 +2,7 @@
 #![tactic(auto)]
 
 mod binary;
+pub mod laws;
 mod lines;
 mod print;
 mod symbols;

@@ -65,7 +65,7 @@ free-none (b ∷ text) (here, free) = ap (λ x. x || list_any (nat_eq 10) text) 
     turned (inl same) = absurd (let again : nat_eq b 10 ≡ true = eq-eqb b 10 (sym (eqb-true 10 b same)) in cc)
     turned (inr other) = other
 
-ends-same : (text : List ℕ) → ends_in 13 text ≡ is_ended is_return text
+pub ends-same : (text : List ℕ) → ends_in 13 text ≡ is_ended is_return text
 ends-same [] = refl
 ends-same (b ∷ []) = refl
 ends-same (b ∷ c ∷ text) = ends-same (c ∷ text)

@@ -8,8 +8,8 @@ use Rattle.std.proofs.lemmas.List.Elements.{Contains-get_or}
 use Rattle.rank_check.specs.Graphs.{Shape, members_of, node_of, successors_of, IsEdge}
 use Rattle.fair_search.specs.declared.pass.Place.TheVariants.{New}
 use Rattle.fair_search.specs.declared.pass.Pass.{Pass}
-use Rattle.fair_search.specs.Passing.{place_of, degree_of, looks_of, looks, edges, left, IsSettled, IsPass, MayOpen, HasReached, Goes}
-use Rattle.fair_search.proofs.Opening.{Opened, opened_pass, open_here}
+use Rattle.fair_search.specs.Passing.{place_of, degree_of, looks_of, looks, edges, left, IsSettled, IsPass, HasReached, Goes}
+use Rattle.fair_search.proofs.Opening.{MayOpen, Opened, opened_pass, open_here}
 use Rattle.fair_search.proofs.Merging.{open≢new, Looked, looked_pass, Looped, looped_pass, loop_here, spent_pass}
 use Rattle.fair_search.proofs.Counting.{looks_start, looks_left, one_more, falls-look}
 

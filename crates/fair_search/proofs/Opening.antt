@@ -1,5 +1,5 @@
 -- A node that was not seen is put on the stack, as a component of its own.
-use Rattle.std.proofs.Common.{◌≡◌, ◌≢◌, ℕ, ◌+◌, ◌<◌, ◌≤◌, ◌⊎◌, true, false, cond, List, [], ◌∷◌, ◌++◌, length, get_or, set, count_by, Option, Some, None, inl, inr, sym, ap, ◌∙◌, subst, arith}
+use Rattle.std.proofs.Common.{◌≡◌, ◌≢◌, ℕ, ◌+◌, ◌<◌, ◌≤◌, ◌⊎◌, true, false, cond, List, [], ◌∷◌, ◌++◌, length, get_or, slice_index, set, count_by, Option, Some, None, inl, inr, sym, ap, ◌∙◌, subst, arith}
 use Rattle.std.specs.List.{Contains}
 use Rattle.std.proofs.Math.ListN.{length-set, length-append, get_or-append}
 use Rattle.std.proofs.Math.Seq.{get_or-append_seam}
@@ -12,7 +12,7 @@ use Rattle.fair_search.specs.declared.pass.Place.{Place}
 use Rattle.fair_search.specs.declared.pass.Place.TheVariants.{New, Open, Done}
 use Rattle.fair_search.specs.declared.pass.Pass.{Pass}
 use Rattle.fair_search.specs.Paths.{Leads}
-use Rattle.fair_search.specs.Passing.{place_of, is_seen, degree_of, looks_of, IsUp, NoStart, SettledAt, IsSettled, ExplainsDone, IsPass, MayOpen}
+use Rattle.fair_search.specs.Passing.{place_of, is_seen, degree_of, looks_of, IsUp, NoStart, SettledAt, IsSettled, ExplainsDone, IsPass}
 
 -- a list that rises, with a greater number last
 pub up-push : (xs : List ℕ) (n : ℕ) → IsUp xs → ((x : ℕ) → Contains xs x → x < n)
@@ -34,6 +34,13 @@ open≢new i e = cc
 
 done≢new : (i : ℕ) → Done i ≡ New → ⊥
 done≢new i e = cc
+
+-- Each open node leads to this one, which is a start where there is no open node.
+pub record MayOpen (g : Shape) (p : Pass) (v : ℕ) : Type 0 where
+  pub unseen : place_of p v ≡ New
+  pub made : v < length g.nodes
+  pub reached : (i : ℕ) → i < length p.stack → Leads g (slice_index p.stack i) v
+  pub starting : length p.stack ≡ 0 → Contains (members_of g 0) v
 
 module _ (g : Shape) (p : Pass) (is : IsPass g p) (v : ℕ) (may : MayOpen g p v) where
   abbrev n : ℕ

@@ -6,8 +6,8 @@ use Rattle.rank_check.specs.Graphs.{Shape, IsEdge}
 use Rattle.fair_search.specs.declared.pass.Place.{Place}
 use Rattle.fair_search.specs.declared.pass.Place.TheVariants.{New, Open, Done}
 use Rattle.fair_search.specs.declared.pass.Pass.{Pass}
-use Rattle.fair_search.specs.Passing.{place_of, IsUp, SettledAt, IsPass, MayOpen, IsLast, HasReached}
-use Rattle.fair_search.proofs.Opening.{Opened, opened_pass, open_here}
+use Rattle.fair_search.specs.Passing.{place_of, IsUp, SettledAt, IsPass, IsLast, HasReached}
+use Rattle.fair_search.proofs.Opening.{MayOpen, Opened, opened_pass, open_here}
 use Rattle.fair_search.proofs.Merging.{from_all, Merged, merged_pass, merged_settled}
 
 module _ (g : Shape) (p : Pass) (is : IsPass g p) (i w : ℕ) (last : IsLast p i)

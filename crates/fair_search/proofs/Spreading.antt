@@ -12,7 +12,7 @@ use Rattle.fair_search.specs.declared.path.Reached.{Reached}
 use Rattle.fair_search.specs.declared.path.Spread.{Spread}
 use Rattle.fair_search.specs.Passing.{edges}
 use Rattle.fair_search.proofs.Beginning.{all_alike}
-use Rattle.fair_search.specs.Paths.{Leads, one, more, no_reached, reached_at, outgoing, leaving, IsSpread, IsSpent, Grows, IsAdded, IsSearched, IsPath, first_or}
+use Rattle.fair_search.specs.Paths.{Leads, one, more, no_reached, reached_at, outgoing, leaving, IsSpread, IsSpent, Grows, IsAdded, IsPath, first_or}
 
 -- ---- how many edges leave the nodes that were seen
 
@@ -302,6 +302,15 @@ paid-next : (g : Shape) (reached : List Reached) (head : ℕ) → head < length 
 paid-next g reached head lt =
     ap (sum_by (outgoing g)) (take_more reached head no_reached lt)
     ∙ sum_by_push (outgoing g) (take head reached) (reached_at reached head)
+
+-- How far a search has come that has spent the nodes before a place.
+pub record IsSearched (g : Shape) (from to before : ℕ) (now : Spread) (head after : ℕ) : Type 0
+  where
+    pub spread : IsSpread g now.seen now.reached
+    pub first : (reached_at now.reached 0).node ≡ from
+    pub within : head ≤ length now.reached
+    pub done : (j : ℕ) → j < head → IsSpent g to now.seen (reached_at now.reached j).node
+    pub counted : after ≤ before + sum_by (outgoing g) (take head now.reached)
 
 module _ (g : Shape) (from to before : ℕ) (p : Spread) (head after : ℕ)
     (is : IsSearched g from to before p head after) where

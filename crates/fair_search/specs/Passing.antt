@@ -111,13 +111,6 @@ opened_at p v = record p {
   starts = p.starts ++ length p.stack ∷ [];
 }
 
--- Each open node leads to this one, which is a start where there is no open node.
-pub record MayOpen (g : Shape) (p : Pass) (v : ℕ) : Type 0 where
-  pub unseen : place_of p v ≡ New
-  pub made : v < length g.nodes
-  pub reached : (i : ℕ) → i < length p.stack → Leads g (slice_index p.stack i) v
-  pub starting : length p.stack ≡ 0 → Contains (members_of g 0) v
-
 -- Place i is in the last component.
 abbrev pub IsLast : Pass → ℕ → Type 0
 IsLast p i = (i < length p.stack) × ((b : ℕ) → Contains p.starts b → b ≤ i)

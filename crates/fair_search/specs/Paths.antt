@@ -1,5 +1,5 @@
 -- Paths of a graph, and what a search for one keeps.
-use Rattle.std.specs.Prelude.{◌≡◌, ◌≢◌, ℕ, ◌+◌, ◌<◌, ◌≤◌, ◌++◌, Bool, true, false, cond, List, [], ◌∷◌, length, slice_index_or, slice_set, take, count_by}
+use Rattle.std.specs.Prelude.{◌≡◌, ◌≢◌, ℕ, ◌+◌, ◌<◌, ◌++◌, Bool, true, false, cond, List, [], ◌∷◌, length, slice_index_or, slice_set, count_by}
 use Rattle.std.specs.List.{sum_by}
 use Rattle.rank_check.specs.declared.graph.Node.{Node}
 use Rattle.rank_check.specs.Graphs.{Shape, members_of, successors_of, IsEdge}
@@ -76,12 +76,3 @@ pub record IsAdded (old new : Spread) (node from : ℕ) : Type 0 where
         reached = old.reached ++ record
             { node = node; from = from } ∷ [];
       }
-
--- How far a search has come that has spent the nodes before a place.
-pub record IsSearched (g : Shape) (from to before : ℕ) (now : Spread) (head after : ℕ) : Type 0
-  where
-    pub spread : IsSpread g now.seen now.reached
-    pub first : (reached_at now.reached 0).node ≡ from
-    pub within : head ≤ length now.reached
-    pub done : (j : ℕ) → j < head → IsSpent g to now.seen (reached_at now.reached j).node
-    pub counted : after ≤ before + sum_by (outgoing g) (take head now.reached)

@@ -1,13 +1,12 @@
 -- Reading the lines of a file one after another.
-use Rattle.std.proofs.Common.{◌≡◌, ◌≢◌, ℕ, suc, ◌+◌, ◌<◌, Bool, true, false, List, [], ◌∷◌, ◌++◌, length, Result, Ok, Err, inl, inr, refl, sym, ap, ◌∙◌, subst, arith, append_assoc, append-nil, length-append}
+use Rattle.std.proofs.Common.{◌≡◌, ◌≢◌, ℕ, suc, ◌+◌, ◌<◌, ◌≤◌, true, List, [], ◌∷◌, ◌++◌, length, Ok, Err, inl, inr, refl, sym, ap, ◌∙◌, subst, arith, append_assoc, append-nil, length-append}
 use Rattle.hy_bits.specs.Letter.{Letter}
 use Rattle.hy_formula.specs.Lassos.{Lasso}
 use Rattle.hy_formula.specs.Quantifiers.{Each}
-use Rattle.hy_text.specs.declared.line_error.LineError.{LineError}
-use Rattle.hy_text.specs.declared.line_error.LineError.TheVariants.{Syntax, Limit, Memory}
+use Rattle.hy_text.specs.declared.line_error.LineError.TheVariants.{Syntax}
 use Rattle.hy_text.specs.Lines.{SaysNothing, FirstFault, lines_of}
-use Rattle.hy_lasso.specs.LassoLines.{Spelled, lasso_of, SaysLasso, IsText, IsFaulty}
-use Rattle.hy_lasso.specs.LassoFiles.{SayLassos, IsLassoFile, IsLassosAnswer}
+use Rattle.hy_lasso.specs.LassoLines.{lasso_of, IsText, IsFaulty}
+use Rattle.hy_lasso.specs.LassoFiles.{SayLassos, IsLassosAnswer}
 use Rattle.hy_lasso.specs.LineParts.{IsTaken}
 
 -- The lassos of the lines before `left`, of which the first has number n, have been gathered.
@@ -28,6 +27,13 @@ gathered_none table lines = record {
 not_empty : (list : List (Lasso Letter)) (l : Lasso Letter) → list ++ l ∷ [] ≢ []
 not_empty list l none = omega (arith, ap length none, length-append list (l ∷ []))
 
+-- A line says one lasso at most.
+pub taken_few : (table : List (List ℕ)) (line : List ℕ) (list new : List (Lasso Letter))
+    → IsTaken table line list new true → length new ≤ length list + 1
+taken_few table line list new (inl (nothing, same)) = omega (arith, ap length same)
+taken_few table line list new (inr (said, says, added)) =
+    omega (arith, ap length added, length-append list (lasso_of table said ∷ []))
+
 -- the first line of those that are left
 pub gathered_more : (table lines : List (List ℕ)) (n : ℕ) (left : List (List ℕ))
     (list new : List (Lasso Letter)) (line : List ℕ) (rest : List (List ℕ))
@@ -45,7 +51,8 @@ gathered_more table lines n left list new line rest before first (inl (nothing, 
     → SayLassos table rest more → SayLassos table lines (l ++ more) in
     let next : n + 1 ≡ suc n = omega arith in
     record {
-      fault = subst N (sym next) (λ k fault. subst F first before.fault k (inr (inl nothing, fault)));
+      fault = subst N (sym next) (λ k fault. subst F first before.fault k
+          (inr (inl nothing, fault)));
       silent = λ none each. subst S first (before.silent (sym same ∙ none)) (nothing, each);
       back = subst A (sym same) (λ more say. subst B first before.back more (inl (nothing, say)));
     }
@@ -63,7 +70,8 @@ gathered_more table lines n left list new line rest before first (inr (said, say
     let lasso = lasso_of table said in
     record {
       fault =
-          subst N (sym next) (λ k fault. subst F first before.fault k (inr (inr (said, says), fault)));
+          subst N (sym next) (λ k fault. subst F first before.fault k
+          (inr (inr (said, says), fault)));
       silent = λ none each. absurd (not_empty list lasso (sym added ∙ none));
       back = subst A (sym added) (λ more say. subst C (sym (append_assoc list (lasso ∷ []) more))
           (subst B first before.back (lasso ∷ more) (inr (said, more, says, refl, say))));

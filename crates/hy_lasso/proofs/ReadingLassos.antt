@@ -1,5 +1,5 @@
 -- The parts of a lasso line, and that it says one lasso.
-use Rattle.std.proofs.Common.{◌≡◌, ◌≢◌, ℕ, ◌<◌, ◌≤◌, Bool, true, false, nat_eq, List, [], ◌∷◌, ◌++◌, length, map, take, Option, Some, None, MatchOption, IfSome, IfNone, sym, ap, ◌∙◌, subst, refl, arith}
+use Rattle.std.proofs.Common.{◌≡◌, ◌≢◌, ℕ, ◌≤◌, Bool, true, false, nat_eq, List, [], ◌∷◌, ◌++◌, length, map, take, Option, Some, None, MatchOption, IfSome, IfNone, sym, ap, ◌∙◌, subst, refl, arith}
 use Rattle.std.proofs.lemmas.List.{take_all, length-map}
 use Rattle.std.proofs.lemmas.Bool.{eqb-true}
 use denote.Ref.{Bor}
@@ -10,7 +10,7 @@ use Rattle.hy_text.specs.Sets.{letter_of}
 use Rattle.hy_text.specs.Words.{SpellsWord}
 use Rattle.hy_text.proofs.Once.{one-word}
 use Rattle.hy_text.proofs.ReadingSets.{apart, behind_byte}
-use Rattle.hy_lasso.specs.LassoLines.{Spelled, lasso_of, SpellsStem, SpellsLasso}
+use Rattle.hy_lasso.specs.LassoLines.{Spelled, SpellsStem, SpellsLasso}
 use Rattle.hy_lasso.specs.LineParts.{IsStemFound, IsCycleFound, IsLassoFound}
 
 -- all letters are kept
@@ -29,14 +29,16 @@ word_no_bar : (text : List ℕ) (sets : List (List (List ℕ))) (end rest : List
 word_no_bar text [] end rest spelled bar = absurd spelled
 word_no_bar text (names ∷ []) end rest (behind, (inner, brace, members), blank, bare) bar =
     apart 123 124 text inner rest (omega arith) brace bar
-word_no_bar text (names ∷ more ∷ sets) end rest (behind, next, (inner, brace, members), blank, tail) bar =
+word_no_bar text (names ∷ more ∷ sets) end rest
+    (behind, next, (inner, brace, members), blank, tail) bar =
     apart 123 124 text inner rest (omega arith) brace bar
 
 pub no_stem : (text : List ℕ) → ((rest : List ℕ) → text ≢ 124 ∷ rest)
     → ((sets : List (List (List ℕ))) (rest : List ℕ) → ¬ SpellsWord text sets rest)
     → (sets : List (List (List ℕ))) (rest : List ℕ) → ¬ SpellsStem text sets rest
 no_stem text no_bar no_word [] rest bar = no_bar rest bar
-no_stem text no_bar no_word (names ∷ sets) rest spelled = no_word (names ∷ sets) (124 ∷ rest) spelled
+no_stem text no_bar no_word (names ∷ sets) rest spelled =
+    no_word (names ∷ sets) (124 ∷ rest) spelled
 
 -- A text has one stem at its front.
 pub one_stem : (text : List ℕ) (sets others : List (List (List ℕ))) (rest end : List ℕ)
@@ -66,7 +68,8 @@ pub stem_found : (table : List (List ℕ)) (text : List ℕ) (letters : List Let
     → letters ≡ map (letter_of table) sets
     → MatchOption found ((rest : List ℕ) → end ≢ 124 ∷ rest) (λ rest. end ≡ 124 ∷ rest.now)
     → IsStemFound table text letters found
-stem_found table text letters sets end None no_bar word e none = no_stem_behind text sets end no_bar word none
+stem_found table text letters sets end None no_bar word e none =
+    no_stem_behind text sets end no_bar word none
 stem_found table text letters [] end (Some rest) no_bar word e bar = absurd word
 stem_found table text letters (x ∷ sets) end (Some rest) no_bar word e bar =
     let P : List ℕ → Type 0 = SpellsWord text (x ∷ sets) in (x ∷ sets, subst P bar word, e)
@@ -125,5 +128,6 @@ pub one_lasso : (text : List ℕ) (said other : Spelled) → SpellsLasso text sa
 one_lasso text said other (rest, stem, cycle) (end, front, round) =
     let (same, behind) = one_stem text said.stem other.stem rest end stem front in
     let P : List ℕ → Type 0 = λ t. SpellsWord (past_blanks t) said.cycle [] in
-    let (whole, none) = one-word (past_blanks end) said.cycle other.cycle [] [] (subst P behind cycle) round in
+    let (whole, none) = one-word (past_blanks end) said.cycle other.cycle [] []
+    (subst P behind cycle) round in
     λ i. record { stem = same i; cycle = whole i }

@@ -17,11 +17,13 @@ SayLassos table (line ∷ lines) list =
     × (list ≡ lasso_of table said ∷ rest) × SayLassos table lines rest)
 
 -- The file is these lassos, one at least.
-pub record IsLassoFile (table : List (List ℕ)) (bytes : List ℕ) (list : List (Lasso Letter)) : Type 0 where
+pub record IsLassoFile (table : List (List ℕ)) (bytes : List ℕ)
+    (list : List (Lasso Letter)) : Type 0 where
   pub some : 0 < length list
   pub say : SayLassos table (lines_of bytes) list
 
--- Why a file is refused: its first line that is no text; or line 0, where no line is at fault and none says a lasso.
+-- Why a file is refused: its first line that is no text; or line 0, where no line is at fault and
+-- none says a lasso.
 abbrev pub IsRefusal : List ℕ → LineError → Type 0
 IsRefusal bytes (Syntax k) =
     FirstFault IsText IsFaulty 1 (lines_of bytes) k ⊎ ((k ≡ 0) × Each SaysNothing (lines_of bytes))
@@ -29,7 +31,8 @@ IsRefusal bytes Limit = ⊥
 IsRefusal bytes Memory = ⊥
 
 -- The file is these lassos, or is refused.
-abbrev pub IsLassosAnswer : List (List ℕ) → List ℕ → Result (List (Lasso Letter)) LineError → Type 0
+abbrev pub IsLassosAnswer : List (List ℕ) → List ℕ → Result (List (Lasso Letter)) LineError
+    → Type 0
 IsLassosAnswer table bytes (Ok list) = IsLassoFile table bytes list
 IsLassosAnswer table bytes (Err Memory) = Unit {0}
 IsLassosAnswer table bytes (Err fault) = IsRefusal bytes fault

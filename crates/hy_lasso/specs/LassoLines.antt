@@ -2,7 +2,8 @@
 --
 --     lasso line := '|' word | word '|' word
 --
--- Space, tab and carriage return are ignored between these parts. A name that the table lacks is passed over.
+-- Space, tab and carriage return are ignored between these parts. A name that the table lacks is
+-- passed over.
 use Rattle.std.specs.Prelude.{◌≡◌, ℕ, ◌⊎◌, List, [], ◌∷◌, map}
 use Rattle.hy_bits.specs.Letter.{Letter}
 use Rattle.hy_formula.specs.Lassos.{Lasso}

@@ -8,8 +8,8 @@ use Rattle.hy_text.specs.Sets.{letter_of}
 use Rattle.hy_text.specs.Words.{SpellsWord}
 use Rattle.hy_lasso.specs.LassoLines.{Spelled, lasso_of, SpellsStem, SpellsLasso, SaysLasso, IsFaulty}
 
--- A stem and its bar stand at the front of the text, and these are its letters and what stands behind the bar, or none
--- do.
+-- A stem and its bar stand at the front of the text, and these are its letters and what stands
+-- behind the bar, or none do.
 abbrev pub IsStemFound : List (List ℕ) → List ℕ → List Letter → Option (Bor (List ℕ)) → Type 0
 IsStemFound table text letters None =
     (sets : List (List (List ℕ))) (rest : List ℕ) → ¬ SpellsStem text sets rest
@@ -30,7 +30,8 @@ IsLassoFound table text (Some lasso) =
     (said : Spelled) × SpellsLasso text said × (lasso ≡ lasso_of table said)
 
 -- The line is a text, and its lasso has been added where it says one; or it is none.
-abbrev pub IsTaken : List (List ℕ) → List ℕ → List (Lasso Letter) → List (Lasso Letter) → Bool → Type 0
+abbrev pub IsTaken : List (List ℕ) → List ℕ → List (Lasso Letter) → List (Lasso Letter) → Bool
+    → Type 0
 IsTaken table line old new false = IsFaulty line
 IsTaken table line old new true =
     (SaysNothing line × (new ≡ old))

@@ -98,8 +98,8 @@ impl Lasso {
         }
     }
 
-    /// The normal form: the same letter at every position, the shortest cycle, and the shortest stem.
-    /// In place, in time linear in the lasso times the divisors of the length of the cycle.
+    /// The normal form: the same letter at every position, the shortest cycle, and the shortest
+    /// stem. In place, in time linear in the lasso times the divisors of the length of the cycle.
     pub fn shorten(self) -> Lasso
         ensures word { (i : ℕ) → letter_at result i ≡ letter_at self i }
         ensures normal { IsNormal result }

@@ -18,26 +18,31 @@ ghost use Rattle.hy_lasso.specs.Words.{letter_at, lasso_words, AreLassos, Satisf
 
 /// On a tuple of lassos each body is decided at each position: it holds there, or it does not.
 pub fn decided_lassos()
-    ensures { (tuple : List (Lasso Letter)) → AreLassos tuple → IsDecided endless (lasso_words tuple) }
+    ensures { (tuple : List (Lasso Letter)) → AreLassos tuple
+        → IsDecided endless (lasso_words tuple) }
 {}
 
 /// A list of lassos satisfies a formula or it does not, and its negation exactly where it does not.
 pub fn negating()
-    ensures decided { (list : List (Lasso Letter)) → AreLassos list → (prefix : List Quant) (body : Tree)
+    ensures decided { (list : List (Lasso Letter)) → AreLassos list
+        → (prefix : List Quant) (body : Tree)
         → Decided (Satisfies list prefix body) }
-    ensures negated { (list : List (Lasso Letter)) → AreLassos list → (prefix : List Quant) (body : Tree)
+    ensures negated { (list : List (Lasso Letter)) → AreLassos list
+        → (prefix : List Quant) (body : Tree)
         → Satisfies list (map turned prefix) (not body) ↔ (¬ Satisfies list prefix body) }
 {}
 
 /// Two lassos in normal form with the same letter at every position are one lasso.
 pub fn one_normal_form()
-    ensures { (l m : Lasso Letter) → 0 < length l.cycle → 0 < length m.cycle → IsNormal l → IsNormal m
+    ensures { (l m : Lasso Letter) → 0 < length l.cycle → 0 < length m.cycle
+        → IsNormal l → IsNormal m
         → ((i : ℕ) → letter_at l i ≡ letter_at m i) → l ≡ m }
 {}
 
 /// A file has one answer, but for want of memory.
 pub fn one_answer()
-    ensures { (table : List (List ℕ)) (bytes : List ℕ) (a b : Result (List (Lasso Letter)) LineError)
+    ensures { (table : List (List ℕ)) (bytes : List ℕ)
+        (a b : Result (List (Lasso Letter)) LineError)
         → a ≢ Err Memory → b ≢ Err Memory
         → IsLassosAnswer table bytes a → IsLassosAnswer table bytes b → a ≡ b }
 {}

@@ -12,12 +12,7 @@ use std::alloc::Global;
 
 /// Adds the lasso of a line to the list, where it says one, and answers whether the line is a text.
 /// Names that the table lacks are passed over. In time linear in the line.
-pub fn take_line(
-    alloc: Global,
-    line: &[u8],
-    names: &NameTable,
-    list: &mut LassoList,
-) -> M<bool>
+pub fn take_line(alloc: Global, line: &[u8], names: &NameTable, list: &mut LassoList) -> M<bool>
     ensures { IfOk result (λ is_text. IsTaken names.now line.now list.old list.new is_text) }
 {
     if says_nothing(line) {
@@ -45,13 +40,9 @@ fn read_lasso(alloc: Global, text: &[u8], names: &NameTable) -> M<Option<Lasso>>
     Ok(Lasso::new(stem, cycle))
 }
 
-/// What stands behind the bar that ends the stem at the front, whose letters are added. `None` where
-/// no stem and bar stand there.
-fn read_stem<'a>(
-    text: &'a [u8],
-    names: &NameTable,
-    letters: &mut Letters,
-) -> M<Option<&'a [u8]>>
+/// What stands behind the bar that ends the stem at the front, whose letters are added. `None`
+/// where no stem and bar stand there.
+fn read_stem<'a>(text: &'a [u8], names: &NameTable, letters: &mut Letters) -> M<Option<&'a [u8]>>
     requires { letters.old ≡ [] }
     ensures { IfOk result (λ rest. IsStemFound names.now text.now letters.new rest) }
 {

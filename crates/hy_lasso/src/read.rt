@@ -1,6 +1,6 @@
 //! Files of lassos.
 
-ghost use Rattle.std.specs.Prelude.{◌≤◌, length};
+ghost use Rattle.std.specs.Prelude.{◌<◌, ◌≤◌, ◌^◌, length, IfOk};
 ghost use Rattle.hy_base.specs.declared.reading.TheConstants.{BYTES_LIMIT};
 ghost use Rattle.hy_lasso.specs.LassoFiles.{IsLassosAnswer};
 
@@ -16,13 +16,11 @@ use std::alloc::Global;
 ///
 /// Syntax with the first line that is no text, counted from 1, or with line 0 where all lines are
 /// texts and none says a lasso. Limit is no answer.
-pub fn read_lassos(
-    alloc: Global,
-    bytes: &[u8],
-    names: &NameTable,
-) -> Result<LassoList, LineError>
+pub fn read_lassos(alloc: Global, bytes: &[u8], names: &NameTable) -> Result<LassoList, LineError>
     requires { length bytes.now ≤ BYTES_LIMIT }
-    ensures { IsLassosAnswer names.now bytes.now result }
+    ensures answer { IsLassosAnswer names.now bytes.now result }
+    ensures some { IfOk result (λ list. 0 < length list) }
+    ensures countable { IfOk result (λ list. length list < 2 ^ 32) }
 {
     let mut list = List::new(alloc);
     let mut left = Some(bytes);

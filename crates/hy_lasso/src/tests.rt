@@ -1,6 +1,6 @@
 //! Lassos that were worked out by hand, with ample memory.
 
-ghost use Rattle.std.specs.Prelude.{◌≡◌, ◌<◌, ◌≤◌, length, IfOk};
+ghost use Rattle.std.specs.Prelude.{◌≡◌, ◌<◌, ◌≤◌, ◌^◌, length, IfOk};
 ghost use Rattle.hy_formula.specs.Trees.{tree_of, atom};
 
 use crate::{
@@ -22,6 +22,8 @@ fn names(alloc: Global) -> Result<NameTable, NameError> {
 
 fn read(alloc: Global, text: &[u8]) -> Result<LassoList, LineError>
     requires { length text.now ≤ 100 }
+    ensures some { IfOk result (λ list. 0 < length list) }
+    ensures countable { IfOk result (λ list. length list < 2 ^ 32) }
 {
     match names(alloc) {
         Ok(table) => read_lassos(alloc, text, &table),
@@ -40,21 +42,35 @@ fn lasso(alloc: Global, text: &[u8]) -> Result<Lasso, Fail>
 fn files_are_read_and_printed(rt: HostRuntime) -> Result<(), Fail> {
     let alloc = rt.alloc();
     let table = names(alloc)?;
-    let list = read(alloc, b"# two\n\t{else , a};{}|{\"b c\",a} \r\n\n | {} ; {a}")?;
+    let list = read(
+        alloc,
+        b"# two\n\t{else , a};{}|{\"b c\",a} \r\n\n | {} ; {a}",
+    )?;
     let text = print_lassos(alloc, &list, &table)?;
-    assert_eq!(rt; text.as_slice(), b"{a};{}|{a,\"b c\"}\n|{};{a}\n".as_slice());
+    assert_eq!(rt;
+        text.as_slice(),
+        b"{a};{}|{a,\"b c\"}\n|{};{a}\n".as_slice()
+    );
     Ok(())
+}
+
+/// The line at which the text is refused.
+fn fault(alloc: Global, text: &[u8]) -> Option<u32>
+    requires { length text.now ≤ 100 }
+{
+    match read(alloc, text) {
+        Err(LineError::Syntax { line }) => Some(line),
+        Ok(_) | Err(LineError::Limit | LineError::Memory) => None,
+    }
 }
 
 #[test]
 fn the_first_faulty_line_is_named(rt: HostRuntime) -> Result<(), Fail> {
     let alloc = rt.alloc();
-    assert_eq!(rt; read(alloc, b"").err(), Some(LineError::Syntax { line: 0 }));
-    assert_eq!(rt; read(alloc, b"\n # |{a}\n").err(), Some(LineError::Syntax { line: 0 }));
-    assert_eq!(rt; read(alloc, b"{a}").err(), Some(LineError::Syntax { line: 1 }));
-    assert_eq!(rt; read(alloc, b"{a}|\n").err(), Some(LineError::Syntax { line: 1 }));
-    assert_eq!(rt; read(alloc, b"\n|{a};\n{").err(), Some(LineError::Syntax { line: 2 }));
-    assert_eq!(rt; read(alloc, b"|{}\n#\n{}|{}|{}").err(), Some(LineError::Syntax { line: 3 }));
+    assert_eq!(rt; fault(alloc, b"\n # |{a}\n"), Some(0));
+    assert_eq!(rt; fault(alloc, b"{a}|"), Some(1));
+    assert_eq!(rt; fault(alloc, b"\n|{a};\n{"), Some(2));
+    assert_eq!(rt; fault(alloc, b"|{}\n#\n{}|{}|{}"), Some(3));
     Ok(())
 }
 
@@ -87,24 +103,39 @@ fn a_of(alloc: Global, var: u8) -> Result<Box<Body>, Fail>
     Ok(Box::new(alloc, Body::Atom(Atom { name: 0, var }))?)
 }
 
+/// `exists p. forall q. F (a_p & a_q)`
+fn meet(alloc: Global) -> Result<Formula, Fail> {
+    let both = Box::new(alloc, Body::And(a_of(alloc, 0)?, a_of(alloc, 1)?))?;
+    Ok(Formula {
+        prefix: Prefix::new(alloc, &[Quant::Exists, Quant::Forall])?,
+        body: Body::Finally(both),
+    })
+}
+
+/// `forall p. exists q. G (a_p <-> !a_q)`
+fn differ(alloc: Global) -> Result<Formula, Fail> {
+    let other = Box::new(alloc, Body::Not(a_of(alloc, 1)?))?;
+    let differ = Box::new(alloc, Body::Iff(a_of(alloc, 0)?, other))?;
+    Ok(Formula {
+        prefix: Prefix::new(alloc, &[Quant::Forall, Quant::Exists])?,
+        body: Body::Globally(differ),
+    })
+}
+
 #[test]
 fn quantifiers_alternate(rt: HostRuntime) -> Result<(), Fail> {
     let alloc = rt.alloc();
     let list = read(alloc, b"{a}|{}\n|{a}")?;
+    assert!(rt; holds(alloc, &meet(alloc)?, &list)?);
+    assert!(rt; !holds(alloc, &differ(alloc)?, &list)?);
+    Ok(())
+}
+
+#[test]
+fn next_goes_round(rt: HostRuntime) -> Result<(), Fail> {
+    let alloc = rt.alloc();
+    let list = read(alloc, b"{a}|{}\n{}|{a}")?;
     assert_eq!(rt; list.len(), 2);
-    let both = Box::new(alloc, Body::And(a_of(alloc, 0)?, a_of(alloc, 1)?))?;
-    let meet = Formula {
-        prefix: Prefix::new(alloc, &[Quant::Exists, Quant::Forall])?,
-        body: Body::Finally(both),
-    };
-    assert!(rt; holds(alloc, &meet, &list)?);
-    let other = Box::new(alloc, Body::Not(a_of(alloc, 1)?))?;
-    let differ = Box::new(alloc, Body::Iff(a_of(alloc, 0)?, other))?;
-    let apart = Formula {
-        prefix: Prefix::new(alloc, &[Quant::Forall, Quant::Exists])?,
-        body: Body::Globally(differ),
-    };
-    assert!(rt; !holds(alloc, &apart, &list)?);
     let next = Body::Next(a_of(alloc, 0)?);
     assert!(rt; !holds_body(alloc, &next, &list, &[0])?);
     assert!(rt; holds_body(alloc, &next, &list, &[1])?);

@@ -3,13 +3,18 @@
 //! ```text
 //! lab solve CONFLICTS FILE [--log]    solves clauses in DIMACS, and prints as solvers do
 //! lab check FILE LOG                  tries a log of refutation against clauses in DIMACS
+//! lab tableau STATES FILE             builds the tableau of the body of a formula
+//! lab search FILE                     searches a graph for a fair walk
 //! ```
 #![tactic(auto)]
 
 mod check;
 mod dimacs;
 mod files;
+mod graphs;
+mod search;
 mod solve;
+mod tableau;
 
 use anyhow::{Result, bail};
 use std::env;
@@ -22,7 +27,7 @@ fn main(rt: HostRuntime) -> Result<ExitCode> {
     }
     match words.as_slice() {
         [command, rest @ ..] => run(&rt, command.as_str(), rest),
-        [] => bail!("the first word is a command: solve, check"),
+        [] => bail!("the first word is a command: solve, check, tableau, search"),
     }
 }
 
@@ -31,6 +36,8 @@ fn run(rt: &HostRuntime, command: &str, words: &[String]) -> Result<ExitCode> {
     match command {
         "solve" => solve::run(rt, words),
         "check" => check::run(rt, words),
+        "tableau" => tableau::run(rt, words),
+        "search" => search::run(rt, words),
         _ => bail!("no command is called {command:?}"),
     }
 }

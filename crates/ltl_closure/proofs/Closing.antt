@@ -10,15 +10,15 @@ use Rattle.ltl_closure.specs.Nodes.{Node, node_at, form_of, PartsBelow, Numbers}
 use Rattle.ltl_closure.specs.Closures.{same_form, with_new, with_form, with_forms, closure, number_in, form_in, node_of, nodes_of}
 use Rattle.ltl_closure.specs.Numbered.{Below, PartsIn, Closed}
 
-and-both : (a b : Bool) → (a && b) ≡ true → (a ≡ true) × (b ≡ true)
+pub and-both : (a b : Bool) → (a && b) ≡ true → (a ≡ true) × (b ≡ true)
 and-both true b e = (refl, e)
 and-both false b e = absurd (cc)
 
-both-and : (a b : Bool) → a ≡ true → b ≡ true → (a && b) ≡ true
+pub both-and : (a b : Bool) → a ≡ true → b ≡ true → (a && b) ≡ true
 both-and true b e f = f
 both-and false b e f = absurd (cc)
 
-same-bool : (b c : Bool) → beq b c ≡ true → b ≡ c
+pub same-bool : (b c : Bool) → beq b c ≡ true → b ≡ c
 same-bool true true e = refl
 same-bool true false e = absurd (cc)
 same-bool false true e = absurd (cc)

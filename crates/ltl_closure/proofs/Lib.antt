@@ -4,3 +4,4 @@ pub mod Marking
 pub mod Visiting
 pub mod Tasks
 pub mod Roots
+pub mod Finding

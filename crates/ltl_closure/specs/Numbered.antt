@@ -1,5 +1,5 @@
 -- What a numbering under way stands for: the forms that have been visited.
-use Rattle.std.specs.Prelude.{◌≡◌, ℕ, ◌<◌, ◌≤◌, Bool, true, false, not, ◌&&◌, ◌||◌, nat_eq, List, map, length, Option, Some, None, All}
+use Rattle.std.specs.Prelude.{◌≡◌, ◌↔◌, ℕ, ◌<◌, ◌≤◌, Bool, true, false, not, ◌&&◌, ◌||◌, nat_eq, List, map, length, Option, Some, None, All}
 use Rattle.std.specs.List.{list_any}
 use Rattle.hy_formula.specs.Normals.{Normal, always, never, literal, and, or, next, weak_next, until, release}
 use Rattle.ltl_closure.specs.declared.node.Node.{Node as Kept}
@@ -51,6 +51,12 @@ abbrev pub refuses_node : Numbering → Kept → Bool
 refuses_node numbering kept =
     numbering.full || (nat_eq (length numbering.members.keys) 1024
     && not (list_any (λ k. same_node (plain_node kept) (plain_node k)) numbering.members.keys))
+
+-- It is the number of the node, where that is one of the nodes.
+abbrev pub IsNumberOf : List Node → Node → Option ℕ → Type 0
+IsNumberOf nodes node None = (k : ℕ) → k < length nodes → ¬ (node_at nodes k ≡ node)
+IsNumberOf nodes node (Some i) =
+    (i < length nodes) × ((k : ℕ) → k < length nodes → (node_at nodes k ≡ node) ↔ (k ≡ i))
 
 -- `new` goes on from `old` by one form, whose parts are there.
 abbrev pub Inserts : Numbering → Kept → Numbering → ℕ → Type 0

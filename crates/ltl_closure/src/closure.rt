@@ -6,7 +6,7 @@ ghost use Rattle.ltl_closure.specs.Nodes.{node_at, PartsBelow};
 ghost use Rattle.ltl_closure.specs.Plain.{plain_node};
 ghost use Rattle.ltl_closure.specs.Closures.{closure};
 ghost use Rattle.ltl_closure.specs.Jobs.{Task, tasks_by, tasks_of, forms_of, task_nodes, closure_of, IsMapped};
-ghost use Rattle.ltl_closure.specs.Numbered.{Visited};
+ghost use Rattle.ltl_closure.specs.Numbered.{Visited, IsNumberOf};
 
 use crate::closure_error::ClosureError;
 use crate::job::{Job, JobList};
@@ -85,6 +85,17 @@ impl Closure {
         ensures operands { PartsBelow i (plain_node result) }
     {
         self.members.as_slice()[usize::from(i)]
+    }
+
+    /// The number of a node, where it is a member. In constant time.
+    pub fn number_of(&self, node: Node) -> Option<u16>
+        ensures { IsNumberOf self.now.nodes (plain_node node) result }
+    {
+        let _different = self.members.len();
+        match self.members.get_index_of(&node) {
+            Some(place) => Some(place as u16),
+            None => None,
+        }
     }
 
     /// The numbers of the whole normal forms, one for each map of each job, in their order.

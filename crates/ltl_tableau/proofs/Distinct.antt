@@ -55,6 +55,17 @@ known-there b (x ∷ xs) e =
       | inr more ↦ Contains-append_right (x ∷ []) xs b (known-there b xs more)
     ]
 
+pub there-known : (b : Branch) (list : List Branch) → Contains list b → list_any (same_branch b) list ≡ true
+there-known b [] (k, lt, e) = absurd (omega arith)
+there-known b (x ∷ xs) (zero, lt, e) =
+    let here : same_branch b x ≡ true = same-branch_itself b x (sym e) in
+    ap (λ c. c || list_any (same_branch b) xs) here
+there-known b (x ∷ xs) (suc k, lt, e) = later (same_branch b x) (there-known b xs (k, omega arith, e))
+  where
+    later : (c : Bool) → list_any (same_branch b) xs ≡ true → (c || list_any (same_branch b) xs) ≡ true
+    later true t = refl
+    later false t = t
+
 one : (list : List Branch) (x b : Branch) → Contains (with_branch list x) b ↔ (Contains list b ⊎ (x ≡ b))
 one list x b = (there (list_any (same_branch x) list), back (list_any (same_branch x) list) refl)
   where
@@ -76,7 +87,7 @@ all-from list (x ∷ xs) b h =
       | inl early ↦ elim ((one list x b).0 early) [ inl old ↦ inl old | inr e ↦ inr (0, omega arith, e) ]
     ]
 
-all-of : (list bs : List Branch) (b : Branch) → Contains list b ⊎ Contains bs b → Contains (with_all list bs) b
+pub all-of : (list bs : List Branch) (b : Branch) → Contains list b ⊎ Contains bs b → Contains (with_all list bs) b
 all-of list [] b (inl h) = h
 all-of list [] b (inr (k, lt, e)) = absurd (omega arith)
 all-of list (x ∷ xs) b (inl h) = all-of (with_branch list x) xs b (inl ((one list x b).1 (inl h)))

@@ -1,10 +1,11 @@
 -- What a branch says: its members keep the rules of their nodes.
-use Rattle.std.proofs.Common.{◌≡◌, ℕ, zero, suc, ◌<◌, ◌≤◌, Bool, true, false, not, cond, nat_eq, List, [], ◌∷◌, length, inl, inr, refl, sym, subst, arith}
+use Rattle.std.proofs.Common.{◌≡◌, ℕ, zero, suc, ◌<◌, ◌≤◌, Bool, true, false, not, cond, nat_eq, List, [], ◌∷◌, length, Some, None, inl, inr, refl, sym, subst, arith}
 use Rattle.std.specs.List.{Contains}
 use Rattle.std.specs.FinSet.{empty, insert, contains}
 use Rattle.std.proofs.lemmas.Bool.{cases_eq, cases_lt, eqb-true, eq-eqb}
 use Rattle.std.proofs.lemmas.List.Elements.{Contains-append_cases}
 use Rattle.ltl_closure.specs.Nodes.{Node, always, never, literal, and, or, next, weak_next, until, release, node_at, PartsBelow, Local}
+use Rattle.ltl_closure.specs.Numbered.{IsNumberOf}
 use Rattle.ltl_tableau.specs.Branches.{Members, Has, Branch, is_literal, has_literal, expand, branches_below, IsBranch}
 use Rattle.ltl_tableau.proofs.Distinct.{branch-from}
 use Rattle.ltl_tableau.proofs.Sets.{has-new, has-old, has-cases, has-none}
@@ -160,6 +161,34 @@ literal-node b name variable _ e = absurd (cc)
 literal-itself : (b : Bool) (name variable : ℕ) → is_literal b name variable (literal b name variable) ≡ true
 literal-itself true name variable = both-and _ _ (eq-eqb name name refl) (eq-eqb variable variable refl)
 literal-itself false name variable = both-and _ _ (eq-eqb name name refl) (eq-eqb variable variable refl)
+
+-- a literal is among the members where the number that it has is
+pub literal-known : (nodes : List Node) (now : Members) (b : Bool) (name variable i : ℕ)
+    → IsNumberOf nodes (literal b name variable) (Some i)
+    → contains now i ≡ has_literal nodes now b name variable (length nodes)
+literal-known nodes now b name variable i (lt, only) =
+    same-truth _ _
+    (λ has.
+        let P : Node → Type 0 = λ n. is_literal b name variable n ≡ true in
+        literal-there nodes now b name variable (length nodes) i lt has
+        (subst P (sym ((only i lt).1 refl)) (literal-itself b name variable)))
+    (λ e.
+        let (k, lt', has, is) = literal-some nodes now b name variable (length nodes) e in
+        let P : ℕ → Type 0 = Has now in
+        subst P ((only k lt').0 (literal-node b name variable (node_at nodes k) is)) has)
+  where
+    same-truth : (a c : Bool) → (a ≡ true → c ≡ true) → (c ≡ true → a ≡ true) → a ≡ c
+    same-truth true c f g = sym (f refl)
+    same-truth false true f g = g refl
+    same-truth false false f g = refl
+
+pub literal-unknown : (nodes : List Node) (now : Members) (b : Bool) (name variable : ℕ)
+    → IsNumberOf nodes (literal b name variable) None
+    → false ≡ has_literal nodes now b name variable (length nodes)
+literal-unknown nodes now b name variable none =
+    sym (not_true _ (λ e.
+        let (k, lt, has, is) = literal-some nodes now b name variable (length nodes) e in
+        none k lt (literal-node b name variable (node_at nodes k) is)))
 
 -- the letters of a branch
 abbrev pub letter : List Node → Branch → ℕ → ℕ → Bool

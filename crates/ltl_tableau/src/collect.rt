@@ -1,7 +1,7 @@
 //! The branches of a set.
 
-ghost use Rattle.std.specs.Prelude.{◌≡◌, ◌≤◌, ◌<◌, ◌*◌, length, OnOk, IfOk};
-ghost use Rattle.std.specs.FinSet.{empty, insert};
+ghost use Rattle.std.specs.Prelude.{◌≡◌, ℕ, ◌≤◌, ◌<◌, ◌*◌, false, length, OnOk, IfOk};
+ghost use Rattle.std.specs.FinSet.{empty, insert, contains};
 ghost use Rattle.ltl_tableau.specs.Branches.{branches, branches_below, has_literal};
 ghost use Rattle.ltl_tableau.specs.Collected.{Collects, IsStep, branches_of};
 
@@ -15,8 +15,8 @@ use std::alloc::Global;
 /// The branches of a set of members, each once, at its first place.
 ///
 /// Members are taken from the greatest down. Each disjunction splits a branch in two, and so does
-/// each until and each release, so there may be as many as two to the number of these; the time is
-/// linear in the closure for each way to choose.
+/// each until and each release, unless both ways are the same, so there may be as many as two to the
+/// number of these; the time is linear in the closure for each way to choose.
 pub fn branches<const W: usize>(alloc: Global, c: &Closure, s: &Obl<W>) -> M<BranchList<W>>
     requires width { W ≤ 16 }
     requires members { length c.now.nodes ≤ 64 * W }
@@ -54,7 +54,7 @@ pub(crate) fn collect<const W: usize>(
 }
 
 /// A branch that is being made.
-#[derive(Clone, Copy)]
+#[derive(Clone, Copy, PartialEq, Eq)]
 pub struct Work<const W: usize> {
     /// The members to do are those of `todo` below this number.
     pub below: u16,
@@ -91,7 +91,9 @@ fn expand<const W: usize>(
             Step::Ends => return Ok(()),
             Step::Goes(next) => work = next,
             Step::Splits(first, second) => {
-                expand(c, first, most, found)?;
+                if first != second {
+                    expand(c, first, most, found)?;
+                }
                 if found.len() > most {
                     return Ok(());
                 }
@@ -106,7 +108,7 @@ fn expand<const W: usize>(
     Ok(())
 }
 
-/// Does the greatest member that is to do, or passes over a number that is none.
+/// Does the greatest member that is to do, or passes over the numbers above it.
 fn advance<const W: usize>(c: &Closure, work: Work<W>) -> Step<W>
     requires width { W ≤ 16 }
     requires members { length c.now.nodes ≤ 64 * W }
@@ -124,7 +126,7 @@ fn advance<const W: usize>(c: &Closure, work: Work<W>) -> Step<W>
     let f = usize::from(below);
     if !todo.has(f) {
         return Step::Goes(Work {
-            below,
+            below: last_to_do(&todo, below),
             todo,
             now,
             next,
@@ -153,6 +155,20 @@ fn advance<const W: usize>(c: &Closure, work: Work<W>) -> Step<W>
         Node::Until(g, h) => Step::Splits(done.with(h), done.with(g).later(below)),
         Node::Release(g, h) => Step::Splits(done.with(g).with(h), done.with(h).later(below)),
     }
+}
+
+/// One more than the greatest member below a number, or 0.
+fn last_to_do<const W: usize>(todo: &Obl<W>, below: u16) -> u16
+    requires width { W ≤ 16 }
+    requires within { below ≤ 64 * W }
+    ensures lower { result ≤ below }
+    ensures none { (k : ℕ) → result ≤ k → k < below → contains todo.now k ≡ false }
+{
+    let mut last = below;
+    while 0 < last && !todo.has(usize::from(last - 1)) {
+        last -= 1;
+    }
+    last
 }
 
 impl<const W: usize> Work<W> {
@@ -197,19 +213,15 @@ impl<const W: usize> Work<W> {
     }
 }
 
-/// Whether a literal is among the members, in time linear in the closure.
+/// Whether a literal is among the members.
 fn has_literal<const W: usize>(c: &Closure, now: &Obl<W>, atom: Atom, positive: bool) -> bool
     requires width { W ≤ 16 }
     requires members { length c.now.nodes ≤ 64 * W }
     ensures { result ≡ has_literal c.now.nodes now.now positive atom.name atom.var
         (length c.now.nodes) }
 {
-    let literal = Node::Lit { atom, positive };
-    let mut found = false;
-    for k in 0..c.len() {
-        if now.has(k) && c.node(k as u16) == literal {
-            found = true;
-        }
+    match c.number_of(Node::Lit { atom, positive }) {
+        Some(k) => now.has(usize::from(k)),
+        None => false,
     }
-    found
 }

@@ -90,6 +90,13 @@ impl Graph {
         Ok(())
     }
 
+    /// How many groups there are.
+    pub fn groups(&self) -> u32
+        ensures { result ≡ length self.now.groups }
+    {
+        self.groups.len() as u32
+    }
+
     /// How many nodes there are.
     pub fn nodes(&self) -> u32
         ensures { result ≡ length self.now.nodes }

@@ -1,5 +1,5 @@
 use Rattle.std.proofs.Common.{◌-◌, length}
-use Rattle.fair_search.specs.Paths.{IsSearched}
+use Rattle.fair_search.proofs.Spreading.{IsSearched}
 use Rattle.fair_search.proofs.path.path.Given as goal
 
 abbrev pub invariant-loop-head : goal.invariant-loop-head

@@ -1,6 +1,5 @@
 use Rattle.std.proofs.Common.{Option, Bool, true, ℕ, List, [], subst}
 use denote.Ref.{Bor}
-use Rattle.hy_text.specs.Bytes.{past_blanks}
 use Rattle.hy_text.specs.Words.{SpellsWord}
 use Rattle.hy_lasso.specs.LineParts.{IsStemFound, IsCycleFound}
 use Rattle.hy_lasso.proofs.ReadingLassos.{no_cycle, lasso_found}

@@ -1,4 +1,4 @@
-use Rattle.std.proofs.Common.{Option, subst, ℕ, List, length}
+use Rattle.std.proofs.Common.{Option, subst, length}
 use Rattle.hy_text.specs.declared.words.WordRead.{WordRead}
 use Rattle.hy_text.specs.Found.{IsWordHere}
 use Rattle.hy_lasso.proofs.Lengths.{word_long}

@@ -1,4 +1,4 @@
-use Rattle.std.proofs.Common.{◌≡◌, Option, Bool, true, false, ℕ, List, IsTrue, subst}
+use Rattle.std.proofs.Common.{◌≡◌, Option, true, false, ℕ, List, IsTrue, subst}
 use Rattle.hy_bits.specs.Letter.{Letter}
 use Rattle.hy_formula.specs.Lassos.{Lasso}
 use Rattle.hy_lasso.specs.LassoLines.{Spelled, SpellsLasso}
@@ -14,7 +14,8 @@ returns-in_default c =
     let Q : List ℕ → Type 0 = λ t. (said : Spelled) → ¬ SpellsLasso t said in
     record {
       speaks = λ nothing.
-          let clash : false ≡ true = subst IsTrue c.if-says_nothing.false (c.says_nothing.ensures.1 nothing) in
+          let clash : false ≡ true = subst IsTrue c.if-says_nothing.false
+          (c.says_nothing.ensures.1 nothing) in
           cc;
       none = subst Q c.past_blanks.ensures.behind none;
     }
