@@ -94,10 +94,10 @@ one_kind-taken prefix classes.Other e (inl f) = let both = sym e ∙ f in cc
 one_kind-taken prefix classes.Other e (inr f) = let both = sym e ∙ f in cc
 
 one_kind-untaken : (prefix : List Quant) (c : Class) → class_of prefix ≡ c → ¬ IsOfOneKind prefix → is_of_one_kind c ≡ false
-one_kind-untaken prefix classes.Exists e no = absurd (no (inl e))
-one_kind-untaken prefix classes.Forall e no = absurd (no (inr e))
-one_kind-untaken prefix classes.ExistsForall e no = refl
-one_kind-untaken prefix classes.Other e no = refl
+one_kind-untaken prefix classes.Exists e other = absurd (other (inl e))
+one_kind-untaken prefix classes.Forall e other = absurd (other (inr e))
+one_kind-untaken prefix classes.ExistsForall e other = refl
+one_kind-untaken prefix classes.Other e other = refl
 
 -- ---- a formula
 
@@ -140,8 +140,8 @@ both-taken f g one two = (one_kind-taken f.prefix (class_of f.prefix) refl one, 
 -- The first formula whose quantifiers are of both kinds.
 unlike : (f g : Plain) (second : Bool) (found : Class) → Unlike f.prefix g.prefix second found
     → FirstUntaken is_of_one_kind (f ∷ g ∷ []) (cond second 1 0) found
-unlike f g false found (is, no) = (is, one_kind-untaken f.prefix found is no)
-unlike f g true found (one, is, no) = (one_kind-taken f.prefix (class_of f.prefix) refl one, (is, one_kind-untaken g.prefix found is no))
+unlike f g false found (is, other) = (is, one_kind-untaken f.prefix found is other)
+unlike f g true found (one, is, other) = (one_kind-taken f.prefix (class_of f.prefix) refl one, (is, one_kind-untaken g.prefix found is other))
 
 module _ (name other : List ℕ) (states : ℕ) (proof : Bool) (f g : Plain) where
   pub imply-not : (list : List (Lasso Letter)) → IsOfOneKind f.prefix → IsOfOneKind g.prefix → IsWithin (plan_against f g) states

@@ -35,41 +35,44 @@ as-specs k (free byte) a e = e
 as-specs k (over count limit) a e = e
 as-specs k (read_as formulas names) a e = absurd e
 
-module _ {S : Type 0} (g : Ghosts S) (old new : S) (name : List ℕ) (quantifiers : ℕ) (names : List (List ℕ)) (k : ℕ) (bytes : List ℕ)
-    (came : ReadsFile g old new name (Ok bytes)) where
-  pub short-ends : (content : Content) (a : Answer) → a ≡ answers.Memory → Ends g old new name quantifiers names k content a
+module _ {S : Type 0} (g : Ghosts S) (old new : S) (name : List ℕ) (quantifiers : ℕ) (names : List (List ℕ)) (k : ℕ) (bytes read : List ℕ)
+    (came : ReadsFile g old new name (Ok bytes)) (same : read ≡ bytes) where
+  short-ends : (content : Content) (a : Answer) → a ≡ answers.Memory → Ends g old new name quantifiers names k content a
   short-ends content a e = let P : Answer → Type 0 = λ b. Ends g old new name quantifiers names k content b in subst P (sym e) (spent bytes came)
 
-  pub refused-ends : (content : Content) (a : Answer) → OrMemory a (IsRefused quantifiers names k bytes content a) → Ends g old new name quantifiers names k content a
-  refused-ends content a (inl e) = short-ends content a e
-  refused-ends content a (inr is) = refused bytes a came is
+  refused-ends : (content : Content) (a : Answer) → IsRefused quantifiers names k read content a → Ends g old new name quantifiers names k content a
+  refused-ends content a is = let P : List ℕ → Type 0 = λ b. IsRefused quantifiers names k b content a in refused bytes a came (subst P same is)
 
   pub formula-ends : {F : Type 0} (plain : F → List Plain) (table : List (List ℕ)) (error : ReadError) (a : Answer)
-      → IsAnswer plain false quantifiers names table bytes (Err error) → IsTextAnswer k error a → Ends g old new name quantifiers names k one_formula a
+      → IsAnswer plain false quantifiers names table read (Err error) → IsTextAnswer k error a → Ends g old new name quantifiers names k one_formula a
   formula-ends plain table error a is e =
-      elim (text_found plain false quantifiers names table bytes k error a is e) [
+      elim (text_found plain false quantifiers names table read k error a is e) [
         | inl memory ↦ short-ends one_formula a memory
-        | inr found ↦ refused bytes a came found
+        | inr found ↦ refused-ends one_formula a found
       ]
 
   pub specs-ends : {F : Type 0} (plain : F → List Plain) (table : List (List ℕ)) (error : ReadError) (a : Answer)
-      → IsAnswer plain true quantifiers names table bytes (Err error) → IsTextAnswer k error a → Ends g old new name quantifiers names k specifications a
+      → IsAnswer plain true quantifiers names table read (Err error) → IsTextAnswer k error a → Ends g old new name quantifiers names k specifications a
   specs-ends plain table error a is e =
-      elim (text_found plain true quantifiers names table bytes k error a is e) [
+      elim (text_found plain true quantifiers names table read k error a is e) [
         | inl memory ↦ short-ends specifications a memory
-        | inr found ↦ refused bytes a came (found.0, found.1, as-specs k found.0 a found.2)
+        | inr found ↦ refused-ends specifications a (found.0, found.1, as-specs k found.0 a found.2)
       ]
 
-  pub unbuilt-ends : (formulas : List Plain) (table : List (List ℕ)) → Answers true quantifiers names bytes (read_as formulas table) → ¬ AreBuilt formulas
+  pub unbuilt-ends : (formulas : List Plain) (table : List (List ℕ)) → Answers true quantifiers names read (read_as formulas table) → ¬ AreBuilt formulas
       → Ends g old new name quantifiers names k specifications (answers.Unbuilt k)
-  unbuilt-ends formulas table is other = refused bytes _ came (read_as formulas table, is, (other, refl))
+  unbuilt-ends formulas table is other = refused-ends specifications _ (read_as formulas table, is, (other, refl))
 
-  pub lassos-ends : (fault : LineError) → IsLassosAnswer names bytes (Err fault) → Ends g old new name quantifiers names k lassos (line_answer k fault)
-  lassos-ends (faults.Syntax line) is = refused bytes _ came (line, is, refl)
+  pub lassos-ends : (fault : LineError) → IsLassosAnswer names read (Err fault) → Ends g old new name quantifiers names k lassos (line_answer k fault)
+  lassos-ends (faults.Syntax line) is = refused-ends lassos _ (line, is, refl)
   lassos-ends faults.Limit is = absurd is
   lassos-ends faults.Memory is = spent bytes came
 
-  pub traces-end : (r : Result (List Trace) Answer) → IfErr r (λ a. OrMemory a (RefusesLines k (lines_of bytes) a))
+  traces-end-one : (a : Answer) → OrMemory a (RefusesLines k (lines_of read) a) → Ends g old new name quantifiers names k events a
+  traces-end-one a (inl e) = short-ends events a e
+  traces-end-one a (inr is) = refused-ends events a is
+
+  pub traces-end : (r : Result (List Trace) Answer) → IfErr r (λ a. OrMemory a (RefusesLines k (lines_of read) a))
       → IfErr r (λ a. Ends g old new name quantifiers names k events a)
   traces-end (Ok traces) is = tt
-  traces-end (Err a) is = refused-ends events a is
+  traces-end (Err a) is = traces-end-one a is

@@ -21,16 +21,16 @@ use Rattle.hy_top.proofs.Progress.{texts_once}
 untaken_or_taken : (takes : Class → Bool) (formulas : List Plain) (place : ℕ) (found : Class) → FirstUntaken takes formulas place found
     → ¬ Each (λ (f : Plain). takes (class_of f.prefix) ≡ true) formulas
 untaken_or_taken takes [] place found first all = first
-untaken_or_taken takes (f ∷ formulas) zero found (is, no) (yes, all) = let e : takes found ≡ true = ap takes (sym is) ∙ yes in cc
+untaken_or_taken takes (f ∷ formulas) zero found (is, out) (yes, all) = let e : takes found ≡ true = ap takes (sym is) ∙ yes in cc
 untaken_or_taken takes (f ∷ formulas) (suc place) found (yes, first) (also, all) = untaken_or_taken takes formulas place found first all
 
 -- One formula is the first whose class is not taken.
 pub untaken_once : (takes : Class → Bool) (formulas : List Plain) (place other : ℕ) (found next : Class) → FirstUntaken takes formulas place found
     → FirstUntaken takes formulas other next → (place ≡ other) × (found ≡ next)
 untaken_once takes [] place other found next one two = absurd one
-untaken_once takes (f ∷ formulas) zero zero found next (is, no) (also, none) = (refl, sym is ∙ also)
-untaken_once takes (f ∷ formulas) zero (suc other) found next (is, no) (yes, two) = let e : takes found ≡ true = ap takes (sym is) ∙ yes in cc
-untaken_once takes (f ∷ formulas) (suc place) zero found next (yes, one) (is, no) = let e : takes next ≡ true = ap takes (sym is) ∙ yes in cc
+untaken_once takes (f ∷ formulas) zero zero found next (is, out) (also, two) = (refl, sym is ∙ also)
+untaken_once takes (f ∷ formulas) zero (suc other) found next (is, out) (yes, two) = let e : takes found ≡ true = ap takes (sym is) ∙ yes in cc
+untaken_once takes (f ∷ formulas) (suc place) zero found next (yes, one) (is, out) = let e : takes next ≡ true = ap takes (sym is) ∙ yes in cc
 untaken_once takes (f ∷ formulas) (suc place) (suc other) found next (yes, one) (also, two) =
     let (same, known) = untaken_once takes formulas place other found next one two in (ap suc same, known)
 

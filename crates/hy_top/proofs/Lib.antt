@@ -5,6 +5,7 @@ pub mod FirstSpecs
 pub mod Formulas
 pub mod Judging
 pub mod Monitoring
+pub mod OneAnswer
 pub mod Progress
 pub mod Reading
 pub mod Searches

@@ -1,5 +1,5 @@
 -- How a run goes on from file to file, and how it ends.
-use Rattle.std.proofs.Common.{◌≡◌, ℕ, zero, suc, ◌+◌, ◌-◌, ◌<◌, ◌≤◌, List, [], ◌∷◌, ◌++◌, length, Some, Ok, Err, slice_get, refl, sym, ap, subst, ◌∙◌, arith, zero-add, add-one, append_assoc, append-nil, length-append}
+use Rattle.std.proofs.Common.{◌≡◌, ℕ, zero, suc, ◌+◌, ◌-◌, ◌<◌, ◌≤◌, List, [], ◌∷◌, ◌++◌, length, Some, Ok, Err, slice_get, refl, sym, ap, subst, ◌∙◌, arith, zero-add, suc-add, add-one, append_assoc, append-nil, length-append}
 use Rattle.std.proofs.lemmas.Option.{slice_get_within}
 use Rattle.hy_base.specs.Shelf.{Read, ReadsFile, ReadsFiles}
 use Rattle.hy_base.specs.declared.reading.FileError.{FileError}

@@ -1,6 +1,6 @@
 //! Files that are read whole and taken, or end the run.
 
-ghost use Rattle.std.specs.Prelude.{◌∷◌, ◌↔◌, [], IfOk, IfErr, IsTrue};
+ghost use Rattle.std.specs.Prelude.{◌∷◌, ◌↔◌, ◌<◌, ◌^◌, [], length, IfOk, IfErr, IsTrue};
 ghost use Rattle.hy_base.specs.Shelf.{KeepsShelf};
 ghost use Rattle.hy_read.specs.Builds.{plain_formula, plain_formulas};
 ghost use Rattle.hy_top.specs.Contents.{specifications, one_formula, events, lassos, AreBuilt};
@@ -112,6 +112,8 @@ pub fn lassos_in<S: Shelf>(
     ensures keeps { KeepsShelf S.Shelf shelf.old shelf.new }
     ensures taken { IfOk result (λ list. TakesLassos S.Shelf shelf.old shelf.new name.now names.now
         list) }
+    ensures some { IfOk result (λ list. 0 < length list) }
+    ensures countable { IfOk result (λ list. length list < 2 ^ 32) }
     ensures ended { IfErr result (λ answer. Ends S.Shelf shelf.old shelf.new name.now 8 names.now
         file lassos answer) }
 {

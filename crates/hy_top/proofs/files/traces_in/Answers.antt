@@ -7,4 +7,4 @@ returns-in-Err-clause-ended g c = rw c.fault_answer.ensures (unread c.in-Err.err
 
 pub returns-clause-ended : goal.returns-clause-ended
 returns-clause-ended g c =
-    traces-end g.S.Shelf _ _ _ _ _ _ _ c.in-Ok.ensures.read _ (rw c.as_slice.ensures at c.read_traces.ensures.refused)
+    traces-end g.S.Shelf _ _ _ _ _ _ _ _ c.in-Ok.ensures.read c.as_slice.ensures _ c.read_traces.ensures.refused

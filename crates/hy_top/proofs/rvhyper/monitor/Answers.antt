@@ -1,4 +1,4 @@
-use Rattle.std.proofs.Common.{refl}
+use Rattle.std.proofs.Common.{refl, arith}
 use Rattle.hy_words.specs.Commands.{monitor}
 use Rattle.hy_top.proofs.FirstSpecs.{few_traces}
 use Rattle.hy_top.proofs.Progress.{ends_first}
@@ -18,3 +18,7 @@ pub returns-clause-follows : goal.returns-clause-follows
 returns-clause-follows g c =
     ends_at_traces g.S.Shelf _ _ _ c.args.specs.now c.args.traces.now _ _ (rw c.requires at c.in-Ok.ensures.taken) _
     c.in-Err-traces_in.ensures.ended
+
+pub judge-requires-clause-few : goal.judge-requires-clause-few
+judge-requires-clause-few g c =
+    let taken = c.in-Ok-traces_in.ensures.taken in omega (arith, few_traces _ _ _ taken.is, taken.read.few)
