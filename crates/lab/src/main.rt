@@ -3,12 +3,17 @@
 //! ```text
 //! lab solve CONFLICTS FILE [--log]    solves clauses in DIMACS, and prints as solvers do
 //! lab check FILE LOG                  tries a log of refutation against clauses in DIMACS
+//! lab aag FILE                        prints the net of an AIGER file of either form in ASCII
+//! lab aig FILE                        prints it in the binary form
+//! lab simulate FILE FIRST STEM CYCLE  prints the values of all variables in a run, or `no lasso`
 //! ```
 #![tactic(auto)]
 
 mod check;
+mod circuits;
 mod dimacs;
 mod files;
+mod runs;
 mod solve;
 
 use anyhow::{Result, bail};
@@ -22,7 +27,7 @@ fn main(rt: HostRuntime) -> Result<ExitCode> {
     }
     match words.as_slice() {
         [command, rest @ ..] => run(&rt, command.as_str(), rest),
-        [] => bail!("the first word is a command: solve, check"),
+        [] => bail!("the first word is a command: solve, check, aag, aig, simulate"),
     }
 }
 
@@ -31,6 +36,9 @@ fn run(rt: &HostRuntime, command: &str, words: &[String]) -> Result<ExitCode> {
     match command {
         "solve" => solve::run(rt, words),
         "check" => check::run(rt, words),
+        "aag" => circuits::print(rt, words, false),
+        "aig" => circuits::print(rt, words, true),
+        "simulate" => circuits::run(rt, words),
         _ => bail!("no command is called {command:?}"),
     }
 }
