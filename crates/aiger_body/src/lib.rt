@@ -9,8 +9,6 @@ mod header;
 pub mod laws;
 mod lines;
 mod section;
-#[cfg(test)]
-mod tests;
 mod text;
 mod uses;
 

@@ -6,8 +6,6 @@ mod names;
 mod numbering;
 mod read;
 mod symbol;
-#[cfg(test)]
-mod tests;
 
 pub use aiger_body::{AigKind, AigerError};
 pub use read::read_aiger;
