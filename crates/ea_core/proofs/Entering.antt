@@ -14,7 +14,6 @@ use Rattle.ea_core.specs.declared.rank_proof.ProofBranch.{ProofBranch}
 use Rattle.ea_core.specs.Proofs.{branch_of, IsAscending}
 use Rattle.ea_core.specs.Shown.{AreEntries}
 
-
 pub entries-none : (list : List Branch) (ranks : Ranks) → AreEntries (take 0 list) ranks []
 entries-none list ranks = record { branches = refl; ranked = λ v d lt. absurd (omega arith); ascending = All-nil IsAscending }
 

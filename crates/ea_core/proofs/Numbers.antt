@@ -79,9 +79,9 @@ both-ways false false f g = refl
 pub numbers-set : (s : Members) (n : ℕ) (list : List ℕ) → AreBelow n s → list ≡ numbers_of s n → set_of list ≡ s
 numbers-set s n list below e =
     ap set_of e ∙ same_set nat_cmp_total nat_cmp-IsAntisymmetric (set_of (numbers_of s n)) s (λ q.
-        both-ways _ _ (has-passes (contains s) 0 n q) (λ is. passes-has (contains s) 0 n q (omega arith) (omega (arith, below q is)) is))
+    both-ways _ _ (has-passes (contains s) 0 n q) (λ is. passes-has (contains s) 0 n q (omega arith) (omega (arith, below q is)) is))
 
 pub numbers-ascend : (s : Members) (n : ℕ) (list : List ℕ) → list ≡ numbers_of s n → IsStrictlyIncreasing list
 numbers-ascend s n list e =
     subst IsStrictlyIncreasing (sym e) (IsStrictlyIncreasing-filter (contains s) (range_with_len 0 n) (λ k lt.
-        omega (arith, length-range_with_len 0 n, get_or-range_with_len 0 n k 0 (omega (arith, length-range_with_len 0 n)), get_or-range_with_len 0 n (k + 1) 0 (omega (arith, length-range_with_len 0 n)))))
+    omega (arith, length-range_with_len 0 n, get_or-range_with_len 0 n k 0 (omega (arith, length-range_with_len 0 n)), get_or-range_with_len 0 n (k + 1) 0 (omega (arith, length-range_with_len 0 n)))))

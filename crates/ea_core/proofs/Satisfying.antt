@@ -125,8 +125,7 @@ module _ (plan : PlainPlan) (below : AreMappedBelow plan.vars (plan_tasks plan))
       let same : lassos_from joint 0 plan.vars ≡ lassos_of nodes along plan.vars = same-lassos nodes plan.vars list joint stem cycle s c 0 plan.vars (omega arith) in
       let Q : List (Lasso Letter) → Type 0 = λ t. AreShortened t made in
       let short' : AreShortened (lassos_of nodes along plan.vars) made = subst Q same short in
-      let P : Words → Type 0 = λ w. (name v i : ℕ) → IsTrue (w name v i) → PlanMentions plan name in
-      (
+      let P : Words → Type 0 = λ w. (name v i : ℕ) → IsTrue (w name v i) → PlanMentions plan name in (
         shortened-fulfils plan (lassos_of nodes along plan.vars) made short' fulfilled,
         record { normal = short.normal; names = subst P (shortened-words (lassos_of nodes along plan.vars) made short') named },
       )
