@@ -128,7 +128,7 @@ module _ (formula : List ℕ) (states : ℕ) (proof : Bool) (f : Plain) where
   decide-refused (errors.Limit limit) (known, inr (e, few, many)) =
       let P : Past → Type 0 = λ l. Outcome (decide formula states proof) (f ∷ []) (answers.Limit l.kind l.limit) in
       subst P (sym e) (large_closure (decide-taken known) (few, tt) (plan_of f) (contains-here (plan_of f) []) many)
-  decide-refused errors.States (known, counted, more) = done _ (decide-taken known) (counted, tt) (beyond more)
+  decide-refused errors.States (known, (counted, more)) = done _ (decide-taken known) (counted, tt) (beyond more)
   decide-refused errors.Memory is = spent
 
 -- ---- two formulas
@@ -163,7 +163,7 @@ module _ (name other : List ℕ) (states : ℕ) (proof : Bool) (f g : Plain) whe
   imply-refused (errors.Limit limit) (one, two, inr (e, few, many)) =
       let P : Past → Type 0 = λ l. Outcome (imply name other states proof) (f ∷ g ∷ []) (answers.Limit l.kind l.limit) in
       subst P (sym e) (large_closure (both-taken f g one two) (few, tt) (plan_against f g) (contains-here (plan_against f g) []) many)
-  imply-refused errors.States (one, two, counted, more) = done _ (both-taken f g one two) (counted, tt) (beyond more)
+  imply-refused errors.States (one, two, (counted, more)) = done _ (both-taken f g one two) (counted, tt) (beyond more)
   imply-refused errors.Memory is = spent
 
   pub compare-same : (first second : RankProof) → IsOfOneKind f.prefix → IsOfOneKind g.prefix
@@ -234,11 +234,11 @@ module _ {S : Type 0} (g : Ghosts S) (old mid new : S) (first second : List ℕ)
       ends_here g (imply first second states proof) old mid new (Ok takes.bytes ∷ []) (f ∷ []) names shown second a (imply_first states proof) refl ends
 
   -- The run follows what is decided of the formulas.
-  pub imply_follows : (states : ℕ) (proof : Bool) (h : Plain) (later : List (List ℕ)) → Takes g mid new second 8 names one_formula (h ∷ []) later
-      → (a : Answer) → Outcome (imply first second states proof) (f ∷ h ∷ []) a → Follows g old new (imply first second states proof) a (out_text (extras_of (imply first second states proof)) later a)
-  imply_follows states proof h later next a outcome =
-      outcome_follows g (imply first second states proof) old new (Ok takes.bytes ∷ Ok next.bytes ∷ []) (f ∷ h ∷ []) later
-      (goes_on g (imply first second states proof) old mid new (Ok takes.bytes ∷ []) (f ∷ []) (h ∷ []) names later second (imply_first states proof) refl next)
+  pub imply_follows : (states : ℕ) (proof : Bool) (h : Plain) (known : List (List ℕ)) → Takes g mid new second 8 names one_formula (h ∷ []) known
+      → (a : Answer) → Outcome (imply first second states proof) (f ∷ h ∷ []) a → Follows g old new (imply first second states proof) a (out_text (extras_of (imply first second states proof)) known a)
+  imply_follows states proof h known next a outcome =
+      outcome_follows g (imply first second states proof) old new (Ok takes.bytes ∷ Ok next.bytes ∷ []) (f ∷ h ∷ []) known
+      (goes_on g (imply first second states proof) old mid new (Ok takes.bytes ∷ []) (f ∷ []) (h ∷ []) names known second (imply_first states proof) refl next)
       refl (λ judging. judging) (λ b is. is) a outcome
 
   compare_first : (states : ℕ) (proof : Bool) → Progress g (compare first second states proof) old mid (Ok takes.bytes ∷ []) (f ∷ []) names
@@ -251,9 +251,9 @@ module _ {S : Type 0} (g : Ghosts S) (old mid new : S) (first second : List ℕ)
       ends_here g (compare first second states proof) old mid new (Ok takes.bytes ∷ []) (f ∷ []) names shown second a (compare_first states proof) refl ends
 
   -- The run follows what is decided of the formulas.
-  pub compare_follows : (states : ℕ) (proof : Bool) (h : Plain) (later : List (List ℕ)) → Takes g mid new second 8 names one_formula (h ∷ []) later
-      → (a : Answer) → Outcome (compare first second states proof) (f ∷ h ∷ []) a → Follows g old new (compare first second states proof) a (out_text (extras_of (compare first second states proof)) later a)
-  compare_follows states proof h later next a outcome =
-      outcome_follows g (compare first second states proof) old new (Ok takes.bytes ∷ Ok next.bytes ∷ []) (f ∷ h ∷ []) later
-      (goes_on g (compare first second states proof) old mid new (Ok takes.bytes ∷ []) (f ∷ []) (h ∷ []) names later second (compare_first states proof) refl next)
+  pub compare_follows : (states : ℕ) (proof : Bool) (h : Plain) (known : List (List ℕ)) → Takes g mid new second 8 names one_formula (h ∷ []) known
+      → (a : Answer) → Outcome (compare first second states proof) (f ∷ h ∷ []) a → Follows g old new (compare first second states proof) a (out_text (extras_of (compare first second states proof)) known a)
+  compare_follows states proof h known next a outcome =
+      outcome_follows g (compare first second states proof) old new (Ok takes.bytes ∷ Ok next.bytes ∷ []) (f ∷ h ∷ []) known
+      (goes_on g (compare first second states proof) old mid new (Ok takes.bytes ∷ []) (f ∷ []) (h ∷ []) names known second (compare_first states proof) refl next)
       refl (λ judging. judging) (λ b is. is) a outcome

@@ -21,17 +21,17 @@ use Rattle.hy_top.proofs.Progress.{texts_once}
 untaken_or_taken : (takes : Class → Bool) (formulas : List Plain) (place : ℕ) (found : Class) → FirstUntaken takes formulas place found
     → ¬ Each (λ (f : Plain). takes (class_of f.prefix) ≡ true) formulas
 untaken_or_taken takes [] place found first all = first
-untaken_or_taken takes (f ∷ formulas) zero found (is, out) (yes, all) = let e : takes found ≡ true = ap takes (sym is) ∙ yes in cc
-untaken_or_taken takes (f ∷ formulas) (suc place) found (yes, first) (also, all) = untaken_or_taken takes formulas place found first all
+untaken_or_taken takes (f ∷ formulas) zero found (is, out) (fits, all) = let e : takes found ≡ true = ap takes (sym is) ∙ fits in cc
+untaken_or_taken takes (f ∷ formulas) (suc place) found (fits, first) (also, all) = untaken_or_taken takes formulas place found first all
 
 -- One formula is the first whose class is not taken.
 pub untaken_once : (takes : Class → Bool) (formulas : List Plain) (place other : ℕ) (found next : Class) → FirstUntaken takes formulas place found
     → FirstUntaken takes formulas other next → (place ≡ other) × (found ≡ next)
 untaken_once takes [] place other found next one two = absurd one
 untaken_once takes (f ∷ formulas) zero zero found next (is, out) (also, two) = (refl, sym is ∙ also)
-untaken_once takes (f ∷ formulas) zero (suc other) found next (is, out) (yes, two) = let e : takes found ≡ true = ap takes (sym is) ∙ yes in cc
-untaken_once takes (f ∷ formulas) (suc place) zero found next (yes, one) (is, out) = let e : takes next ≡ true = ap takes (sym is) ∙ yes in cc
-untaken_once takes (f ∷ formulas) (suc place) (suc other) found next (yes, one) (also, two) =
+untaken_once takes (f ∷ formulas) zero (suc other) found next (is, out) (fits, two) = let e : takes found ≡ true = ap takes (sym is) ∙ fits in cc
+untaken_once takes (f ∷ formulas) (suc place) zero found next (fits, one) (is, out) = let e : takes next ≡ true = ap takes (sym is) ∙ fits in cc
+untaken_once takes (f ∷ formulas) (suc place) (suc other) found next (fits, one) (also, two) =
     let (same, known) = untaken_once takes formulas place other found next one two in (ap suc same, known)
 
 each_contains : {A : Type 0} (P : A → Type 0) (xs : List A) (x : A) → Each P xs → Contains xs x → P x

@@ -1,9 +1,15 @@
 -- What a judgement of lassos comes to is the answer of the run.
-use Rattle.std.proofs.Common.{◌≡◌, ℕ, List, [], ◌∷◌, Ok, Err, refl, subst}
+use Rattle.std.proofs.Common.{◌≡◌, ◌⊎◌, ℕ, List, [], ◌∷◌, ◌++◌, Ok, Err, inl, inr, refl, sym, subst, ◌∙◌}
+use Rattle.hy_base.specs.declared.limit.Limit.{Limit as Past}
 use Rattle.hy_base.specs.declared.shelf.Shelf.{Ghosts}
 use Rattle.hy_bits.specs.Letter.{Letter}
 use Rattle.hy_formula.specs.Lassos.{Lasso}
+use Rattle.hy_formula.specs.Trees.{Tree}
+use Rattle.hy_formula.specs.declared.prefix.Quant.{Quant}
+use Rattle.hy_lasso.specs.declared.error.HoldsError.{HoldsError}
+use Rattle.hy_lasso.specs.declared.error.HoldsError.TheVariants.{Memory as OfMemory, Limit as OfLimit}
 use Rattle.hy_lasso.specs.Joint.{IsJudged}
+use Rattle.hy_lasso.specs.Limits.{joint_limit}
 use Rattle.hy_lasso.specs.LassoFiles.{IsLassosAnswer}
 use Rattle.hy_read.specs.Answers.{Plain}
 use Rattle.hy_answer.specs.declared.answer.Answer.{Answer}
@@ -91,3 +97,14 @@ module _ {S : Type 0} (g : Ghosts S) (old mid new : S) (formula file : List ℕ)
     judgement_follows _ (too_joint long) =
         before_joint _ (here (record { judges = tt; formula = f; list = list; lassos = has; long = long }, refl))
     judgement_follows _ spent = runs_short g (judge formula file) old new _ (f ∷ []) names read_all
+
+-- An error of a judgement is what it says.
+pub error-judged : (prefix : List Quant) (body : Tree) (list : List (Lasso Letter)) (e : HoldsError) (l : Past) → e ≡ OfLimit l
+    → (e ≡ OfLimit joint_limit → ¬ IsJudged list) → (e ≡ OfLimit joint_limit) ⊎ (e ≡ OfMemory)
+    → IsJudgement prefix body list (answers.Limit l.kind l.limit)
+error-judged prefix body list e l is long (inl f) =
+    let same : OfLimit joint_limit ≡ OfLimit l = sym f ∙ is in
+    let limits : joint_limit ≡ l = cc in
+    let P : Past → Type 0 = λ m. IsJudgement prefix body list (answers.Limit m.kind m.limit) in
+    subst P limits (too_joint (long f))
+error-judged prefix body list e l is long (inr f) = let same : OfMemory ≡ OfLimit l = sym f ∙ is in cc

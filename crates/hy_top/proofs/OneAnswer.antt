@@ -40,9 +40,9 @@ agree {a} e = subst (Agree a) e (same a)
 
 -- Traces up to the m-th that violate the body do so among all of them.
 violates_later : (n : ℕ) (tree : Tree) (traces : List Trace) (m : ℕ) (pick : List ℕ) → ViolatesBy n tree (take m traces) pick → All (λ x. x < m) pick × ViolatesBy n tree traces pick
-violates_later n tree traces m pick ((long, members), fails) = (
+violates_later n tree traces m pick ((long, members), wrong) = (
   within,
-  ((long, λ i d lt. omega (arith, members i d lt, length-take m traces)), λ holds. fails (subst (Satisfies tree) (sym (picked-take traces m pick within)) holds)),
+  ((long, λ i d lt. omega (arith, members i d lt, length-take m traces)), λ right. wrong (subst (Satisfies tree) (sym (picked-take traces m pick within)) right)),
 )
   where
     within : All (λ x. x < m) pick
@@ -59,8 +59,8 @@ no_earlier n tree traces k l pick other one two lt =
     let (within, violated) = violates_later n tree traces (suc k) pick one.violated in
     let before : All (λ x. x < l) pick = λ i d le. omega (arith, within i d le) in
     let arrives = two.arrives in
-    let holds = two.clean_before pick (violated.0.0, λ i d le. omega (arith, before i d le, length-take l traces)) in
-    violated.1 (subst (Satisfies tree) (picked-take traces l pick before) holds)
+    let right = two.clean_before pick (violated.0.0, λ i d le. omega (arith, before i d le, length-take l traces)) in
+    violated.1 (subst (Satisfies tree) (picked-take traces l pick before) right)
 
 one_arrival : (n : ℕ) (tree : Tree) (traces : List Trace) (k l : ℕ) (pick other : List ℕ) → FirstViolation n tree traces k pick → FirstViolation n tree traces l other → k ≡ l
 one_arrival n tree traces k l pick other one two =
@@ -75,13 +75,13 @@ one_arrival n tree traces k l pick other one two =
 
 same_clean : (count : ℕ) (kept : List ℕ) (live : ℕ) (other : ℕ) (left : List ℕ) (open' : ℕ)
     → count ≡ other → kept ≡ left → live ≡ open' → answers.NoViolation count kept live ≡ answers.NoViolation other left open'
-same_clean count kept live other left open' e f h = cc
+same_clean total kept live other left open' e f h = cc
 
 verdicts_agree : (prefix : List Quant) (tree : Tree) (traces : List Trace) (a b : Answer) → AreUniversal prefix → IsVerdict prefix tree traces a
     → IsVerdict prefix tree traces b → Agree a b
-verdicts_agree prefix tree traces _ _ universal (is_clean count kept live one) (is_clean other left open' two) =
-    agree (same_clean count kept live other left open' (one.all ∙ sym two.all) (one.kept_all ∙ sym two.kept_all) (one.none_open ∙ sym two.none_open))
-verdicts_agree prefix tree traces _ _ universal (is_clean count kept live one) (is_violated trace tuple two) =
+verdicts_agree prefix tree traces _ _ universal (is_clean total kept live one) (is_clean other left open' two) =
+    agree (same_clean total kept live other left open' (one.all ∙ sym two.all) (one.kept_all ∙ sym two.kept_all) (one.none_open ∙ sym two.none_open))
+verdicts_agree prefix tree traces _ _ universal (is_clean total kept live one) (is_violated trace tuple two) =
     absurd (clean_or_not (length prefix) tree traces trace tuple (λ pick (long, members). quantified-all (length traces) _ prefix universal one.clean pick long members) two)
 verdicts_agree prefix tree traces _ _ universal (is_violated trace tuple one) (is_clean other left open' two) =
     absurd (clean_or_not (length prefix) tree traces trace tuple (λ pick (long, members). quantified-all (length traces) _ prefix universal two.clean pick long members) one)

@@ -81,7 +81,7 @@ module _ (command : Command) where
   fewer given zero j formulas names has = (formulas, names, rw zero-add at has)
   fewer given (suc n) j formulas names has =
       let P : ℕ → Type 0 = λ m. HasTexts command given m formulas names in
-      let (before, more, old, first, _) = subst P (suc-add n j) has in
+      let (before, more, old, first, last, e) = subst P (suc-add n j) has in
       fewer given n j before old first
 
   turns : (given : Given) (n : ℕ) (formulas : List Plain) (names : List (List ℕ)) → HasTexts command given n formulas names

@@ -9,6 +9,6 @@ returns-in-Ok-clause-follows g c proof =
     decide_follows g.S.Shelf _ _ _ c.args.formula.now c.args.states proof _ (rw c.requires.empty at c.in-Ok.ensures.taken) _
     (c.decide_formula.ensures c.args.formula.now proof)
 
-pub returns-clause-follows : goal.returns-clause-follows
-returns-clause-follows g c proof =
+pub returns-in-Err-clause-follows : goal.returns-in-Err-clause-follows
+returns-in-Err-clause-follows g c proof =
     ends_first g.S.Shelf (decide c.args.formula.now c.args.states proof) _ _ _ _ _ refl (rw c.requires.empty at c.in-Err.ensures.ended)

@@ -10,5 +10,5 @@ returns-in-Err-clause-ended g c = rw c.fault_answer.ensures (unread c.in-Err.err
 
 pub returns-clause-ended : goal.returns-clause-ended
 returns-clause-ended g c =
-    formula-ends g.S.Shelf _ _ _ _ _ _ _ _ c.in-Ok.ensures.read c.as_slice.ensures (λ (f : Formula). plain_formula f ∷ []) _ _ _
+    formula-ends g.S.Shelf _ _ _ _ _ _ _ _ c.in-Ok.ensures.read c.as_slice.ensures (λ (f : Formula). plain_formula f ∷ []) c.read_formula.new.names _ _
     c.in-Err-read_formula.ensures.answer c.text_answer.ensures

@@ -9,7 +9,7 @@ returns-in-Err-clause-ended g c = rw c.fault_answer.ensures (unread c.in-Err.err
 
 pub returns-in-Err-read_specs-clause-ended : goal.returns-in-Err-read_specs-clause-ended
 returns-in-Err-read_specs-clause-ended g c =
-    specs-ends g.S.Shelf _ _ _ _ _ _ _ _ c.in-Ok.ensures.read c.as_slice.ensures plain_formulas _ _ _
+    specs-ends g.S.Shelf _ _ _ _ _ _ _ _ c.in-Ok.ensures.read c.as_slice.ensures plain_formulas c.read_specs.new.names _ _
     c.in-Err-read_specs.ensures.answer c.text_answer.ensures
 
 pub returns-then-not-are_built-clause-ended : goal.returns-then-not-are_built-clause-ended
