@@ -14,7 +14,7 @@ returns-in-Some-Monitor-clause-right g c = (
   _,
   _,
   worded (monitor c.in-Some-Monitor.specs.now c.in-Some-Monitor.traces.now) _ _ (rw c.in-Some-Monitor.field-0-is at c.in-Some-Monitor.ensures.some)
-  (c.monitor-due.ensures.follows),
+  c.monitor-due.ensures.follows,
   c.finish-in-Some-Monitor.ensures.written,
 )
 
@@ -27,7 +27,7 @@ returns-in-Some-Judge-clause-right g c = (
   _,
   _,
   worded (judge c.in-Some-Judge.formula.now c.in-Some-Judge.lassos.now) _ _ (rw c.in-Some-Judge.field-0-is at c.in-Some-Judge.ensures.some)
-  (c.judge-due.ensures.follows),
+  c.judge-due.ensures.follows,
   c.finish-in-Some-Judge.ensures.written,
 )
 
