@@ -48,27 +48,29 @@ pub fn run<S: Shelf, O: Sink, E: Sink>(
     let Ok(mut names) = NameTable::new(alloc) else {
         unreachable!()
     };
-    match command_of(tool, words) {
-        None => finish(alloc, Answer::Words, plain, &names, &[], out, err),
-        Some(Command::Monitor { specs, traces }) => {
+    let Some(command) = command_of(tool, words) else {
+        return finish(alloc, Answer::Words, plain, &names, &[], out, err);
+    };
+    match command {
+        Command::Monitor { specs, traces } => {
             let due = rvhyper::monitor(alloc, shelf, specs, traces, &mut names);
             finish(alloc, due, plain, &names, &[specs, traces], out, err)
         }
-        Some(Command::Judge { formula, lassos }) => {
+        Command::Judge { formula, lassos } => {
             let due = eahyper::judge(alloc, shelf, formula, lassos, &mut names);
             finish(alloc, due, plain, &names, &[formula, lassos], out, err)
         }
-        Some(Command::Decide { formula, states, proof }) => {
+        Command::Decide { formula, states, proof } => {
             let due = eahyper::decide(alloc, shelf, formula, states, &mut names);
             let extras = Extras { kept: false, proof };
             finish(alloc, due, extras, &names, &[formula], out, err)
         }
-        Some(Command::Imply { first, second, states, proof }) => {
+        Command::Imply { first, second, states, proof } => {
             let due = eahyper::imply(alloc, shelf, (first, second), states, &mut names);
             let extras = Extras { kept: false, proof };
             finish(alloc, due, extras, &names, &[first, second], out, err)
         }
-        Some(Command::Compare { first, second, states, proof }) => {
+        Command::Compare { first, second, states, proof } => {
             let due = eahyper::compare(alloc, shelf, (first, second), states, &mut names);
             let extras = Extras { kept: false, proof };
             finish(alloc, due, extras, &names, &[first, second], out, err)

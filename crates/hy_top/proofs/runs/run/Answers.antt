@@ -9,67 +9,82 @@ returns-in-None-clause-right g c = (_, _, unworded c.in-None.ensures.none refl, 
 pub returns-in-None-clause-err : goal.returns-in-None-clause-err
 returns-in-None-clause-err g c = (_, of_none c.in-None.ensures.none, c.finish.ensures.err)
 
-pub returns-in-Some-Monitor-clause-right : goal.returns-in-Some-Monitor-clause-right
-returns-in-Some-Monitor-clause-right g c = (
+pub returns-in-Monitor-clause-right : goal.returns-in-Monitor-clause-right
+returns-in-Monitor-clause-right g c = (
   _,
   _,
-  worded (monitor c.in-Some-Monitor.specs.now c.in-Some-Monitor.traces.now) _ _ (rw c.in-Some-Monitor.field-0-is at c.in-Some-Monitor.ensures.some)
-  c.monitor-due.ensures.follows,
-  c.finish-in-Some-Monitor.ensures.written,
+  worded (monitor c.in-Monitor.specs.now c.in-Monitor.traces.now) _ _
+  (rw c.in-Monitor.is at c.in-Some.ensures.some) c.monitor-due.ensures.follows,
+  c.finish-in-Monitor.ensures.written,
 )
 
-pub returns-in-Some-Monitor-clause-err : goal.returns-in-Some-Monitor-clause-err
-returns-in-Some-Monitor-clause-err g c =
-    (_, of_command (monitor c.in-Some-Monitor.specs.now c.in-Some-Monitor.traces.now) (rw c.in-Some-Monitor.field-0-is at c.in-Some-Monitor.ensures.some), c.finish-in-Some-Monitor.ensures.err)
-
-pub returns-in-Some-Judge-clause-right : goal.returns-in-Some-Judge-clause-right
-returns-in-Some-Judge-clause-right g c = (
+pub returns-in-Monitor-clause-err : goal.returns-in-Monitor-clause-err
+returns-in-Monitor-clause-err g c = (
   _,
-  _,
-  worded (judge c.in-Some-Judge.formula.now c.in-Some-Judge.lassos.now) _ _ (rw c.in-Some-Judge.field-0-is at c.in-Some-Judge.ensures.some)
-  c.judge-due.ensures.follows,
-  c.finish-in-Some-Judge.ensures.written,
+  of_command (monitor c.in-Monitor.specs.now c.in-Monitor.traces.now) (rw c.in-Monitor.is at c.in-Some.ensures.some),
+  c.finish-in-Monitor.ensures.err,
 )
 
-pub returns-in-Some-Judge-clause-err : goal.returns-in-Some-Judge-clause-err
-returns-in-Some-Judge-clause-err g c =
-    (_, of_command (judge c.in-Some-Judge.formula.now c.in-Some-Judge.lassos.now) (rw c.in-Some-Judge.field-0-is at c.in-Some-Judge.ensures.some), c.finish-in-Some-Judge.ensures.err)
-
-pub returns-in-Some-Decide-clause-right : goal.returns-in-Some-Decide-clause-right
-returns-in-Some-Decide-clause-right g c = (
+pub returns-in-Judge-clause-right : goal.returns-in-Judge-clause-right
+returns-in-Judge-clause-right g c = (
   _,
   _,
-  worded (decide c.in-Some-Decide.formula.now c.in-Some-Decide.states c.in-Some-Decide.proof) _ _ (rw c.in-Some-Decide.field-0-is at c.in-Some-Decide.ensures.some)
-  (c.decide-due.ensures.follows c.in-Some-Decide.proof),
-  c.finish-in-Some-Decide.ensures.written,
+  worded (judge c.in-Judge.formula.now c.in-Judge.lassos.now) _ _
+  (rw c.in-Judge.is at c.in-Some.ensures.some) c.judge-due.ensures.follows,
+  c.finish-in-Judge.ensures.written,
 )
 
-pub returns-in-Some-Decide-clause-err : goal.returns-in-Some-Decide-clause-err
-returns-in-Some-Decide-clause-err g c =
-    (_, of_command (decide c.in-Some-Decide.formula.now c.in-Some-Decide.states c.in-Some-Decide.proof) (rw c.in-Some-Decide.field-0-is at c.in-Some-Decide.ensures.some), c.finish-in-Some-Decide.ensures.err)
-
-pub returns-in-Some-Imply-clause-right : goal.returns-in-Some-Imply-clause-right
-returns-in-Some-Imply-clause-right g c = (
+pub returns-in-Judge-clause-err : goal.returns-in-Judge-clause-err
+returns-in-Judge-clause-err g c = (
   _,
-  _,
-  worded (imply c.in-Some-Imply.first.now c.in-Some-Imply.second.now c.in-Some-Imply.states c.in-Some-Imply.proof) _ _ (rw c.in-Some-Imply.field-0-is at c.in-Some-Imply.ensures.some)
-  (c.imply-due.ensures.follows c.in-Some-Imply.proof),
-  c.finish-in-Some-Imply.ensures.written,
+  of_command (judge c.in-Judge.formula.now c.in-Judge.lassos.now) (rw c.in-Judge.is at c.in-Some.ensures.some),
+  c.finish-in-Judge.ensures.err,
 )
 
-pub returns-in-Some-Imply-clause-err : goal.returns-in-Some-Imply-clause-err
-returns-in-Some-Imply-clause-err g c =
-    (_, of_command (imply c.in-Some-Imply.first.now c.in-Some-Imply.second.now c.in-Some-Imply.states c.in-Some-Imply.proof) (rw c.in-Some-Imply.field-0-is at c.in-Some-Imply.ensures.some), c.finish-in-Some-Imply.ensures.err)
+pub returns-in-Decide-clause-right : goal.returns-in-Decide-clause-right
+returns-in-Decide-clause-right g c = (
+  _,
+  _,
+  worded (decide c.in-Decide.formula.now c.in-Decide.states c.in-Decide.proof) _ _
+  (rw c.in-Decide.is at c.in-Some.ensures.some) (c.decide-due.ensures.follows c.in-Decide.proof),
+  c.finish-in-Decide.ensures.written,
+)
+
+pub returns-in-Decide-clause-err : goal.returns-in-Decide-clause-err
+returns-in-Decide-clause-err g c = (
+  _,
+  of_command (decide c.in-Decide.formula.now c.in-Decide.states c.in-Decide.proof) (rw c.in-Decide.is at c.in-Some.ensures.some),
+  c.finish-in-Decide.ensures.err,
+)
+
+pub returns-in-Imply-clause-right : goal.returns-in-Imply-clause-right
+returns-in-Imply-clause-right g c = (
+  _,
+  _,
+  worded (imply c.in-Imply.first.now c.in-Imply.second.now c.in-Imply.states c.in-Imply.proof) _ _
+  (rw c.in-Imply.is at c.in-Some.ensures.some) (c.imply-due.ensures.follows c.in-Imply.proof),
+  c.finish-in-Imply.ensures.written,
+)
+
+pub returns-in-Imply-clause-err : goal.returns-in-Imply-clause-err
+returns-in-Imply-clause-err g c = (
+  _,
+  of_command (imply c.in-Imply.first.now c.in-Imply.second.now c.in-Imply.states c.in-Imply.proof) (rw c.in-Imply.is at c.in-Some.ensures.some),
+  c.finish-in-Imply.ensures.err,
+)
 
 pub returns-clause-right : goal.returns-clause-right
 returns-clause-right g c = (
   _,
   _,
-  worded (compare c.in-Some-Compare.first.now c.in-Some-Compare.second.now c.in-Some-Compare.states c.in-Some-Compare.proof) _ _ (rw c.in-Some-Compare.field-0-is at c.in-Some-Compare.ensures.some)
-  (c.compare-due.ensures.follows c.in-Some-Compare.proof),
-  c.finish-in-Some-Compare.ensures.written,
+  worded (compare c.in-Compare.first.now c.in-Compare.second.now c.in-Compare.states c.in-Compare.proof) _ _
+  (rw c.in-Compare.is at c.in-Some.ensures.some) (c.compare-due.ensures.follows c.in-Compare.proof),
+  c.finish-in-Compare.ensures.written,
 )
 
 pub returns-clause-err : goal.returns-clause-err
-returns-clause-err g c =
-    (_, of_command (compare c.in-Some-Compare.first.now c.in-Some-Compare.second.now c.in-Some-Compare.states c.in-Some-Compare.proof) (rw c.in-Some-Compare.field-0-is at c.in-Some-Compare.ensures.some), c.finish-in-Some-Compare.ensures.err)
+returns-clause-err g c = (
+  _,
+  of_command (compare c.in-Compare.first.now c.in-Compare.second.now c.in-Compare.states c.in-Compare.proof) (rw c.in-Compare.is at c.in-Some.ensures.some),
+  c.finish-in-Compare.ensures.err,
+)
