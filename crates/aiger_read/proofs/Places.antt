@@ -1,47 +1,35 @@
--- What stands from the place of a piece on is cut into the pieces from there on.
-use Rattle.std.proofs.Common.{◌≡◌, ℕ, zero, suc, Bool, true, false, List, [], ◌∷◌, ◌++◌, length, take, drop, refl, sym, ◌∙◌, ap}
-use Rattle.std.specs.List.{concat}
-use Rattle.aiger_read.specs.Texts.{grown, pieces, place}
+-- Places of numbers in a list, from the last one on.
+use Rattle.std.proofs.Common.{◌≡◌, ℕ, zero, suc, ◌+◌, ◌-◌, ◌<◌, ◌≤◌, ◌⊎◌, Bool, true, false, not, nat_eq, inl, inr, refl, sym, ◌∙◌, ap, arith, cond, List, [], ◌∷◌, length, get_or, set, drop, replicate}
+use Rattle.std.specs.Prelude.{slice_index, slice_index_or, slice_set}
+use Rattle.std.specs.List.{position_or_len}
+use Rattle.std.proofs.lemmas.Bool.{cases_eq, eqb-true, eq-eqb}
+use Rattle.std.proofs.lemmas.List.{get_or-set_same, get_or-set_other}
+use Rattle.std.proofs.Math.Seq.{drop-cons}
+use Rattle.aig_order.proofs.Firsts.{either}
 
--- the first piece, and what is behind it
-pub record Split (ends : ℕ → Bool) (bytes : List ℕ) (p : List ℕ) (rest : List (List ℕ)) : Type 0 where
-  pub behind : List ℕ
-  pub whole : bytes ≡ p ++ behind
-  pub cut : pieces ends behind ≡ rest
-
-pub split : (ends : ℕ → Bool) (bytes : List ℕ) (p : List ℕ) (rest : List (List ℕ)) → pieces ends bytes ≡ p ∷ rest → Split ends bytes p rest
-split ends [] p rest e = absurd (cc)
-split ends (b ∷ bytes) p rest e = step (ends b) (pieces ends bytes) refl (split ends bytes) e
+-- one more number is placed
+pub placed_more : (xs places : List ℕ) (count place n : ℕ) → place < length xs → n ≡ suc place → slice_index xs place < length places → ((v : ℕ) → slice_index_or places v count ≡ n + position_or_len (nat_eq v) (drop n xs)) → (v : ℕ) → slice_index_or (slice_set places (slice_index xs place) place) v count ≡ place + position_or_len (nat_eq v) (drop place xs)
+placed_more xs places count place n inside next small before v =
+    elim (either (nat_eq v x)) [
+      | inl same ↦
+          ap (λ i. slice_index_or (slice_set places x place) i count) (eqb-true v x same)
+          ∙ get_or-set_same places x place count small
+          ∙ (let none : place ≡ place + 0 = omega arith in none)
+          ∙ ap (λ b. place + cond (not b) (1 + position_or_len (nat_eq v) (drop (suc place) xs)) 0) (sym same)
+          ∙ ap (λ l. place + position_or_len (nat_eq v) l) (sym (drop-cons xs place 0 inside))
+      | inr other ↦
+          get_or-set_other places x v place count (λ same. absurd (let yes_same = eq-eqb v x same in cc))
+          ∙ before v
+          ∙ ap (λ m. m + position_or_len (nat_eq v) (drop m xs)) next
+          ∙ (let more : suc place + position_or_len (nat_eq v) (drop (suc place) xs) ≡ place + (1 + position_or_len (nat_eq v) (drop (suc place) xs)) = omega arith in more)
+          ∙ ap (λ b. place + cond (not b) (1 + position_or_len (nat_eq v) (drop (suc place) xs)) 0) (sym other)
+          ∙ ap (λ l. place + position_or_len (nat_eq v) l) (sym (drop-cons xs place 0 inside))
+    ]
   where
-    step : (x : Bool) (ps : List (List ℕ)) → pieces ends bytes ≡ ps → ((q : List ℕ) (qs : List (List ℕ)) → pieces ends bytes ≡ q ∷ qs → Split ends bytes q qs) → grown x b ps ≡ p ∷ rest → Split ends (b ∷ bytes) p rest
-    step true ps is more e =
-        let first : b ∷ [] ≡ p = cc in
-        let others : ps ≡ rest = cc in
-        record { behind = bytes; whole = ap (λ q. q ++ bytes) first; cut = is ∙ others }
-    step false [] is more e =
-        let first : b ∷ [] ≡ p = cc in
-        let others : [] ≡ rest = cc in
-        record { behind = bytes; whole = ap (λ q. q ++ bytes) first; cut = is ∙ others }
-    step false (q ∷ qs) is more e =
-        let first : b ∷ q ≡ p = cc in
-        let others : qs ≡ rest = cc in
-        let s = more q qs is in
-        record { behind = s.behind; whole = ap (λ l. b ∷ l) s.whole ∙ ap (λ l. l ++ s.behind) first; cut = s.cut ∙ others }
+    x : ℕ
+    x = get_or xs place 0
 
-drop-past : (xs ys zs : List ℕ) → drop (length (xs ++ ys)) (xs ++ zs) ≡ drop (length ys) zs
-drop-past [] ys zs = refl
-drop-past (x ∷ xs) ys zs = drop-past xs ys zs
-
-pub pieces-from : (ends : ℕ → Bool) (k : ℕ) (bytes : List ℕ) → pieces ends (drop (place (pieces ends bytes) k) bytes) ≡ drop k (pieces ends bytes)
-pieces-from ends zero bytes = refl
-pieces-from ends (suc k) bytes = step (pieces ends bytes) refl (pieces-from ends k)
-  where
-    step : (ps : List (List ℕ)) → pieces ends bytes ≡ ps → ((b : List ℕ) → pieces ends (drop (place (pieces ends b) k) b) ≡ drop k (pieces ends b)) → pieces ends (drop (place ps (suc k)) bytes) ≡ drop (suc k) ps
-    step [] is more = is
-    step (p ∷ ps) is more =
-        let s = split ends bytes p ps is in
-        ap (λ b. pieces ends (drop (length (p ++ concat (take k ps))) b)) s.whole
-        ∙ ap (pieces ends) (drop-past p (concat (take k ps)) s.behind)
-        ∙ ap (λ qs. pieces ends (drop (place qs k) s.behind)) (sym s.cut)
-        ∙ more s.behind
-        ∙ ap (drop k) s.cut
+pub filled_same : (n x v : ℕ) → slice_index_or (replicate n x) v x ≡ x
+filled_same zero x v = refl
+filled_same (suc n) x zero = refl
+filled_same (suc n) x (suc v) = filled_same n x v

@@ -1,74 +1,15 @@
--- Symbol lines and the comment.
-use Rattle.std.specs.Prelude.{ℕ, zero, suc, Bool, false, cond, not, ◌&&◌, ◌||◌, nat_eq, nat_lt, List, [], ◌∷◌, length, bytes_eq, codes, Option, Some, None, unwrap_or}
-use Rattle.std.specs.List.{before_first, after_first}
-use Rattle.aiger_read.specs.Texts.{pieces, piece_at, is_ended, is_feed, is_return, is_space, line_text, number_of, first_below, any_below}
-use Rattle.aiger_read.specs.declared.header.Header.{Header}
-use Rattle.aiger_read.specs.Files.{tail}
+-- Symbols of a text: what the code holds of one, and where what it names stands among all that can be named.
+use Rattle.std.specs.Prelude.{ℕ, ◌+◌, sum, take, Option, Some, None}
+use Rattle.aiger_body.specs.declared.header.Header.{Header}
+use Rattle.aiger_body.specs.Symbols as symbols
+use Rattle.aiger_body.specs.Symbols.{kind_number, symbol_counts}
+use Rattle.aiger_read.specs.declared.symbol.Symbol.{Symbol}
 
-pub record Symbol : Type 0 where
-  pub kind : ℕ  -- the letter
-  pub number : ℕ
-  pub name : List ℕ
+-- the symbol that the code holds
+abbrev pub said : Option Symbol → Option symbols.Symbol
+said None = None
+said (Some s) = Some (record { kind = s.kind; number = s.number; name = s.name.now })
 
--- how many there are of a kind, which is a letter
-abbrev pub count_of : Header → ℕ → ℕ
-count_of h kind =
-    cond (nat_eq kind 105) h.inputs
-    (cond (nat_eq kind 108) h.latches
-    (cond (nat_eq kind 111) h.outputs
-    (cond (nat_eq kind 98) h.bads
-    (cond (nat_eq kind 99) h.constraints
-    (cond (nat_eq kind 106) h.justices (cond (nat_eq kind 102) h.fairs 0))))))
-
-abbrev pub symbol_with : ℕ → Option ℕ → List ℕ → Option Symbol
-symbol_with kind (Some n) name = Some (record { kind = kind; number = n; name = name })
-symbol_with kind None name = None
-
--- a letter, a number, a space and the name
-abbrev pub symbol_of : List ℕ → Option Symbol
-symbol_of [] = None
-symbol_of (kind ∷ text) = symbol_with kind (number_of (before_first is_space text)) (after_first is_space text)
-
-abbrev pub is_name : List ℕ → Bool
-is_name name = nat_lt 0 (length name) && not (is_ended is_return name)
-
-abbrev pub is_symbol : Header → Option Symbol → Bool
-is_symbol h (Some s) = nat_lt s.number (count_of h s.kind) && is_name s.name
-is_symbol h None = false
-
-abbrev pub names_same : Option Symbol → Option Symbol → Bool
-names_same (Some s) (Some t) = nat_eq s.kind t.kind && nat_eq s.number t.number
-names_same _ _ = false
-
-abbrev pub tail_lines : Header → List ℕ → List (List ℕ)
-tail_lines h bytes = pieces is_feed (tail h bytes)
-
--- A line `c` begins the comment; at the end of the file it may lack its end.
-abbrev pub begins_comment : List ℕ → Bool
-begins_comment line = (is_ended is_feed line && bytes_eq (line_text line) (codes "c")) || bytes_eq line (codes "c")
-
--- how many lines there are before the comment
-abbrev pub symbol_lines : Header → List ℕ → ℕ
-symbol_lines h bytes = unwrap_or (first_below (length (tail_lines h bytes)) (λ k. begins_comment (piece_at (tail_lines h bytes) k))) (length (tail_lines h bytes))
-
-abbrev pub symbol : Header → List ℕ → ℕ → Option Symbol
-symbol h bytes k = symbol_of (line_text (piece_at (tail_lines h bytes) k))
-
-abbrev pub is_repeated : Header → List ℕ → ℕ → Bool
-is_repeated h bytes k = any_below k (λ j. names_same (symbol h bytes j) (symbol h bytes k))
-
-abbrev pub is_good_symbol : Header → List ℕ → ℕ → Bool
-is_good_symbol h bytes k =
-    is_ended is_feed (piece_at (tail_lines h bytes) k) && is_symbol h (symbol h bytes k) && not (is_repeated h bytes k)
-
-abbrev pub name_in : ℕ → ℕ → Option Symbol → List ℕ → List ℕ
-name_in kind n (Some s) other = cond (nat_eq s.kind kind && nat_eq s.number n) s.name other
-name_in kind n None other = other
-
--- the name of the n-th of a kind in the first k lines, empty where it has none
-abbrev pub name_below : Header → List ℕ → ℕ → ℕ → ℕ → List ℕ
-name_below h bytes kind n zero = []
-name_below h bytes kind n (suc k) = name_in kind n (symbol h bytes k) (name_below h bytes kind n k)
-
-abbrev pub name_of : Header → List ℕ → ℕ → ℕ → List ℕ
-name_of h bytes kind n = name_below h bytes kind n (symbol_lines h bytes)
+-- how many there are of the kinds before that of the letter
+abbrev pub start_of : Header → ℕ → ℕ
+start_of h letter = sum (take (kind_number letter) (symbol_counts h))

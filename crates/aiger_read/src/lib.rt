@@ -1,23 +1,11 @@
-//! Circuit texts: which bytes are which net, and what is wrong with all others.
+//! The reader of circuit texts: of every file it says which net it is, or what is wrong and where.
 #![tactic(auto)]
 
-mod body;
-mod content;
-mod cycle;
-mod deltas;
-mod error;
-mod header;
 pub mod laws;
-mod lines;
-mod order;
-mod ready;
-mod section;
-#[cfg(test)]
-mod tests;
-mod text;
-mod uses;
+mod names;
+mod numbering;
+mod read;
+mod symbol;
 
-pub use body::{Body, read_body};
-pub use content::{Content, Gate, Latch};
-pub use error::{AigKind, AigerError};
-pub use header::Header;
+pub use aiger_body::{AigKind, AigerError};
+pub use read::read_aiger;

@@ -2,8 +2,8 @@
 use Rattle.std.proofs.Common.{◌≡◌, ℕ, suc, ◌+◌, ◌<◌, Bool, true, false, List, [], ◌∷◌, ◌++◌, length, Some, Ok, Err, inl, inr, refl, sym, ap, subst, arith, append_assoc, append-nil}
 use Rattle.hy_formula.specs.Quantifiers.{Each}
 use Rattle.hy_finite.specs.declared.event.Placed.{Placed}
-use Rattle.hy_finite.specs.declared.error.LineError.{LineError}
-use Rattle.hy_finite.specs.declared.error.LineError.TheVariants.{Syntax, Limit, Memory}
+use Rattle.hy_text.specs.declared.line_error.LineError.{LineError}
+use Rattle.hy_text.specs.declared.line_error.LineError.TheVariants.{Syntax, Limit, Memory}
 use Rattle.hy_finite.specs.Traces.{most_letters}
 use Rattle.hy_finite.specs.EventLines.{Said, word, SaysNothing, Says, IsShort, IsFaulty, IsTooLong, IsText, IsGood}
 use Rattle.hy_finite.specs.EventFiles.{event_of, lines_of, SayEvents, FirstFault, SomeTooLong}

@@ -10,6 +10,5 @@ pub mod Reaching
 pub mod RowMeanings
 pub mod RowSteps
 pub mod Saying
-pub mod Splitting
 pub mod Truth
 pub mod Violating

@@ -16,8 +16,8 @@ use Rattle.hy_finite.specs.declared.begun.Begun.{Begun}
 use Rattle.hy_finite.specs.declared.begun.Begun.TheVariants.{Nothing, Word, Letter, End, Save, Back}
 use Rattle.hy_finite.specs.LineParts.{IsChecked, IsWordChecked, IsSetChecked, IsBegun, IsBegunHere, IsTraceAnswer}
 use Rattle.hy_finite.specs.declared.event.Event.{Event}
-use Rattle.hy_finite.specs.declared.error.LineError.{LineError}
-use Rattle.hy_finite.specs.declared.error.LineError.TheVariants.{Syntax, Limit, Memory}
+use Rattle.hy_text.specs.declared.line_error.LineError.{LineError}
+use Rattle.hy_text.specs.declared.line_error.LineError.TheVariants.{Syntax, Limit, Memory}
 use Rattle.hy_finite.specs.EventAnswers.{IsLineAnswer, IsLetterAnswer}
 use Rattle.hy_finite.proofs.Saying.{begins-not, same-session, session-begins}
 

@@ -3,12 +3,13 @@ use Rattle.std.proofs.Common.{◌≡◌, ◌≢◌, ℕ, suc, List, [], ◌∷�
 use Rattle.hy_formula.specs.Quantifiers.{Each}
 use Rattle.hy_finite.specs.declared.event.Event.{Event}
 use Rattle.hy_finite.specs.declared.event.Placed.{Placed}
-use Rattle.hy_finite.specs.declared.error.LineError.{LineError}
-use Rattle.hy_finite.specs.declared.error.LineError.TheVariants.{Syntax, Limit, Memory}
+use Rattle.hy_text.specs.declared.line_error.LineError.{LineError}
+use Rattle.hy_text.specs.declared.line_error.LineError.TheVariants.{Syntax, Limit, Memory}
 use Rattle.hy_text.specs.Bytes.{past_blanks}
 use Rattle.hy_finite.specs.EventLines.{Said, word, IsFaulty, IsTooLong, IsText, IsGood}
-use Rattle.hy_finite.specs.EventFiles.{event_of, lines_of, SayEvents, FirstFault, SomeTooLong}
+use Rattle.hy_finite.specs.EventFiles.{event_of, lines_of, SayEvents, SomeTooLong}
 use Rattle.hy_finite.specs.EventAnswers.{IsLineAnswer, IsFileAnswer}
+use Rattle.hy_text.proofs.FirstFaults.{one_fault, texts_no_fault}
 use Rattle.hy_finite.proofs.Saying.{nothing-said, one-said}
 use Rattle.hy_finite.proofs.Collecting.{good-text, good-not_faulty, good-not_long}
 
@@ -80,27 +81,9 @@ one-events table n (line ∷ lines) a b (inr (said, rest, says, e, one)) (inr
     ∙ ap (λ ps. placed other ∷ ps) (one-events table (suc n) lines rest left one two)
     ∙ sym f
 
-one-fault : (n : ℕ) (lines : List (List ℕ)) (j k : ℕ) → FirstFault n lines j
-    → FirstFault n lines k → j ≡ k
-one-fault n [] j k one two = absurd one
-one-fault n (line ∷ lines) j k (inl (fault, e)) (inl (also, f)) = e ∙ sym f
-one-fault n (line ∷ lines) j k (inl (fault, e)) (inr (text, two)) =
-    absurd (good-not_faulty line text fault)
-one-fault n (line ∷ lines) j k (inr (text, one)) (inl (fault, f)) =
-    absurd (good-not_faulty line text fault)
-one-fault n (line ∷ lines) j k (inr (text, one)) (inr (also, two)) =
-    one-fault (suc n) lines j k one two
-
 each-good : (lines : List (List ℕ)) → Each IsGood lines → Each IsText lines
 each-good [] each = tt
 each-good (line ∷ lines) (good, each) = (good-text line good, each-good lines each)
-
-texts-no_fault : (n : ℕ) (lines : List (List ℕ)) (k : ℕ) → Each IsText lines
-    → ¬ FirstFault n lines k
-texts-no_fault n [] k each fault = fault
-texts-no_fault n (line ∷ lines) k (text, each) (inl (fault, e)) = good-not_faulty line text fault
-texts-no_fault n (line ∷ lines) k (text, each) (inr (also, later)) =
-    texts-no_fault (suc n) lines k each later
 
 good-no_long : (lines : List (List ℕ)) → Each IsGood lines → ¬ SomeTooLong lines
 good-no_long [] each some = some
@@ -110,7 +93,7 @@ good-no_long (line ∷ lines) (good, each) (inr later) = good-no_long lines each
 good-not_refused : (table : List (List ℕ)) (bytes : List ℕ) (fault : LineError) → fault ≢ Memory
     → Each IsGood (lines_of bytes) → ¬ IsFileAnswer table bytes (Err fault)
 good-not_refused table bytes (Syntax k) known each fault =
-    texts-no_fault 1 (lines_of bytes) k (each-good (lines_of bytes) each) fault
+    texts_no_fault IsText IsFaulty good-not_faulty 1 (lines_of bytes) k (each-good (lines_of bytes) each) fault
 good-not_refused table bytes Limit known each (texts, long) =
     good-no_long (lines_of bytes) each long
 good-not_refused table bytes Memory known each h = known refl
@@ -118,11 +101,11 @@ good-not_refused table bytes Memory known each h = known refl
 one-file_refusal : (table : List (List ℕ)) (bytes : List ℕ) (a b : LineError) → a ≢ Memory
     → b ≢ Memory → IsFileAnswer table bytes (Err a) → IsFileAnswer table bytes (Err b) → a ≡ b
 one-file_refusal table bytes (Syntax j) (Syntax k) p q one two =
-    ap Syntax (one-fault 1 (lines_of bytes) j k one two)
+    ap Syntax (one_fault IsText IsFaulty good-not_faulty 1 (lines_of bytes) j k one two)
 one-file_refusal table bytes (Syntax j) Limit p q one (texts, long) =
-    absurd (texts-no_fault 1 (lines_of bytes) j texts one)
+    absurd (texts_no_fault IsText IsFaulty good-not_faulty 1 (lines_of bytes) j texts one)
 one-file_refusal table bytes Limit (Syntax k) p q (texts, long) two =
-    absurd (texts-no_fault 1 (lines_of bytes) k texts two)
+    absurd (texts_no_fault IsText IsFaulty good-not_faulty 1 (lines_of bytes) k texts two)
 one-file_refusal table bytes Limit Limit p q one two = refl
 one-file_refusal table bytes Memory b p q one two = absurd (p refl)
 one-file_refusal table bytes a Memory p q one two = absurd (q refl)

@@ -5,8 +5,8 @@ use Rattle.hy_text.specs.Bytes.{past_blanks}
 use Rattle.hy_text.specs.Sets.{SpellsSet}
 use Rattle.hy_finite.specs.declared.event.Event.{Event}
 use Rattle.hy_finite.specs.declared.event.Placed.{Placed}
-use Rattle.hy_finite.specs.declared.error.LineError.{LineError}
-use Rattle.hy_finite.specs.declared.error.LineError.TheVariants.{Syntax, Limit, Memory}
+use Rattle.hy_text.specs.declared.line_error.LineError.{LineError}
+use Rattle.hy_text.specs.declared.line_error.LineError.TheVariants.{Syntax, Limit, Memory}
 use Rattle.hy_finite.specs.EventLines.{Said, letter, SaysNothing, Says, IsShort, IsFaulty, IsTooLong, IsText, IsGood}
 use Rattle.hy_finite.specs.EventFiles.{event_of, lines_of, IsEventFile, FirstFault, SomeTooLong}
 

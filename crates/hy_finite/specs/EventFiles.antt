@@ -1,9 +1,8 @@
--- Which bytes are a file of events, one event on a line. A line ends at a line feed or at the end of the file; lines
--- count from 1, those that say nothing too. A name that the table lacks is passed over.
+-- Which bytes are a file of events, one event on a line. A name that the table lacks is passed over.
 use Rattle.std.specs.Prelude.{◌≡◌, ℕ, suc, ◌⊎◌, List, [], ◌∷◌, map}
-use Rattle.std.specs.List.{slice_split}
 use Rattle.hy_bits.specs.Letter.{Letter as NameSet}
-use Rattle.hy_text.specs.Bytes.{is_line_feed}
+use Rattle.hy_text.specs.Lines.{FirstFault as FirstFaultBy}
+pub use Rattle.hy_text.specs.Lines.{lines_of}
 use Rattle.hy_text.specs.Sets.{letter_of}
 use Rattle.hy_finite.specs.declared.event.Event.{Event}
 use Rattle.hy_finite.specs.declared.event.Event.TheVariants.{Whole, Letter, End, Save, Back}
@@ -23,9 +22,6 @@ abbrev pub letters_in : Event → List NameSet
 letters_in (Whole trace) = trace
 letters_in _ = []
 
-abbrev pub lines_of : List ℕ → List (List ℕ)
-lines_of bytes = slice_split is_line_feed bytes
-
 -- The lines, of which the first has number n, say these events.
 abbrev pub SayEvents : List (List ℕ) → ℕ → List (List ℕ) → List Placed → Type 0
 SayEvents table n [] events = events ≡ []
@@ -41,9 +37,7 @@ IsEventFile table bytes events = SayEvents table 1 (lines_of bytes) events
 
 -- Of the lines, of which the first has number n, line k is the first that is no text.
 abbrev pub FirstFault : ℕ → List (List ℕ) → ℕ → Type 0
-FirstFault n [] k = ⊥
-FirstFault n (line ∷ lines) k =
-    (IsFaulty line × (k ≡ n)) ⊎ (IsText line × FirstFault (suc n) lines k)
+FirstFault n lines k = FirstFaultBy IsText IsFaulty n lines k
 
 -- Some line is a trace that is too long.
 abbrev pub SomeTooLong : List (List ℕ) → Type 0

@@ -3,19 +3,15 @@
 --     event line := word | '@' number set | '@' number 'end' | '!save' | '!back'
 --
 -- Space, tab and carriage return are ignored between these parts, but not inside `!save`, `!back` and `end`, nor
--- between `@` and its number. A number is 1 to 9 digits without a leading zero, or `0`. A line that is empty, or
--- whose first other byte is `#`, says nothing.
+-- between `@` and its number. A number is 1 to 9 digits without a leading zero, or `0`.
 use Rattle.std.specs.Prelude.{◌≡◌, ℕ, ◌+◌, ◌*◌, ◌-◌, ◌<◌, ◌≤◌, ◌⊎◌, Bool, not, ◌&&◌, ◌||◌, nat_eq, nat_le, if◌then◌else◌, List, [], ◌∷◌, ◌++◌, length, drop, Option, Some, None, codes}
 use Rattle.std.specs.List.{fold, take_while, starts_with}
 use Rattle.std.specs.Option.{option_map}
 use Rattle.hy_text.specs.Bytes.{past_blanks, is_digit}
+pub use Rattle.hy_text.specs.Lines.{SaysNothing}
 use Rattle.hy_text.specs.Sets.{SpellsSet}
 use Rattle.hy_text.specs.Words.{SpellsWord}
 use Rattle.hy_finite.specs.Traces.{most_letters}
-
--- the line is blank, or a comment
-abbrev pub SaysNothing : List ℕ → Type 0
-SaysNothing line = (past_blanks line ≡ []) ⊎ ((rest : List ℕ) × (past_blanks line ≡ 35 ∷ rest))
 
 -- 1 to 9 digits, the first of which is 0 only where it is the only one
 abbrev pub is_number : List ℕ → Bool

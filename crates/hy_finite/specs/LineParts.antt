@@ -9,8 +9,8 @@ use Rattle.hy_finite.specs.declared.begun.Begun.{Begun}
 use Rattle.hy_finite.specs.declared.begun.Begun.TheVariants.{Nothing, Word, Letter, End, Save, Back}
 use Rattle.hy_finite.specs.declared.checks.LineCheck.{LineCheck}
 use Rattle.hy_finite.specs.declared.checks.LineCheck.TheVariants.{Good, TooLong, Fault}
-use Rattle.hy_finite.specs.declared.error.LineError.{LineError}
-use Rattle.hy_finite.specs.declared.error.LineError.TheVariants.{Syntax, Limit, Memory}
+use Rattle.hy_text.specs.declared.line_error.LineError.{LineError}
+use Rattle.hy_text.specs.declared.line_error.LineError.TheVariants.{Syntax, Limit, Memory}
 use Rattle.hy_finite.specs.EventLines.{Said, finish, save, back, SaysNothing, session_at, IsOnly, Spells, IsFaulty, IsTooLong, IsGood}
 use Rattle.hy_finite.specs.Traces.{most_letters}
 

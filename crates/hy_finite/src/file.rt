@@ -5,11 +5,11 @@ ghost use Rattle.hy_base.specs.declared.reading.TheConstants.{BYTES_LIMIT};
 ghost use Rattle.hy_finite.specs.EventAnswers.{IsCheckAnswer, IsFileAnswer};
 
 use crate::checks::{LineCheck, check_line};
-use crate::error::LineError;
 use crate::event::{EventList, Placed};
-use crate::lines::{EventLines, split_line};
+use crate::lines::EventLines;
 use hy_base::List;
 use hy_formula::NameTable;
+use hy_text::{LineError, split_line};
 use std::alloc::Global;
 
 /// Whether the bytes are a file of events, and if not, why. Takes no memory, and time linear in the

@@ -3,7 +3,6 @@
 
 mod begun;
 mod checks;
-mod error;
 mod event;
 mod file;
 pub mod laws;
@@ -20,11 +19,12 @@ mod tests;
 mod trace;
 
 pub use checks::{LineCheck, check_line};
-pub use error::LineError;
 pub use event::{Event, EventList, Placed};
 pub use file::{check_events, read_events};
+pub use hy_text::{LineError, split_line};
 pub use lengths::Lengths;
 pub use line::read_event;
-pub use lines::{EventLines, split_line};
+pub use lines::EventLines;
 pub use meaning::finite_holds;
+pub use number::read_number;
 pub use trace::{MOST_LETTERS, Trace, TraceList};

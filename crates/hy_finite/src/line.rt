@@ -1,17 +1,14 @@
 //! The event of one line.
 
-ghost use Rattle.std.specs.Prelude.{◌↔◌, IsTrue};
-ghost use Rattle.hy_finite.specs.EventLines.{SaysNothing};
 ghost use Rattle.hy_finite.specs.EventAnswers.{IsLineAnswer, IsLetterAnswer};
 
 use crate::begun::{Begun, begin};
-use crate::error::LineError;
 use crate::event::Event;
 use crate::sets::{read_trace, read_whole_set};
 use hy_base::List;
 use hy_bits::Letters;
 use hy_formula::NameTable;
-use hy_text::past_blanks;
+use hy_text::LineError;
 use std::alloc::Global;
 
 /// What the line says: an event, or nothing where it is blank or a comment. The line has no line
@@ -43,16 +40,6 @@ pub fn read_line(
         Begun::End { session } => Ok(Some(Event::End { session })),
         Begun::Save => Ok(Some(Event::Save)),
         Begun::Back => Ok(Some(Event::Back)),
-    }
-}
-
-/// Whether the line is blank or a comment. In time linear in its blanks.
-pub fn says_nothing(line: &[u8]) -> bool
-    ensures { IsTrue result ↔ SaysNothing line.now }
-{
-    match past_blanks(line) {
-        [] | [b'#', ..] => true,
-        _ => false,
     }
 }
 

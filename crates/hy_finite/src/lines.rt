@@ -1,19 +1,16 @@
-//! The lines of a file, and the events that they say, one after another.
+//! The events that the lines of a file say, one after another.
 
-ghost use Rattle.std.specs.Prelude.{◌≡◌, ◌+◌, ◌<◌, ◌≤◌, ◌^◌, ◌∷◌, length};
-ghost use Rattle.std.specs.List.{slice_split};
+ghost use Rattle.std.specs.Prelude.{◌≡◌, ◌+◌, ◌<◌, ◌≤◌, ◌^◌, length};
 ghost use Rattle.std.specs.Option.{option_copied};
 ghost use Rattle.hy_base.specs.declared.reading.TheConstants.{BYTES_LIMIT};
-ghost use Rattle.hy_text.specs.Bytes.{is_line_feed};
-ghost use Rattle.hy_finite.specs.LinesLeft.{left_lines, left_len};
+ghost use Rattle.hy_text.specs.Lines.{left_len};
 ghost use Rattle.hy_finite.specs.NextEvents.{IsNextLine, IsNextAnswer};
 
-use crate::error::LineError;
 use crate::event::Placed;
-use crate::line::{read_line, says_nothing};
+use crate::line::read_line;
 use hy_bits::Letters;
 use hy_formula::NameTable;
-use hy_text::Class;
+use hy_text::{LineError, says_nothing, split_line};
 
 /// The lines of a file that are left to read: what they are, with none after the last one, and the
 /// number of the first of them, counted from 1.
@@ -83,19 +80,4 @@ impl<'a> EventLines<'a> {
         }
         None
     }
-}
-
-/// The first line, without its line feed, and what stands behind that: `None` where there is none.
-/// In time linear in the line.
-pub fn split_line(text: &[u8]) -> (&[u8], Option<&[u8]>)
-    ensures lines { slice_split is_line_feed text.now
-        ≡ result.0.now ∷ left_lines (option_copied result.1) }
-    ensures fewer { left_len (option_copied result.1) < left_len (Some text.now) }
-{
-    let (line, behind) = Class::InLine.split(text);
-    if behind.is_empty() {
-        return (line, None);
-    }
-    let (_, rest) = behind.split_at(1);
-    (line, Some(rest))
 }

@@ -19,8 +19,8 @@ pub fn read_session(text: &[u8]) -> Option<(u32, &[u8])>
     Some((session, past_blanks(rest)))
 }
 
-/// The number at the front, and what stands behind it.
-fn read_number(text: &[u8]) -> Option<(u32, &[u8])>
+/// The number at the front, and what stands behind it. In time linear in the digits.
+pub fn read_number(text: &[u8]) -> Option<(u32, &[u8])>
     ensures { option_map plain_number result ≡ number_at text.now }
 {
     let (digits, rest) = Class::Digit.split(text);

@@ -3,11 +3,10 @@
 ghost use Rattle.std.specs.Prelude.{◌≡◌};
 ghost use Rattle.hy_finite.specs.LineParts.{IsSetAnswer, IsTraceAnswer};
 
-use crate::error::LineError;
 use crate::trace::{MOST_LETTERS, Trace};
 use hy_bits::{LetterMask, Letters};
 use hy_formula::NameTable;
-use hy_text::{past_blanks, read_set, read_word};
+use hy_text::{LineError, past_blanks, read_set, read_word};
 
 /// The letter of the set that is the whole text. `None` where it is none. In time linear in the text.
 pub fn read_whole_set(text: &[u8], names: &NameTable) -> Option<LetterMask>

@@ -11,7 +11,8 @@ IsMultiple c n = (k : ℕ) × (c ≡ k * n)
 pub record IsPeriod (tuple : List (Lasso Letter)) (s c : ℕ) : Type 0 where
   pub some : 0 < c
   pub stems : (v : ℕ) → v < length tuple → length (slice_index_or tuple v no_lasso).stem ≤ s
-  pub cycles : (v : ℕ) → v < length tuple → IsMultiple c (length (slice_index_or tuple v no_lasso).cycle)
+  pub cycles : (v : ℕ) → v < length tuple
+      → IsMultiple c (length (slice_index_or tuple v no_lasso).cycle)
 
 -- The longest stem has length s, and the least common multiple is c.
 pub record IsLeastPeriod (tuple : List (Lasso Letter)) (s c : ℕ) : Type 0 where
@@ -22,7 +23,8 @@ pub record IsLeastPeriod (tuple : List (Lasso Letter)) (s c : ℕ) : Type 0 wher
 abbrev pub most_positions : ℕ
 most_positions = 4194304
 
--- The longest stem and the least common multiple have together at most that many positions: some period has.
+-- The longest stem and the least common multiple have together at most that many positions: some
+-- period has.
 abbrev pub IsJudged : List (Lasso Letter) → Type 0
 IsJudged tuple = (s c : ℕ) × IsPeriod tuple s c × (s + c ≤ most_positions)
 

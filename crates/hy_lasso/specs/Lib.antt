@@ -1,5 +1,10 @@
+pub mod Equal
+pub mod EqualLaws
 pub mod Joint
+pub mod LassoFiles
+pub mod LassoLines
 pub mod Limits
+pub mod LineParts
 pub mod NormalForms
 pub mod Printed
 pub mod Rounds

@@ -9,7 +9,8 @@ letter_of letters i = slice_index_or letters i empty
 
 -- Each letter stands again d places later.
 abbrev pub RepeatsAfter : List Letter → ℕ → Type 0
-RepeatsAfter letters d = (i : ℕ) → i + d < length letters → letter_of letters (i + d) ≡ letter_of letters i
+RepeatsAfter letters d =
+    (i : ℕ) → i + d < length letters → letter_of letters (i + d) ≡ letter_of letters i
 
 -- The letters are a repetition of the first d, and of no fewer.
 pub record IsLeastRound (letters : List Letter) (d : ℕ) : Type 0 where
@@ -22,5 +23,7 @@ pub record IsLeastRound (letters : List Letter) (d : ℕ) : Type 0 where
 -- The last k letters of the stem are those that a cycle gone round backwards has, and no more.
 pub record IsSharedEnd (stem cycle : List Letter) (k : ℕ) : Type 0 where
   pub few : k ≤ length stem
-  pub same : (j : ℕ) → j < k → letter_of stem (length stem - 1 - j) ≡ letter_of cycle (length cycle - 1 - j % length cycle)
-  pub most : k < length stem → letter_of stem (length stem - 1 - k) ≢ letter_of cycle (length cycle - 1 - k % length cycle)
+  pub same : (j : ℕ) → j < k → letter_of stem (length stem - 1 - j)
+      ≡ letter_of cycle (length cycle - 1 - j % length cycle)
+  pub most : k < length stem → letter_of stem (length stem - 1 - k)
+      ≢ letter_of cycle (length cycle - 1 - k % length cycle)

@@ -18,7 +18,8 @@ letter_at lasso i = lasso_at empty lasso i
 
 -- the words of a tuple of lassos, one for each variable
 abbrev pub lasso_words : List (Lasso Letter) → Words
-lasso_words tuple name variable i = contains (letter_at (slice_index_or tuple variable no_lasso) i) name
+lasso_words tuple name variable i =
+    contains (letter_at (slice_index_or tuple variable no_lasso) i) name
 
 -- No cycle is empty.
 abbrev pub AreLassos : List (Lasso Letter) → Type 0
@@ -34,7 +35,8 @@ Meets body tuple = SatisfiesAt endless (lasso_words tuple) body 0
 
 -- Where these lassos were chosen, the quantifiers that are left hold.
 abbrev pub Remains : List (Lasso Letter) → Tree → List (Lasso Letter) → List Quant → Type 0
-Remains list body chosen prefix = Quantified (Contains list) (λ more. Meets body (chosen ++ more)) prefix
+Remains list body chosen prefix =
+    Quantified (Contains list) (λ more. Meets body (chosen ++ more)) prefix
 
 -- A list of lassos satisfies a formula, given by its quantifiers and its body.
 abbrev pub Satisfies : List (Lasso Letter) → List Quant → Tree → Type 0
@@ -42,4 +44,5 @@ Satisfies list prefix body = Quantified (Contains list) (Meets body) prefix
 
 -- Some list of lassos satisfies the formula.
 abbrev pub IsSatisfiable : List Quant → Tree → Type 0
-IsSatisfiable prefix body = (list : List (Lasso Letter)) × (0 < length list) × AreLassos list × Satisfies list prefix body
+IsSatisfiable prefix body =
+    (list : List (Lasso Letter)) × (0 < length list) × AreLassos list × Satisfies list prefix body

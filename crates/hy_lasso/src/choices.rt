@@ -19,13 +19,15 @@ use std::alloc::Global;
 
 /// Whether the list satisfies the formula. Each quantifier stops at its first witness.
 ///
-/// In time at most the number of lassos to the power of the quantifiers, times that of `holds_body`.
+/// In time at most the number of lassos to the power of the quantifiers, times that of
+/// `holds_body`.
 /// Limit comes exactly where the longest stem and the least common multiple of the cycles of all
 /// lassos of the list have together more than 4,194,304 positions.
 pub fn holds(alloc: Global, f: &Formula, list: &LassoList) -> Result<bool, HoldsError>
     requires some { 0 < length list.now }
     requires countable { length list.now < 2 ^ 32 }
-    ensures meaning { IfOk result (λ holds. IsTrue holds ↔ Satisfies list.now f.now.prefix (tree_of f.now.body)) }
+    ensures meaning { IfOk result
+        (λ holds. IsTrue holds ↔ Satisfies list.now f.now.prefix (tree_of f.now.body)) }
     ensures judged { IfOk result (λ _. IsJudged list.now) }
     ensures limit { IfErr result (λ e. e ≡ OfLimit joint_limit → ¬ IsJudged list.now) }
     ensures causes { IfErr result (λ e. (e ≡ OfLimit joint_limit) ⊎ (e ≡ OfMemory)) }
@@ -51,7 +53,11 @@ impl Choices<'_> {
         requires judged { IsJudged self.now.list.now }
         requires members { All (λ k. k < length self.now.list.now) tuple.old }
         requires short { length tuple.old ≤ length self.now.formula.now.prefix }
-        ensures meaning { IfOk result (λ holds. IsTrue holds ↔ Remains self.now.list.now (tree_of self.now.formula.now.body) (picked self.now.list.now tuple.old) (drop (length tuple.old) self.now.formula.now.prefix)) }
+        ensures meaning { let list = self.now.list.now in
+            let formula = self.now.formula.now in
+            let chosen = picked list tuple.old in
+            let left = drop (length tuple.old) formula.prefix in
+            IfOk result (λ holds. IsTrue holds ↔ Remains list (tree_of formula.body) chosen left) }
         ensures kept { OnOk result (tuple.new ≡ tuple.old) }
         ensures causes { IfErr result (λ e. e ≡ OfMemory) }
     {

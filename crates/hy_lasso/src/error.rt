@@ -1,3 +1,5 @@
+//! Why lassos were not judged.
+
 ghost use Rattle.std.specs.Prelude.{◌≡◌};
 ghost use Rattle.hy_lasso.specs.declared.error.HoldsError.TheVariants.{Memory as OfMemory, Limit as OfLimit};
 ghost use Rattle.hy_lasso.specs.Limits.{joint_limit};

@@ -1,4 +1,8 @@
-ghost use Rattle.std.specs.Prelude.{◌≡◌, ◌<◌, ℕ, [], length, IfSome, IfNone};
+//! Lassos.
+
+ghost use Rattle.std.specs.Prelude.{◌≡◌, ◌↔◌, ◌<◌, ℕ, [], length, IfSome, IfNone, IsTrue};
+ghost use Rattle.hy_lasso.specs.Equal.{is_equal};
+ghost use Rattle.hy_lasso.specs.EqualLaws.{equal_laws, equal_partial_laws};
 ghost use Rattle.hy_lasso.specs.NormalForms.{IsNormal};
 ghost use Rattle.hy_lasso.specs.Words.{letter_at};
 
@@ -29,6 +33,25 @@ impl Model for Lasso {
     ghost view = { λ l. record { stem = l.stem; cycle = l.cycle } };
 
     ghost invariant = { λ l. 0 < length l.cycle };
+}
+
+impl PartialEq for Lasso {
+    ghost eq = { is_equal };
+
+    ghost laws = { equal_partial_laws };
+
+    /// Whether the stems are equal and the cycles are.
+    fn eq(&self, other: &Self) -> bool
+        ensures computed { result ≡ is_equal self.now other.now }
+        ensures equal { IsTrue result ↔ (self.now ≡ other.now) }
+    {
+        self.stem.as_slice() == other.stem.as_slice()
+            && self.cycle.as_slice() == other.cycle.as_slice()
+    }
+}
+
+impl Eq for Lasso {
+    ghost laws = { equal_laws };
 }
 
 /// Lassos, each known by its place.
@@ -75,8 +98,8 @@ impl Lasso {
         }
     }
 
-    /// The normal form: the same letter at every position, the shortest cycle, and the shortest stem.
-    /// In place, in time linear in the lasso times the divisors of the length of the cycle.
+    /// The normal form: the same letter at every position, the shortest cycle, and the shortest
+    /// stem. In place, in time linear in the lasso times the divisors of the length of the cycle.
     pub fn shorten(self) -> Lasso
         ensures word { (i : ℕ) → letter_at result i ≡ letter_at self i }
         ensures normal { IsNormal result }

@@ -5,14 +5,20 @@ mod choices;
 mod error;
 mod lasso;
 pub mod laws;
+mod line;
 mod meaning;
 mod period;
 mod print;
+mod read;
 mod row;
 mod shorten;
+#[cfg(test)]
+mod tests;
 
 pub use choices::holds;
 pub use error::HoldsError;
+pub use hy_text::LineError;
 pub use lasso::{Lasso, LassoList};
 pub use meaning::holds_body;
 pub use print::print_lassos;
+pub use read::read_lassos;

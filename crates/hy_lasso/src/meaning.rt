@@ -19,8 +19,8 @@ use hy_base::{List, M};
 use hy_formula::{Atom, Body};
 use std::alloc::Global;
 
-/// Whether the body holds of the picked lassos, at their first position. `pick` has for each variable
-/// of the body the number of a lasso of the list.
+/// Whether the body holds of the picked lassos, at their first position. `pick` has for each
+/// variable of the body the number of a lasso of the list.
 ///
 /// In time the size of the body times the positions of the joint period, which are those of the
 /// longest stem and of the least common multiple of the cycles; in memory its height times these
@@ -33,9 +33,11 @@ pub fn holds_body(
 ) -> Result<bool, HoldsError>
     requires members { All (λ k. k < length list.now) pick.now }
     requires bound { IsTrue (vars_below (length pick.now) (tree_of body.now)) }
-    ensures meaning { IfOk result (λ holds. IsTrue holds ↔ Meets (tree_of body.now) (picked list.now pick.now)) }
+    ensures meaning { IfOk result
+        (λ holds. IsTrue holds ↔ Meets (tree_of body.now) (picked list.now pick.now)) }
     ensures judged { IfOk result (λ _. IsJudged (picked list.now pick.now)) }
-    ensures limit { IfErr result (λ e. e ≡ OfLimit joint_limit → ¬ IsJudged (picked list.now pick.now)) }
+    ensures limit { IfErr result
+        (λ e. e ≡ OfLimit joint_limit → ¬ IsJudged (picked list.now pick.now)) }
     ensures causes { IfErr result (λ e. (e ≡ OfLimit joint_limit) ⊎ (e ≡ OfMemory)) }
 {
     let Some(period) = Period::of_picked(list, pick) else {
@@ -51,7 +53,8 @@ pub fn holds_body(
     Ok(*row.at(0))
 }
 
-/// A tuple of lassos, and how they repeat together: from the place `stem` on the places are gone round.
+/// A tuple of lassos, and how they repeat together: from the place `stem` on the places are gone
+/// round.
 #[derive(Clone, Copy)]
 struct Picked<'a> {
     list: &'a LassoList,
@@ -68,7 +71,9 @@ impl Picked<'_> {
     #[tactic(auto, using(crate::proofs::Bodies::rows))]
     fn row_of(&self, alloc: Global, body: &Body) -> M<Row>
         requires { IsTrue (vars_below (length self.now.pick.now) (tree_of body.now)) }
-        ensures { IfOk result (λ row. IsRowOf (tree_of body.now) (lasso_words (picked self.now.list.now self.now.pick.now)) self.now.stem self.now.places row) }
+        ensures { let words = lasso_words (picked self.now.list.now self.now.pick.now) in
+            IfOk result
+            (λ row. IsRowOf (tree_of body.now) words self.now.stem self.now.places row) }
     {
         match body {
             Body::True => constant(alloc, true, self.places),
@@ -97,7 +102,9 @@ impl Picked<'_> {
     /// Whether the atom holds at each position.
     fn atom_row(&self, alloc: Global, a: Atom) -> M<Row>
         requires { a.var < length self.now.pick.now }
-        ensures { IfOk result (λ row. IsRowOf (atom a.name a.var) (lasso_words (picked self.now.list.now self.now.pick.now)) self.now.stem self.now.places row) }
+        ensures { let words = lasso_words (picked self.now.list.now self.now.pick.now) in
+            IfOk result
+            (λ row. IsRowOf (atom a.name a.var) words self.now.stem self.now.places row) }
     {
         let lasso = self.list.at(self.pick[a.var as usize] as usize);
         let mut row = List::new(alloc);

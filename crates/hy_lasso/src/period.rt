@@ -22,11 +22,12 @@ pub struct Period {
 
 impl Period {
     /// The period of the picked lassos: their longest stem, and the least common multiple of their
-    /// cycles. `None` exactly where these have together more than 4,194,304 positions. In time linear
-    /// in `pick` and, at most, in these positions.
+    /// cycles. `None` exactly where these have together more than 4,194,304 positions. In time
+    /// linear in `pick` and, at most, in these positions.
     pub fn of_picked(list: &LassoList, pick: &[u32]) -> Option<Period>
         requires { All (λ k. k < length list.now) pick.now }
-        ensures { MatchOption result (¬ IsJudged (picked list.now pick.now)) (λ p. IsLeastPeriod (picked list.now pick.now) p.stem p.cycle) }
+        ensures { let tuple = picked list.now pick.now in
+            MatchOption result (¬ IsJudged tuple) (λ p. IsLeastPeriod tuple p.stem p.cycle) }
     {
         let mut period = Period::of_none();
         for k in pick {
@@ -40,7 +41,8 @@ impl Period {
 
     /// The period of all lassos of the list, as `of_picked`.
     pub fn of_list(list: &LassoList) -> Option<Period>
-        ensures { MatchOption result (¬ IsJudged list.now) (λ p. IsLeastPeriod list.now p.stem p.cycle) }
+        ensures { MatchOption result (¬ IsJudged list.now)
+            (λ p. IsLeastPeriod list.now p.stem p.cycle) }
     {
         let mut period = Period::of_none();
         for lasso in list.as_slice() {
@@ -62,7 +64,8 @@ impl Period {
     /// The period with one more lasso.
     fn with(self, lasso: &Lasso) -> Option<Period>
         ensures { (tuple : List (Endless Letter)) → IsLeastPeriod tuple self.stem self.cycle
-            → MatchOption result ((more : List (Endless Letter)) → ¬ IsJudged (tuple ++ lasso.now ∷ more))
+            → MatchOption result
+            ((more : List (Endless Letter)) → ¬ IsJudged (tuple ++ lasso.now ∷ more))
             (λ p. IsLeastPeriod (tuple ++ lasso.now ∷ []) p.stem p.cycle) }
     {
         let stem = lasso.stem().len().max(self.stem);
@@ -82,7 +85,8 @@ fn common_multiple(c: usize, n: usize) -> Option<usize>
     requires first { 0 < c }
     requires few { c ≤ most_positions }
     requires second { 0 < n }
-    ensures { MatchOption result ((d : ℕ) → IsCommon c n d → most_positions < d) (λ m. IsLeastCommon c n m × (m ≤ most_positions)) }
+    ensures { MatchOption result ((d : ℕ) → IsCommon c n d → most_positions < d)
+        (λ m. IsLeastCommon c n m × (m ≤ most_positions)) }
 {
     let mut multiple = c;
     while multiple <= MOST_POSITIONS {

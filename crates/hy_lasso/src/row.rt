@@ -1,3 +1,5 @@
+//! Truth values of bodies at the positions of a stem and a cycle.
+
 ghost use Rattle.std.specs.Prelude.{◌≡◌, ℕ, suc, ◌+◌, ◌<◌, not, ◌&&◌, ◌||◌, ◌⊎◌, length, replicate, IfOk, IsTrue, EachIndex};
 ghost use Rattle.std.specs.Bool.{beq, Decides};
 ghost use Rattle.hy_formula.specs.Temporal.{endless, IsUntil, IsRelease};
@@ -47,7 +49,8 @@ pub fn negate(mut row: Row) -> Row
 pub fn and(mut left: Row, right: &Row) -> Row
     requires { length left ≡ length right.now }
     ensures long { length result ≡ length left }
-    ensures values { EachIndex left (λ i. value_at result i ≡ (value_at left i && value_at right.now i)) }
+    ensures values { EachIndex left
+        (λ i. value_at result i ≡ (value_at left i && value_at right.now i)) }
 {
     for i in 0..left.len() {
         let here = value(&left, i) && value(right, i);
@@ -60,7 +63,8 @@ pub fn and(mut left: Row, right: &Row) -> Row
 pub fn or(mut left: Row, right: &Row) -> Row
     requires { length left ≡ length right.now }
     ensures long { length result ≡ length left }
-    ensures values { EachIndex left (λ i. value_at result i ≡ (value_at left i || value_at right.now i)) }
+    ensures values { EachIndex left
+        (λ i. value_at result i ≡ (value_at left i || value_at right.now i)) }
 {
     for i in 0..left.len() {
         let here = value(&left, i) || value(right, i);
@@ -73,7 +77,8 @@ pub fn or(mut left: Row, right: &Row) -> Row
 pub fn iff(mut left: Row, right: &Row) -> Row
     requires { length left ≡ length right.now }
     ensures long { length result ≡ length left }
-    ensures values { EachIndex left (λ i. value_at result i ≡ beq (value_at left i) (value_at right.now i)) }
+    ensures values { EachIndex left
+        (λ i. value_at result i ≡ beq (value_at left i) (value_at right.now i)) }
 {
     for i in 0..left.len() {
         let here = value(&left, i) == value(right, i);
@@ -111,7 +116,8 @@ fn until_here(right: bool, left: bool, later: bool) -> bool
 pub fn until(left: &Row, mut right: Row, stem: usize) -> Row
     requires cycle { stem < length right }
     requires even { length left.now ≡ length right }
-    ensures { Tells stem (length right) result (IsUntil endless (Says stem left.now) (Says stem right)) }
+    ensures { Tells stem (length right) result
+        (IsUntil endless (Says stem left.now) (Says stem right)) }
 {
     let mut later = until_at_seam(left, &right, stem);
     for i in (0..right.len()).rev() {
@@ -138,7 +144,8 @@ fn until_at_seam(left: &Row, right: &Row, stem: usize) -> bool
 pub fn release(left: Row, right: Row, stem: usize) -> Row
     requires cycle { stem < length right }
     requires even { length left ≡ length right }
-    ensures { Tells stem (length right) result (IsRelease endless (Says stem left) (Says stem right)) }
+    ensures { Tells stem (length right) result
+        (IsRelease endless (Says stem left) (Says stem right)) }
 {
     negate(until(&negate(left), negate(right), stem))
 }
@@ -147,7 +154,8 @@ pub fn release(left: Row, right: Row, stem: usize) -> Row
 pub fn weak(left: Row, right: Row, stem: usize) -> Row
     requires cycle { stem < length right }
     requires even { length left ≡ length right }
-    ensures { Tells stem (length right) result (IsRelease endless (Says stem right) (λ k. Says stem left k ⊎ Says stem right k)) }
+    ensures { Tells stem (length right) result
+        (IsRelease endless (Says stem right) (λ k. Says stem left k ⊎ Says stem right k)) }
 {
     let either = or(left, &right);
     release(right, either, stem)

@@ -1,3 +1,4 @@
+pub mod FirstFaults
 pub mod Once
 pub mod PrintedLetters
 pub mod PrintedWords
@@ -5,3 +6,4 @@ pub mod Printing
 pub mod ReadingSets
 pub mod ReadingWords
 pub mod Spelling
+pub mod Splitting

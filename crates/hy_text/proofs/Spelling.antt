@@ -1,12 +1,12 @@
 -- A name that was printed is read.
-use Rattle.std.proofs.Common.{◌≡◌, ℕ, zero, suc, ◌+◌, ◌<◌, Bool, true, false, ◌&&◌, cond, nat_lt, nat_eq, if◌then◌else◌, IsTrue, List, [], ◌∷◌, ◌++◌, length, take, drop, Option, Some, None, codes, refl, ap, sym, ◌∙◌, subst, arith, append_assoc}
-use Rattle.std.specs.List.{prefix_len, take_while, starts_with, list_all}
+use Rattle.std.proofs.Common.{◌≡◌, ℕ, ◌<◌, Bool, true, false, cond, nat_lt, nat_eq, if◌then◌else◌, List, [], ◌∷◌, ◌++◌, length, Some, codes, refl, ap, ◌∙◌, arith, append_assoc}
+use Rattle.std.specs.List.{take_while, starts_with, list_all}
 use Rattle.std.proofs.Math.Seq.{drop-append_seam}
 use Rattle.std.proofs.lemmas.Bool.{and_parts}
 use Rattle.std.proofs.lemmas.Bool.Decides.{nat_tests}
 use Rattle.std.proofs.lemmas.Grind.{common_steps}
 use Rattle.std.proofs.lemmas.List.Sums.{take_while-cons}
-use Rattle.hy_text.specs.Bytes.{is_letter, is_word_byte, is_quotable, is_plain, begins_with_letter}
+use Rattle.hy_text.specs.Bytes.{is_letter, is_word_byte, is_quotable, is_plain}
 use Rattle.hy_text.specs.Names.{name_at, plain_name_at, quoted_name_at, spelled, IsName}
 
 -- A run of one class ends before what is not of the class.

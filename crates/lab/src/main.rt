@@ -5,13 +5,18 @@
 //! lab check FILE LOG                  tries a log of refutation against clauses in DIMACS
 //! lab tableau STATES FILE             builds the tableau of the body of a formula
 //! lab search FILE                     searches a graph for a fair walk
+//! lab aag FILE                        prints the net of an AIGER file of either form in ASCII
+//! lab aig FILE                        prints it in the binary form
+//! lab simulate FILE FIRST STEM CYCLE  prints the values of all variables in a run, or `no lasso`
 //! ```
 #![tactic(auto)]
 
 mod check;
+mod circuits;
 mod dimacs;
 mod files;
 mod graphs;
+mod runs;
 mod search;
 mod solve;
 mod tableau;
@@ -27,7 +32,7 @@ fn main(rt: HostRuntime) -> Result<ExitCode> {
     }
     match words.as_slice() {
         [command, rest @ ..] => run(&rt, command.as_str(), rest),
-        [] => bail!("the first word is a command: solve, check, tableau, search"),
+        [] => bail!("the first word is a command: solve, check, tableau, search, aag, aig, simulate"),
     }
 }
 
@@ -38,6 +43,9 @@ fn run(rt: &HostRuntime, command: &str, words: &[String]) -> Result<ExitCode> {
         "check" => check::run(rt, words),
         "tableau" => tableau::run(rt, words),
         "search" => search::run(rt, words),
+        "aag" => circuits::print(rt, words, false),
+        "aig" => circuits::print(rt, words, true),
+        "simulate" => circuits::run(rt, words),
         _ => bail!("no command is called {command:?}"),
     }
 }

@@ -3,7 +3,7 @@ use Rattle.std.proofs.lemmas.Bool.Decides.{nat_tests}
 use Rattle.hy_bits.specs.Letter.{Letter}
 use Rattle.hy_text.specs.Bytes.{past_blanks}
 use Rattle.hy_text.specs.Words.{NoSemicolon}
-use Rattle.hy_text.proofs.ReadingWords.{SetsRead, sets_none, sets_more, sets_all, sets_lack}
+use Rattle.hy_text.proofs.ReadingWords.{SetsRead, sets_more, sets_all, sets_lack}
 use Rattle.hy_text.proofs.words.skip_word.Goals as goal
 
 -- no letter is wanted

@@ -1,0 +1,10 @@
+pub mod AllTaken
+pub mod Cycles
+pub mod Firsts
+pub mod Heaps
+pub mod LawLemmas
+pub mod Orders
+pub mod Ranks
+pub mod Reach
+pub mod Sorted
+pub mod Takes

@@ -1,0 +1,4 @@
+pub mod Firsts
+pub mod Gates
+pub mod Reaching
+pub mod Takings

@@ -1,0 +1,167 @@
+-- Which words are numbers, and how large these are.
+use Rattle.std.proofs.Common.{◌≡◌, ℕ, zero, suc, ◌+◌, ◌*◌, ◌^◌, ◌<◌, ◌≤◌, ◌⊎◌, Bool, true, false, cond, ◌&&◌, List, [], ◌∷◌, ◌++◌, length, get_or, take, refl, sym, ◌∙◌, ap, subst, arith, Option, Some, None, inl, inr, append_assoc, append-nil, min, length-append}
+use Rattle.std.specs.Prelude.{decimal, bytes_eq, nat_le, IfNone, IfSome}
+use Rattle.std.specs.Char.{digit_value}
+use Rattle.std.specs.Str.Parse.{AllDigits, digits_value, digits_value_after}
+use Rattle.std.proofs.Math.Nat.{pow-succ', pow-le-pow_right, mul-le-mul_right, mul_assoc}
+use Rattle.std.proofs.lemmas.Bool.{le-leb, leb-true, cases_lt}
+use Rattle.std.proofs.lemmas.List.{take-append-le, take_all, length-take-le}
+use Rattle.std.proofs.Math.Seq.{take-length}
+use Rattle.std.proofs.lemmas.Fmt.{decimal_is_IsNumeral, decimal-digits_value, length-decimal-le}
+use Rattle.std.proofs.lemmas.Str.Parse.{IsNumeralModel}
+use Rattle.std.proofs.lemmas.Int.Digits.{digits_value-lt}
+use Rattle.aiger_body.specs.Texts.{number_of, with_number, all_numbers, or_empty}
+use Rattle.aig_order.proofs.Firsts.{and-both, both-and, either}
+use Rattle.aiger_body.proofs.LineTexts.{bytes-true}
+use Rattle.aiger_body.proofs.Spelling.{bytes-same}
+
+own : IsNumeralModel (AllDigits 10) (digits_value 10)
+own = record { to = λ ds h. h; from = λ ds h. h; same = λ ds h. refl }
+
+digit-small : (c : ℕ) → digit_value c ≤ 36
+digit-small c = grind arith
+
+value-small : (cs : List ℕ) (n : ℕ) → digits_value_after 10 n cs + 4 ≤ (n + 4) * 10 ^ length cs
+value-small [] n = omega arith
+value-small (c ∷ cs) n =
+    let more = value-small cs (n * 10 + digit_value c) in
+    let step : n * 10 + digit_value c + 4 ≤ (n + 4) * 10 = omega (arith, digit-small c) in
+    let right : (n + 4) * 10 * 10 ^ length cs ≡ (n + 4) * 10 ^ length (c ∷ cs) = mul_assoc (n + 4) 10 (10 ^ length cs) ∙ ap (λ p. (n + 4) * p) (sym (pow-succ' 10 (length cs))) in
+    let left : (n * 10 + digit_value c + 4) * 10 ^ length cs ≤ (n + 4) * 10 * 10 ^ length cs = mul-le-mul_right (10 ^ length cs) step in
+    omega (arith, more, left, right)
+
+pub word_short : (word : List ℕ) → length word ≤ 10 → digits_value 10 word < 2 ^ 64
+word_short word le = omega (arith, value-small word 0, pow-le-pow_right {n = 10} (omega arith) le)
+
+pub number_digits : (word : List ℕ) → length word ≤ 10 → 0 < length word → AllDigits 10 word → (get_or word 0 0 ≡ 48 → length word ≡ 1) → number_of word ≡ Some (digits_value 10 word)
+number_digits word le some all lead =
+    let same : decimal (digits_value 10 word) ≡ word = decimal-digits_value own word all some lead (word_short word le) in
+    let eq : bytes_eq (decimal (digits_value 10 word)) word ≡ true = ap (λ d. bytes_eq d word) same ∙ bytes-same word in
+    ap (λ b. cond b (Some (digits_value 10 word)) None) (both-and (nat_le (length word) 10) _ (le-leb _ _ le) eq)
+
+-- a word that is a number
+pub record IsNumber (word : List ℕ) : Type 0 where
+  pub short : length word ≤ 10
+  pub some : 0 < length word
+  pub digits : AllDigits 10 word
+  pub lead : 1 < length word → get_or word 0 0 ≡ 48 → ⊥
+
+lead-free : (word : List ℕ) → decimal (digits_value 10 word) ≡ word → AllDigits 10 word → length word ≤ 10 → 1 < length word → get_or word 0 0 ≡ 48 → ⊥
+lead-free [] same all short long zero_first = omega arith
+lead-free (c ∷ cs) same all short long zero_first =
+    let value : digits_value 10 (c ∷ cs) ≡ digits_value 10 cs = ap (λ x. digits_value 10 (x ∷ cs)) zero_first in
+    let low : digits_value 10 cs < 10 ^ length cs = digits_value-lt 10 cs all.1 in
+    let fits : digits_value 10 cs < 2 ^ 64 = word_short cs (omega arith) in
+    let less : length (decimal (digits_value 10 cs)) ≤ length cs = length-decimal-le (length cs) (digits_value 10 cs) (omega arith) low fits in
+    omega (arith, less, ap length (ap decimal (sym value) ∙ same))
+
+test-is : (word : List ℕ) (b : Bool) → (nat_le (length word) 10 && bytes_eq (decimal (digits_value 10 word)) word) ≡ b → (b ≡ true) ⊎ (b ≡ false) → (n : ℕ) → cond b (Some (digits_value 10 word)) None ≡ Some n → IsNumber word
+test-is word b is (inr no_number) n e = absurd (cc)
+test-is word b is (inl number) n e =
+    let (le, eq) = and-both (nat_le (length word) 10) _ (is ∙ number) in
+    let short : length word ≤ 10 = leb-true (length word) 10 le in
+    let same : decimal (digits_value 10 word) ≡ word = bytes-true _ _ eq in
+    let numeral = (decimal_is_IsNumeral (digits_value 10 word) (word_short word short)).0 in
+    let all : AllDigits 10 word = subst (AllDigits 10) same numeral.1 in
+    record { short = short; some = omega (arith, numeral.0, ap length same); digits = all; lead = lead-free word same all short }
+
+pub number_is : (word : List ℕ) (n : ℕ) → number_of word ≡ Some n → IsNumber word
+number_is word n e = test-is word _ refl (either _) n e
+
+none-or : (word : List ℕ) (o : Option ℕ) → number_of word ≡ o → (IsNumber word → ⊥) → o ≡ None
+none-or word None is not_number = refl
+none-or word (Some n) is not_number = absurd (not_number (number_is word n is))
+
+pub no_number : (word : List ℕ) → (IsNumber word → ⊥) → None ≡ number_of word
+no_number word not_number = sym (none-or word (number_of word) refl not_number)
+
+pub number_small : (word : List ℕ) (n : ℕ) → number_of word ≡ Some n → n < 10 ^ 10
+number_small word n e =
+    let is = number_is word n e in
+    let lead : get_or word 0 0 ≡ 48 → length word ≡ 1 = λ zero_first. elim (cases_lt 1 (length word)) [ inl long ↦ absurd (is.lead long zero_first) | inr le ↦ omega (arith, is.some) ] in
+    let value : Some (digits_value 10 word) ≡ Some n = sym (number_digits word is.short is.some is.digits lead) ∙ e in
+    let same : digits_value 10 word ≡ n = cc in
+    omega (arith, digits_value-lt 10 word is.digits, pow-le-pow_right {n = 10} (omega arith) is.short)
+
+-- the front of a word of digits
+pub front_small : (word : List ℕ) (i : ℕ) → i < length word → length word ≤ 10 → AllDigits 10 (take i word) → digits_value 10 (take i word) < 10 ^ 9
+front_small word i lt le all =
+    omega (arith, digits_value-lt 10 (take i word) all, pow-le-pow_right {n = 10} (omega arith) (front-short word i lt le))
+  where
+    front-short : (word : List ℕ) (i : ℕ) → i < length word → length word ≤ 10 → length (take i word) ≤ 9
+    front-short word i lt le = omega (arith, length-take-le i word (omega arith))
+
+-- what a word of one to ten bytes without a needless zero is
+pub digits_said : (word : List ℕ) (o : Option ℕ) → length word ≤ 10 → 0 < length word → ((1 < length word) × (get_or word 0 0 ≡ 48) → ⊥) → IfNone o (¬ AllDigits 10 word) → IfSome o (λ n. AllDigits 10 word × (n ≡ digits_value 10 word)) → o ≡ number_of word
+digits_said word None le some lead none is = no_number word (λ number. none number.digits)
+digits_said word (Some n) le some lead none is =
+    let short : get_or word 0 0 ≡ 48 → length word ≡ 1 = λ zero_first. elim (cases_lt 1 (length word)) [ inl long ↦ absurd (lead (long, zero_first)) | inr few ↦ omega arith ] in
+    ap Some is.1 ∙ sym (number_digits word le some is.0 short)
+
+pub said_small : (word : List ℕ) (o : Option ℕ) → o ≡ number_of word → IfSome o (λ n. n < 10 ^ 10)
+said_small word None e = tt
+said_small word (Some n) e = number_small word n (sym e)
+
+-- ---- the numbers of words, one after the other
+
+-- the numbers read, and then those of the words that are left
+abbrev pub onto : List ℕ → Option (List ℕ) → Option (List ℕ)
+onto ns None = None
+onto ns (Some ms) = Some (ns ++ ms)
+
+onto-more : (ns : List ℕ) (n : ℕ) (o : Option (List ℕ)) → onto ns (with_number (Some n) o) ≡ onto (ns ++ n ∷ []) o
+onto-more ns n None = refl
+onto-more ns n (Some ms) = ap Some (sym (append_assoc ns (n ∷ []) ms))
+
+-- The words read are numbers, of which the row has the first ten.
+pub record AreRead (words left : List (List ℕ)) (front row : List ℕ) (count : ℕ) : Type 0 where
+  pub numbers : List ℕ
+  pub all : all_numbers words ≡ onto numbers (all_numbers left)
+  pub row_is : row ≡ front ++ take 10 numbers
+  pub count_is : count ≡ min (length numbers) 10
+
+pub none_read : (words : List (List ℕ)) (front : List ℕ) → AreRead words words front front 0
+none_read words front = record { numbers = []; all = step (all_numbers words); row_is = sym (append-nil front); count_is = refl }
+  where
+    step : (o : Option (List ℕ)) → o ≡ onto [] o
+    step None = refl
+    step (Some ns) = refl
+
+said-more : (words left rest : List (List ℕ)) (word ns : List ℕ) (n : ℕ) → all_numbers words ≡ onto ns (all_numbers left) → left ≡ word ∷ rest → Some n ≡ number_of word → all_numbers words ≡ onto (ns ++ n ∷ []) (all_numbers rest)
+said-more words left rest word ns n all cut said =
+    all ∙ ap (λ l. onto ns (all_numbers l)) cut ∙ ap (λ o. onto ns (with_number o (all_numbers rest))) (sym said) ∙ onto-more ns n (all_numbers rest)
+
+-- a number that is kept
+pub read_more : (words left rest : List (List ℕ)) (front row word : List ℕ) (count n : ℕ) → AreRead words left front row count → left ≡ word ∷ rest → Some n ≡ number_of word → count < 10 → AreRead words rest front (row ++ n ∷ []) (count + 1)
+read_more words left rest front row word count n are cut said few =
+    let small : length are.numbers < 10 = omega (arith, are.count_is) in
+    let whole : take 10 are.numbers ≡ are.numbers = take_all 10 are.numbers (omega arith) in
+    let more : take 10 (are.numbers ++ n ∷ []) ≡ are.numbers ++ n ∷ [] = take_all 10 (are.numbers ++ n ∷ []) (omega (arith, length-append are.numbers (n ∷ []))) in
+    record {
+      numbers = are.numbers ++ n ∷ [];
+      all = said-more words left rest word are.numbers n are.all cut said;
+      row_is = ap (λ r. r ++ n ∷ []) (are.row_is ∙ ap (λ t. front ++ t) whole) ∙ append_assoc front are.numbers (n ∷ []) ∙ ap (λ t. front ++ t) (sym more);
+      count_is = omega (arith, are.count_is, length-append are.numbers (n ∷ []));
+    }
+
+-- and one past the tenth
+pub read_past : (words left rest : List (List ℕ)) (front row word : List ℕ) (count n : ℕ) → AreRead words left front row count → left ≡ word ∷ rest → Some n ≡ number_of word → 10 ≤ count → AreRead words rest front row count
+read_past words left rest front row word count n are cut said many =
+    let large : 10 ≤ length are.numbers = omega (arith, are.count_is) in
+    record {
+      numbers = are.numbers ++ n ∷ [];
+      all = said-more words left rest word are.numbers n are.all cut said;
+      row_is = are.row_is ∙ ap (λ t. front ++ t) (sym (take-append-le 10 are.numbers (n ∷ []) large));
+      count_is = omega (arith, are.count_is, length-append are.numbers (n ∷ []));
+    }
+
+pub read_all : (words left : List (List ℕ)) (front row : List ℕ) (count : ℕ) → AreRead words left front row count → left ≡ [] → row ≡ front ++ take 10 (or_empty (all_numbers words))
+read_all words left front row count are none =
+    let ended : all_numbers words ≡ Some are.numbers = are.all ∙ ap (λ l. onto are.numbers (all_numbers l)) none ∙ ap Some (append-nil are.numbers) in
+    are.row_is ∙ ap (λ o. front ++ take 10 (or_empty o)) (sym ended)
+
+-- a word that is no number
+pub read_none : (words left rest : List (List ℕ)) (front row word : List ℕ) (count : ℕ) → AreRead words left front row count → left ≡ word ∷ rest → None ≡ number_of word → take (length front) row ≡ front ++ take 10 (or_empty (all_numbers words))
+read_none words left rest front row word count are cut said =
+    let ended : all_numbers words ≡ None = are.all ∙ ap (λ l. onto are.numbers (all_numbers l)) cut ∙ ap (λ o. onto are.numbers (with_number o (all_numbers rest))) (sym said) in
+    ap (take (length front)) are.row_is ∙ take-append-le (length front) front (take 10 are.numbers) (omega arith) ∙ take-length front ∙ sym (append-nil front) ∙ ap (λ o. front ++ take 10 (or_empty o)) (sym ended)

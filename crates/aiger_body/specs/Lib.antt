@@ -1,0 +1,13 @@
+pub mod Answers
+pub mod Bodies
+pub mod Circuits
+pub mod Deltas
+pub mod Files
+pub mod Keeping
+pub mod Outcomes
+pub mod Passes
+pub mod Spelled
+pub mod Symbols
+pub mod Texts
+pub mod Uses
+pub mod Words

@@ -1,0 +1,11 @@
+pub mod Deltas
+pub mod Forms
+pub mod Listing
+pub mod OwnContent
+pub mod OwnRows
+pub mod OwnSymbols
+pub mod ReadBack
+pub mod Stacks
+pub mod TextContent
+pub mod TextNames
+pub mod TextRows

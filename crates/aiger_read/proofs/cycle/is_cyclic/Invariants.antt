@@ -1,6 +1,0 @@
-use Rattle.aiger_read.proofs.Reach.{IsReach}
-use Rattle.aiger_read.proofs.cycle.is_cyclic.Given as goal
-
--- the uses of those found before place p are found
-abbrev pub invariant-loop-p : goal.invariant-loop-p
-invariant-loop-p l = IsReach l.gates l.k l.p l.reach.seen l.reach.found

@@ -1,9 +1,0 @@
-use Rattle.aiger_read.proofs.Pieces.{pieces-concat}
-use Rattle.aiger_read.proofs.Places.{pieces-from}
-use Rattle.aiger_read.proofs.laws.pieces_right.Goals as goal
-
-pub returns-clause-whole : goal.returns-clause-whole
-returns-clause-whole c = pieces-concat
-
-pub returns-clause-from : goal.returns-clause-from
-returns-clause-from c = pieces-from

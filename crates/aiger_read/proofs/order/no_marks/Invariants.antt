@@ -1,9 +1,0 @@
-use Rattle.std.proofs.Common.{◌≡◌, ℕ, length, false}
-use Rattle.std.specs.Prelude.{slice_index_or}
-use Rattle.aiger_read.proofs.order.no_marks.Given as goal
-
-abbrev pub invariant-loop : goal.invariant-loop
-invariant-loop l = record {
-  long : length l.marks ≡ l.index;
-  none : (k : ℕ) → slice_index_or l.marks k false ≡ false;
-}

@@ -1,0 +1,83 @@
+//! Cases, and how their lines are read.
+
+use anyhow::{Context, Result, bail, ensure};
+use hy_base::Text;
+use std::alloc::Global;
+
+/// A text, and what is expected of it.
+#[derive(Drop)]
+pub struct Case {
+    pub name: String,
+    pub text: Text,
+    /// The fault or the limit, as it is printed; empty where a net is expected.
+    pub refusal: String,
+    /// The net in ASCII, empty where it is not said.
+    pub aag: Text,
+    /// The net in the binary form, empty where it is not said.
+    pub aig: Text,
+    /// Runs, and the rows of values that follow from them.
+    pub runs: Vec<String>,
+}
+
+impl Case {
+    /// The case that this line begins, which says nothing more yet.
+    pub fn begin(alloc: Global, directive: &str, text: &str) -> Result<Case> {
+        ensure!(directive == "case", "no case is open");
+        ensure!(!text.is_empty(), "a case has a name");
+        Ok(Case {
+            name: String::from_str(alloc, text)?,
+            text: Text::new(alloc),
+            refusal: String::new(alloc),
+            aag: Text::new(alloc),
+            aig: Text::new(alloc),
+            runs: Vec::new(alloc),
+        })
+    }
+
+    /// Takes one more line of the case.
+    pub fn take(&mut self, directive: &str, text: &str) -> Result<()> {
+        match directive {
+            "line" => push_line(&mut self.text, text)?,
+            "part" => self.text.extend(text.as_bytes())?,
+            "bytes" => push_bytes(&mut self.text, text)?,
+            "repeat" => push_often(&mut self.text, text)?,
+            "fault" => self.refusal.push_str(text)?,
+            "limit" => self.refusal.push_str("limit")?,
+            "aag" => push_line(&mut self.aag, text)?,
+            "aig" => push_line(&mut self.aig, text)?,
+            "aig-bytes" => push_bytes(&mut self.aig, text)?,
+            "run" => self.runs.push(owned(self.runs.allocator(), text)?)?,
+            _ => bail!("no line of a case begins with {directive:?}"),
+        }
+        Ok(())
+    }
+}
+
+fn owned(alloc: &Global, text: &str) -> Result<String> {
+    Ok(String::from_str(*alloc, text)?)
+}
+
+fn push_line(bytes: &mut Text, text: &str) -> Result<()> {
+    bytes.extend(text.as_bytes())?;
+    bytes.push(b'\n')?;
+    Ok(())
+}
+
+/// Adds the bytes that are written as hexadecimal numbers.
+fn push_bytes(bytes: &mut Text, text: &str) -> Result<()> {
+    for word in text.split(' ') {
+        let byte = u8::from_str_radix(word, 16).context("no byte")?;
+        bytes.push(byte)?;
+    }
+    Ok(())
+}
+
+/// Adds a text many times.
+fn push_often(bytes: &mut Text, text: &str) -> Result<()> {
+    let (count, text) = text.split_once(' ').context("no number and text")?;
+    let count = count.parse::<u32>().context("no number")?;
+    for _ in 0..count {
+        bytes.extend(text.as_bytes())?;
+    }
+    Ok(())
+}

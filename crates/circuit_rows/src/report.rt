@@ -1,0 +1,130 @@
+//! What the reader answers, beside what was expected.
+
+use crate::case::Case;
+use crate::runs::{rows_text, run_of};
+use aig_net::{Net, simulate};
+use aiger_print::{print_aag, print_aig};
+use aiger_read::{AigerError, read_aiger};
+use anyhow::{Result, ensure};
+use hy_base::{BYTES_LIMIT, Text};
+use std::alloc::Global;
+use std::fmt;
+
+/// How many cases of a file were run, and how many gave another answer than the expected one.
+#[derive(Clone, Copy)]
+pub struct Tally {
+    cases: u64,
+    differ: u64,
+}
+
+impl Tally {
+    /// No case yet.
+    pub fn new() -> Tally {
+        Tally {
+            cases: 0,
+            differ: 0,
+        }
+    }
+}
+
+impl fmt::Display for Tally {
+    fn fmt<W: fmt::Write>(&self, f: &mut fmt::Formatter<W>) -> fmt::Result {
+        write!(f, "{} cases, {} differ", self.cases, self.differ)
+    }
+}
+
+/// Runs a case, counts it, and prints its name where something differs.
+pub fn report(rt: &HostRuntime, tally: &mut Tally, case: Case) -> Result<()> {
+    let alloc = rt.alloc();
+    tally.cases = tally.cases.saturating_add(1);
+    let said = answer(alloc, &case)?;
+    if said.is_empty() {
+        return Ok(());
+    }
+    tally.differ = tally.differ.saturating_add(1);
+    println!(rt; "{}: {said}", case.name)?;
+    Ok(())
+}
+
+/// What differs, empty where nothing does.
+fn answer(alloc: Global, case: &Case) -> Result<String> {
+    ensure!(case.text.len() <= BYTES_LIMIT, "the text is too long");
+    match read_aiger(alloc, case.text.as_slice()) {
+        Ok(net) => net_differs(alloc, case, &net),
+        Err(error) => {
+            let refusal = refusal_text(alloc, error)?;
+            if refusal.as_str() == case.refusal.as_str() {
+                Ok(String::new(alloc))
+            } else {
+                Ok(refusal)
+            }
+        }
+    }
+}
+
+/// The kind and the byte of a fault, or the limit.
+fn refusal_text(alloc: Global, error: AigerError) -> Result<String> {
+    Ok(match error {
+        AigerError::Bad { kind, byte } => format!(in alloc; "{kind} {byte}")?,
+        AigerError::Limit(_) => String::from_str(alloc, "limit")?,
+        AigerError::Memory => String::from_str(alloc, "memory")?,
+    })
+}
+
+/// What differs in a net that was read.
+fn net_differs(alloc: Global, case: &Case, net: &Net) -> Result<String> {
+    let aag = print_aag(alloc, net)?;
+    let aig = print_aig(alloc, net)?;
+    let said = if !case.refusal.as_str().is_empty() {
+        "a net"
+    } else if differs(&case.aag, &aag) {
+        "another text in ASCII"
+    } else if differs(&case.aig, &aig) {
+        "another text in the binary form"
+    } else if !reads_back(alloc, &aag, &aag)? {
+        "the text in ASCII reads back as another net"
+    } else if !reads_back(alloc, &aig, &aag)? {
+        "the text in the binary form reads back as another net"
+    } else if !runs_right(alloc, case, net)? {
+        "another run"
+    } else {
+        ""
+    };
+    Ok(String::from_str(alloc, said)?)
+}
+
+/// Whether a text is expected, and it is another one.
+fn differs(wanted: &Text, given: &Text) -> bool {
+    !wanted.is_empty() && wanted.as_slice() != given.as_slice()
+}
+
+/// Whether the net of a text is printed like this.
+fn reads_back(alloc: Global, text: &Text, aag: &Text) -> Result<bool> {
+    ensure!(text.len() <= BYTES_LIMIT, "the text is too long");
+    let net = read_aiger(alloc, text.as_slice())?;
+    Ok(print_aag(alloc, &net)?.as_slice() == aag.as_slice())
+}
+
+/// Whether each run gives the rows that are expected.
+fn runs_right(alloc: Global, case: &Case, net: &Net) -> Result<bool> {
+    for line in &case.runs {
+        let mut words = line.as_str().split(' ');
+        let (Some(first), Some(stem), Some(cycle), Some(rows)) = (
+            words.next(),
+            words.next(),
+            words.next(),
+            words.next(),
+        ) else {
+            return Ok(false);
+        };
+        let run = run_of(alloc, first, stem, cycle)?;
+        let given = match simulate(alloc, net, &run)? {
+            Some(values) => rows_text(alloc, &values)?,
+            None => String::from_str(alloc, "no-lasso")?,
+        };
+        if given.as_str() != rows {
+            return Ok(false);
+        }
+    }
+    Ok(true)
+}

@@ -1,0 +1,10 @@
+pub mod Entering
+pub mod Joining
+pub mod Lettering
+pub mod Named
+pub mod Numbers
+pub mod Proving
+pub mod Refusing
+pub mod Satisfying
+pub mod Searching
+pub mod Solving

@@ -1,0 +1,161 @@
+-- From the refusals of the layers to those of the decisions.
+use Rattle.std.proofs.Common.{◌≡◌, ◌≢◌, ℕ, ◌<◌, ◌⊎◌, Bool, true, false, List, length, Result, Ok, Err, IfErr, IsErrOf, OnOk, inl, inr, refl, subst}
+use Rattle.ltl_closure.specs.Jobs.{Task, tasks_of, task_nodes}
+use Rattle.ea_reduce.specs.declared.plan.Plan.{Plan}
+use Rattle.ea_reduce.proofs.Jobs.{plain-tasks}
+use Rattle.hy_formula.specs.Trees.{Tree}
+use Rattle.hy_formula.specs.Classes.{class_of}
+use Rattle.hy_formula.specs.declared.classes.Class.TheVariants.{Other}
+use Rattle.hy_formula.specs.declared.prefix.Quant.{Quant}
+use Rattle.ltl_closure.specs.declared.closure_error.ClosureError.{ClosureError}
+use Rattle.ltl_closure.specs.declared.closure_error.ClosureError.TheVariants as closures
+use Rattle.ltl_tableau.specs.declared.tableau_error.TableauError.{TableauError}
+use Rattle.ltl_tableau.specs.declared.tableau_error.TableauError.TheVariants as tableaus
+use Rattle.ea_reduce.specs.declared.reduce_error.ReduceError.{ReduceError}
+use Rattle.ea_reduce.specs.declared.reduce_error.ReduceError.TheVariants as plans
+use Rattle.ea_reduce.specs.Plans.{PlainPlan, plain_plan, reduction, implication}
+use Rattle.ea_reduce.specs.Fulfilled.{IsOfOneKind, IsFulfillable}
+use Rattle.ea_reduce.specs.Refused.{HasFewMaps, RefusesReduction, RefusesImplication}
+use Rattle.ea_core.specs.declared.decision.Decision.{Decision}
+use Rattle.ea_core.specs.declared.ea_error.EaError.{EaError}
+use Rattle.ea_core.specs.declared.ea_error.EaError.TheVariants.{Prefix, Limit, States, Memory}
+use Rattle.ea_core.specs.Decided.{Implies}
+use Rattle.ea_core.specs.Undecided.{most_members, HasFewMembers, HasManyMembers, IsCounted, IsWithin, HasFewBranches, HasManyBranches, of_plan, of_closure, of_tableau, RefusesClosure, RefusesClosures, RefusesSearch, RefusesSearches, Undecided, UndecidedImplication, UndecidedEquivalence}
+
+module _ (prefix : List Quant) (body : Tree) (states : ℕ) where
+  pub formula-plan : (e : ReduceError) → RefusesReduction prefix (reduction prefix body) e → Undecided prefix body states (of_plan e)
+  formula-plan (plans.Prefix second found) h = h
+  formula-plan (plans.Limit limit) (taken, is, many) = (taken, inl (is, many))
+  formula-plan plans.Memory h = tt
+
+  pub formula-closure : class_of prefix ≢ Other → HasFewMaps (reduction prefix body) → (e : EaError) → RefusesClosure (reduction prefix body) e → Undecided prefix body states e
+  formula-closure taken few (Prefix second found) h = absurd h
+  formula-closure taken few (Limit limit) (is, many) = (taken, inr (is, few, many))
+  formula-closure taken few States h = absurd h
+  formula-closure taken few Memory h = tt
+
+  pub formula-search : class_of prefix ≢ Other → IsCounted (reduction prefix body) → (e : EaError) → RefusesSearch (reduction prefix body) states e → Undecided prefix body states e
+  formula-search taken counted (Prefix second found) h = absurd h
+  formula-search taken counted (Limit limit) h = absurd h
+  formula-search taken counted States many = (taken, (counted, many))
+  formula-search taken counted Memory h = tt
+
+module _ (first : List Quant) (body : Tree) (second : List Quant) (other : Tree) (states : ℕ) where
+  abbrev there : PlainPlan
+  there = implication first body second other
+
+  abbrev back : PlainPlan
+  back = implication second other first body
+
+  pub implication-plan : (e : ReduceError) → RefusesImplication first second there e → UndecidedImplication first body second other states (of_plan e)
+  implication-plan (plans.Prefix which found) h = h
+  implication-plan (plans.Limit limit) (one, two, is, many) = (one, two, inl (is, many))
+  implication-plan plans.Memory h = tt
+
+  pub equivalence-plan : (e : ReduceError) → RefusesImplication first second there e → UndecidedEquivalence first body second other states (of_plan e)
+  equivalence-plan (plans.Prefix which found) h = h
+  equivalence-plan (plans.Limit limit) (one, two, is, many) = (one, two, inl (is, inl many))
+  equivalence-plan plans.Memory h = tt
+
+  module _ (one : IsOfOneKind first) (two : IsOfOneKind second) where
+    pub implication-closure : HasFewMaps there → (e : EaError) → RefusesClosure there e → UndecidedImplication first body second other states e
+    implication-closure few (Prefix which found) h = absurd h
+    implication-closure few (Limit limit) (is, many) = (one, two, inr (is, few, many))
+    implication-closure few States h = absurd h
+    implication-closure few Memory h = tt
+
+    pub implication-search : IsCounted there → (e : EaError) → RefusesSearch there states e → UndecidedImplication first body second other states e
+    implication-search counted (Prefix which found) h = absurd h
+    implication-search counted (Limit limit) h = absurd h
+    implication-search counted States many = (one, two, (counted, many))
+    implication-search counted Memory h = tt
+
+    pub equivalence-back : (e : ReduceError) → RefusesImplication second first back e → UndecidedEquivalence first body second other states (of_plan e)
+    equivalence-back (plans.Prefix false found) (is, none) = absurd (none two)
+    equivalence-back (plans.Prefix true found) (two', is, none) = absurd (none one)
+    equivalence-back (plans.Limit limit) (two', one', is, many) = (one, two, inl (is, inr many))
+    equivalence-back plans.Memory h = tt
+
+    pub equivalence-closures : HasFewMaps there → HasFewMaps back → (e : EaError) → RefusesClosures there back e → UndecidedEquivalence first body second other states e
+    equivalence-closures few few' (Prefix which found) h = absurd h
+    equivalence-closures few few' (Limit limit) (is, many) = (one, two, inr (is, few, few', many))
+    equivalence-closures few few' States h = absurd h
+    equivalence-closures few few' Memory h = tt
+
+    pub equivalence-searches : IsCounted there → IsCounted back → ((¬ IsFulfillable there) → Implies first body second other)
+        → (e : EaError) → RefusesSearches there back states e → UndecidedEquivalence first body second other states e
+    equivalence-searches counted counted' implied (Prefix which found) h = absurd h
+    equivalence-searches counted counted' implied (Limit limit) h = absurd h
+    equivalence-searches counted counted' implied States (inl many) = (one, two, counted, counted', inl many)
+    equivalence-searches counted counted' implied States (inr (few, none, many)) = (one, two, counted, counted', inr (few, implied none, many))
+    equivalence-searches counted counted' implied Memory h = tt
+
+-- two closures, and two searches, of which the first or the second is refused
+pub first-closure : (plan converse : PlainPlan) (e : EaError) → RefusesClosure plan e → RefusesClosures plan converse e
+first-closure plan converse (Prefix which found) h = h
+first-closure plan converse (Limit limit) (is, many) = (is, inl many)
+first-closure plan converse States h = h
+first-closure plan converse Memory h = tt
+
+pub second-closure : (plan converse : PlainPlan) (e : EaError) → RefusesClosure converse e → RefusesClosures plan converse e
+second-closure plan converse (Prefix which found) h = h
+second-closure plan converse (Limit limit) (is, many) = (is, inr many)
+second-closure plan converse States h = h
+second-closure plan converse Memory h = tt
+
+pub first-search : (plan converse : PlainPlan) (states : ℕ) (e : EaError) → RefusesSearch plan states e → RefusesSearches plan converse states e
+first-search plan converse states (Prefix which found) h = h
+first-search plan converse states (Limit limit) h = h
+first-search plan converse states States many = inl many
+first-search plan converse states Memory h = tt
+
+pub second-search : (plan converse : PlainPlan) (states : ℕ) (e : EaError) → HasFewBranches plan states → (¬ IsFulfillable plan)
+    → RefusesSearch converse states e → RefusesSearches plan converse states e
+second-search plan converse states (Prefix which found) few none h = h
+second-search plan converse states (Limit limit) few none h = h
+second-search plan converse states States few none many = inr (few, none, many)
+second-search plan converse states Memory few none h = tt
+
+-- a closure that is not made
+pub closure-refused : {T : Type 0} (plan : Plan) (e : ClosureError)
+    → (IsErrOf {T = T} (Err e) closures.Limit → most_members < length (task_nodes (tasks_of plan.jobs))) → RefusesClosure (plain_plan plan) (of_closure e)
+closure-refused plan closures.Limit h =
+    let P : List Task → Type 0 = λ ts. most_members < length (task_nodes ts) in
+    (refl, subst P (plain-tasks plan.jobs) (h refl))
+closure-refused plan closures.Memory h = tt
+
+-- a tableau that is not built
+pub tableau-refused : {T : Type 0} (plan : PlainPlan) (states : ℕ) (e : TableauError)
+    → (IsErrOf {T = T} (Err e) tableaus.States → HasManyBranches plan states) → RefusesSearch plan states (of_tableau e)
+tableau-refused plan states tableaus.States h = h refl
+tableau-refused plan states tableaus.Memory h = tt
+
+-- ---- by the results of the last step
+
+module _ (prefix : List Quant) (body : Tree) (states : ℕ) (plan : PlainPlan) (same : plan ≡ reduction prefix body) (taken : class_of prefix ≢ Other)
+    (maps : HasFewMaps (reduction prefix body)) (members : HasFewMembers plan) where
+  counted-formula : IsCounted (reduction prefix body)
+  counted-formula = record { maps = maps; members = subst HasFewMembers same members }
+
+  pub within-formula : (r : Result Decision EaError) → OnOk r (HasFewBranches plan states) → OnOk r (IsWithin (reduction prefix body) states)
+  within-formula (Ok d) few = record { counted = counted-formula; branches = subst (λ p. HasFewBranches p states) same few }
+  within-formula (Err e) few = few
+
+  pub refused-formula : (r : Result Decision EaError) → IfErr r (RefusesSearch plan states) → IfErr r (Undecided prefix body states)
+  refused-formula (Ok d) h = h
+  refused-formula (Err e) h = formula-search prefix body states taken counted-formula e (subst (λ p. RefusesSearch p states e) same h)
+
+module _ (first : List Quant) (body : Tree) (second : List Quant) (other : Tree) (states : ℕ) (plan : PlainPlan)
+    (same : plan ≡ implication first body second other) (one : IsOfOneKind first) (two : IsOfOneKind second)
+    (maps : HasFewMaps (implication first body second other)) (members : HasFewMembers plan) where
+  pub counted-implication : IsCounted (implication first body second other)
+  counted-implication = record { maps = maps; members = subst HasFewMembers same members }
+
+  pub within-implication : (r : Result Decision EaError) → OnOk r (HasFewBranches plan states) → OnOk r (IsWithin (implication first body second other) states)
+  within-implication (Ok d) few = record { counted = counted-implication; branches = subst (λ p. HasFewBranches p states) same few }
+  within-implication (Err e) few = few
+
+  pub refused-implication : (r : Result Decision EaError) → IfErr r (RefusesSearch plan states) → IfErr r (UndecidedImplication first body second other states)
+  refused-implication (Ok d) h = h
+  refused-implication (Err e) h =
+      implication-search first body second other states one two counted-implication e (subst (λ p. RefusesSearch p states e) same h)

@@ -1,0 +1,6 @@
+pub mod Decided
+pub mod ProofTexts
+pub mod Proofs
+pub mod Shown
+pub mod Solved
+pub mod Undecided

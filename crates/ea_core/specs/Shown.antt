@@ -1,0 +1,42 @@
+-- The letters of branches, and proofs by the ranks of branches.
+use Rattle.std.specs.Prelude.{◌≡◌, ℕ, ◌<◌, List, map, length, Option, Some, None, All, slice_index_or}
+use Rattle.std.specs.List.{range_with_len}
+use Rattle.hy_bits.specs.Letter.{Letter}
+use Rattle.rank_check.specs.declared.ranks.Ranks.{Ranks}
+use Rattle.rank_check.specs.Ranking.{rank_of, reason_of}
+use Rattle.ltl_closure.specs.Nodes.{Node, node_at, until}
+use Rattle.ltl_tableau.specs.Branches.{Branch}
+use Rattle.ltl_tableau.specs.Reached.{branch_at}
+use Rattle.ltl_tableau.specs.WalkWords.{letter_of}
+use Rattle.ea_core.specs.declared.rank_proof.RankProof.{RankProof}
+use Rattle.ea_core.specs.declared.rank_proof.ProofBranch.{ProofBranch}
+use Rattle.ea_core.specs.Proofs.{branch_of, branches_of, IsAscending}
+
+-- the letters of the first variables at a branch, and at the branches of nodes
+abbrev pub letters_of : List Node → ℕ → Branch → List Letter
+letters_of nodes vars branch = map (λ v. letter_of nodes v branch) (range_with_len 0 vars)
+
+abbrev pub rows_of : List Node → ℕ → List Branch → List ℕ → List (List Letter)
+rows_of nodes vars list walk = map (λ k. letters_of nodes vars (branch_at list k)) walk
+
+-- the member as a reason, where its node is an until
+abbrev pub if_until : ℕ → Node → Option ℕ
+if_until k (until g h) = Some k
+if_until k _ = None
+
+abbrev pub until_reason : List Node → Option ℕ → Option ℕ
+until_reason nodes (Some k) = if_until k (node_at nodes k)
+until_reason nodes None = None
+
+-- The entries are the branches with these numbers, each with the rank of its node.
+pub record AreEntries (list : List Branch) (ranks : Ranks) (entries : List ProofBranch) : Type 0 where
+  pub branches : map branch_of entries ≡ list
+  pub ranked : (v : ℕ) (d : ProofBranch) → v < length list → rank_of ranks v ≡ Some (slice_index_or entries v d).rank
+  pub ascending : All IsAscending entries
+
+-- The proof has these entries, and reasons for all their ranks.
+pub record Shows (nodes : List Node) (list : List Branch) (ranks : Ranks) (proof : RankProof) : Type 0 where
+  pub entries : AreEntries list ranks proof.branches
+  pub below : All (λ b. b.rank < length proof.reasons) proof.branches
+  pub reasons : (r : ℕ) → r < length proof.reasons
+      → slice_index_or proof.reasons r None ≡ until_reason nodes (reason_of ranks r)

@@ -1,0 +1,4 @@
+pub mod Fulfilled
+pub mod Joints
+pub mod Plans
+pub mod Refused

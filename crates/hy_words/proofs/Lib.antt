@@ -1,0 +1,4 @@
+pub mod Asking
+pub mod Gathering
+pub mod Items
+pub mod OneCommand

@@ -1,0 +1,4 @@
+pub mod Commands
+pub mod Given
+pub mod Said
+pub mod Words
