@@ -1,5 +1,5 @@
 -- The number of a node among nodes that differ.
-use Rattle.std.proofs.Common.{◌≡◌, ℕ, zero, suc, ◌<◌, ◌≤◌, Bool, true, false, ◌&&◌, ◌||◌, nat_eq, List, [], ◌∷◌, length, map, get_or, position, Some, None, inl, inr, refl, sym, ap, ◌∙◌, subst, arith}
+use Rattle.std.proofs.Common.{◌≡◌, ℕ, zero, suc, ◌<◌, Bool, true, false, ◌&&◌, ◌||◌, nat_eq, List, [], ◌∷◌, length, map, get_or, position, Some, None, inl, inr, refl, sym, ap, ◌∙◌, subst, arith}
 use Rattle.std.specs.Bool.{beq}
 use Rattle.std.specs.List.{list_any, IsDistinct}
 use Rattle.std.proofs.Math.ListN.{get_or-map}
@@ -73,9 +73,11 @@ module _ (keys : List Kept) (distinct : IsDistinct ghosts.eq keys) (node : Kept)
   -- equal keys are one
   one-key : (i k : ℕ) → i < k → k < length keys → plain_node (key i) ≡ plain_node (key k) → ⊥
   one-key i k before lt same =
-      let apart : ghosts.eq (key i) (key k) ≡ false = apart_from_distinct ghosts.eq keys i k True distinct before lt in
+      let apart : ghosts.eq (key i) (key k) ≡ false =
+          apart_from_distinct ghosts.eq keys i k True distinct before lt in
       let P : Node → Type 0 = λ n. same_node (plain_node (key i)) n ≡ true in
-      let is : same_node (plain_node (key i)) (plain_node (key k)) ≡ true = subst P same (node-itself (plain_node (key i))) in
+      let is : same_node (plain_node (key i)) (plain_node (key k)) ≡ true =
+          subst P same (node-itself (plain_node (key i))) in
       let clash : true ≡ false = sym is ∙ sym (same-kept (key i) (key k)) ∙ apart in
       cc
 
@@ -84,8 +86,8 @@ module _ (keys : List Kept) (distinct : IsDistinct ghosts.eq keys) (node : Kept)
   number-some i e =
       let (lt, is, before) = position-Some (λ k. ghosts.eq node k) keys i True e in
       let l = length-map keys plain_node in
-      let same : plain_node node ≡ plain_node (key i) = equal-node _ _ (sym (same-kept node (key i)) ∙ is) in
-      (
+      let same : plain_node node ≡ plain_node (key i) = equal-node _ _ (sym (same-kept node (key i))
+          ∙ is) in (
         omega arith,
         λ k lt'. (
           λ at.
@@ -110,9 +112,11 @@ module _ (keys : List Kept) (distinct : IsDistinct ghosts.eq keys) (node : Kept)
       let first = or-both (test x) _ e in
       none-passes test xs k first.1 (omega arith) is
 
-  pub number-none : list_any (λ k. ghosts.eq node k) keys ≡ false → IsNumberOf nodes (plain_node node) None
+  pub number-none : list_any (λ k. ghosts.eq node k) keys ≡ false
+      → IsNumberOf nodes (plain_node node) None
   number-none e k lt at =
       let l = length-map keys plain_node in
       let P : Node → Type 0 = λ n. same_node (plain_node node) n ≡ true in
-      let is : same_node (plain_node node) (plain_node (key k)) ≡ true = subst P (sym at ∙ at-key k) (node-itself (plain_node node)) in
+      let is : same_node (plain_node node) (plain_node (key k)) ≡ true = subst P (sym at
+          ∙ at-key k) (node-itself (plain_node node)) in
       none-passes (λ k. ghosts.eq node k) keys k e (omega arith) (same-kept node (key k) ∙ is)

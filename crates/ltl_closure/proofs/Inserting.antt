@@ -1,5 +1,5 @@
 -- What a numbering stands for once a form goes last, or is found.
-use Rattle.std.proofs.Common.{◌≡◌, ℕ, zero, suc, ◌+◌, ◌<◌, ◌≤◌, Bool, true, false, not, ◌&&◌, ◌||◌, cond, nat_eq, List, [], ◌∷◌, ◌++◌, length, map, if◌then◌else◌, inl, inr, refl, sym, ap, ◌∙◌, subst, arith, length-append}
+use Rattle.std.proofs.Common.{◌≡◌, ℕ, suc, ◌+◌, ◌<◌, ◌≤◌, Bool, true, false, not, ◌&&◌, ◌||◌, cond, nat_eq, List, [], ◌∷◌, ◌++◌, length, map, if◌then◌else◌, refl, sym, ap, ◌∙◌, subst, arith, length-append}
 use Rattle.std.specs.Bool.{beq}
 use Rattle.std.specs.List.{list_any, position_or_len}
 use Rattle.std.proofs.lemmas.List.{map-append, length-map}
@@ -9,12 +9,11 @@ use Rattle.ltl_closure.specs.declared.node.Node.{Node as Kept}
 use Rattle.ltl_closure.specs.declared.node.Node.TheVariants.{True, False, Lit, And, Or, Next, WeakNext, Until, Release}
 use Rattle.ltl_closure.specs.contracts.node.NodePartialEq.TheImpl.{ghosts}
 use Rattle.ltl_closure.specs.declared.numbering.Numbering.{Numbering}
-use Rattle.ltl_closure.specs.Nodes as node
 use Rattle.ltl_closure.specs.Nodes.{Node}
 use Rattle.ltl_closure.specs.Closures.{same_form, with_new, number_in, form_in, node_of, nodes_of}
 use Rattle.ltl_closure.specs.Plain.{plain_node, same_node}
-use Rattle.ltl_closure.specs.Numbered.{Below, PartsIn, Closed, Stands, IsNumber, Inserts}
-use Rattle.ltl_closure.proofs.Closing.{Grown, grown-new, equal-form, form-itself, number-found, form-there}
+use Rattle.ltl_closure.specs.Numbered.{Below, PartsIn, Closed, Stands, IsNumber}
+use Rattle.ltl_closure.proofs.Closing.{Grown, grown-new, equal-form, form-itself, number-found}
 
 -- kept nodes are compared as plain ones
 pub same-kept : (x y : Kept) → ghosts.eq x y ≡ same_node (plain_node x) (plain_node y)

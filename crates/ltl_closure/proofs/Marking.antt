@@ -1,5 +1,5 @@
 -- Members that are marked by the rules of their nodes hold.
-use Rattle.std.proofs.Common.{◌≡◌, ℕ, zero, suc, ◌+◌, ◌-◌, ◌<◌, ◌≤◌, ◌⊎◌, Bool, true, false, List, length, IsTrue, inl, inr, refl, sym, subst, arith, add-one}
+use Rattle.std.proofs.Common.{◌≡◌, ℕ, zero, suc, ◌+◌, ◌-◌, ◌<◌, ◌≤◌, ◌⊎◌, Bool, List, length, IsTrue, inl, inr, refl, sym, subst, arith, add-one}
 use Rattle.hy_formula.specs.Temporal.{endless, Words, IsUntil}
 use Rattle.hy_formula.specs.Normals.{Normal, HoldsAt}
 use Rattle.ltl_closure.specs.Nodes.{Node, always, never, literal, and, or, next, weak_next, until, release, node_at, form_of, PartsBelow, Numbers, Local, AreMarks}

@@ -1,5 +1,5 @@
 -- A root says what its task says.
-use Rattle.std.proofs.Common.{◌≡◌, ℕ, zero, suc, ◌↔◌, Bool, true, false, List, [], ◌∷◌, length, map, get_or, slice_get, Some, sym, subst, arith}
+use Rattle.std.proofs.Common.{◌≡◌, ℕ, zero, suc, ◌↔◌, Bool, true, false, List, [], ◌∷◌, map, get_or, slice_get, Some, sym, subst}
 use Rattle.hy_formula.specs.Temporal.{Span, Words, IsDecided}
 use Rattle.hy_formula.specs.Normals.{Normal, HoldsAt, Signed}
 use Rattle.hy_formula.specs.Renamed.{renamed}

@@ -1,5 +1,5 @@
 -- Tasks that are visited one after another.
-use Rattle.std.proofs.Common.{◌≡◌, ℕ, zero, suc, ◌+◌, ◌<◌, ◌≤◌, Bool, true, false, not, cond, List, [], ◌∷◌, ◌++◌, length, map, take, drop, get_or, All, Option, None, Result, Ok, Err, IsErrAnd, IsErrOf, refl, sym, ap, ◌∙◌, subst, arith, append_assoc, length-append}
+use Rattle.std.proofs.Common.{◌≡◌, ℕ, zero, suc, ◌+◌, ◌<◌, ◌≤◌, Bool, true, false, not, List, [], ◌∷◌, ◌++◌, length, map, take, drop, get_or, All, None, Result, Ok, Err, IsErrAnd, IsErrOf, refl, sym, ap, ◌∙◌, subst, arith, append_assoc}
 use Rattle.std.proofs.lemmas.List.{map-append, length-map, take_more, take-append-drop}
 use Rattle.hy_formula.specs.Trees.{Tree, tree_of}
 use Rattle.hy_formula.specs.Normals.{Normal, normal_form}
@@ -7,10 +7,10 @@ use Rattle.hy_formula.specs.Renamed.{renamed}
 use Rattle.ltl_closure.specs.declared.job.Job.{Job}
 use Rattle.ltl_closure.specs.declared.numbering.Numbering.{Numbering}
 use Rattle.ltl_closure.specs.Nodes.{Node, node_at, PartsBelow}
-use Rattle.ltl_closure.specs.Closures.{with_form, with_forms, closure, number_in, form_in, node_of, nodes_of}
+use Rattle.ltl_closure.specs.Closures.{with_form, with_forms, closure, number_in, node_of, nodes_of}
 use Rattle.ltl_closure.specs.Jobs.{Task, tasks_by, tasks_of, variable_in, form_of_task, forms_of, task_nodes, task_roots}
 use Rattle.ltl_closure.specs.Plain.{plain_node}
-use Rattle.ltl_closure.specs.Numbered.{Below, Closed, Stands, IsNumber, Visits, Visited, IsClosure}
+use Rattle.ltl_closure.specs.Numbered.{Below, Closed, Stands, Visits, Visited, IsClosure}
 use Rattle.ltl_closure.proofs.Closing.{Grown, grown-form, closed-forms, number-found, closure-numbers}
 use Rattle.ltl_closure.proofs.Inserting.{number-grown}
 

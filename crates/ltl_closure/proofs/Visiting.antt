@@ -1,6 +1,5 @@
 -- What a visit of a form leaves, by the visits of its parts.
-use Rattle.std.proofs.Common.{◌≡◌, ℕ, zero, suc, ◌<◌, ◌≤◌, Bool, true, false, not, ◌||◌, cond, List, [], ◌∷◌, ◌++◌, length, map, Option, Some, None, Result, Ok, Err, IfOk, refl, sym, ap, ◌∙◌, subst, arith}
-use Rattle.std.specs.List.{list_any}
+use Rattle.std.proofs.Common.{◌≡◌, ℕ, ◌<◌, Bool, true, false, not, cond, List, [], ◌∷◌, ◌++◌, length, map, Option, Some, None, Result, Ok, Err, IfOk, refl, sym, ap, ◌∙◌, subst, arith}
 use Rattle.std.proofs.lemmas.List.{get_or-map}
 use Rattle.hy_formula.specs.Trees as tree
 use Rattle.hy_formula.specs.Trees.{Tree}
@@ -11,7 +10,7 @@ use Rattle.ltl_closure.specs.declared.numbering.Operands.{Operands}
 use Rattle.ltl_closure.specs.declared.numbering.Sides.{Sides}
 use Rattle.ltl_closure.specs.Nodes as node
 use Rattle.ltl_closure.specs.Nodes.{Node, node_at}
-use Rattle.ltl_closure.specs.Closures.{same_form, with_new, with_form, number_in, form_in, node_of, nodes_of}
+use Rattle.ltl_closure.specs.Closures.{with_new, with_form, number_in, node_of}
 use Rattle.ltl_closure.specs.Plain.{plain_node, constant, conjunction, next_of, until_of}
 use Rattle.ltl_closure.specs.Numbered.{Below, PartsIn, Closed, Stands, IsNumber, IsKnown, Inserts, Visits, operands_of, operands_at, AreSides, VisitsSides}
 use Rattle.ltl_closure.proofs.Closing.{Grown, grown-form, grown-new, number-found, form-there}

@@ -1,7 +1,7 @@
 -- What a numbering under way stands for: the forms that have been visited.
 use Rattle.std.specs.Prelude.{◌≡◌, ◌↔◌, ℕ, ◌<◌, ◌≤◌, Bool, true, false, not, ◌&&◌, ◌||◌, nat_eq, List, map, length, Option, Some, None, All}
 use Rattle.std.specs.List.{list_any}
-use Rattle.hy_formula.specs.Normals.{Normal, always, never, literal, and, or, next, weak_next, until, release}
+use Rattle.hy_formula.specs.Normals.{Normal, and, or, next, weak_next, until, release}
 use Rattle.ltl_closure.specs.declared.node.Node.{Node as Kept}
 use Rattle.ltl_closure.specs.declared.numbering.Numbering.{Numbering}
 use Rattle.ltl_closure.specs.declared.numbering.Operands.{Operands}

@@ -1,5 +1,5 @@
 -- Branches that are collected one list after another.
-use Rattle.std.proofs.Common.{◌≡◌, ℕ, zero, suc, ◌<◌, ◌≤◌, ◌⊎◌, Bool, true, false, not, ◌&&◌, ◌||◌, cond, nat_eq, if◌then◌else◌, List, [], ◌∷◌, ◌++◌, length, inl, inr, refl, sym, ap, ◌∙◌, subst, arith, length-append}
+use Rattle.std.proofs.Common.{◌≡◌, ℕ, zero, suc, ◌<◌, ◌≤◌, ◌⊎◌, Bool, true, false, not, ◌&&◌, cond, nat_eq, if◌then◌else◌, List, [], ◌∷◌, ◌++◌, length, inl, inr, refl, sym, ap, ◌∙◌, subst, arith, length-append}
 use Rattle.std.specs.FinSet.{insert, contains}
 use Rattle.std.specs.List.{Contains, list_any}
 use Rattle.std.proofs.lemmas.Bool.{cases_lt, cases_eq, eqb-true, eq-eqb}
@@ -23,17 +23,21 @@ pub longer : (list bs : List Branch) → length list ≤ length (with_all list b
 longer list [] = omega arith
 longer list (b ∷ bs) = omega (arith, longer-one list b, longer (with_branch list b) bs)
 
-pub with-append : (list xs ys : List Branch) → with_all list (xs ++ ys) ≡ with_all (with_all list xs) ys
+pub with-append : (list xs ys : List Branch)
+    → with_all list (xs ++ ys) ≡ with_all (with_all list xs) ys
 with-append list [] ys = refl
 with-append list (x ∷ xs) ys = with-append (with_branch list x) xs ys
 
 pub collects-none : (most : ℕ) (list : List Branch) → Collects most list [] list
 collects-none most list = record { all = λ _. refl; many = λ lt. lt }
 
-pub collects-enough : (most : ℕ) (list bs : List Branch) → most < length list → Collects most list bs list
-collects-enough most list bs lt = record { all = λ le. absurd (omega arith); many = λ _. omega (arith, longer list bs) }
+pub collects-enough : (most : ℕ) (list bs : List Branch) → most < length list
+    → Collects most list bs list
+collects-enough most list bs lt = record { all = λ le. absurd (omega arith); many =
+    λ _. omega (arith, longer list bs) }
 
-pub collects-append : (most : ℕ) (old mid new xs ys : List Branch) → Collects most old xs mid → Collects most mid ys new → Collects most old (xs ++ ys) new
+pub collects-append : (most : ℕ) (old mid new xs ys : List Branch) → Collects most old xs mid
+    → Collects most mid ys new → Collects most old (xs ++ ys) new
 collects-append most old mid new xs ys p q =
     record {
       all = λ le.
@@ -43,21 +47,26 @@ collects-append most old mid new xs ys p q =
       many = λ lt.
           let e : with_all old (xs ++ ys) ≡ with_all (with_all old xs) ys = with-append old xs ys in
           elim (cases_lt most (length mid)) [
-            | inl over ↦ let more = p.many over in omega (arith, longer (with_all old xs) ys, ap length e)
-            | inr few ↦ let same : with_all mid ys ≡ with_all old (xs ++ ys) = ap (λ l. with_all l ys) (p.all few) ∙ sym e in let more = q.many lt in omega (arith, ap length same)
+            | inl over ↦ let more =
+                p.many over in omega (arith, longer (with_all old xs) ys, ap length e)
+            | inr few ↦ let same : with_all mid ys ≡ with_all old (xs ++ ys) =
+                ap (λ l. with_all l ys) (p.all few)
+                    ∙ sym e in let more = q.many lt in omega (arith, ap length same)
           ];
     }
 
 -- ---- a list once more
 
-with-known : (list bs : List Branch) → ((b : Branch) → Contains bs b → Contains list b) → with_all list bs ≡ list
+with-known : (list bs : List Branch) → ((b : Branch) → Contains bs b → Contains list b)
+    → with_all list bs ≡ list
 with-known list [] known = refl
 with-known list (b ∷ bs) known =
     let there = there-known b list (known b (0, omega arith, refl)) in
     ap (λ c. with_all (cond c list (list ++ b ∷ [])) bs) there
     ∙ with-known list bs (λ x h. known x (Contains-append_right (b ∷ []) bs x h))
 
-pub collects-twice : (most : ℕ) (old new xs : List Branch) → Collects most old xs new → Collects most old (xs ++ xs) new
+pub collects-twice : (most : ℕ) (old new xs : List Branch) → Collects most old xs new
+    → Collects most old (xs ++ xs) new
 collects-twice most old new xs once =
     let twice : with_all old (xs ++ xs) ≡ with_all old xs =
     with-append old xs xs ∙ with-known (with_all old xs) xs (λ b h. all-of old xs b (inr h)) in
@@ -70,7 +79,8 @@ collects-twice most old new xs once =
 pub collects-both : (most : ℕ) (old mid new xs ys : List Branch)
     → Collects most old xs mid ⊎ ((mid ≡ old) × (xs ≡ ys)) → Collects most mid ys new
     → Collects most old (xs ++ ys) new
-collects-both most old mid new xs ys (inl first) rest = collects-append most old mid new xs ys first rest
+collects-both most old mid new xs ys (inl first) rest =
+    collects-append most old mid new xs ys first rest
 collects-both most old mid new xs ys (inr (same, alike)) rest =
     let P : List Branch → Type 0 = λ l. Collects most l ys new in
     let Q : List Branch → Type 0 = λ l. Collects most old (l ++ ys) new in
@@ -89,8 +99,9 @@ skipped nodes todo now later m (suc f) le none =
       | inl e ↦ ap (λ x. branches_below nodes x todo now later) (sym e)
       | inr apart ↦
           ap (λ c. cond c
-              (expand nodes now f (λ t l. branches_below nodes f t (insert now f) l) todo later (node_at nodes f))
-              (branches_below nodes f todo now later))
+          (expand nodes now f (λ t l. branches_below nodes f t (insert now f) l) todo later
+              (node_at nodes f))
+          (branches_below nodes f todo now later))
           (none f (omega arith) (omega arith))
           ∙ skipped nodes todo now later m f (omega arith) (λ k from lt. none k from (omega arith))
     ]
@@ -114,13 +125,17 @@ true-both false b e f = absurd (cc)
 
 pub equal-same : (a b : Branch) → equal a b ≡ true → a ≡ b
 equal-same a b e =
-    let (n, l) = both-true (nat_eq (number a.now) (number b.now)) (nat_eq (number a.later) (number b.later)) e in
+    let (n, l) = both-true (nat_eq (number a.now) (number b.now)) (nat_eq (number a.later)
+        (number b.later)) e in
     let now : a.now ≡ b.now = number-same a.now b.now n in
     let later : a.later ≡ b.later = number-same a.later b.later l in
-    ap (λ x. let made : Branch = record { now = x; later = a.later } in made) now ∙ ap (λ x. let made : Branch = record { now = b.now; later = x } in made) later
+    ap (λ x. let made : Branch = record { now = x; later = a.later } in made) now
+        ∙ ap (λ x. let made : Branch = record { now = b.now; later = x } in made) later
 
 pub equal-itself : (a b : Branch) → a ≡ b → equal a b ≡ true
-equal-itself a b e = true-both _ _ (eq-eqb (number a.now) (number b.now) (ap (λ (x : Branch). number x.now) e)) (eq-eqb (number a.later) (number b.later) (ap (λ (x : Branch). number x.later) e))
+equal-itself a b e =
+    true-both _ _ (eq-eqb (number a.now) (number b.now) (ap (λ (x : Branch). number x.now) e))
+        (eq-eqb (number a.later) (number b.later) (ap (λ (x : Branch). number x.later) e))
 
 both-ways : (a b : Bool) → (a ≡ true → b ≡ true) → (b ≡ true → a ≡ true) → a ≡ b
 both-ways true b f g = sym (f refl)
@@ -128,14 +143,20 @@ both-ways false true f g = g refl
 both-ways false false f g = refl
 
 pub equal-is : (a b : Branch) → equal a b ≡ same_branch a b
-equal-is a b = both-ways (equal a b) (same_branch a b) (λ e. same-branch_itself a b (equal-same a b e)) (λ e. equal-itself a b (equal-branch a b e))
+equal-is a b = both-ways (equal a b) (same_branch a b) (λ e. same-branch_itself a b
+    (equal-same a b e)) (λ e. equal-itself a b (equal-branch a b e))
 
-any-same : (f g : Branch → Bool) → ((b : Branch) → f b ≡ g b) → (list : List Branch) → list_any f list ≡ list_any g list
+any-same : (f g : Branch → Bool) → ((b : Branch) → f b ≡ g b) → (list : List Branch)
+    → list_any f list ≡ list_any g list
 any-same f g same list = λ i. list_any (λ b. same b i) list
 
-pub collects-one : (most : ℕ) (old new : List Branch) (b : Branch) → new ≡ (if list_any (λ x. equal b x) old then old else old ++ b ∷ []) → Collects most old (b ∷ []) new
+pub collects-one : (most : ℕ) (old new : List Branch) (b : Branch)
+    → new ≡ (if list_any (λ x. equal b x) old then old else old ++ b ∷ []) → Collects most old
+        (b ∷ []) new
 collects-one most old new b is =
-    let e : new ≡ with_branch old b = is ∙ ap (λ c. cond c old (old ++ b ∷ [])) (any-same (λ x. equal b x) (same_branch b) (equal-is b) old) in
+    let e : new ≡ with_branch old b = is
+        ∙ ap (λ c. cond c old (old ++ b ∷ [])) (any-same (λ x. equal b x) (same_branch b)
+            (equal-is b) old) in
     record { all = λ _. e; many = λ lt. omega (arith, ap length e) }
 
 -- ---- what becomes of equal work
@@ -158,6 +179,8 @@ equal-work nodes a b e =
     ∙ ap (λ x. branches_below nodes b.below b.todo b.now x) (number-same a.next b.next next)
 
 -- where nothing is left to do there is one branch
-pub at-end : (nodes : List Node) (below : ℕ) (todo now later : Members) → below ≤ 0 → branches_below nodes below todo now later ≡ record { now = now; later = later } ∷ []
+pub at-end : (nodes : List Node) (below : ℕ)
+    (todo now later : Members) → below ≤ 0
+        → branches_below nodes below todo now later ≡ record { now = now; later = later } ∷ []
 at-end nodes zero todo now later le = refl
 at-end nodes (suc f) todo now later le = absurd (omega arith)

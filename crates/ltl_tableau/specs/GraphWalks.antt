@@ -27,7 +27,8 @@ entry_at entries v = slice_index_or entries v no_entry
 
 -- The entries are the branches in their order, each with the rank of its node, and the reasons are those of the
 -- ranks. A reason that is no member, as a rank without nodes may have, is left out.
-pub record HasRanks (nodes : List Node) (list : List Branch) (ranks : Ranks) (proof : RankProof) : Type 0 where
+pub record HasRanks (nodes : List Node) (list : List Branch) (ranks : Ranks)
+    (proof : RankProof) : Type 0 where
   pub count : length proof.entries ≡ length list
   pub branches : (v : ℕ) → v < length list → (entry_at proof.entries v).branch ≡ branch_at list v
   pub ranked : (v : ℕ) → v < length list → rank_of ranks v ≡ Some (entry_at proof.entries v).rank

@@ -72,7 +72,8 @@ pub enum Step<const W: usize> {
     Splits(Work<W>, Work<W>),
 }
 
-/// Adds the branches that the work may become.
+/// Adds the branches that the work may become. Calls stand in one another at most as often as the
+/// closure has members.
 fn expand<const W: usize>(
     c: &Closure,
     work: Work<W>,
