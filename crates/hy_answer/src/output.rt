@@ -63,13 +63,7 @@ fn push_kept(text: &mut Text, kept: &[u32]) -> M<()>
 }
 
 /// The text of a run that met no violation.
-fn clean_text(
-    alloc: Global,
-    extras: Extras,
-    traces: u32,
-    kept: &[u32],
-    live: u32,
-) -> M<Text>
+fn clean_text(alloc: Global, extras: Extras, traces: u32, kept: &[u32], live: u32) -> M<Text>
     ensures { IfOk result (λ t. t ≡ codes "no violation in " ++ decimal traces ++ codes " traces"
         ++ (if extras.kept then kept_text kept.now else []) ++ open_text live ++ codes "\n") }
 {
@@ -160,12 +154,7 @@ fn line_text(alloc: Global, line: &[u8]) -> M<Text>
 
 /// What `out` is to receive: the text of a verdict, nothing for any other answer. Lassos are printed
 /// with the names of the table. In time linear in the text.
-pub fn out_text(
-    alloc: Global,
-    extras: Extras,
-    names: &NameTable,
-    answer: &Answer,
-) -> M<Text>
+pub fn out_text(alloc: Global, extras: Extras, names: &NameTable, answer: &Answer) -> M<Text>
     ensures { IfOk result (λ t. t ≡ out_text extras names.now answer.now) }
 {
     match answer {
@@ -173,9 +162,7 @@ pub fn out_text(
         Answer::Unsat { proof } => with_proof(alloc, extras, b"unsat\n", proof),
         Answer::Implied { proof } => with_proof(alloc, extras, b"implied\n", proof),
         Answer::NotImplied { list } => with_lassos(alloc, b"not implied\n", list, names),
-        Answer::Equivalent { first, second } => {
-            equivalent_text(alloc, extras, first, second)
-        }
+        Answer::Equivalent { first, second } => { equivalent_text(alloc, extras, first, second) }
         Answer::NotEquivalent { side, list } => {
             with_lassos(alloc, side_line(*side), list, names)
         }

@@ -44,7 +44,7 @@ module _ {S : Type 0} (g : Ghosts S) (old mid new : S) (specs file : List ℕ) (
     has f e universal = record {
       names = names;
       first = let P : List Plain → Type 0 = λ fs. HasTexts (monitor specs file) (Ok first.bytes ∷ Ok second.bytes ∷ []) 1 fs names in
-        subst P e (texts_still (monitor specs file) (Ok first.bytes ∷ []) (Ok second.bytes ∷ []) 1 formulas names read_first.texts);
+          subst P e (texts_still (monitor specs file) (Ok first.bytes ∷ []) (Ok second.bytes ∷ []) 1 formulas names read_first.texts);
       universal = universal;
       bytes = second.bytes;
       came = refl;
@@ -52,9 +52,11 @@ module _ {S : Type 0} (g : Ghosts S) (old mid new : S) (specs file : List ℕ) (
     }
 
     all_of : (f : Plain) → formulas ≡ f ∷ [] → HasFormulas (monitor specs file) (Ok first.bytes ∷ Ok second.bytes ∷ []) (f ∷ [])
-    all_of f e =
-        (names, let P : List Plain → Type 0 = λ fs. HasTexts (monitor specs file) (Ok first.bytes ∷ Ok second.bytes ∷ []) 2 fs names in
-        subst P (append-nil formulas ∙ e) read_all.texts)
+    all_of f e = (
+      names,
+      let P : List Plain → Type 0 = λ fs. HasTexts (monitor specs file) (Ok first.bytes ∷ Ok second.bytes ∷ []) 2 fs names in
+          subst P (append-nil formulas ∙ e) read_all.texts,
+    )
 
     behind : (a : Answer) → First (monitor specs file) (Ok first.bytes ∷ Ok second.bytes ∷ []) (stages_of_formulas ++ work ∷ []) a
         → Follows g old new (monitor specs file) a (out_text (extras_of (monitor specs file)) names a)

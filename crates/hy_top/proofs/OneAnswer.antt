@@ -171,8 +171,8 @@ module _ (command : Command) (given : Given) where
   class_agrees a b one two =
       let P : List Plain → Type 0 = λ fs. FirstUntaken (takes command) fs one.place one.class in
       let (place, found) =
-        untaken_once (takes command) two.formulas one.place two.place one.class two.class
-        (subst P (of_formulas command given two.formulas two.has one.formulas one.has) one.first) two.first in
+      untaken_once (takes command) two.formulas one.place two.place one.class two.class
+      (subst P (of_formulas command given two.formulas two.has one.formulas one.has) one.first) two.first in
       one.answered ∙ ap (λ p. answers.Prefix (file_of command p) one.class) place ∙ ap (answers.Prefix (file_of command two.place)) found ∙ sym two.answered
 
   judgements_agree : (a b : Answer) → Judges command given a → Judges command given b → Agree a b

@@ -110,7 +110,7 @@ module _ (command : Command) where
       let (more, f) = split j (suc k) in
       let behind = more ++ stages_of_formulas ++ work ∷ [] in
       let whole : stages_of command ≡ stages_of_files k ++ (stages_of_file k ++ behind) =
-        ap (λ stages. (stages ++ stages_of_formulas) ++ work ∷ []) (ap stages_of_files e ∙ f) ∙ simp append_assoc in
+      ap (λ stages. (stages ++ stages_of_formulas) ++ work ∷ []) (ap stages_of_files e ∙ f) ∙ simp append_assoc in
       let P : List Stage → Type 0 = λ stages. First command given stages a in
       subst P (sym whole) (pass command given (stages_of_files k) _ a passed (stop command given (stages_of_file k) behind a first))
 
@@ -130,9 +130,14 @@ module _ {S : Type 0} (g : Ghosts S) (command : Command) (old : S) where
       → Progress new (given ++ Ok takes.bytes ∷ []) (formulas ++ more) later
   goes_on mid new given formulas more names later name progress there takes =
       let now = given ++ Ok takes.bytes ∷ [] in
-      let has : HasTexts command now (suc (length given)) (formulas ++ more) later =
-        (formulas, more, names, texts_still command given (Ok takes.bytes ∷ []) (length given) formulas names progress.texts,
-        record { bytes = takes.bytes; came = came_last given (Ok takes.bytes); is = takes.is }, refl) in
+      let has : HasTexts command now (suc (length given)) (formulas ++ more) later = (
+        formulas,
+        more,
+        names,
+        texts_still command given (Ok takes.bytes ∷ []) (length given) formulas names progress.texts,
+        record { bytes = takes.bytes; came = came_last given (Ok takes.bytes); is = takes.is },
+        refl,
+      ) in
       let P : ℕ → Type 0 = λ n. HasTexts command now n (formulas ++ more) later in
       record {
         read = read_last g old mid new (files_of command) given name (Ok takes.bytes) progress.read there takes.read;

@@ -7,8 +7,7 @@ ghost use Rattle.hy_answer.specs.Outputs.{error_line, out_text, status_of, Recei
 ghost use Rattle.hy_words.specs.Words.{texts};
 ghost use Rattle.hy_top.specs.Runs.{Comes, IsWritten, Names};
 
-use crate::eahyper;
-use crate::rvhyper;
+use crate::{eahyper, rvhyper};
 use hy_answer::{Answer, Extras, out_text, status_of, write_error};
 use hy_base::{Memory, Shelf, Sink, SinkFailed, write_all};
 use hy_formula::NameTable;
@@ -44,12 +43,16 @@ pub fn run<S: Shelf, O: Sink, E: Sink>(
     ensures keeps_out { KeepsSink O.Sink out.old out.new }
     ensures keeps_err { KeepsSink E.Sink err.old err.new }
 {
-    let plain = Extras { kept: false, proof: false };
+    let plain = Extras {
+        kept: false,
+        proof: false,
+    };
     let Ok(mut names) = NameTable::new(alloc) else {
         unreachable!()
     };
-    let Some(command) = command_of(tool, words) else {
-        return finish(alloc, Answer::Words, plain, &names, &[], out, err);
+    let command = match command_of(tool, words) {
+        Some(command) => command,
+        None => return finish(alloc, Answer::Words, plain, &names, &[], out, err),
     };
     match command {
         Command::Monitor { specs, traces } => {
@@ -60,17 +63,31 @@ pub fn run<S: Shelf, O: Sink, E: Sink>(
             let due = eahyper::judge(alloc, shelf, formula, lassos, &mut names);
             finish(alloc, due, plain, &names, &[formula, lassos], out, err)
         }
-        Command::Decide { formula, states, proof } => {
+        Command::Decide {
+            formula,
+            states,
+            proof,
+        } => {
             let due = eahyper::decide(alloc, shelf, formula, states, &mut names);
             let extras = Extras { kept: false, proof };
             finish(alloc, due, extras, &names, &[formula], out, err)
         }
-        Command::Imply { first, second, states, proof } => {
+        Command::Imply {
+            first,
+            second,
+            states,
+            proof,
+        } => {
             let due = eahyper::imply(alloc, shelf, (first, second), states, &mut names);
             let extras = Extras { kept: false, proof };
             finish(alloc, due, extras, &names, &[first, second], out, err)
         }
-        Command::Compare { first, second, states, proof } => {
+        Command::Compare {
+            first,
+            second,
+            states,
+            proof,
+        } => {
             let due = eahyper::compare(alloc, shelf, (first, second), states, &mut names);
             let extras = Extras { kept: false, proof };
             finish(alloc, due, extras, &names, &[first, second], out, err)

@@ -19,12 +19,19 @@ pub fn are_wanted(rt: &HostRuntime, wanted: &[u8], lassos: &Lassos, out: &[u8]) 
     if list.iter().filter(|b| **b == b'\n').count() != lassos.count as usize {
         return Ok(false);
     }
-    Ok(is_judged(rt, &lassos.satisfy, list, b"true\n")?
-        && is_judged(rt, &lassos.violate, list, b"false\n")?)
+    Ok(
+        is_judged(rt, &lassos.satisfy, list, b"true\n")?
+            && is_judged(rt, &lassos.violate, list, b"false\n")?,
+    )
 }
 
 /// Whether the formula, if there is one, is judged so on the lassos.
-fn is_judged(rt: &HostRuntime, formula: &Option<Text>, list: &[u8], verdict: &[u8]) -> Result<bool> {
+fn is_judged(
+    rt: &HostRuntime,
+    formula: &Option<Text>,
+    list: &[u8],
+    verdict: &[u8],
+) -> Result<bool> {
     let Some(formula) = formula else {
         return Ok(true);
     };

@@ -14,7 +14,7 @@ returns-in-Monitor-clause-right g c = (
   _,
   _,
   worded (monitor c.in-Monitor.specs.now c.in-Monitor.traces.now) _ _
-  (rw c.in-Monitor.is at c.in-Some.ensures.some) c.monitor-due.ensures.follows,
+      (rw c.in-Monitor.is at c.in-Some.ensures.some) c.monitor-due.ensures.follows,
   c.finish-in-Monitor.ensures.written,
 )
 
@@ -30,7 +30,7 @@ returns-in-Judge-clause-right g c = (
   _,
   _,
   worded (judge c.in-Judge.formula.now c.in-Judge.lassos.now) _ _
-  (rw c.in-Judge.is at c.in-Some.ensures.some) c.judge-due.ensures.follows,
+      (rw c.in-Judge.is at c.in-Some.ensures.some) c.judge-due.ensures.follows,
   c.finish-in-Judge.ensures.written,
 )
 
@@ -46,7 +46,7 @@ returns-in-Decide-clause-right g c = (
   _,
   _,
   worded (decide c.in-Decide.formula.now c.in-Decide.states c.in-Decide.proof) _ _
-  (rw c.in-Decide.is at c.in-Some.ensures.some) (c.decide-due.ensures.follows c.in-Decide.proof),
+      (rw c.in-Decide.is at c.in-Some.ensures.some) (c.decide-due.ensures.follows c.in-Decide.proof),
   c.finish-in-Decide.ensures.written,
 )
 
@@ -62,7 +62,7 @@ returns-in-Imply-clause-right g c = (
   _,
   _,
   worded (imply c.in-Imply.first.now c.in-Imply.second.now c.in-Imply.states c.in-Imply.proof) _ _
-  (rw c.in-Imply.is at c.in-Some.ensures.some) (c.imply-due.ensures.follows c.in-Imply.proof),
+      (rw c.in-Imply.is at c.in-Some.ensures.some) (c.imply-due.ensures.follows c.in-Imply.proof),
   c.finish-in-Imply.ensures.written,
 )
 
@@ -78,7 +78,7 @@ returns-clause-right g c = (
   _,
   _,
   worded (compare c.in-Compare.first.now c.in-Compare.second.now c.in-Compare.states c.in-Compare.proof) _ _
-  (rw c.in-Compare.is at c.in-Some.ensures.some) (c.compare-due.ensures.follows c.in-Compare.proof),
+      (rw c.in-Compare.is at c.in-Some.ensures.some) (c.compare-due.ensures.follows c.in-Compare.proof),
   c.finish-in-Compare.ensures.written,
 )
 
