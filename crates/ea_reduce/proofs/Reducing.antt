@@ -1,5 +1,5 @@
 -- Tuples that fulfil a plan, and lists that satisfy its formulas.
-use Rattle.std.proofs.Common.{◌≡◌, ◌≢◌, ℕ, zero, suc, ◌+◌, ◌<◌, ◌≤◌, ◌⊎◌, ◌↔◌, Bool, true, false, List, [], ◌∷◌, ◌++◌, length, get_or, map, inl, inr, refl, sym, ap, ◌∙◌, subst, arith, IsTrue, length-append, append-nil, zero-add}
+use Rattle.std.proofs.Common.{◌≡◌, ◌≢◌, ℕ, zero, suc, ◌+◌, ◌<◌, ◌≤◌, Bool, true, false, List, [], ◌∷◌, ◌++◌, length, get_or, map, inl, inr, refl, sym, ap, ◌∙◌, subst, arith, IsTrue, length-append, append-nil, zero-add}
 use Rattle.std.specs.List.{Contains}
 use Rattle.std.proofs.lemmas.List.{length-map, get_or_append_left, get_or-append_right}
 use Rattle.std.proofs.lemmas.List.Elements.{Contains-get_or}
@@ -15,14 +15,14 @@ use Rattle.hy_formula.specs.declared.prefix.Quant.{Quant}
 use Rattle.hy_formula.specs.declared.prefix.Quant.TheVariants.{Exists, Forall}
 use Rattle.hy_formula.specs.Quantifiers.{Quantified, Each, repeated, turned}
 use Rattle.hy_formula.proofs.Shapes.{exists-shape, forall-shape, exists_forall-shape}
-use Rattle.hy_lasso.specs.Words.{no_lasso, lasso_words, AreLassos, picked, Meets, Satisfies, IsSatisfiable}
+use Rattle.hy_lasso.specs.Words.{no_lasso, lasso_words, AreLassos, picked, Meets, IsSatisfiable}
 use Rattle.hy_lasso.proofs.LassoWords.{any-default}
 use Rattle.hy_lasso.proofs.Negating.{negation}
 use Rattle.ltl_closure.specs.Jobs.{tasks_by, AllHold}
 use Rattle.ea_reduce.specs.Plans.{PlainPlan, existentials, maps_of, lassos_for, reduction, implication, plan_tasks}
 use Rattle.ea_reduce.specs.Fulfilled.{Fulfils, IsFulfillable, IsModel, Separates, IsOfOneKind}
 use Rattle.ea_reduce.specs.Joints.{AreShortened}
-use Rattle.ea_reduce.proofs.Each.{each-map, each-unmap, each-range, each-in_range, each-append, each-place, each-like, each-both}
+use Rattle.ea_reduce.proofs.Each.{each-map, each-unmap, each-range, each-in_range, each-append, each-place, each-both}
 use Rattle.ea_reduce.proofs.Maps.{IsAsLong, are-as_long}
 use Rattle.ea_reduce.proofs.Jobs.{HoldsUnder, all-under, each-under, hold-append, hold-left, hold-right}
 use Rattle.ea_reduce.proofs.Same.{under-picked, shortened-words}
