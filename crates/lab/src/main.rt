@@ -32,7 +32,9 @@ fn main(rt: HostRuntime) -> Result<ExitCode> {
     }
     match words.as_slice() {
         [command, rest @ ..] => run(&rt, command.as_str(), rest),
-        [] => bail!("the first word is a command: solve, check, tableau, search, aag, aig, simulate"),
+        [] => bail!(
+            "the first word is a command: solve, check, tableau, search, aag, aig, simulate"
+        ),
     }
 }
 

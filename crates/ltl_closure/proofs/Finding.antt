@@ -74,10 +74,10 @@ module _ (keys : List Kept) (distinct : IsDistinct ghosts.eq keys) (node : Kept)
   one-key : (i k : ℕ) → i < k → k < length keys → plain_node (key i) ≡ plain_node (key k) → ⊥
   one-key i k before lt same =
       let apart : ghosts.eq (key i) (key k) ≡ false =
-          apart_from_distinct ghosts.eq keys i k True distinct before lt in
+      apart_from_distinct ghosts.eq keys i k True distinct before lt in
       let P : Node → Type 0 = λ n. same_node (plain_node (key i)) n ≡ true in
       let is : same_node (plain_node (key i)) (plain_node (key k)) ≡ true =
-          subst P same (node-itself (plain_node (key i))) in
+      subst P same (node-itself (plain_node (key i))) in
       let clash : true ≡ false = sym is ∙ sym (same-kept (key i) (key k)) ∙ apart in
       cc
 
@@ -87,7 +87,7 @@ module _ (keys : List Kept) (distinct : IsDistinct ghosts.eq keys) (node : Kept)
       let (lt, is, before) = position-Some (λ k. ghosts.eq node k) keys i True e in
       let l = length-map keys plain_node in
       let same : plain_node node ≡ plain_node (key i) = equal-node _ _ (sym (same-kept node (key i))
-          ∙ is) in (
+      ∙ is) in (
         omega arith,
         λ k lt'. (
           λ at.
@@ -118,5 +118,5 @@ module _ (keys : List Kept) (distinct : IsDistinct ghosts.eq keys) (node : Kept)
       let l = length-map keys plain_node in
       let P : Node → Type 0 = λ n. same_node (plain_node node) n ≡ true in
       let is : same_node (plain_node node) (plain_node (key k)) ≡ true = subst P (sym at
-          ∙ at-key k) (node-itself (plain_node node)) in
+      ∙ at-key k) (node-itself (plain_node node)) in
       none-passes (λ k. ghosts.eq node k) keys k e (omega arith) (same-kept node (key k) ∙ is)

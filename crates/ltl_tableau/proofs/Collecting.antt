@@ -33,8 +33,11 @@ collects-none most list = record { all = λ _. refl; many = λ lt. lt }
 
 pub collects-enough : (most : ℕ) (list bs : List Branch) → most < length list
     → Collects most list bs list
-collects-enough most list bs lt = record { all = λ le. absurd (omega arith); many =
-    λ _. omega (arith, longer list bs) }
+collects-enough most list bs lt = record {
+  all = λ le. absurd (omega arith);
+  many =
+      λ _. omega (arith, longer list bs);
+}
 
 pub collects-append : (most : ℕ) (old mid new xs ys : List Branch) → Collects most old xs mid
     → Collects most mid ys new → Collects most old (xs ++ ys) new
@@ -51,7 +54,7 @@ collects-append most old mid new xs ys p q =
                 p.many over in omega (arith, longer (with_all old xs) ys, ap length e)
             | inr few ↦ let same : with_all mid ys ≡ with_all old (xs ++ ys) =
                 ap (λ l. with_all l ys) (p.all few)
-                    ∙ sym e in let more = q.many lt in omega (arith, ap length same)
+                ∙ sym e in let more = q.many lt in omega (arith, ap length same)
           ];
     }
 
@@ -100,7 +103,7 @@ skipped nodes todo now later m (suc f) le none =
       | inr apart ↦
           ap (λ c. cond c
           (expand nodes now f (λ t l. branches_below nodes f t (insert now f) l) todo later
-              (node_at nodes f))
+          (node_at nodes f))
           (branches_below nodes f todo now later))
           (none f (omega arith) (omega arith))
           ∙ skipped nodes todo now later m f (omega arith) (λ k from lt. none k from (omega arith))
@@ -126,16 +129,16 @@ true-both false b e f = absurd (cc)
 pub equal-same : (a b : Branch) → equal a b ≡ true → a ≡ b
 equal-same a b e =
     let (n, l) = both-true (nat_eq (number a.now) (number b.now)) (nat_eq (number a.later)
-        (number b.later)) e in
+    (number b.later)) e in
     let now : a.now ≡ b.now = number-same a.now b.now n in
     let later : a.later ≡ b.later = number-same a.later b.later l in
     ap (λ x. let made : Branch = record { now = x; later = a.later } in made) now
-        ∙ ap (λ x. let made : Branch = record { now = b.now; later = x } in made) later
+    ∙ ap (λ x. let made : Branch = record { now = b.now; later = x } in made) later
 
 pub equal-itself : (a b : Branch) → a ≡ b → equal a b ≡ true
 equal-itself a b e =
     true-both _ _ (eq-eqb (number a.now) (number b.now) (ap (λ (x : Branch). number x.now) e))
-        (eq-eqb (number a.later) (number b.later) (ap (λ (x : Branch). number x.later) e))
+    (eq-eqb (number a.later) (number b.later) (ap (λ (x : Branch). number x.later) e))
 
 both-ways : (a b : Bool) → (a ≡ true → b ≡ true) → (b ≡ true → a ≡ true) → a ≡ b
 both-ways true b f g = sym (f refl)
@@ -152,11 +155,11 @@ any-same f g same list = λ i. list_any (λ b. same b i) list
 
 pub collects-one : (most : ℕ) (old new : List Branch) (b : Branch)
     → new ≡ (if list_any (λ x. equal b x) old then old else old ++ b ∷ []) → Collects most old
-        (b ∷ []) new
+    (b ∷ []) new
 collects-one most old new b is =
     let e : new ≡ with_branch old b = is
-        ∙ ap (λ c. cond c old (old ++ b ∷ [])) (any-same (λ x. equal b x) (same_branch b)
-            (equal-is b) old) in
+    ∙ ap (λ c. cond c old (old ++ b ∷ [])) (any-same (λ x. equal b x) (same_branch b)
+    (equal-is b) old) in
     record { all = λ _. e; many = λ lt. omega (arith, ap length e) }
 
 -- ---- what becomes of equal work
@@ -181,6 +184,6 @@ equal-work nodes a b e =
 -- where nothing is left to do there is one branch
 pub at-end : (nodes : List Node) (below : ℕ)
     (todo now later : Members) → below ≤ 0
-        → branches_below nodes below todo now later ≡ record { now = now; later = later } ∷ []
+    → branches_below nodes below todo now later ≡ record { now = now; later = later } ∷ []
 at-end nodes zero todo now later le = refl
 at-end nodes (suc f) todo now later le = absurd (omega arith)

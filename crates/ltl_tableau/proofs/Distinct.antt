@@ -25,16 +25,16 @@ same-members s t e =
     let (there, back) = both (is_subset s t) (is_subset t s) e in
     same_set nat_cmp_total nat_cmp-IsAntisymmetric s t
     (λ q. both-ways (contains s q) (contains t q) (is_subset-contains nat_cmp_total s t there q)
-        (is_subset-contains nat_cmp_total t s back q))
+    (is_subset-contains nat_cmp_total t s back q))
 
 pub equal-branch : (a b : Branch) → same_branch a b ≡ true → a ≡ b
 equal-branch a b e =
     let (now, later) = both (is_subset a.now b.now && is_subset b.now a.now)
-        (is_subset a.later b.later && is_subset b.later a.later) e in
+    (is_subset a.later b.later && is_subset b.later a.later) e in
     let n : a.now ≡ b.now = same-members a.now b.now now in
     let l : a.later ≡ b.later = same-members a.later b.later later in
     ap (λ x. let made : Branch = record { now = x; later = a.later } in made) n
-        ∙ ap (λ x. let made : Branch = record { now = b.now; later = x } in made) l
+    ∙ ap (λ x. let made : Branch = record { now = b.now; later = x } in made) l
 
 -- a set is part of itself
 subset-itself : (s : Members) → is_subset s s ≡ true
@@ -44,7 +44,7 @@ pub same-branch_itself : (a b : Branch) → a ≡ b → same_branch a b ≡ true
 same-branch_itself a b e =
     let P : Branch → Type 0 = λ x. same_branch a x ≡ true in
     subst P e (same_all (is_subset a.now a.now) (is_subset a.later a.later) (subset-itself a.now)
-        (subset-itself a.later))
+    (subset-itself a.later))
   where
     same_all : (x y : Bool) → x ≡ true → y ≡ true → ((x && x) && (y && y)) ≡ true
     same_all true true p q = refl
@@ -97,8 +97,11 @@ all-from list [] b h = inl h
 all-from list (x ∷ xs) b h =
     elim (all-from (with_branch list x) xs b h) [
       | inr later ↦ inr (Contains-append_right (x ∷ []) xs b later)
-      | inl early ↦ elim ((one list x b).0 early) [ inl old ↦ inl old | inr e ↦
-          inr (0, omega arith, e) ]
+      | inl early ↦ elim ((one list x b).0 early) [
+        | inl old ↦ inl old
+        | inr e ↦
+            inr (0, omega arith, e)
+      ]
     ]
 
 pub all-of : (list bs : List Branch) (b : Branch) → Contains list b ⊎ Contains bs b
@@ -115,8 +118,11 @@ all-of list (x ∷ xs) b (inr h) =
 
 pub branch-from : (nodes : List Node) (set : Members) (b : Branch) → IsBranch nodes set b
     → Contains (branches_below nodes (length nodes) set empty empty) b
-branch-from nodes set b is = elim (all-from [] _ b is) [ inl (k, lt, e) ↦
-    absurd (omega arith) | inr h ↦ h ]
+branch-from nodes set b is = elim (all-from [] _ b is) [
+  | inl (k, lt, e) ↦
+      absurd (omega arith)
+  | inr h ↦ h
+]
 
 pub branch-of : (nodes : List Node) (set : Members) (b : Branch)
     → Contains (branches_below nodes (length nodes) set empty empty) b → IsBranch nodes set b

@@ -59,19 +59,23 @@ branch-at_place : (list : List Branch) (stem cycle : List ℕ) → 0 < length cy
 branch-at_place list stem cycle some i =
     elim (cases_lt i (length stem)) [
       | inl lt ↦
-          in-stem no_branch (walk_of list stem cycle) i (omega (arith,
-              length-map stem (branch_at list)))
+          in-stem no_branch (walk_of list stem cycle) i (omega (
+            arith,
+            length-map stem (branch_at list),
+          ))
           ∙ get_or-map (branch_at list) stem i 0 no_branch lt
           ∙ sym (ap (branch_at list) (place-in_stem stem cycle i lt))
       | inr le ↦
-          in-cycle no_branch (walk_of list stem cycle) i (omega (arith,
-              length-map stem (branch_at list)))
+          in-cycle no_branch (walk_of list stem cycle) i (omega (
+            arith,
+            length-map stem (branch_at list),
+          ))
           ∙ ap (λ x. get_or (map (branch_at list) cycle) ((i - x) % length (map
-              (branch_at list) cycle)) no_branch) (length-map stem (branch_at list))
+          (branch_at list) cycle)) no_branch) (length-map stem (branch_at list))
           ∙ ap (λ x. get_or (map (branch_at list) cycle) ((i - length stem) % x) no_branch)
-              (length-map cycle (branch_at list))
+          (length-map cycle (branch_at list))
           ∙ get_or-map (branch_at list) cycle ((i - length stem) % length cycle) 0 no_branch (mod-lt
-              (i - length stem) some)
+          (i - length stem) some)
           ∙ sym (ap (branch_at list) (place-in_cycle stem cycle i le))
     ]
 
@@ -88,8 +92,10 @@ module _ (nodes : List Node) (roots : Members) (list : List Branch) (graph : Sha
       → IsBranch nodes (branch_at list v).later (branch_at list w)
   edge-branch v w (lt, h) =
       let P : List Branch → Type 0 = λ l. Contains l (branch_at list w) in
-      subst P (tableau.leads v (omega (arith,
-          tableau.count))) (map-has (branch_at list) (successors_of graph v) w h)
+      subst P (tableau.leads v (omega (
+        arith,
+        tableau.count,
+      ))) (map-has (branch_at list) (successors_of graph v) w h)
 
   free-branch : (v k : ℕ) → v < length list → ¬ Postpones graph v k
       → postpones nodes (branch_at list v) k ≡ false
@@ -113,7 +119,7 @@ module _ (nodes : List Node) (roots : Members) (list : List Branch) (graph : Sha
     goes-on : (i : ℕ) → IsBranch nodes ((gone along i).later) (gone along (suc i))
     goes-on i =
         let P : Branch → Type 0 =
-            λ b. IsBranch nodes b.later (branch_at list (place_of stem cycle (i + 1))) in
+        λ b. IsBranch nodes b.later (branch_at list (place_of stem cycle (i + 1))) in
         let Q : Branch → Type 0 = IsBranch nodes ((gone along i).later) in
         let next : gone along (suc i) ≡ branch_at list (place_of stem cycle (i + 1)) =
         same-place (suc i) ∙ ap (λ n. branch_at list (place_of stem cycle n)) (sym (add-one i)) in
@@ -127,7 +133,7 @@ module _ (nodes : List Node) (roots : Members) (list : List Branch) (graph : Sha
               record {
                 starts = let P : Branch → Type 0 =
                     IsBranch nodes roots in
-                        subst P (sym (same-place 0)) (start-branch _ walk.starts);
+                    subst P (sym (same-place 0)) (start-branch _ walk.starts);
                 goes = goes-on;
               };
         }
@@ -144,9 +150,11 @@ module _ (nodes : List Node) (roots : Members) (list : List Branch) (graph : Sha
 
     accepts : IsAccepting nodes along
     accepts k =
-        let (v, there, free) = fair k in
-        (branch_at list v, map-has (branch_at list) cycle v there,
-            free-branch v k (made v there) free)
+        let (v, there, free) = fair k in (
+          branch_at list v,
+          map-has (branch_at list) cycle v there,
+          free-branch v k (made v there) free,
+        )
 
     pub accepting : IsWalk nodes roots along × IsAccepting nodes along
     accepting = (walk-branches, accepts)
@@ -162,8 +170,8 @@ module _ (nodes : List Node) (roots : Members) (list : List Branch) (graph : Sha
     start-node v lt h =
         let P : List Branch → Type 0 = λ l. Contains l (branch_at list v) in
         let (w, there, same) =
-            has-map (branch_at list) (members_of graph 0) (branch_at list v) (subst P
-                (sym tableau.starts) h) in
+        has-map (branch_at list) (members_of graph 0) (branch_at list v) (subst P
+        (sym tableau.starts) h) in
         let Q : ℕ → Type 0 = Contains (members_of graph 0) in
         subst Q (tableau.distinct w v (inside 0 w there) lt same) there
 
@@ -172,11 +180,12 @@ module _ (nodes : List Node) (roots : Members) (list : List Branch) (graph : Sha
     edge-node v w lt lt' h =
         let P : List Branch → Type 0 = λ l. Contains l (branch_at list w) in
         let (u, there, same) =
-            has-map (branch_at list) (successors_of graph v) (branch_at list w) (subst P (sym
-                (tableau.leads v lt)) h) in
-        let Q : ℕ → Type 0 = Contains (successors_of graph v) in
-        (omega (arith, tableau.count),
-            subst Q (tableau.distinct u w (inside _ u there) lt' same) there)
+        has-map (branch_at list) (successors_of graph v) (branch_at list w) (subst P (sym
+        (tableau.leads v lt)) h) in
+        let Q : ℕ → Type 0 = Contains (successors_of graph v) in (
+          omega (arith, tableau.count),
+          subst Q (tableau.distinct u w (inside _ u there) lt' same) there,
+        )
 
     -- the places of branches of the list
     Places : List Branch → Type 0
@@ -193,9 +202,12 @@ module _ (nodes : List Node) (roots : Members) (list : List Branch) (graph : Sha
     places [] there = ([], refl, λ v h. let lt = h.1 in absurd (omega arith))
     places (x ∷ xs) there =
         let (v, lt, is) = place-of no_branch list x (there x (0, omega arith, refl)) in
-        let (vs, same, made) = places xs (λ b h. there b (Contains-append_right (x ∷ []) xs b h)) in
-        (v ∷ vs, ap (λ y. y ∷ map (branch_at list) vs) is
-            ∙ ap (λ ys. x ∷ ys) same, one-more v vs lt made)
+        let (vs, same, made) = places xs (λ b h. there b (Contains-append_right (x ∷ []) xs b h)) in (
+          v ∷ vs,
+          ap (λ y. y ∷ map (branch_at list) vs) is
+              ∙ ap (λ ys. x ∷ ys) same,
+          one-more v vs lt made,
+        )
 
     -- ---- an accepting walk
 
@@ -211,7 +223,7 @@ module _ (nodes : List Node) (roots : Members) (list : List Branch) (graph : Sha
       stem-listed : (b : Branch) → Contains walk.stem b → Contains list b
       stem-listed b (q, lt, e) =
           let here : gone walk q ≡ b = in-stem no_branch walk q lt
-              ∙ get_or_default walk.stem q no_branch b lt ∙ e in
+          ∙ get_or_default walk.stem q no_branch b lt ∙ e in
           let P : Branch → Type 0 = Contains list in
           subst P here (listed q)
 
@@ -221,7 +233,7 @@ module _ (nodes : List Node) (roots : Members) (list : List Branch) (graph : Sha
           let here : gone walk (length walk.stem + q) ≡ b =
           in-cycle no_branch walk (length walk.stem + q) (omega arith)
           ∙ ap (λ x. get_or walk.cycle x no_branch) (ap (λ x. x % length walk.cycle) far
-              ∙ mod-eq_of_lt lt)
+          ∙ mod-eq_of_lt lt)
           ∙ get_or_default walk.cycle q no_branch b lt ∙ e in
           let P : Branch → Type 0 = Contains list in
           subst P here (listed (length walk.stem + q))
@@ -229,13 +241,19 @@ module _ (nodes : List Node) (roots : Members) (list : List Branch) (graph : Sha
       module _ (stem cycle : List ℕ) (same_stem : map (branch_at list) stem ≡ walk.stem)
           (same_cycle : map (branch_at list) cycle ≡ walk.cycle)
           (stem_made : (v : ℕ) → Contains stem v → v < length list) (cycle_made :
-              (v : ℕ) → Contains cycle v → v < length list) where
+          (v : ℕ) → Contains cycle v → v < length list) where
         whole-walk : walk_of list stem cycle ≡ walk
         whole-walk =
-            ap (λ s. let l : Lasso Branch = record { stem = s; cycle =
-                map (branch_at list) cycle } in l) same_stem
-            ∙ ap (λ c. let l : Lasso Branch = record { stem = walk.stem; cycle =
-                c } in l) same_cycle
+            ap (λ s. let l : Lasso Branch = record {
+              stem = s;
+              cycle =
+                  map (branch_at list) cycle;
+            } in l) same_stem
+            ∙ ap (λ c. let l : Lasso Branch = record {
+              stem = walk.stem;
+              cycle =
+                  c;
+            } in l) same_cycle
 
         some : 0 < length cycle
         some = omega (arith, length-map cycle (branch_at list), ap length same_cycle, right.some)
@@ -252,19 +270,19 @@ module _ (nodes : List Node) (roots : Members) (list : List Branch) (graph : Sha
               | inr le ↦
                   subst P (sym (place-in_cycle stem cycle i le))
                   (cycle_made _ (contains-at 0 cycle ((i - length stem) % length cycle) _ (mod-lt
-                      (i - length stem) some) refl))
+                  (i - length stem) some) refl))
             ]
 
         edge : (i : ℕ) → IsEdge graph (place_of stem cycle i) (place_of stem cycle (i + 1))
         edge i =
             let P : Branch → Type 0 = λ b. IsBranch nodes b.later (gone walk (suc i)) in
             let Q : Branch → Type 0 =
-                IsBranch nodes (branch_at list (place_of stem cycle i)).later in
+            IsBranch nodes (branch_at list (place_of stem cycle i)).later in
             let next : gone walk (suc i) ≡ branch_at list (place_of stem cycle (i + 1)) =
             branch-at (suc i) ∙ ap (λ n. branch_at list (place_of stem cycle n)) (sym
-                (add-one i)) in
+            (add-one i)) in
             edge-node _ _ (place-made i) (place-made (i + 1)) (subst Q next (subst P (branch-at i)
-                (right.goes.goes i)))
+            (right.goes.goes i)))
 
         node-walk : graphs.IsWalk graph stem cycle
         node-walk =
@@ -272,7 +290,7 @@ module _ (nodes : List Node) (roots : Members) (list : List Branch) (graph : Sha
               some = some;
               starts = let P : Branch → Type 0 =
                   IsBranch nodes roots in
-                      start-node _ (place-made 0) (subst P (branch-at 0) right.goes.starts);
+                  start-node _ (place-made 0) (subst P (branch-at 0) right.goes.starts);
               goes = edge;
             }
 
@@ -281,14 +299,14 @@ module _ (nodes : List Node) (roots : Members) (list : List Branch) (graph : Sha
             let (b, there, kept) = accepted k in
             let P : List Branch → Type 0 = λ l. Contains l b in
             let (v, here, same) =
-                has-map (branch_at list) cycle b (subst P (sym same_cycle) there) in (
+            has-map (branch_at list) cycle b (subst P (sym same_cycle) there) in (
               v,
               here,
               λ p.
                   let late : postpones nodes (branch_at list v) k ≡ true =
-                      (tableau.postponed v k (cycle_made v here)).0 p in
+                  (tableau.postponed v k (cycle_made v here)).0 p in
                   let free : postpones nodes (branch_at list v) k ≡ false =
-                      ap (λ x. postpones nodes x k) same ∙ kept in
+                  ap (λ x. postpones nodes x k) same ∙ kept in
                   cc,
             )
 
@@ -324,15 +342,15 @@ module _ (nodes : List Node) (roots : Members) (list : List Branch) (graph : Sha
       reached-ranked b (first is) =
           let P : List Branch → Type 0 = λ l. Contains l b in
           let (v, there, same) =
-              has-map (branch_at list) (members_of graph 0) b (subst P (sym tableau.starts) is) in
+          has-map (branch_at list) (members_of graph 0) b (subst P (sym tableau.starts) is) in
           (v, inside 0 v there, same, ranked.starts v there)
       reached-ranked b (after a reach is) =
           let (v, lt, same, rank) = reached-ranked a reach in
           let P : List Branch → Type 0 = λ l. Contains l b in
           let Q : Branch → Type 0 = λ x. IsBranch nodes x.later b in
           let (w, there, same') =
-              has-map (branch_at list) (successors_of graph v) b (subst P (sym (tableau.leads v lt))
-                  (subst Q (sym same) is)) in
+          has-map (branch_at list) (successors_of graph v) b (subst P (sym (tableau.leads v lt))
+          (subst Q (sym same) is)) in
           let (k, at) = rank-there (rank_of ranks v) rank in
           let (j, at', le) = ranked.falls v w k (omega (arith, tableau.count), there) at in
           (w, inside _ w there, same', some-rank (rank_of ranks w) j at')
@@ -341,8 +359,8 @@ module _ (nodes : List Node) (roots : Members) (list : List Branch) (graph : Sha
       unfolding HasRank
       each-ranked v lt =
           let (w, lt', same, rank) =
-              reached-ranked (branch_at list v) ((tableau.reachable (branch_at list v)).0
-                  (contains-at no_branch list v _ lt refl)) in
+          reached-ranked (branch_at list v) ((tableau.reachable (branch_at list v)).0
+          (contains-at no_branch list v _ lt refl)) in
           let P : ℕ → Type 0 = λ x. IsSome (rank_of ranks x) in
           subst P (tableau.distinct w v lt' lt same) rank
 
@@ -350,19 +368,28 @@ module _ (nodes : List Node) (roots : Members) (list : List Branch) (graph : Sha
         -- an entry by its place
         at-place : (e : Ranked) → Contains proof.entries e
             → (v : ℕ) × (v < length list) × (e.branch ≡ branch_at list v) ×
-                (rank_of ranks v ≡ Some e.rank)
+            (rank_of ranks v ≡ Some e.rank)
         at-place e there =
             let (v, lt, is) = place-of no_entry proof.entries e there in
-            let lt' : v < length list = omega (arith, has.count) in
-            (v, lt', ap (λ x. x.branch) (sym is) ∙ has.branches v lt', has.ranked v lt'
-                ∙ ap (λ x. Some x.rank) is)
+            let lt' : v < length list = omega (arith, has.count) in (
+              v,
+              lt',
+              ap (λ x. x.branch) (sym is) ∙ has.branches v lt',
+              has.ranked v lt'
+                  ∙ ap (λ x. Some x.rank) is,
+            )
 
         has-all : (set : Members) → ((b : Branch) → IsBranch nodes set b
             → IsReachable nodes roots b) → HasAll nodes proof.entries set
         has-all set reach b is =
-            let (v, lt, same) = place-of no_branch list b ((tableau.reachable b).1 (reach b is)) in
-            (entry_at proof.entries v, contains-at no_entry proof.entries v _ (omega (arith,
-                has.count)) refl, has.branches v lt ∙ same)
+            let (v, lt, same) = place-of no_branch list b ((tableau.reachable b).1 (reach b is)) in (
+              entry_at proof.entries v,
+              contains-at no_entry proof.entries v _ (omega (
+                arith,
+                has.count,
+              )) refl,
+              has.branches v lt ∙ same,
+            )
 
         -- what an entry leads to
         leads : (d e : Ranked) (v w : ℕ) → v < length list → w < length list
@@ -388,8 +415,8 @@ module _ (nodes : List Node) (roots : Members) (list : List Branch) (graph : Sha
         late-branch r k why e in_it is_r =
             let (v, lt, is, rank) = at-place e in_it in
             ap (λ b. postpones nodes b k) is
-                ∙ (tableau.postponed v k lt).0 (why v (omega (arith, tableau.count)) (rank
-                    ∙ ap (λ x. Some x) is_r))
+            ∙ (tableau.postponed v k lt).0 (why v (omega (arith, tableau.count)) (rank
+            ∙ ap (λ x. Some x) is_r))
 
         no-edge : (r : ℕ) → ranking.Explains graph ranks r None
             → Explains nodes proof.entries r None
@@ -397,7 +424,7 @@ module _ (nodes : List Node) (roots : Members) (list : List Branch) (graph : Sha
             let (v, lt, is, rank) = at-place d in_it in
             let (w, lt', is', rank') = at-place e in_it' in
             why v w (leads d e v w lt lt' is is' h) (rank ∙ ap (λ x. Some x) is_r) (rank'
-                ∙ ap (λ x. Some x) is_r')
+            ∙ ap (λ x. Some x) is_r')
 
         explains : (r : ℕ) (reason : Option ℕ) → ranking.Explains graph ranks r reason
             → Explains nodes proof.entries r (member_reason (length nodes) reason)
@@ -409,7 +436,7 @@ module _ (nodes : List Node) (roots : Members) (list : List Branch) (graph : Sha
             step true lt = late-branch r k why
             step false ge = λ d e in_it in_it' is_r is_r' h.
                 let lt : k < length nodes =
-                    postpones-below nodes d.branch k (late-branch r k why d in_it is_r) in
+                postpones-below nodes d.branch k (late-branch r k why d in_it is_r) in
                 let clash : nat_lt k (length nodes) ≡ true = lt-ltb k (length nodes) lt in
                 let no : true ≡ false = sym clash ∙ ge in
                 absurd (cc)
@@ -422,11 +449,11 @@ module _ (nodes : List Node) (roots : Members) (list : List Branch) (graph : Sha
                   let (v, lt, is, rank) = at-place e in_it in
                   let P : Branch → Type 0 = Contains list in
                   let reach = (tableau.reachable e.branch).0 (subst P (sym is)
-                      (contains-at no_branch list v _ lt refl)) in
+                  (contains-at no_branch list v _ lt refl)) in
                   has-all e.branch.later (λ b next. after e.branch reach next);
               falls = falls-on;
               explained = λ r. let P : Option ℕ → Type 0 =
                   Explains nodes proof.entries r in
-                      subst P (sym (has.reasons r)) (explains r (reason_of ranks r)
-                          (ranked.explained r));
+                  subst P (sym (has.reasons r)) (explains r (reason_of ranks r)
+                  (ranked.explained r));
             }

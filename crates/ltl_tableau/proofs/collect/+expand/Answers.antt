@@ -10,7 +10,7 @@ returns-then-len-most g t c =
     let first : List Branch = branches_of c.args.c.now.nodes c.in-Splits.first in
     let second : List Branch = branches_of c.args.c.now.nodes c.in-Splits.second in
     let P : List Branch → Type 0 =
-        λ list. Collects c.args.most c.loop-work.found.keys list c.if-ne.found.keys in
+    λ list. Collects c.args.most c.loop-work.found.keys list c.if-ne.found.keys in
     let Q : List Branch → Type 0 = λ mid. Collects c.args.most c.loop-work.found.keys first mid in
     c.loop-work.invariant.collects _
     (subst P (sym c.in-Splits.ensures.2)
@@ -18,9 +18,11 @@ returns-then-len-most g t c =
     (elim c.if-ne.branch [
       | then-ne+in_ok-expand-in-Splits w ↦
           inl (subst Q (λ i. (sym w.found-is i).keys) w.in_ok-expand-in-Splits.ensures)
-      | else-ne w ↦ inr ((λ i. (w.found-is i).keys),
-          equal-work c.args.c.now.nodes c.in-Splits.first c.in-Splits.second (sym c.ne.ensures
-              ∙ w.if-ne.false))
+      | else-ne w ↦ inr (
+        (λ i. (w.found-is i).keys),
+        equal-work c.args.c.now.nodes c.in-Splits.first c.in-Splits.second (sym c.ne.ensures
+            ∙ w.if-ne.false),
+      )
     ])
     (collects-enough c.args.most _ _ (omega (arith, c.len.ensures.len, c.if-len-most.true)))))
 
@@ -33,16 +35,18 @@ loop-work-preserved g t c =
       below = omega (arith, c.in-Splits.ensures.1, c.loop-work.invariant.below);
       collects = λ new h.
           let P : List Branch → Type 0 =
-              λ list. Collects c.args.most c.loop-work.found.keys list new in
+          λ list. Collects c.args.most c.loop-work.found.keys list new in
           c.loop-work.invariant.collects new
           (subst P (sym c.in-Splits.ensures.2)
           (collects-both c.args.most c.loop-work.found.keys c.if-ne.found.keys new first second
           (elim c.if-ne.branch [
             | then-ne+in_ok-expand-in-Splits w ↦
                 inl (subst Q (λ i. (sym w.found-is i).keys) w.in_ok-expand-in-Splits.ensures)
-            | else-ne w ↦ inr ((λ i. (w.found-is i).keys),
-                equal-work c.args.c.now.nodes c.in-Splits.first c.in-Splits.second (sym c.ne.ensures
-                    ∙ w.if-ne.false))
+            | else-ne w ↦ inr (
+              (λ i. (w.found-is i).keys),
+              equal-work c.args.c.now.nodes c.in-Splits.first c.in-Splits.second (sym c.ne.ensures
+                  ∙ w.if-ne.false),
+            )
           ])
           h));
     }
@@ -50,7 +54,7 @@ loop-work-preserved g t c =
 pub returns : goal.returns
 returns g t c =
     let P : List Branch → Type 0 =
-        λ list. Collects c.args.most c.loop-work.found.keys list c.insert.new.self.keys in
+    λ list. Collects c.args.most c.loop-work.found.keys list c.insert.new.self.keys in
     c.loop-work.invariant.collects _
     (subst P (sym (at-end c.args.c.now.nodes c.loop-work.work.below _ _ _ c.loop-work-test.false))
-        (collects-one c.args.most _ _ _ c.in_ok-insert.ensures.keys))
+    (collects-one c.args.most _ _ _ c.in_ok-insert.ensures.keys))

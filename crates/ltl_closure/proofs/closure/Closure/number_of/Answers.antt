@@ -8,7 +8,7 @@ use Rattle.ltl_closure.proofs.closure.Closure.number_of.Goals as goal
 pub returns-in-Some : goal.returns-in-Some
 returns-in-Some c =
     let P : Rooted → Type 0 =
-        λ r. IsNumberOf r.nodes (plain_node c.args.node) (Some c.in-Some.place) in
+    λ r. IsNumberOf r.nodes (plain_node c.args.node) (Some c.in-Some.place) in
     subst P c.self.view_is
     (number-some c.self.inside.members.keys c.len-different.ensures.unique c.args.node c.in-Some.place (sym c.in-Some.ensures.index))
 
@@ -17,4 +17,4 @@ returns-in-None c =
     let P : Rooted → Type 0 = λ r. IsNumberOf r.nodes (plain_node c.args.node) None in
     subst P c.self.view_is
     (number-none c.self.inside.members.keys c.len-different.ensures.unique c.args.node
-        (sym c.in-None.ensures.found))
+    (sym c.in-None.ensures.found))
