@@ -111,9 +111,9 @@ module _ (net : NetParts) (is : IsNet net) where
 
   lhs-are : map (λ k. (gate_at c.gates k).lhs / 2) (range_with_len 0 (length net.ands)) ≡ range_with_len (first_and net) (length net.ands)
   lhs-are = shifted (λ k. (gate_at c.gates k).lhs / 2) 0 (first_and net) (length net.ands) (λ j lt.
-    let q : 0 + j ≡ j = omega arith in
-    let r : 2 * (first_and net + j) / 2 ≡ first_and net + j = omega arith in
-    ap (λ k. (gate_at c.gates k).lhs / 2) q ∙ ap (λ (g : Gate). g.lhs / 2) (gate-is j lt) ∙ r)
+      let q : 0 + j ≡ j = omega arith in
+      let r : 2 * (first_and net + j) / 2 ≡ first_and net + j = omega arith in
+      ap (λ k. (gate_at c.gates k).lhs / 2) q ∙ ap (λ (g : Gate). g.lhs / 2) (gate-is j lt) ∙ r)
 
   in-order : in_order c ≡ range_with_len 0 (variables net)
   in-order =

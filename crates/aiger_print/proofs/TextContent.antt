@@ -116,7 +116,7 @@ module _ (b : Bool) (net : NetParts) (is : IsNet net) (few : net.inputs + length
         let odd : (2 * k + 1) % 2 ≡ 1 = omega arith in
         let last : 2 * k + 1 - 1 ≡ 2 * k = omega arith in
         let most : greatest h bytes (2 * k + 1) ≡ binary_lhs h k - 1 * delta h bytes (2 * k) =
-            ap (λ m. binary_lhs h ((2 * k + 1) / 2) - m * delta h bytes (2 * k + 1 - 1)) odd ∙ ap (λ m. binary_lhs h m - 1 * delta h bytes (2 * k + 1 - 1)) half ∙ ap (λ m. binary_lhs h k - 1 * delta h bytes m) last in
+        ap (λ m. binary_lhs h ((2 * k + 1) / 2) - m * delta h bytes (2 * k + 1 - 1)) odd ∙ ap (λ m. binary_lhs h m - 1 * delta h bytes (2 * k + 1 - 1)) half ∙ ap (λ m. binary_lhs h k - 1 * delta h bytes m) last in
         number-right (2 * k + 1) (second_delta net k) (piece-second k lt) (delta-small k lt).1 (omega (arith, odd)) (omega (arith, delta-second k lt, most, delta-first k lt, l, lt))
 
     number-none : (j : ℕ) → j < 2 * length net.ands → of_number h bytes j ≡ None
@@ -207,8 +207,8 @@ module _ (b : Bool) (net : NetParts) (is : IsNet net) (few : net.inputs + length
 
   pub uses_clear : first_some (counted h bytes) (of_uses h bytes) ≡ None
   uses_clear = none-first h bytes (counted h bytes) (of_uses h bytes) (λ k lt.
-    let of = line-of h bytes k lt in
-    use-clear h bytes k (ap (λ t. list_any (is_undefined h bytes) (used t (row h bytes k))) of.is ∙ ap (λ n. list_any (is_undefined h bytes) (used of.s (row h bytes n))) of.place ∙ ap (λ r. list_any (is_undefined h bytes) (used of.s r)) (row_is b net is few bytes e small of.s of.j of.small) ∙ used-known of.s of.j of.small))
+      let of = line-of h bytes k lt in
+      use-clear h bytes k (ap (λ t. list_any (is_undefined h bytes) (used t (row h bytes k))) of.is ∙ ap (λ n. list_any (is_undefined h bytes) (used of.s (row h bytes n))) of.place ∙ ap (λ r. list_any (is_undefined h bytes) (used of.s r)) (row_is b net is few bytes e small of.s of.j of.small) ∙ used-known of.s of.j of.small))
 
   pub cycles_clear : first_some (length (content h bytes).gates) (of_cycle h bytes) ≡ None
   cycles_clear = none-first h bytes (length (content h bytes).gates) (of_cycle h bytes) (λ k lt. ap (λ x. when x (fault Cycle (line_start bytes (before (plan h bytes) Gates + k)))) (free k lt (either (depends (content h bytes).gates (length (content h bytes).gates) k k))))

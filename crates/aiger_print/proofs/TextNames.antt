@@ -90,8 +90,8 @@ module _ (b : Bool) (net : NetParts) (is : IsNet net) (few : net.inputs + length
   symbol-lines : symbol_lines h bytes ≡ length all
   symbol-lines =
       ap (λ o. unwrap_or o (length (tail_lines h bytes))) (first-empty (length (tail_lines h bytes)) (λ k. begins_comment (piece_at (tail_lines h bytes) k)) (λ k lt.
-        let inside : k < length all = omega (arith, lt, lines-many) in
-        ap begins_comment (line-at k inside) ∙ no_comment (at all k) (every_at IsOwn all k every-own inside)))
+      let inside : k < length all = omega (arith, lt, lines-many) in
+      ap begins_comment (line-at k inside) ∙ no_comment (at all k) (every_at IsOwn all k every-own inside)))
       ∙ lines-many
 
   -- ---- no two are alike
@@ -195,8 +195,8 @@ module _ (b : Bool) (net : NetParts) (is : IsNet net) (few : net.inputs + length
 
   pub input_names_are : names_of h bytes 105 net.inputs ≡ net.input_names
   input_names_are = kind-names 105 net.inputs net.input_names 0 is.input_names only (λ k lt.
-    let q : 0 + k ≡ k = omega arith in
-    (omega (arith, lt, all-long), ap (at all) q ∙ get_or_append_left I (L ++ O) no_symbol k lt))
+      let q : 0 + k ≡ k = omega arith in
+      (omega (arith, lt, all-long), ap (at all) q ∙ get_or_append_left I (L ++ O) no_symbol k lt))
     where
       only : (s : Symbol) → IsOf s → s.kind ≡ 105 → IsGiven 105 0 net.input_names s
       only s (inl g) same = g
@@ -205,7 +205,7 @@ module _ (b : Bool) (net : NetParts) (is : IsNet net) (few : net.inputs + length
 
   pub latch_names_are : names_of h bytes 108 (length net.latches) ≡ net.latch_names
   latch_names_are = kind-names 108 (length net.latches) net.latch_names (length I) is.latch_names only (λ k lt.
-    (omega (arith, lt, all-long), get_or-append-add I (L ++ O) k no_symbol ∙ get_or_append_left L O no_symbol k lt))
+      (omega (arith, lt, all-long), get_or-append-add I (L ++ O) k no_symbol ∙ get_or_append_left L O no_symbol k lt))
     where
       only : (s : Symbol) → IsOf s → s.kind ≡ 108 → IsGiven 108 0 net.latch_names s
       only s (inl g) same = absurd (omega (arith, g.kind, same))
@@ -214,8 +214,8 @@ module _ (b : Bool) (net : NetParts) (is : IsNet net) (few : net.inputs + length
 
   pub output_names_are : names_of h bytes 111 (length net.outputs) ≡ net.output_names
   output_names_are = kind-names 111 (length net.outputs) net.output_names (length I + length L) is.output_names only (λ k lt.
-    let q : length I + length L + k ≡ length I + (length L + k) = omega arith in
-    (omega (arith, lt, all-long), ap (at all) q ∙ get_or-append-add I (L ++ O) (length L + k) no_symbol ∙ get_or-append-add L O k no_symbol))
+      let q : length I + length L + k ≡ length I + (length L + k) = omega arith in
+      (omega (arith, lt, all-long), ap (at all) q ∙ get_or-append-add I (L ++ O) (length L + k) no_symbol ∙ get_or-append-add L O k no_symbol))
     where
       only : (s : Symbol) → IsOf s → s.kind ≡ 111 → IsGiven 111 0 net.output_names s
       only s (inl g) same = absurd (omega (arith, g.kind, same))

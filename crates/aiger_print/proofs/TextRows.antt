@@ -105,8 +105,15 @@ module _ (b : Bool) (net : NetParts) (is : IsNet net) (few : net.inputs + length
 
   pub rows_few : sum (plan_of b net) ≤ 67108864
   rows_few =
-      omega (arith, stacked_long (row_in b net) 0 (plan_of b net), some-lines (rows_of b net), ap length e, small,
-      length-append (word_of b ++ line_of (header_row net)) (flat_map line_of (rows_of b net) ++ rest_of b net), length-append (flat_map line_of (rows_of b net)) (rest_of b net))
+      omega (
+        arith,
+        stacked_long (row_in b net) 0 (plan_of b net),
+        some-lines (rows_of b net),
+        ap length e,
+        small,
+        length-append (word_of b ++ line_of (header_row net)) (flat_map line_of (rows_of b net) ++ rest_of b net),
+        length-append (flat_map line_of (rows_of b net)) (rest_of b net),
+      )
 
   short-header : AreShort (header_row net)
   short-header = (omega arith, (omega arith, (omega arith, (omega (arith, rows_few), (omega arith, trimmed-short (length net.constraints) (length net.fairs) (omega (arith, rows_few)) (omega (arith, rows_few)))))))
@@ -264,9 +271,9 @@ module _ (b : Bool) (net : NetParts) (is : IsNet net) (few : net.inputs + length
 
   pub lines_clear : first_some (counted h bytes) (of_line h bytes) ≡ None
   lines_clear = none-first h bytes (counted h bytes) (of_line h bytes) (λ k lt.
-    ap (λ x. otherwise (when (not x) (fault Truncated (length bytes))) (otherwise (when (not (is_right h (section h bytes k) (row h bytes k))) (fault Literal (line_start bytes k))) (when (not h.binary && list_any (defined_before h bytes k) (defined (section h bytes k) (row h bytes k))) (fault Redefined (line_start bytes k))))) (ended-line k lt)
-    ∙ ap (λ x. otherwise (when (not x) (fault Literal (line_start bytes k))) (when (not h.binary && list_any (defined_before h bytes k) (defined (section h bytes k) (row h bytes k))) (fault Redefined (line_start bytes k)))) (right-line k lt)
-    ∙ ap (λ x. when x (fault Redefined (line_start bytes k))) (again-none k lt))
+      ap (λ x. otherwise (when (not x) (fault Truncated (length bytes))) (otherwise (when (not (is_right h (section h bytes k) (row h bytes k))) (fault Literal (line_start bytes k))) (when (not h.binary && list_any (defined_before h bytes k) (defined (section h bytes k) (row h bytes k))) (fault Redefined (line_start bytes k))))) (ended-line k lt)
+      ∙ ap (λ x. otherwise (when (not x) (fault Literal (line_start bytes k))) (when (not h.binary && list_any (defined_before h bytes k) (defined (section h bytes k) (row h bytes k))) (fault Redefined (line_start bytes k)))) (right-line k lt)
+      ∙ ap (λ x. when x (fault Redefined (line_start bytes k))) (again-none k lt))
 
   -- what stands behind the counted lines
   pub behind_is : behind h bytes ≡ rest_of b net

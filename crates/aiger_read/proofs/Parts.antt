@@ -55,10 +55,22 @@ module _ (bytes : List ℕ) (b : Body) (is : IsBody bytes b) where
 
   pub variables_few : (variables : List ℕ) → variables ≡ (0 ∷ own_variables b.content) ++ map (λ k. (gate_at b.content.gates k).lhs / 2) b.order → length variables ≤ 2 ^ 30
   variables_few variables e =
-      omega (arith, ap length e, length-append (own_variables b.content) (map (λ k. (gate_at b.content.gates k).lhs / 2) b.order),
-      length-map (b.content.inputs ++ map own_literal b.content.latches) (λ (l : ℕ). l / 2), length-append b.content.inputs (map own_literal b.content.latches), length-map b.content.latches own_literal,
-      length-map b.order (λ (k : ℕ). (gate_at b.content.gates k).lhs / 2), ap length order-is, taken-few b.content.gates (length b.content.gates),
-      inputs_long, latches-long, gates-long, is.fits.sum, is.fits.top)
+      omega (
+        arith,
+        ap length e,
+        length-append (own_variables b.content) (map (λ k. (gate_at b.content.gates k).lhs / 2) b.order),
+        length-map (b.content.inputs ++ map own_literal b.content.latches) (λ (l : ℕ). l / 2),
+        length-append b.content.inputs (map own_literal b.content.latches),
+        length-map b.content.latches own_literal,
+        length-map b.order (λ (k : ℕ). (gate_at b.content.gates k).lhs / 2),
+        ap length order-is,
+        taken-few b.content.gates (length b.content.gates),
+        inputs_long,
+        latches-long,
+        gates-long,
+        is.fits.sum,
+        is.fits.top,
+      )
 
 -- ---- the parts
 
