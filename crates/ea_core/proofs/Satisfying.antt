@@ -1,6 +1,6 @@
 -- A fair walk gives lassos that fulfil a plan.
-use Rattle.std.proofs.Common.{◌≡◌, ℕ, zero, suc, ◌+◌, ◌-◌, ◌%◌, ◌<◌, ◌≤◌, Bool, true, false, List, [], ◌∷◌, length, map, get_or, refl, sym, ap, ◌∙◌, subst, arith, zero-add, IsTrue}
-use Rattle.std.specs.List.{All, range_with_len}
+use Rattle.std.proofs.Common.{◌≡◌, ℕ, zero, suc, ◌+◌, ◌-◌, ◌%◌, ◌<◌, ◌≤◌, true, List, [], ◌∷◌, length, map, get_or, refl, sym, ap, ◌∙◌, subst, arith, zero-add, IsTrue}
+use Rattle.std.specs.List.{All}
 use Rattle.std.specs.FinSet.{empty}
 use Rattle.std.proofs.Math.Nat.{mod-eq_of_lt}
 use Rattle.std.proofs.lemmas.List.{length-map}
@@ -13,10 +13,9 @@ use Rattle.hy_lasso.specs.Words.{lasso_words}
 use Rattle.hy_lasso.proofs.LassoWords.{cond-below, cond-above}
 use Rattle.rank_check.specs.Graphs as graphs
 use Rattle.rank_check.specs.Graphs.{Shape, place_of}
-use Rattle.ltl_closure.specs.Nodes as node
 use Rattle.ltl_closure.specs.Nodes.{Node, node_at}
 use Rattle.ltl_closure.specs.Jobs.{AreMappedBelow}
-use Rattle.ltl_tableau.specs.Branches.{Branch, has_literal, words_of}
+use Rattle.ltl_tableau.specs.Branches.{Branch}
 use Rattle.ltl_tableau.specs.GraphWalks.{walk_of}
 use Rattle.ltl_tableau.specs.Reached.{branch_at, IsTableau}
 use Rattle.ltl_tableau.specs.WalkWords as walks
