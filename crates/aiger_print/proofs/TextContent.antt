@@ -1,6 +1,6 @@
 -- The content of a printed text is that of the net, and what it uses is defined.
-use Rattle.std.proofs.Common.{◌≡◌, ℕ, zero, suc, ◌+◌, ◌-◌, ◌*◌, ◌/◌, ◌%◌, ◌^◌, ◌<◌, ◌≤◌, ◌⊎◌, Bool, true, false, cond, not, ◌&&◌, ◌||◌, nat_eq, inl, inr, refl, sym, ◌∙◌, ap, subst, arith, Option, Some, None, List, [], ◌∷◌, ◌++◌, map, flat_map, length, get_or, drop}
-use Rattle.std.specs.Prelude.{slice_index, slice_index_or, nat_le, sum}
+use Rattle.std.proofs.Common.{◌≡◌, ℕ, suc, ◌+◌, ◌-◌, ◌*◌, ◌/◌, ◌%◌, ◌^◌, ◌<◌, ◌≤◌, ◌⊎◌, Bool, true, false, cond, not, ◌||◌, nat_eq, inl, inr, refl, sym, ◌∙◌, ap, subst, arith, None, List, [], ◌∷◌, ◌++◌, map, flat_map, length, drop}
+use Rattle.std.specs.Prelude.{slice_index, nat_le}
 use Rattle.std.specs.List.{range_with_len, list_any, concat}
 use Rattle.std.proofs.lemmas.Bool.{le-leb, eq-eqb, eqb-true, cases_lt}
 use Rattle.aig_net.specs.declared.parts.NetParts.{NetParts}
@@ -8,31 +8,31 @@ use Rattle.aig_net.specs.declared.parts.Reset.{Reset}
 use Rattle.aig_net.specs.declared.parts.Reset.TheVariants.{Zero, One, Free}
 use Rattle.aig_net.specs.Nets.{IsNet, Below, variables, first_and, latch_variable, literal_at, reset_at, and_at}
 use Rattle.aig_order.specs.declared.gate.Gate.{Gate}
-use Rattle.aig_order.specs.Firsts.{when, otherwise, first_some}
+use Rattle.aig_order.specs.Firsts.{when, first_some}
 use Rattle.aig_order.specs.Gates.{Depends, depends}
 use Rattle.aig_order.proofs.Firsts.{either, both-and}
 use Rattle.aig_order.proofs.Cycles.{depends-right}
-use Rattle.aiger_body.specs.declared.error.AigKind.TheVariants.{Cycle, Undefined}
+use Rattle.aiger_body.specs.declared.error.AigKind.TheVariants.{Cycle}
 use Rattle.aiger_body.specs.declared.header.Header.{Header}
 use Rattle.aiger_body.specs.declared.content.Content.{Content}
 use Rattle.aiger_body.specs.declared.content.Latch.{Latch}
 use Rattle.aiger_body.specs.declared.section.Section.{Section}
 use Rattle.aiger_body.specs.declared.section.Section.TheVariants.{Inputs, Latches, Outputs, Bads, Constraints, Sizes, Justices, Fairs, Gates}
 use Rattle.aiger_body.specs.Texts.{pieces, piece_at, is_ended}
-use Rattle.aiger_body.specs.Files.{number_in, before, plan, counted, line_start, row, section, section_rows, is_header, used, first_number, latch_of, gate_of, reset_of, content, binary_gate, binary_lhs, groups, delta, behind, tail, ends_number, value_of}
+use Rattle.aiger_body.specs.Files.{number_in, before, plan, counted, line_start, row, section_rows, is_header, used, first_number, latch_of, gate_of, reset_of, content, binary_gate, binary_lhs, groups, delta, behind, tail, ends_number, value_of}
 use Rattle.aiger_body.specs.Circuits.{is_defined}
 use Rattle.aiger_body.specs.Outcomes.{fault, of_uses, of_cycle, of_number, numbers, is_undefined, least, greatest}
 use Rattle.aiger_body.proofs.Groups.{number_clear}
-use Rattle.aiger_body.proofs.Known.{none-first, use-clear, binary-uses}
+use Rattle.aiger_body.proofs.Known.{none-first, use-clear}
 use Rattle.aiger_body.proofs.Pieces.{pieces-concat}
 use Rattle.aiger_body.proofs.Sections.{line-of}
-use Rattle.aiger_print.specs.Printed.{groups_of, reset_row, latch_row, and_row, deltas_of, names_text}
+use Rattle.aiger_print.specs.Printed.{groups_of, reset_row, latch_row, deltas_of, names_text}
 use Rattle.aiger_print.proofs.Stacks.{mapped_twice, same_range, by_place}
-use Rattle.aiger_print.proofs.Forms.{own_header, printed, plan_of, rest_of, text_of}
+use Rattle.aiger_print.proofs.Forms.{own_header, printed, plan_of, text_of}
 use Rattle.aiger_print.proofs.OwnContent.{own_latch, own_gate, content_of, defined, acyclic}
 use Rattle.aiger_print.proofs.OwnRows.{none-left}
 use Rattle.aiger_print.proofs.Deltas.{first_delta, second_delta, groups_from, group_value, group_ended, group_done, all_pieces, first_group, second_group, behind_groups}
-use Rattle.aiger_print.proofs.TextRows.{section_rows_are, section_is, row_is, lines_clear, behind_is}
+use Rattle.aiger_print.proofs.TextRows.{section_rows_are, row_is, behind_is}
 
 unequal : (a b : ℕ) → (a ≡ b → ⊥) → nat_eq a b ≡ false
 unequal a b apart = step (either (nat_eq a b))

@@ -1,7 +1,6 @@
 -- The names of a printed text are those of the net, and no symbol line is at fault.
-use Rattle.std.proofs.Common.{◌≡◌, ℕ, zero, suc, ◌+◌, ◌*◌, ◌^◌, ◌<◌, ◌≤◌, ◌⊎◌, Bool, true, false, cond, not, ◌&&◌, nat_eq, inl, inr, refl, sym, ◌∙◌, ap, subst, arith, Option, Some, None, List, [], ◌∷◌, ◌++◌, map, flat_map, length, get_or, length-append, append_assoc}
-use Rattle.std.specs.Prelude.{slice_index_or, nat_lt, unwrap_or, IsTrue}
-use Rattle.std.specs.List.{range_with_len}
+use Rattle.std.proofs.Common.{◌≡◌, ℕ, zero, suc, ◌+◌, ◌*◌, ◌^◌, ◌<◌, ◌≤◌, ◌⊎◌, Bool, true, false, cond, not, ◌&&◌, nat_eq, inl, inr, sym, ◌∙◌, ap, arith, Some, None, List, [], ◌++◌, map, flat_map, length, get_or, length-append, append_assoc}
+use Rattle.std.specs.Prelude.{nat_lt, unwrap_or}
 use Rattle.std.proofs.lemmas.Bool.{cases_eq, eqb-true, eq-eqb, lt-ltb}
 use Rattle.std.proofs.lemmas.List.{length-map, get_or-map, get_or_append_left, get_or-append-add}
 use Rattle.std.proofs.lemmas.List.FromFn.{fill_by_all}
@@ -9,20 +8,20 @@ use Rattle.std.proofs.lemmas.Grind.{flat_map-append}
 use Rattle.aig_net.specs.declared.parts.NetParts.{NetParts}
 use Rattle.aig_net.specs.Nets as nets
 use Rattle.aig_net.specs.Nets.{IsNet, AreNames}
-use Rattle.aig_order.specs.Firsts.{when, first_some, first_below, any_below}
+use Rattle.aig_order.specs.Firsts.{when, first_some}
 use Rattle.aig_order.proofs.Firsts.{either, and-both, both-and, any-some, not-false}
 use Rattle.aig_order.proofs.Sorted.{first-empty}
 use Rattle.aiger_body.specs.declared.error.AigKind.TheVariants.{Symbol as SymbolFault}
 use Rattle.aiger_body.specs.declared.header.Header.{Header}
 use Rattle.aiger_body.specs.Texts.{pieces, piece_at, place, is_ended, is_feed, line_text}
-use Rattle.aiger_body.specs.Files.{tail, tail_start}
-use Rattle.aiger_body.specs.Symbols.{Symbol, symbol_of, is_symbol, is_name, names_same, tail_lines, begins_comment, symbol, symbol_lines, is_repeated, is_good_symbol, name_in, name_below, name_of, count_of}
-use Rattle.aiger_body.specs.Outcomes.{fault, of_symbol, names_of, names}
+use Rattle.aiger_body.specs.Files.{tail_start}
+use Rattle.aiger_body.specs.Symbols.{Symbol, symbol_of, is_symbol, names_same, tail_lines, begins_comment, symbol, symbol_lines, is_repeated, is_good_symbol, name_in, name_below, name_of, count_of}
+use Rattle.aiger_body.specs.Outcomes.{fault, of_symbol, names_of}
 use Rattle.aiger_body.proofs.Known.{none-first}
 use Rattle.aiger_body.proofs.Pieces.{Free}
 use Rattle.aiger_print.specs.Printed.{symbols_text, names_text}
-use Rattle.aiger_print.proofs.Forms.{own_header, plan_of, text_of}
-use Rattle.aiger_print.proofs.OwnSymbols.{Every, every_map, every_append, every_at, no_symbol, at, given, IsGiven, every_given, HasSymbol, given_has, key, Rising, rising_append, rising_at, rising_given, words_of, line_of_symbol, symbols_are, lines_cut, IsOwn, words_free, said_back, no_comment, line_ended, name_right}
+use Rattle.aiger_print.proofs.Forms.{own_header, text_of}
+use Rattle.aiger_print.proofs.OwnSymbols.{Every, every_map, every_append, every_at, no_symbol, at, given, IsGiven, every_given, given_has, key, Rising, rising_append, rising_at, rising_given, words_of, line_of_symbol, symbols_are, lines_cut, IsOwn, words_free, said_back, no_comment, line_ended, name_right}
 use Rattle.aiger_print.proofs.TextContent.{tail_is}
 use Rattle.aiger_print.proofs.TextRows.{rows_few}
 

@@ -1,13 +1,12 @@
-use Rattle.std.proofs.Common.{◌≡◌, ℕ, ◌+◌, ◌≤◌, ◌∙◌, List, length, sym, ap, subst, arith}
+use Rattle.std.proofs.Common.{ℕ, ◌+◌, ◌≤◌, List, length, sym, ap, subst, arith}
 use Rattle.std.proofs.lemmas.List.{length-map}
 use Rattle.aig_net.specs.declared.parts.NetParts.{NetParts}
-use Rattle.aig_net.specs.Nets.{IsNet, variables}
+use Rattle.aig_net.specs.Nets.{IsNet}
 use Rattle.aiger_body.specs.declared.body.Body.{Body}
 use Rattle.aiger_body.specs.declared.content.Latch.{Latch}
 use Rattle.aiger_body.specs.Bodies.{IsBody}
 use Rattle.aiger_body.specs.Circuits.{renumbered}
 use Rattle.aiger_body.specs.Files.{content}
-use Rattle.aiger_body.specs.Outcomes.{circuit, names}
 use Rattle.aiger_read.specs.declared.names.Names.{Names}
 use Rattle.aiger_read.specs.Naming.{AreNamed}
 use Rattle.aiger_read.specs.Readings.{AreParts}
