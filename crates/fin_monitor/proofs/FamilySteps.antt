@@ -1,0 +1,137 @@
+-- What is added to a family.
+use Rattle.std.proofs.Common.{◌≡◌, ◌⊎◌, ◌+◌, ◌<◌, ◌≤◌, ℕ, Bool, true, false, not, List, [], ◌∷◌, ◌++◌, filter, take, drop, map, length, get_or, inl, inr, refl, sym, ap, ◌∙◌, subst, arith, append_assoc}
+use Rattle.std.specs.List.{Contains, list_any, insert}
+use Rattle.std.specs.List.Sorted.{IsPermutation}
+use Rattle.std.proofs.lemmas.List.{take_more, take-append-drop, append-nil, map-append}
+use Rattle.std.proofs.lemmas.List.Elements.{Contains-append_left, Contains-append_right, Contains-push_cases}
+use Rattle.std.proofs.lemmas.List.Sorted.{IsPermutation-insert, IsPermutation-to_front, IsPermutation-trans, IsPermutation-sym, Contains-permutation}
+use Rattle.hy_formula.specs.Quantifiers.{Each}
+use Rattle.hy_formula.proofs.Tuples.{contains-here, contains-later, contains-cases, contains-none}
+use Rattle.fin_monitor.specs.Duties.{Duty, both, joined, within, minimal, Same, Covers, AreAlike}
+use Rattle.fin_monitor.specs.Lefts.{kept, precedes, IsAscending, IsFamily, IsPlaceFor}
+use Rattle.fin_monitor.proofs.Alike.{within-itself, alike-itself, alike-through, alike-append, same-alike}
+use Rattle.fin_monitor.proofs.Lists.{filter-from, each-at, each-from, any-of}
+use Rattle.fin_monitor.proofs.Minimal.{IsApart, with_duty, alike-kept, kept-alike, apart-kept, apart-minimal}
+use Rattle.fin_monitor.proofs.Order.{precedes-through, precedes-other, same-ascending, ascending-filter, ascending-between, ascending-later}
+
+pub family-kept : (list : List Duty) (d : Duty) → IsFamily list → IsFamily (kept list d)
+family-kept list d is =
+    record {
+      ascending = ascending-filter (λ (e : Duty). not (within d e)) list is.ascending;
+      apart = λ x y cx cy w. is.apart x y (filter-from (λ (e : Duty). not (within d e)) list x cx).0 (filter-from (λ (e : Duty). not (within d e)) list y cy).0 w;
+    }
+
+-- what stands behind the place
+behind-place : (rest : List Duty) (d : Duty) → IsAscending rest → ((e : Duty) (more : List Duty) → rest ≡ e ∷ more → ¬ (precedes e d ≡ true)) → ((e : Duty) → Contains rest e → ¬ (d ≡ e))
+    → Each (λ (e : Duty). precedes d e ≡ true) rest
+behind-place [] d up first apart = tt
+behind-place (x ∷ xs) d (above, up) first apart =
+    let here : precedes d x ≡ true = precedes-other d x (first x xs refl) (apart x (contains-here x xs)) in
+    (here, each-from (λ (e : Duty). precedes d e ≡ true) xs (λ e c. precedes-through d x e here (each-at (λ (z : Duty). precedes x z ≡ true) xs e above c)))
+
+module _ (list : List Duty) (d : Duty) (is : IsFamily list) (none : list_any (λ (e : Duty). within e d) list ≡ false) (place : ℕ) (at : IsPlaceFor (kept list d) d place) where
+  no-within : (e : Duty) → Contains list e → within e d ≡ true → ⊥
+  no-within e c w = let some = any-of (λ (x : Duty). within x d) list e c w in cc
+
+  abbrev put : List Duty
+  put = take place (kept list d) ++ d ∷ drop place (kept list d)
+
+  moved : IsPermutation (with_duty list d) put
+  moved = IsPermutation-trans (with_duty list d) (d ∷ kept list d) put (IsPermutation-to_front (kept list d) d) (IsPermutation-insert (kept list d) place d)
+
+  there : (e : Duty) → Contains (with_duty list d) e → Contains put e
+  there e c = Contains-permutation (with_duty list d) put e moved c
+
+  back : (e : Duty) → Contains put e → Contains (with_duty list d) e
+  back e c = Contains-permutation put (with_duty list d) e (IsPermutation-sym (with_duty list d) put moved) c
+
+  apart-with : IsApart (with_duty list d)
+  apart-with = apart-kept list d (record { apart = is.apart }) no-within
+
+  split : take place (kept list d) ++ drop place (kept list d) ≡ kept list d
+  split = take-append-drop place (kept list d)
+
+  pub family-put : IsFamily put
+  family-put =
+      let P : List Duty → Type 0 = IsAscending in
+      let up : IsAscending (take place (kept list d) ++ drop place (kept list d)) = subst P (sym split) (ascending-filter (λ (e : Duty). not (within d e)) list is.ascending) in
+      record {
+        ascending = ascending-between (take place (kept list d)) (drop place (kept list d)) d up at.before
+            (behind-place (drop place (kept list d)) d (ascending-later (take place (kept list d)) (drop place (kept list d)) up) at.behind
+            (λ e c same. let Q : List Duty → Type 0 = λ l. Contains l e in
+            let R : Duty → Type 0 = λ z. within z d ≡ true in
+            no-within e (filter-from (λ (x : Duty). not (within d x)) list e (subst Q split (Contains-append_right (take place (kept list d)) (drop place (kept list d)) e c))).0 (subst R same (within-itself d))));
+        apart = λ x y cx cy w. apart-with.apart x y (back x cx) (back y cy) w;
+      }
+
+  pub alike-put : AreAlike put (list ++ d ∷ [])
+  alike-put = (
+    λ e c. let (x, cx, w) = alike-kept list d e c in (x, there x cx, w),
+    λ e c. kept-alike list d e (back e c),
+  )
+
+-- where one is within it, the list is as good
+pub alike-same : (list : List Duty) (d : Duty) → (x : Duty) × Contains list x × (within x d ≡ true) → AreAlike list (list ++ d ∷ [])
+alike-same list d (x, c, w) = (
+  λ e ce. covered e (Contains-push_cases list d e ce),
+  λ e ce. (e, Contains-append_left list (d ∷ []) e ce, within-itself e),
+)
+  where
+    covered : (e : Duty) → Contains list e ⊎ (d ≡ e) → (y : Duty) × Contains list y × (within y e ≡ true)
+    covered e (inl old) = (e, old, within-itself e)
+    covered e (inr same) = let P : Duty → Type 0 = λ z. within x z ≡ true in (x, c, subst P same w)
+
+-- ---- lists of duties that are added one after another
+
+pub alike-more : (f f' base xs ys : List Duty) → AreAlike f (base ++ xs) → AreAlike f' (f ++ ys) → AreAlike f' (base ++ (xs ++ ys))
+alike-more f f' base xs ys a b =
+    let P : List Duty → Type 0 = AreAlike f' in
+    subst P (append_assoc base xs ys) (alike-through f' (f ++ ys) ((base ++ xs) ++ ys) b (alike-append f (base ++ xs) ys ys a (alike-itself ys)))
+
+pub alike-nothing : (f : List Duty) → AreAlike f (f ++ [])
+alike-nothing f = let P : List Duty → Type 0 = AreAlike f in subst P (sym (append-nil f)) (alike-itself f)
+
+pub joined-append : (xs ys zs : List Duty) → joined (xs ++ ys) zs ≡ joined xs zs ++ joined ys zs
+joined-append [] ys zs = refl
+joined-append (x ∷ xs) ys zs = ap (λ l. map (both x) zs ++ l) (joined-append xs ys zs) ∙ sym (append_assoc (map (both x) zs) (joined xs zs) (joined ys zs))
+
+-- a family that is alike a list has its minimal duties
+pub family-minimal : (list ds : List Duty) → IsFamily list → AreAlike list ds → Same list (minimal ds)
+family-minimal list ds is alike = apart-minimal list ds (record { apart = is.apart }) alike
+
+-- and is the only one
+pub same-family : (xs ys : List Duty) → IsFamily xs → IsFamily ys → Same xs ys → xs ≡ ys
+same-family xs ys p q same = same-ascending xs ys p.ascending q.ascending same
+
+pub family-none : IsFamily []
+family-none = record { ascending = tt; apart = λ d e c. absurd (contains-none d c) }
+
+pub family-single : (d : Duty) → IsFamily (d ∷ [])
+family-single d = record { ascending = (tt, tt); apart = λ x y cx cy w. sym (one x cx) ∙ one y cy }
+  where
+    one : (x : Duty) → Contains (d ∷ []) x → d ≡ x
+    one x c = elim (contains-cases d x [] c) [ inl e ↦ e | inr more ↦ absurd (contains-none x more) ]
+
+-- ---- one element more
+
+pub alike-item : (f f' base list : List Duty) (i : ℕ) (x : Duty) → i < length list → x ≡ get_or list i x
+    → AreAlike f (base ++ take i list) → AreAlike f' (f ++ x ∷ []) → AreAlike f' (base ++ take (i + 1) list)
+alike-item f f' base list i x lt is a b =
+    let P : List Duty → Type 0 = λ l. AreAlike f' (base ++ l) in
+    subst P (ap (λ y. take i list ++ y ∷ []) is ∙ sym (take_more list i x lt)) (alike-more f f' base (take i list) (x ∷ []) a b)
+
+pub alike-with : (d : Duty) (f f' base list : List Duty) (i : ℕ) (x y : Duty) → i < length list → x ≡ get_or list i x → y ≡ both d x
+    → AreAlike f (base ++ map (both d) (take i list)) → AreAlike f' (f ++ y ∷ []) → AreAlike f' (base ++ map (both d) (take (i + 1) list))
+alike-with d f f' base list i x y lt is made a b =
+    let P : List Duty → Type 0 = λ l. AreAlike f' (base ++ l) in
+    let e : map (both d) (take i list) ++ y ∷ [] ≡ map (both d) (take (i + 1) list) =
+    ap (λ z. map (both d) (take i list) ++ z ∷ []) (made ∙ ap (both d) is) ∙ sym (map-append (both d) (take i list) (get_or list i x ∷ [])) ∙ ap (map (both d)) (sym (take_more list i x lt)) in
+    subst P e (alike-more f f' base (map (both d) (take i list)) (y ∷ []) a b)
+
+pub alike-joining : (other f f' base list : List Duty) (i : ℕ) (x : Duty) → i < length list → x ≡ get_or list i x
+    → AreAlike f (base ++ joined (take i list) other) → AreAlike f' (f ++ joined (x ∷ []) other) → AreAlike f' (base ++ joined (take (i + 1) list) other)
+alike-joining other f f' base list i x lt is a b =
+    let P : List Duty → Type 0 = λ l. AreAlike f' (base ++ l) in
+    let e : joined (take i list) other ++ joined (x ∷ []) other ≡ joined (take (i + 1) list) other =
+    sym (joined-append (take i list) (x ∷ []) other) ∙ ap (λ l. joined l other) (ap (λ y. take i list ++ y ∷ []) is ∙ sym (take_more list i x lt)) in
+    subst P e (alike-more f f' base (joined (take i list) other) (joined (x ∷ []) other) a b)

@@ -1,0 +1,70 @@
+-- Why a body has no monitor, by which of its parts is too large.
+use Rattle.std.proofs.Common.{◌≤◌, ℕ, List, [], length}
+use Rattle.hy_base.specs.declared.limit.Kind.TheVariants as kind
+use Rattle.hy_formula.specs.Trees.{Tree}
+use Rattle.fin_monitor.specs.declared.monitor_error.MonitorError.{MonitorError}
+use Rattle.fin_monitor.specs.declared.monitor_error.MonitorError.TheVariants.{Limit, Memory}
+use Rattle.fin_monitor.specs.Codes.{atoms_of}
+use Rattle.fin_monitor.specs.Duties.{body_nodes, body_root}
+use Rattle.fin_monitor.specs.Limits.{HasSmallClosure, HasFewAtoms, IsRefusal, IsClosureRefusal, IsAtomsRefusal}
+use Rattle.fin_monitor.specs.Tables.{IsTableRefusal}
+
+pub closure-refused : (body : Tree) (e : MonitorError) → IsClosureRefusal body e → IsRefusal body e
+closure-refused body (Limit kind.Bytes) h = absurd h
+closure-refused body (Limit kind.Specs) h = absurd h
+closure-refused body (Limit kind.Quantifiers) h = absurd h
+closure-refused body (Limit kind.Parens) h = absurd h
+closure-refused body (Limit kind.Height) h = absurd h
+closure-refused body (Limit kind.Names) h = absurd h
+closure-refused body (Limit kind.Instances) h = absurd h
+closure-refused body (Limit kind.Closure) h = h
+closure-refused body (Limit kind.Joint) h = absurd h
+closure-refused body (Limit kind.Atoms) h = absurd h
+closure-refused body (Limit kind.Table) h = absurd h
+closure-refused body (Limit kind.Length) h = absurd h
+closure-refused body (Limit kind.Sessions) h = absurd h
+closure-refused body (Limit kind.Saves) h = absurd h
+closure-refused body (Limit kind.Variables) h = absurd h
+closure-refused body (Limit kind.CnfVariables) h = absurd h
+closure-refused body (Limit kind.CnfLiterals) h = absurd h
+closure-refused body Memory h = tt
+
+pub atoms-refused : (body : Tree) → HasSmallClosure body → (e : MonitorError) → IsAtomsRefusal body [] e → IsRefusal body e
+atoms-refused body small (Limit kind.Bytes) h = absurd h
+atoms-refused body small (Limit kind.Specs) h = absurd h
+atoms-refused body small (Limit kind.Quantifiers) h = absurd h
+atoms-refused body small (Limit kind.Parens) h = absurd h
+atoms-refused body small (Limit kind.Height) h = absurd h
+atoms-refused body small (Limit kind.Names) h = absurd h
+atoms-refused body small (Limit kind.Instances) h = absurd h
+atoms-refused body small (Limit kind.Closure) h = absurd h
+atoms-refused body small (Limit kind.Joint) h = absurd h
+atoms-refused body small (Limit kind.Atoms) h = (small, h)
+atoms-refused body small (Limit kind.Table) h = absurd h
+atoms-refused body small (Limit kind.Length) h = absurd h
+atoms-refused body small (Limit kind.Sessions) h = absurd h
+atoms-refused body small (Limit kind.Saves) h = absurd h
+atoms-refused body small (Limit kind.Variables) h = absurd h
+atoms-refused body small (Limit kind.CnfVariables) h = absurd h
+atoms-refused body small (Limit kind.CnfLiterals) h = absurd h
+atoms-refused body small Memory h = tt
+
+pub table-refused : (body : Tree) → HasSmallClosure body → HasFewAtoms body → (e : MonitorError) → IsTableRefusal (body_nodes body) (body_root body) (atoms_of body) e → IsRefusal body e
+table-refused body small few (Limit kind.Bytes) h = absurd h
+table-refused body small few (Limit kind.Specs) h = absurd h
+table-refused body small few (Limit kind.Quantifiers) h = absurd h
+table-refused body small few (Limit kind.Parens) h = absurd h
+table-refused body small few (Limit kind.Height) h = absurd h
+table-refused body small few (Limit kind.Names) h = absurd h
+table-refused body small few (Limit kind.Instances) h = absurd h
+table-refused body small few (Limit kind.Closure) h = absurd h
+table-refused body small few (Limit kind.Joint) h = absurd h
+table-refused body small few (Limit kind.Atoms) h = absurd h
+table-refused body small few (Limit kind.Table) (list, reached, many) = (small, few, record { list = list; reached = reached; many = many })
+table-refused body small few (Limit kind.Length) h = absurd h
+table-refused body small few (Limit kind.Sessions) h = absurd h
+table-refused body small few (Limit kind.Saves) h = absurd h
+table-refused body small few (Limit kind.Variables) h = absurd h
+table-refused body small few (Limit kind.CnfVariables) h = absurd h
+table-refused body small few (Limit kind.CnfLiterals) h = absurd h
+table-refused body small few Memory h = tt

@@ -1,0 +1,16 @@
+use Rattle.std.proofs.Common.{◌≡◌, ◌+◌, ◌*◌, ◌^◌, ◌<◌, length, map}
+use Rattle.fin_monitor.specs.Codes.{plain_atom}
+use Rattle.fin_monitor.specs.Duties.{residual_at}
+use Rattle.fin_monitor.specs.Lefts.{kept_lists}
+use Rattle.fin_monitor.specs.Tables.{AreAllLefts, IsExplored}
+use Rattle.fin_monitor.proofs.explore.Explored.fill_row.Given as goal
+
+abbrev pub invariant-loop-code : goal.invariant-loop-code
+invariant-loop-code g l =
+    record {
+      explored : IsExplored l.judge.closure.now.nodes l.root (map plain_atom l.judge.atoms.now) (kept_lists l.self.residuals.keys) l.self.table;
+      long : length l.self.table ≡ l.row * 2 ^ length l.judge.atoms.now + l.code;
+      there : l.row < length l.self.residuals.keys;
+      same : l.residual.items ≡ residual_at (kept_lists l.self.residuals.keys) l.row;
+      lefts : AreAllLefts l.judge.closure.now.nodes (map plain_atom l.judge.atoms.now) l.self.lefts.code (kept_lists l.self.lefts.lists);
+    }

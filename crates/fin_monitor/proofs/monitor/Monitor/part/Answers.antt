@@ -1,0 +1,31 @@
+use Rattle.std.proofs.Common.{◌≡◌, ◌-◌, ◌&&◌, nat_eq, arith}
+use Rattle.std.specs.FinSet.{contains}
+use Rattle.fin_monitor.proofs.Places.{code-none, code-more, code-small, code-all, code-within}
+use Rattle.fin_monitor.proofs.monitor.Monitor.part.Goals as goal
+
+pub loop-i-init : goal.loop-i-init
+loop-i-init c =
+    record {
+      inside = omega (arith, c.len-i.ensures);
+      code = code-none (λ n v. nat_eq v c.args.var && contains c.args.letter n) c.args.self.now.atoms c.len-i.result c.len-i.ensures;
+    }
+
+pub with_bit-code-requires : goal.with_bit-code-requires
+with_bit-code-requires c = code-small (λ n v. nat_eq v c.args.var && contains c.args.letter n) c.args.self.now.atoms c.loop-i.i c.loop-i.code c.args.self.now.right.few_atoms c.loop-i.invariant.code
+
+pub loop-i-preserved : goal.loop-i-preserved
+loop-i-preserved c =
+    record {
+      inside = omega (arith, c.loop-i.invariant.inside);
+      code =
+          code-more (λ n v. nat_eq v c.args.var && contains c.args.letter n) c.args.self.now.atoms c.loop-i.i (c.loop-i.i - 1) c.at-a.result.now c.has_own.result c.loop-i.code c.with_bit-code.result
+          c.at-a.ensures (omega (arith, c.loop-i-test.true)) c.has_own.ensures c.loop-i.invariant.code c.with_bit-code.ensures;
+    }
+
+pub returns : goal.returns
+returns c =
+    let none : c.loop-i.i ≡ 0 = omega (arith, c.loop-i-test.false) in
+    record {
+      part = code-all (λ n v. nat_eq v c.args.var && contains c.args.letter n) c.args.self.now.atoms c.loop-i.i c.loop-i.code none c.loop-i.invariant.code;
+      within = code-within (λ n v. nat_eq v c.args.var && contains c.args.letter n) c.args.self.now.atoms c.loop-i.i c.loop-i.code none c.loop-i.invariant.code;
+    }

@@ -1,0 +1,20 @@
+//! Monitors: a body as a table of states that is stepped by joint letters of finite traces.
+#![tactic(auto)]
+
+mod atoms;
+mod automaton;
+mod building;
+mod duty;
+mod explore;
+mod families;
+pub mod laws;
+mod lefts;
+mod members;
+mod monitor;
+mod monitor_error;
+mod settling;
+#[cfg(test)]
+mod tests;
+
+pub use monitor::Monitor;
+pub use monitor_error::MonitorError;
