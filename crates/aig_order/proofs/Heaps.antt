@@ -1,14 +1,12 @@
 -- Numbers by keys of which the greatest stands for the least.
-use Rattle.std.proofs.Common.{◌≡◌, ℕ, zero, suc, ◌+◌, ◌-◌, ◌<◌, ◌≤◌, ◌^◌, ◌⊎◌, Bool, true, false, ◌||◌, nat_eq, inl, inr, refl, sym, ◌∙◌, ap, subst, arith, List, [], ◌∷◌, length, get_or}
-use Rattle.std.specs.List.{All, list_any}
+use Rattle.std.proofs.Common.{◌≡◌, ℕ, ◌-◌, ◌<◌, ◌≤◌, ◌^◌, true, false, ◌||◌, nat_eq, refl, sym, ◌∙◌, ap, arith, List, [], ◌∷◌, length}
 use Rattle.std.specs.List.Sorted.{IsPermutation}
 use Rattle.std.specs.BinaryHeap.{IsUpperBound}
 use Rattle.std.specs.Ordering.{nat_cmp}
 use Rattle.std.proofs.lemmas.Bool.{eqb-true, eq-eqb}
 use Rattle.std.proofs.lemmas.List.Sorted.{list_any-IsPermutation, le_from_greatest}
-use Rattle.aig_order.specs.Firsts.{holds}
 use Rattle.aig_order.specs.Takings.{has}
-use Rattle.aig_order.proofs.Firsts.{either, holds-place, bool-same}
+use Rattle.aig_order.proofs.Firsts.{holds-place, bool-same}
 
 same-key : (j k key : ℕ) → j < 2 ^ 32 → k < 2 ^ 32 → key ≡ 4294967295 - k → nat_eq (4294967295 - j) key ≡ nat_eq j k
 same-key j k key low small is = bool-same _ _

@@ -1,5 +1,5 @@
 -- An and above all that it uses does not depend on itself, where no and uses one of a higher rank.
-use Rattle.std.proofs.Common.{◌≡◌, ℕ, ◌<◌, ◌≤◌, true, List, length, refl, ap, arith}
+use Rattle.std.proofs.Common.{◌≡◌, ℕ, ◌≤◌, List, refl, ap, arith}
 use Rattle.std.specs.Prelude.{slice_index}
 use Rattle.aig_order.specs.declared.gate.Gate.{Gate}
 use Rattle.aig_order.specs.Gates.{Depends, at_once, through}

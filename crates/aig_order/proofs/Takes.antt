@@ -1,13 +1,13 @@
 -- One and after the other is taken.
-use Rattle.std.proofs.Common.{◌≡◌, ℕ, zero, suc, ◌+◌, ◌-◌, ◌/◌, ◌<◌, ◌≤◌, ◌^◌, ◌⊎◌, Bool, true, false, not, ◌&&◌, ◌||◌, nat_eq, inl, inr, refl, sym, ◌∙◌, ap, subst, arith, Option, Some, None, List, [], ◌∷◌, ◌++◌, length, get_or, set, take, drop, length-append, append-nil}
+use Rattle.std.proofs.Common.{◌≡◌, ℕ, ◌+◌, ◌/◌, ◌<◌, ◌≤◌, ◌^◌, ◌⊎◌, Bool, true, false, not, ◌&&◌, ◌||◌, nat_eq, inl, inr, refl, sym, ◌∙◌, ap, subst, arith, Option, Some, None, List, [], ◌∷◌, ◌++◌, length, get_or, set, append-nil}
 use Rattle.std.specs.Prelude.{slice_index_or, slice_set, IfSome, option_to_list}
-use Rattle.std.proofs.lemmas.Bool.{cases_eq, cases_lt, eqb-true, eq-eqb}
+use Rattle.std.proofs.lemmas.Bool.{cases_eq, eqb-true, eq-eqb}
 use Rattle.std.proofs.lemmas.List.{get_or-set_same, get_or-set_other, length-set}
 use Rattle.aig_order.specs.declared.gate.Gate.{Gate}
-use Rattle.aig_order.specs.Firsts.{any_below, holds}
-use Rattle.aig_order.specs.Gates.{gate_at, uses, waits, is_next, next_gate, with_next, taken, order}
-use Rattle.aig_order.specs.Takings.{has, AreApart, AreDefiners, AreUsers, AreMarked, AreTaken, AreReadied, IsLeast, IsNextAnswer, HasUser, is_untaken, is_open, IsHeldAnswer, IsReadied}
-use Rattle.aig_order.proofs.Firsts.{either, and-both, both-and, not-true, not-false, not-not, or-either, or-first, or-second, any-some, some-any, holds-place, place-holds, holds-left, holds-right, holds-append, bool-same}
+use Rattle.aig_order.specs.Firsts.{holds}
+use Rattle.aig_order.specs.Gates.{gate_at, uses, waits, is_next, next_gate, with_next}
+use Rattle.aig_order.specs.Takings.{has, AreApart, AreDefiners, AreUsers, AreMarked, AreTaken, AreReadied, IsLeast, HasUser, is_untaken, is_open, IsHeldAnswer, IsReadied}
+use Rattle.aig_order.proofs.Firsts.{either, and-both, both-and, not-true, not-false, or-either, or-first, or-second, any-some, some-any, holds-place, holds-left, holds-right, holds-append, bool-same}
 use Rattle.aig_order.proofs.Sorted.{first-is, first-empty}
 
 -- ---- which and defines a variable

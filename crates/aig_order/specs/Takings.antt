@@ -1,5 +1,5 @@
 -- Ands that can be taken, and what has been taken.
-use Rattle.std.specs.Prelude.{◌≡◌, ℕ, suc, ◌+◌, ◌-◌, ◌/◌, ◌<◌, ◌≤◌, ◌^◌, Bool, true, false, List, [], length, ◌⊎◌, ◌||◌, nat_eq, slice_index, slice_index_or, slice_set, ◌∷◌, ◌++◌, not, Option, Some, None, IsTrue}
+use Rattle.std.specs.Prelude.{◌≡◌, ℕ, ◌+◌, ◌-◌, ◌/◌, ◌<◌, ◌≤◌, ◌^◌, Bool, true, false, List, [], length, ◌⊎◌, ◌||◌, nat_eq, slice_index, slice_index_or, slice_set, ◌∷◌, ◌++◌, not, Option, Some, None}
 use Rattle.aig_order.specs.declared.gate.Gate.{Gate}
 use Rattle.aig_order.specs.Firsts.{holds}
 use Rattle.aig_order.specs.Gates.{gate_at, uses, waits, is_next, taken}

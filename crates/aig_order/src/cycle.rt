@@ -146,7 +146,8 @@ fn visit_sides(gates: &[Gate], definers: &Definers, k: usize, reach: &mut Reach)
     requires small { k < length gates.now }
     requires set { AreSetUp gates.now definers.now }
     requires long { length reach.old.seen ≡ length gates.now }
-    ensures { OnOk result (AreVisited gates.now k reach.old.seen reach.old.found reach.new.seen reach.new.found) }
+    ensures { OnOk result
+        (AreVisited gates.now k reach.old.seen reach.old.found reach.new.seen reach.new.found) }
 {
     visit(definer(definers, gates[k].left), reach)?;
     visit(definer(definers, gates[k].right), reach)?;
@@ -156,7 +157,8 @@ fn visit_sides(gates: &[Gate], definers: &Definers, k: usize, reach: &mut Reach)
 /// Finds the and, if it is not found yet.
 fn visit(used: Option<u32>, reach: &mut Reach) -> M<()>
     requires { IfSome used (λ j. j < length reach.old.seen) }
-    ensures { OnOk result (IsVisited used reach.old.seen reach.old.found reach.new.seen reach.new.found) }
+    ensures { OnOk result
+        (IsVisited used reach.old.seen reach.old.found reach.new.seen reach.new.found) }
 {
     let Some(j) = used else {
         return Ok(());

@@ -40,7 +40,8 @@ impl Ready {
 
     /// Adds a number, in time logarithmic in how many there are.
     pub fn push(&mut self, k: u32) -> M<()>
-        ensures { OnOk result ((j : ℕ) → j < 2 ^ 32 → has self.new j ≡ (nat_eq j k || has self.old j)) }
+        ensures { OnOk result ((j : ℕ) → j < 2 ^ 32 →
+            has self.new j ≡ (nat_eq j k || has self.old j)) }
     {
         self.keys.push(u32::MAX - k)?;
         Ok(())
@@ -51,7 +52,8 @@ impl Ready {
         ensures none { IfNone result ((j : ℕ) → has self.old j ≡ false) }
         ensures empty { IfNone result (self.new ≡ self.old) }
         ensures least { IfSome result (λ k. (j : ℕ) → j < 2 ^ 32 → has self.old j ≡ true → k ≤ j) }
-        ensures rest { IfSome result (λ k. (j : ℕ) → j < 2 ^ 32 → has self.old j ≡ (nat_eq j k || has self.new j)) }
+        ensures rest { IfSome result (λ k. (j : ℕ) → j < 2 ^ 32 →
+            has self.old j ≡ (nat_eq j k || has self.new j)) }
         ensures fewer { OnSome result (length self.new < length self.old) }
     {
         let key = self.keys.pop()?;

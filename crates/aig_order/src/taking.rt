@@ -100,7 +100,9 @@ fn waits(gates: &[Gate], definers: &Definers, taken: &List<bool>, k: usize) -> b
     requires inside { k < length gates.now }
     requires low { (gate_at gates.now k).left / 2 < length definers.now }
     requires also { (gate_at gates.now k).right / 2 < length definers.now }
-    ensures { result ≡ (is_open definers.now taken.now (gate_at gates.now k).left || is_open definers.now taken.now (gate_at gates.now k).right) }
+    ensures { result ≡
+        (is_open definers.now taken.now
+        (gate_at gates.now k).left || is_open definers.now taken.now (gate_at gates.now k).right) }
 {
     let gate = &gates[k];
     is_open(definers, taken, gate.left) || is_open(definers, taken, gate.right)
@@ -199,7 +201,8 @@ fn take_one(
     requires readied { AreReadied gates.now users.now 0 (taking.old.order ++ k ∷ [])
         (slice_set taking.old.taken k true) taking.old.ready }
     ensures order { OnOk result (taking.new.order ≡ taking.old.order ++ k ∷ []) }
-    ensures taken { OnOk result (AreTaken gates.now taking.new.order taking.new.taken taking.new.ready) }
+    ensures taken { OnOk result
+        (AreTaken gates.now taking.new.order taking.new.taken taking.new.ready) }
 {
     taking.order.push(k)?;
     taking.taken.set(k as usize, true);
@@ -216,7 +219,8 @@ fn take_next(gates: &[Gate], definers: &Definers, users: &Users, taking: &mut Ta
     requires users { AreUsers gates.now (length gates.now) users.now.items }
     requires taken { AreTaken gates.now taking.old.order taking.old.taken taking.old.ready }
     ensures order { OnOk result (taking.new.order ≡ with_next gates.now taking.old.order) }
-    ensures taken { OnOk result (AreTaken gates.now taking.new.order taking.new.taken taking.new.ready) }
+    ensures taken { OnOk result
+        (AreTaken gates.now taking.new.order taking.new.taken taking.new.ready) }
 {
     let Some(k) = next_ready(&taking.taken, &mut taking.ready) else {
         return Ok(());

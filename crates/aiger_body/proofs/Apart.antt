@@ -1,22 +1,21 @@
 -- The ands of a text without a fault define variables apart, and depend on none but each other.
-use Rattle.std.proofs.Common.{◌≡◌, ℕ, zero, suc, ◌+◌, ◌-◌, ◌*◌, ◌/◌, ◌<◌, ◌≤◌, ◌⊎◌, Bool, true, false, cond, not, ◌&&◌, ◌||◌, nat_eq, inl, inr, refl, sym, ◌∙◌, ap, subst, arith, Option, Some, None, List, [], ◌∷◌, ◌++◌, map, length, get_or, drop}
-use Rattle.std.specs.Prelude.{IsTrue, nat_le, slice_index, slice_index_or}
+use Rattle.std.proofs.Common.{◌≡◌, ℕ, suc, ◌+◌, ◌*◌, ◌/◌, ◌<◌, ◌≤◌, ◌⊎◌, true, false, cond, not, ◌&&◌, nat_eq, inl, inr, refl, sym, ◌∙◌, ap, subst, arith, Some, None, List, [], ◌∷◌, map, length, drop}
+use Rattle.std.specs.Prelude.{nat_le, slice_index}
 use Rattle.std.specs.List.{range_with_len, list_any, concat}
 use Rattle.std.proofs.lemmas.Bool.{cases_eq, cases_lt, eq-eqb, eqb-true, leb-true}
-use Rattle.std.proofs.lemmas.List.{length-map, get_or-map, length-drop, drop-drop}
+use Rattle.std.proofs.lemmas.List.{length-map, get_or-map, drop-drop}
 use Rattle.aiger_body.specs.declared.error.AigKind.TheVariants.{Cycle}
 use Rattle.aiger_body.specs.declared.header.Header.{Header}
 use Rattle.aiger_body.specs.declared.section.Section.TheVariants.{Inputs, Gates}
 use Rattle.aig_order.specs.declared.gate.Gate.{Gate}
 use Rattle.aiger_body.specs.declared.content.Content.{Content}
-use Rattle.aig_order.specs.Firsts.{when, otherwise, any_below, first_some, holds}
+use Rattle.aig_order.specs.Firsts.{when, first_some, holds}
 use Rattle.aiger_body.specs.Texts.{place}
-use Rattle.aiger_body.specs.Files.{number_in, before, plan, counts, counted, section, section_rows, row, is_right, is_literal, is_plain, is_gate, is_header, defined, defined_before, first_number, gate_of, binary_gate, content, line_start, tail, behind, groups, lines}
+use Rattle.aiger_body.specs.Files.{number_in, before, plan, counted, section, section_rows, row, is_right, is_literal, is_plain, is_gate, is_header, defined, defined_before, first_number, gate_of, binary_gate, content, line_start, behind, groups}
 use Rattle.aig_order.specs.Gates.{gate_at, no_gate, order, IsComplete, Depends, depends}
-use Rattle.aiger_body.specs.Outcomes.{Refusal, of_line, of_number, of_uses, of_cycle, fault, numbers}
+use Rattle.aiger_body.specs.Outcomes.{of_line, of_cycle, fault}
 use Rattle.aiger_body.specs.Answers.{Fits}
 use Rattle.aig_order.specs.Takings.{AreApart}
-use Rattle.aig_order.specs.Reaching.{IsFirstCyclic}
 use Rattle.aiger_body.specs.Deltas.{IsBehind, IsNumberAt}
 use Rattle.aiger_body.specs.Passes.{line_content}
 use Rattle.aiger_body.specs.Bodies.{IsTail, IsWhole}

@@ -1,5 +1,5 @@
 -- The outcome, stage after stage.
-use Rattle.std.proofs.Common.{◌≡◌, ℕ, ◌*◌, ◌⊎◌, Bool, true, false, cond, inl, inr, refl, sym, ◌∙◌, ap, subst, length, List, Option, Some, None}
+use Rattle.std.proofs.Common.{◌≡◌, ℕ, ◌*◌, true, false, cond, inl, inr, refl, sym, ◌∙◌, ap, subst, length, List, Option, Some, None}
 use Rattle.aig_net.specs.declared.parts.NetParts.{NetParts}
 use Rattle.aiger_body.specs.declared.error.AigerError.{AigerError}
 use Rattle.aiger_body.specs.declared.error.AigerError.TheVariants.{Bad, Limit as PastLimit, Memory}
@@ -7,7 +7,7 @@ use Rattle.aiger_body.specs.declared.header.Header.{Header}
 use Rattle.aig_order.specs.Firsts.{otherwise, first_some}
 use Rattle.aiger_body.specs.Files.{counted, content, is_header}
 use Rattle.aiger_body.specs.Symbols.{symbol_lines}
-use Rattle.aiger_body.specs.Outcomes.{Outcome, Refusal, refused, fault, limit, outcome, judged, circuit, with_header, after_header, numbers, of_line, of_number, of_uses, of_cycle, of_symbol}
+use Rattle.aiger_body.specs.Outcomes.{Outcome, Refusal, outcome, judged, circuit, after_header, numbers, of_line, of_number, of_uses, of_cycle, of_symbol}
 use Rattle.aiger_body.specs.Answers.{Tells, Refuses, IsHeaderRead}
 use Rattle.aig_order.proofs.Firsts.{either}
 use Rattle.aiger_body.proofs.Stages.{outcome_headed, tells_nothing}

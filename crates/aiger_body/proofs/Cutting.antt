@@ -1,11 +1,11 @@
 -- The piece that stands at a place, and where the next one stands.
-use Rattle.std.proofs.Common.{◌≡◌, ℕ, zero, suc, ◌+◌, ◌-◌, ◌<◌, ◌≤◌, Bool, true, false, List, [], ◌∷◌, ◌++◌, length, get_or, take, drop, refl, sym, ◌∙◌, ap, arith, length-append}
+use Rattle.std.proofs.Common.{◌≡◌, ℕ, zero, suc, ◌+◌, ◌≤◌, Bool, List, [], ◌∷◌, length, take, drop, refl, ◌∙◌, ap, arith, length-append}
 use Rattle.std.specs.List.{concat}
 use Rattle.std.proofs.lemmas.List.{take-append-le}
 use Rattle.std.proofs.Math.Seq.{take-length}
 use Rattle.aiger_body.specs.Texts.{pieces, piece_at, place}
 use Rattle.aiger_body.specs.Words.{first_len}
-use Rattle.aiger_body.proofs.Places.{Split, split, pieces-from}
+use Rattle.aiger_body.proofs.Places.{split, pieces-from}
 use Rattle.aiger_body.proofs.Pieces.{pieces-concat}
 
 front-of : (ends : ℕ → Bool) (xs : List ℕ) (ps : List (List ℕ)) → pieces ends xs ≡ ps → take (length (piece_at ps 0)) xs ≡ piece_at ps 0

@@ -12,7 +12,7 @@ use Rattle.aiger_body.specs.declared.section.Section.TheVariants.{Inputs, Latche
 use Rattle.aiger_body.specs.declared.content.Content.{Content}
 use Rattle.aiger_body.specs.declared.content.Latch.{Latch}
 use Rattle.aig_order.specs.declared.gate.Gate.{Gate}
-use Rattle.aiger_body.specs.Files.{all_sections, number_in, counts, plan, before, section, section_rows, row, rows, with_own, first_number, latch_of, gate_of, literals, of_section, counted}
+use Rattle.aiger_body.specs.Files.{all_sections, number_in, counts, plan, before, section, section_rows, row, rows, with_own, first_number, latch_of, gate_of, literals, counted}
 use Rattle.aiger_body.specs.Keeping.{empty, keep, keep_all}
 use Rattle.aiger_body.specs.Passes.{line_content, rows_from}
 use Rattle.aiger_body.proofs.Sections.{in-section, number-of, part-of}

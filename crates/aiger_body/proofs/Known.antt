@@ -1,6 +1,6 @@
 -- Which variables are defined, by the marks and by the content.
-use Rattle.std.proofs.Common.{◌≡◌, ℕ, zero, suc, ◌+◌, ◌-◌, ◌*◌, ◌/◌, ◌%◌, ◌<◌, ◌≤◌, ◌⊎◌, Bool, true, false, cond, not, ◌&&◌, ◌||◌, nat_eq, inl, inr, refl, sym, ◌∙◌, ap, subst, arith, Option, Some, None, List, [], ◌∷◌, ◌++◌, map, length, get_or, take, drop, length-append}
-use Rattle.std.specs.Prelude.{IsTrue, nat_lt, nat_le, slice_index, slice_index_or, sum}
+use Rattle.std.proofs.Common.{◌≡◌, ℕ, zero, suc, ◌+◌, ◌-◌, ◌*◌, ◌/◌, ◌<◌, ◌≤◌, Bool, true, false, cond, not, ◌||◌, nat_eq, inl, inr, refl, sym, ◌∙◌, ap, subst, arith, Option, Some, None, List, [], ◌∷◌, ◌++◌, map, length, get_or, take, drop, length-append}
+use Rattle.std.specs.Prelude.{nat_le, slice_index, slice_index_or, sum}
 use Rattle.std.specs.List.{range_with_len, list_any}
 use Rattle.std.proofs.lemmas.Bool.{cases_eq, cases_lt, eq-eqb, eqb-true, leb-true}
 use Rattle.std.proofs.lemmas.List.{length-map, get_or-map, get_or_append_left, get_or-append-add}
@@ -11,14 +11,14 @@ use Rattle.aiger_body.specs.declared.section.Section.{Section}
 use Rattle.aiger_body.specs.declared.section.Section.TheVariants.{Inputs, Latches, Outputs, Bads, Constraints, Sizes, Justices, Fairs, Gates}
 use Rattle.aig_order.specs.declared.gate.Gate.{Gate}
 use Rattle.aiger_body.specs.declared.lines.Lines.{Lines}
-use Rattle.aig_order.specs.Firsts.{when, otherwise, any_below, first_some, holds}
-use Rattle.aiger_body.specs.Files.{number_in, before, plan, counted, rows, with_own, section, section_rows, row, is_right, is_input, is_latch, is_use, is_gate, is_literal, is_plain, is_header, used, defined, defined_before, first_number, gate_of, latch_of, own_literal, binary_gate, content, own_variables, variables_of, line_start}
+use Rattle.aig_order.specs.Firsts.{when, otherwise, first_some, holds}
+use Rattle.aiger_body.specs.Files.{number_in, before, plan, counted, rows, with_own, section, section_rows, row, is_right, is_latch, is_use, is_gate, is_literal, is_plain, is_header, used, defined, defined_before, first_number, gate_of, latch_of, own_literal, binary_gate, content, own_variables, variables_of, line_start}
 use Rattle.aig_order.specs.Gates.{gate_at, no_gate}
 use Rattle.aiger_body.specs.Circuits.{is_defined}
 use Rattle.aiger_body.specs.Outcomes.{of_line, of_uses, is_undefined, fault}
 use Rattle.aiger_body.specs.Passes.{AllRead}
 use Rattle.aiger_body.specs.Uses.{is_marked, AreKnown}
-use Rattle.aig_order.proofs.Firsts.{either, and-both, or-either, or-first, or-second, or-none, not-not, none-both, when-none, first-none, any-some, some-any, place-holds, holds-place, holds-left, holds-right, holds-append, bool-same}
+use Rattle.aig_order.proofs.Firsts.{and-both, or-either, or-first, or-second, not-not, none-both, when-none, first-none, any-some, some-any, place-holds, holds-place, holds-left, holds-right, holds-append, bool-same}
 use Rattle.aiger_body.proofs.Sections.{in-section, line-of}
 
 pub map-twice : {A B : Type 0} {C : Type 0} (f : A → B) (g : B → C) (xs : List A) → map g (map f xs) ≡ map (λ x. g (f x)) xs

@@ -1,5 +1,5 @@
 -- One counted line after the other: what is wrong with it, and which variables are defined behind it.
-use Rattle.std.proofs.Common.{◌≡◌, ℕ, zero, suc, ◌+◌, ◌*◌, ◌/◌, ◌<◌, ◌≤◌, ◌^◌, ◌⊎◌, Bool, true, false, cond, not, ◌&&◌, ◌||◌, nat_eq, List, [], ◌∷◌, ◌++◌, map, length, get_or, set, refl, sym, ◌∙◌, ap, subst, arith, inl, inr, Option, Some, None, length-append, append_assoc, append-nil}
+use Rattle.std.proofs.Common.{◌≡◌, ℕ, suc, ◌+◌, ◌*◌, ◌<◌, ◌≤◌, ◌^◌, ◌⊎◌, Bool, true, false, not, ◌&&◌, ◌||◌, nat_eq, List, [], ◌∷◌, ◌++◌, map, length, get_or, set, refl, sym, ◌∙◌, ap, subst, arith, inl, inr, Option, Some, None}
 use Rattle.std.specs.Prelude.{slice_index, slice_index_or, slice_set, option_to_list, IfSome}
 use Rattle.std.specs.List.{list_any, range_with_len}
 use Rattle.std.proofs.lemmas.Bool.{cases_eq, eqb-true, eq-eqb}
@@ -10,8 +10,8 @@ use Rattle.aiger_body.specs.declared.section.Section.{Section}
 use Rattle.aiger_body.specs.declared.section.Section.TheVariants.{Inputs, Latches, Outputs, Bads, Constraints, Sizes, Justices, Fairs, Gates}
 use Rattle.aiger_body.specs.declared.content.Content.{Content}
 use Rattle.aiger_body.specs.Texts.{is_ended, is_feed}
-use Rattle.aig_order.specs.Firsts.{when, otherwise, any_below, first_some, holds}
-use Rattle.aiger_body.specs.Files.{line, line_start, section, row, is_right, defined, defined_before, first_number}
+use Rattle.aig_order.specs.Firsts.{when, otherwise, holds}
+use Rattle.aiger_body.specs.Files.{line, line_start, section, row, is_right, defined, defined_before}
 use Rattle.aiger_body.specs.Outcomes.{fault, of_line}
 use Rattle.aiger_body.specs.Keeping.{HasWords, keep, keep_all}
 use Rattle.aiger_body.specs.Passes.{AreMarks, IsMarkAnswer, IsRow, rows_from}

@@ -1,12 +1,11 @@
 -- Rows of counted lines: which are right, how large their numbers are, and which variable they define.
-use Rattle.std.proofs.Common.{◌≡◌, ℕ, zero, suc, ◌+◌, ◌*◌, ◌/◌, ◌<◌, ◌≤◌, ◌^◌, ◌⊎◌, Bool, true, false, cond, ◌&&◌, ◌||◌, nat_eq, List, [], ◌∷◌, ◌++◌, map, length, get_or, take, drop, refl, sym, ◌∙◌, ap, subst, arith, inl, inr, Option, Some, None}
-use Rattle.std.specs.Prelude.{slice_index, slice_index_or, nat_le, nat_lt, option_to_list, IfSome}
-use Rattle.std.specs.List.{list_any}
+use Rattle.std.proofs.Common.{◌≡◌, ℕ, zero, suc, ◌+◌, ◌*◌, ◌/◌, ◌<◌, ◌≤◌, ◌^◌, Bool, true, false, cond, nat_eq, List, [], ◌∷◌, ◌++◌, map, length, get_or, take, drop, refl, sym, ◌∙◌, ap, subst, arith, inl, inr, Option, Some, None}
+use Rattle.std.specs.Prelude.{slice_index, slice_index_or, option_to_list, IfSome}
 use Rattle.std.proofs.lemmas.Bool.{leb-true, eqb-true}
 use Rattle.aiger_body.specs.declared.header.Header.{Header}
 use Rattle.aiger_body.specs.declared.section.Section.{Section}
 use Rattle.aiger_body.specs.declared.section.Section.TheVariants.{Inputs, Latches, Outputs, Bads, Constraints, Sizes, Justices, Fairs, Gates}
-use Rattle.aiger_body.specs.Texts.{line_text, numbers_of, piece_at, or_empty, with_number}
+use Rattle.aiger_body.specs.Texts.{line_text, numbers_of, or_empty, with_number}
 use Rattle.aiger_body.specs.Files.{is_literal, is_plain, is_reset, is_right, is_input, is_latch, is_use, is_gate, with_own, defined, rows, row, line, lines, section}
 use Rattle.aiger_body.specs.Answers.{Fits}
 use Rattle.aiger_body.specs.Keeping.{AreWords, HasWords}

@@ -1,15 +1,15 @@
 -- The outcome by its stages.
-use Rattle.std.proofs.Common.{◌≡◌, ℕ, suc, ◌<◌, ◌≤◌, arith, Bool, true, false, cond, List, length, refl, sym, ◌∙◌, ap, Option, Some, None, Result, Ok, Err}
+use Rattle.std.proofs.Common.{◌≡◌, ℕ, suc, ◌<◌, ◌≤◌, arith, true, false, cond, List, length, ◌∙◌, ap, Option, Some, None}
 use Rattle.aiger_body.specs.declared.error.AigKind.TheVariants.{Truncated}
 use Rattle.aiger_body.specs.declared.error.AigerError.{AigerError}
 use Rattle.aiger_body.specs.declared.error.AigerError.TheVariants.{Bad, Limit as PastLimit, Memory}
 use Rattle.aiger_body.specs.declared.header.Header.{Header}
 use Rattle.aiger_body.specs.Texts.{is_ended, is_feed, line_text}
 use Rattle.aig_order.specs.Firsts.{otherwise, first_some}
-use Rattle.aiger_body.specs.Files.{header_of, counted}
-use Rattle.aiger_body.specs.Outcomes.{Outcome, Refusal, refused, fault, limit, first_line, outcome, with_header, judged, circuit, refusal, of_header, after_header}
+use Rattle.aiger_body.specs.Files.{header_of}
+use Rattle.aiger_body.specs.Outcomes.{Refusal, refused, fault, limit, first_line, outcome, with_header, judged, circuit, of_header, after_header}
 use Rattle.aig_order.proofs.Firsts.{first-more, first-here}
-use Rattle.aiger_body.specs.Answers.{Refuses, Tells, of_found, IsHeaderRead}
+use Rattle.aiger_body.specs.Answers.{Refuses, Tells, of_found}
 
 pub outcome_truncated : (bytes : List ℕ) → is_ended is_feed (first_line bytes) ≡ false → outcome bytes ≡ refused (fault Truncated (length bytes))
 outcome_truncated bytes e = ap (λ b. cond b (with_header bytes (header_of (line_text (first_line bytes)))) (refused (fault Truncated (length bytes)))) e

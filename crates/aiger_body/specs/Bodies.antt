@@ -1,15 +1,14 @@
 -- A circuit text up to its symbols.
-use Rattle.std.specs.Prelude.{◌≡◌, ℕ, ◌+◌, ◌*◌, ◌≤◌, true, List, map, length, drop, Some, None, Result, Ok, Err}
-use Rattle.std.specs.List.{range_with_len}
+use Rattle.std.specs.Prelude.{◌≡◌, ℕ, ◌*◌, ◌≤◌, List, length, drop, None, Result, Ok, Err}
 use Rattle.aiger_body.specs.declared.error.AigerError.{AigerError}
 use Rattle.aiger_body.specs.declared.header.Header.{Header}
 use Rattle.aiger_body.specs.declared.content.Content.{Content}
 use Rattle.aiger_body.specs.declared.body.Body.{Body}
 use Rattle.aig_order.specs.Firsts.{first_some, otherwise}
-use Rattle.aiger_body.specs.Files.{content, counted, tail, binary_gate, literals}
+use Rattle.aiger_body.specs.Files.{content, counted, tail, literals}
 use Rattle.aig_order.specs.Gates.{order, IsComplete}
 use Rattle.aiger_body.specs.Symbols.{symbol_lines}
-use Rattle.aiger_body.specs.Outcomes.{Outcome, judged, circuit, outcome, numbers, of_line, of_number, of_uses, of_cycle, of_symbol}
+use Rattle.aiger_body.specs.Outcomes.{judged, circuit, outcome, numbers, of_line, of_number, of_uses, of_cycle, of_symbol}
 use Rattle.aiger_body.specs.Answers.{Fits, Tells, Refuses, IsLargeEnough}
 
 -- The symbols begin here.

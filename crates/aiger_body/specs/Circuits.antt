@@ -1,5 +1,5 @@
 -- Which contents are circuits, and the net of a content.
-use Rattle.std.specs.Prelude.{ℕ, ◌+◌, ◌*◌, ◌/◌, ◌%◌, ◌<◌, Bool, cond, ◌||◌, nat_eq, max, min, List, [], ◌∷◌, ◌++◌, map, length, slice_index, slice_index_or, IsTrue}
+use Rattle.std.specs.Prelude.{ℕ, ◌+◌, ◌*◌, ◌/◌, ◌%◌, ◌<◌, Bool, ◌||◌, nat_eq, max, min, List, ◌∷◌, ◌++◌, map, length, slice_index, slice_index_or, IsTrue}
 use Rattle.std.specs.List.{position_or_len}
 use Rattle.aig_net.specs.declared.parts.And.{And}
 use Rattle.aig_net.specs.declared.parts.Reset.TheVariants.{Zero}

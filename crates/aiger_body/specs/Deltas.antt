@@ -1,13 +1,12 @@
 -- Where the binary ands stand.
-use Rattle.std.specs.Prelude.{◌≡◌, ℕ, suc, ◌+◌, ◌*◌, ◌≤◌, List, map, length, drop, Option, None, Result, Ok, Err}
+use Rattle.std.specs.Prelude.{◌≡◌, ℕ, suc, ◌*◌, ◌≤◌, List, map, length, None, Result, Ok, Err}
 use Rattle.std.specs.List.{range_with_len}
 use Rattle.aiger_body.specs.declared.error.AigerError.{AigerError}
 use Rattle.aiger_body.specs.declared.header.Header.{Header}
 use Rattle.aig_order.specs.declared.gate.Gate.{Gate}
-use Rattle.aiger_body.specs.Texts.{place}
 use Rattle.aig_order.specs.Firsts.{first_some}
-use Rattle.aiger_body.specs.Files.{counted, line_start, behind, groups, group_start, delta, binary_gate, tail_start}
-use Rattle.aiger_body.specs.Outcomes.{of_number, numbers, least, greatest}
+use Rattle.aiger_body.specs.Files.{counted, line_start, group_start, delta, binary_gate}
+use Rattle.aiger_body.specs.Outcomes.{of_number, least, greatest}
 use Rattle.aiger_body.specs.Answers.{Tells}
 
 -- The counted lines end here.

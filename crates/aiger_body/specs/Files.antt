@@ -1,6 +1,6 @@
 -- The header, the counted lines and the ands of a circuit text.
 use Rattle.std.specs.Prelude.{ℕ, suc, ◌+◌, ◌-◌, ◌*◌, ◌/◌, ◌%◌, Bool, true, false, cond, ◌&&◌, ◌||◌, nat_eq, nat_le, nat_lt, List, [], ◌∷◌, ◌++◌, map, length, take, drop, slice_index, slice_index_or, codes, bytes_eq, Option, Some, None, sum}
-use Rattle.std.specs.List.{concat, range_with_len, list_any}
+use Rattle.std.specs.List.{concat, range_with_len}
 use Rattle.aig_net.specs.declared.parts.Reset.{Reset}
 use Rattle.aig_net.specs.declared.parts.Reset.TheVariants.{Zero, One, Free}
 use Rattle.aiger_body.specs.declared.header.Header.{Header}

@@ -1,7 +1,5 @@
 -- What is kept of the counted lines.
-use Rattle.std.specs.Prelude.{◌≡◌, ℕ, zero, suc, ◌+◌, ◌*◌, ◌<◌, ◌≤◌, ◌^◌, Bool, true, false, List, [], ◌∷◌, ◌++◌, map, length, slice_index, slice_index_or, Option, None}
-use Rattle.std.specs.List.{range_with_len}
-use Rattle.aiger_body.specs.declared.header.Header.{Header}
+use Rattle.std.specs.Prelude.{ℕ, ◌+◌, ◌<◌, ◌^◌, List, [], ◌∷◌, ◌++◌, slice_index}
 use Rattle.aiger_body.specs.declared.section.Section.{Section}
 use Rattle.aiger_body.specs.declared.section.Section.TheVariants.{Inputs, Latches, Outputs, Bads, Constraints, Sizes, Justices, Fairs, Gates}
 use Rattle.aiger_body.specs.declared.content.Content.{Content}

@@ -1,5 +1,5 @@
 -- Numbers spelled in a line.
-use Rattle.std.specs.Prelude.{◌<◌, ℕ, zero, suc, ◌+◌, ◌-◌, ◌*◌, ◌/◌, ◌%◌, ◌^◌, Bool, true, false, cond, nat_lt, List, [], ◌∷◌, ◌++◌, map, length, decimal, codes, flat_map}
+use Rattle.std.specs.Prelude.{◌<◌, ℕ, ◌^◌, Bool, true, false, List, [], ◌∷◌, ◌++◌, map, decimal}
 use Rattle.std.specs.List.{join_with_byte}
 
 -- Each number of the row has at most ten digits.

@@ -1,5 +1,5 @@
 -- Texts in pieces, and numbers in lines.
-use Rattle.std.specs.Prelude.{ℕ, zero, suc, Bool, true, false, cond, ◌&&◌, ◌||◌, nat_eq, nat_le, List, [], ◌∷◌, length, take, slice_index_or, decimal, bytes_eq, Option, Some, None}
+use Rattle.std.specs.Prelude.{ℕ, Bool, true, false, cond, ◌&&◌, nat_eq, nat_le, List, [], ◌∷◌, length, take, slice_index_or, decimal, bytes_eq, Option, Some, None}
 use Rattle.std.specs.List.{concat, slice_split}
 use Rattle.std.specs.Str.Parse.{digits_value}
 

@@ -73,7 +73,8 @@ fn read_sections(bytes: &[u8], header: &Header, lines: &mut Lines) -> Result<(),
 /// A mark for each variable of the ASCII form, not set.
 fn no_marks(alloc: Global, header: &Header) -> M<List<bool>>
     requires fits { Fits header.now }
-    ensures long { IfOk result (λ marks. header.now.binary ≡ false → length marks ≡ header.now.top + 1) }
+    ensures long { IfOk result (λ marks. header.now.binary ≡ false →
+        length marks ≡ header.now.top + 1) }
     ensures none { IfOk result (λ marks. (v : ℕ) → slice_index_or marks v false ≡ false) }
 {
     let mut marks = List::new(alloc);
@@ -97,7 +98,8 @@ pub fn read_section(
     requires fits { Fits header.now }
     requires room { length bytes.now ≤ 67108864 }
     requires lines { AreLines header.now bytes.now lines.old.line lines.old }
-    requires section { (j : ℕ) → j < count → section_of header.now bytes.now (lines.old.line + j) ≡ section }
+    requires section { (j : ℕ) → j < count →
+        section_of header.now bytes.now (lines.old.line + j) ≡ section }
     ensures { IsSectionAnswer header.now bytes.now section count lines.old lines.new result }
 {
     for _ in 0..count {

@@ -35,8 +35,10 @@ impl Ends {
     #[inline(always)]
     pub fn piece_at(self, text: &[u8], at: usize) -> &[u8]
         requires { at ≤ length text.now }
-        ensures piece { (k : ℕ) → at ≡ place (pieces (ends_with self) text.now) k → result.now ≡ piece_at (pieces (ends_with self) text.now) k }
-        ensures next { (k : ℕ) → at ≡ place (pieces (ends_with self) text.now) k → at + length result.now ≡ place (pieces (ends_with self) text.now) (suc k) }
+        ensures piece { (k : ℕ) → at ≡ place (pieces (ends_with self) text.now) k →
+            result.now ≡ piece_at (pieces (ends_with self) text.now) k }
+        ensures next { (k : ℕ) → at ≡ place (pieces (ends_with self) text.now) k →
+            at + length result.now ≡ place (pieces (ends_with self) text.now) (suc k) }
         ensures within { at + length result.now ≤ length text.now }
         ensures some { at < length text.now → 0 < length result.now }
     {
@@ -166,7 +168,8 @@ pub fn read_numbers(text: &[u8], row: &mut List<u64>) -> M<()>
 
 /// The first word, and what stands behind the space after it, if there is one.
 fn cut_word(text: &[u8]) -> (&[u8], Option<&[u8]>)
-    ensures words { slice_split is_space text.now ≡ result.0.now ∷ words_of (option_copied result.1) }
+    ensures words { slice_split is_space text.now ≡
+        result.0.now ∷ words_of (option_copied result.1) }
     ensures fewer { left_of (option_copied result.1) < left_of (Some text.now) }
 {
     let len = word_len(text);

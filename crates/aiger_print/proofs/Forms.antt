@@ -1,6 +1,6 @@
 -- A printed text by its header, its rows, and what stands behind them, for both forms.
-use Rattle.std.proofs.Common.{◌≡◌, ℕ, zero, suc, ◌+◌, ◌*◌, Bool, true, false, cond, List, [], ◌∷◌, ◌++◌, map, flat_map, length, refl, sym, ◌∙◌, ap, append_assoc, append-nil}
-use Rattle.std.specs.Prelude.{slice_index, slice_index_or, codes}
+use Rattle.std.proofs.Common.{◌≡◌, ℕ, ◌+◌, Bool, true, false, cond, List, [], ◌∷◌, ◌++◌, map, flat_map, length, refl, sym, ◌∙◌, ap, append_assoc, append-nil}
+use Rattle.std.specs.Prelude.{slice_index_or, codes}
 use Rattle.std.specs.List.{range_with_len}
 use Rattle.std.proofs.lemmas.Grind.{flat_map-append}
 use Rattle.aig_net.specs.declared.parts.NetParts.{NetParts}
@@ -10,7 +10,7 @@ use Rattle.aiger_body.specs.declared.section.Section.{Section}
 use Rattle.aiger_body.specs.declared.section.Section.TheVariants.{Inputs, Latches, Outputs, Bads, Constraints, Sizes, Justices, Fairs, Gates}
 use Rattle.aiger_body.specs.Files.{all_sections, counts}
 use Rattle.aiger_body.specs.Spelled.{line_of}
-use Rattle.aiger_print.specs.Printed.{header_row, input_row, latch_row, and_row, lines_of, literal_lines, uses_text, names_text, deltas_of, aag_text, aig_text}
+use Rattle.aiger_print.specs.Printed.{header_row, input_row, latch_row, and_row, lines_of, literal_lines, names_text, deltas_of, aag_text, aig_text}
 use Rattle.aiger_print.proofs.Stacks.{stacked, flat_mapped, by_place, joined}
 
 abbrev pub own_header : Bool → NetParts → Header

@@ -1,19 +1,16 @@
 -- The content that a printed net has, and its net.
-use Rattle.std.proofs.Common.{◌≡◌, ℕ, zero, suc, ◌+◌, ◌-◌, ◌*◌, ◌/◌, ◌%◌, ◌<◌, ◌≤◌, ◌⊎◌, Bool, true, false, cond, not, ◌||◌, nat_eq, max, min, inl, inr, refl, sym, ◌∙◌, ap, subst, arith, List, [], ◌∷◌, ◌++◌, map, length, get_or}
-use Rattle.std.specs.Prelude.{IsTrue, slice_index_or}
+use Rattle.std.proofs.Common.{◌≡◌, ℕ, zero, suc, ◌+◌, ◌-◌, ◌*◌, ◌/◌, ◌<◌, ◌⊎◌, true, false, nat_eq, max, min, inl, inr, refl, sym, ◌∙◌, ap, subst, arith, List, [], ◌∷◌, ◌++◌, map, length}
 use Rattle.std.specs.List.{range_with_len, position_or_len}
 use Rattle.std.proofs.lemmas.Bool.{cases_eq, eqb-true, eq-eqb}
-use Rattle.std.proofs.lemmas.List.{length-map}
 use Rattle.std.proofs.lemmas.List.FromFn.{length-range_with_len, get_or-range_with_len, length-map-range_with_len, get_or-map-range_with_len, fill_by_all}
 use Rattle.std.proofs.lemmas.List.Sums.{position_or_len_is}
 use Rattle.aig_net.specs.declared.parts.And.{And}
-use Rattle.aig_net.specs.declared.parts.Reset.{Reset}
-use Rattle.aig_net.specs.declared.parts.Reset.TheVariants.{Zero, One, Free}
+use Rattle.aig_net.specs.declared.parts.Reset.TheVariants.{Zero}
 use Rattle.aig_net.specs.declared.parts.NetParts.{NetParts}
 use Rattle.aig_net.specs.Nets.{IsNet, Below, AllBelow, variables, first_and, latch_variable, literal_at, reset_at, and_at, no_and}
 use Rattle.aig_order.specs.declared.gate.Gate.{Gate}
 use Rattle.aig_order.specs.Firsts.{holds}
-use Rattle.aig_order.specs.Gates.{gate_at, no_gate, order, AreSorted, Depends, IsComplete}
+use Rattle.aig_order.specs.Gates.{gate_at, no_gate, order, AreSorted, Depends}
 use Rattle.aig_order.proofs.Firsts.{either, or-first, or-second, place-holds}
 use Rattle.aig_order.proofs.Sorted.{sorted-order}
 use Rattle.aig_order.proofs.Orders.{taken-order, cyclic-absent}
@@ -22,7 +19,6 @@ use Rattle.aiger_body.specs.declared.content.Latch.{Latch}
 use Rattle.aiger_body.specs.Files.{own_literal, own_variables, variables_of}
 use Rattle.aiger_body.specs.Circuits.{is_defined, in_order, renumbered, and_of, Names, net_of}
 use Rattle.aiger_body.proofs.Known.{map-joined, map-twice}
-use Rattle.aiger_print.proofs.Stacks.{by_place}
 use Rattle.aiger_read.proofs.Parts.{same_parts}
 
 abbrev pub own_latch : NetParts → ℕ → Latch
@@ -111,9 +107,9 @@ module _ (net : NetParts) (is : IsNet net) where
 
   lhs-are : map (λ k. (gate_at c.gates k).lhs / 2) (range_with_len 0 (length net.ands)) ≡ range_with_len (first_and net) (length net.ands)
   lhs-are = shifted (λ k. (gate_at c.gates k).lhs / 2) 0 (first_and net) (length net.ands) (λ j lt.
-    let q : 0 + j ≡ j = omega arith in
-    let r : 2 * (first_and net + j) / 2 ≡ first_and net + j = omega arith in
-    ap (λ k. (gate_at c.gates k).lhs / 2) q ∙ ap (λ (g : Gate). g.lhs / 2) (gate-is j lt) ∙ r)
+      let q : 0 + j ≡ j = omega arith in
+      let r : 2 * (first_and net + j) / 2 ≡ first_and net + j = omega arith in
+      ap (λ k. (gate_at c.gates k).lhs / 2) q ∙ ap (λ (g : Gate). g.lhs / 2) (gate-is j lt) ∙ r)
 
   in-order : in_order c ≡ range_with_len 0 (variables net)
   in-order =

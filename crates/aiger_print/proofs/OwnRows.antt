@@ -1,18 +1,18 @@
 -- The rows of a net are right, and each number in them is short.
-use Rattle.std.proofs.Common.{◌≡◌, ℕ, zero, suc, ◌+◌, ◌*◌, ◌/◌, ◌%◌, ◌<◌, ◌≤◌, ◌^◌, Bool, true, false, cond, ◌&&◌, ◌||◌, nat_eq, List, [], ◌∷◌, ◌++◌, length, refl, sym, ◌∙◌, ap, subst, arith}
-use Rattle.std.specs.Prelude.{slice_index, slice_index_or, sum, take, nat_le, nat_lt}
+use Rattle.std.proofs.Common.{◌≡◌, ℕ, suc, ◌+◌, ◌*◌, ◌%◌, ◌<◌, ◌≤◌, ◌^◌, Bool, true, false, cond, nat_eq, ◌∷◌, length, refl, ap, arith}
+use Rattle.std.specs.Prelude.{slice_index}
 use Rattle.std.proofs.lemmas.Bool.{eq-eqb, le-leb, lt-ltb}
 use Rattle.aig_net.specs.declared.parts.NetParts.{NetParts}
 use Rattle.aig_net.specs.declared.parts.Reset.{Reset}
 use Rattle.aig_net.specs.declared.parts.Reset.TheVariants.{Zero, One, Free}
-use Rattle.aig_net.specs.Nets.{IsNet, Below, variables, first_and, latch_variable, literal_at, reset_at, and_at}
-use Rattle.aig_order.proofs.Firsts.{both-and, or-first, or-second}
+use Rattle.aig_net.specs.Nets.{IsNet, Below, variables, first_and, latch_variable, literal_at, reset_at}
+use Rattle.aig_order.proofs.Firsts.{both-and, or-second}
 use Rattle.aiger_body.specs.declared.header.Header.{Header}
 use Rattle.aiger_body.specs.declared.section.Section.{Section}
 use Rattle.aiger_body.specs.declared.section.Section.TheVariants.{Inputs, Latches, Outputs, Bads, Constraints, Sizes, Justices, Fairs, Gates}
-use Rattle.aiger_body.specs.Files.{number_in, before, with_own, is_literal, is_plain, is_reset, is_right}
+use Rattle.aiger_body.specs.Files.{number_in, before, with_own, is_literal, is_plain, is_right}
 use Rattle.aiger_body.specs.Spelled.{AreShort}
-use Rattle.aiger_print.specs.Printed.{reset_row, input_row, latch_row, and_row}
+use Rattle.aiger_print.specs.Printed.{reset_row, latch_row}
 use Rattle.aiger_print.proofs.Forms.{own_header, printed, plan_of}
 
 -- the rows have as many numbers as are counted, or fewer

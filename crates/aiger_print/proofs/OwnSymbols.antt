@@ -1,11 +1,10 @@
 -- The symbols that are printed: what they say, one after the other.
-use Rattle.std.proofs.Common.{◌≡◌, ℕ, zero, suc, ◌+◌, ◌*◌, ◌^◌, ◌<◌, ◌≤◌, ◌⊎◌, Bool, true, false, cond, not, ◌&&◌, ◌||◌, nat_eq, inl, inr, refl, sym, ◌∙◌, ap, subst, arith, Option, Some, None, List, [], ◌∷◌, ◌++◌, map, flat_map, length, get_or, take, drop, length-append, append_assoc}
-use Rattle.std.specs.Prelude.{slice_index_or, decimal, nat_lt, bytes_eq, codes}
-use Rattle.std.specs.List.{range_with_len, position_or_len, before_first, after_first, list_any}
+use Rattle.std.proofs.Common.{◌≡◌, ℕ, zero, suc, ◌+◌, ◌*◌, ◌^◌, ◌<◌, ◌≤◌, ◌⊎◌, Bool, true, false, cond, not, ◌&&◌, ◌||◌, nat_eq, inl, inr, refl, sym, ◌∙◌, ap, arith, Some, List, [], ◌∷◌, ◌++◌, map, flat_map, length, get_or, take, drop, append_assoc}
+use Rattle.std.specs.Prelude.{slice_index_or, decimal, bytes_eq, codes}
+use Rattle.std.specs.List.{range_with_len, position_or_len, list_any}
 use Rattle.std.proofs.lemmas.Bool.{eqb-true, eq-eqb, lt-ltb}
-use Rattle.std.proofs.lemmas.List.{get_or_append_left, get_or-append-add, take-append-le}
+use Rattle.std.proofs.lemmas.List.{take-append-le}
 use Rattle.std.proofs.lemmas.List.Concat.{flat_map-cons}
-use Rattle.std.proofs.lemmas.Grind.{flat_map-append}
 use Rattle.std.proofs.Math.Seq.{take-length}
 use Rattle.aig_net.specs.Nets as nets
 use Rattle.aig_net.specs.Nets.{ends_in}

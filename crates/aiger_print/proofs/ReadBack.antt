@@ -1,5 +1,5 @@
 -- A printed text is that of its net.
-use Rattle.std.proofs.Common.{◌≡◌, ℕ, ◌+◌, ◌≤◌, Bool, true, false, not, refl, sym, ◌∙◌, ap, subst, arith, Option, Some, None, List, length, ◌⊎◌, inl, inr}
+use Rattle.std.proofs.Common.{◌≡◌, ℕ, ◌+◌, ◌≤◌, Bool, true, false, not, ◌∙◌, ap, arith, Option, None, List, length, ◌⊎◌, inl, inr}
 use Rattle.std.specs.Prelude.{nat_lt}
 use Rattle.std.proofs.lemmas.Bool.{ltb-true}
 use Rattle.aig_net.specs.declared.parts.NetParts.{NetParts}
@@ -10,9 +10,9 @@ use Rattle.aiger_body.specs.declared.error.AigKind.TheVariants.{Header as Header
 use Rattle.aiger_body.specs.declared.header.Header.{Header}
 use Rattle.aiger_body.specs.declared.content.Content.{Content}
 use Rattle.aiger_body.specs.Circuits.{net_of}
-use Rattle.aiger_body.specs.Files.{is_header, content, counted}
+use Rattle.aiger_body.specs.Files.{content, counted}
 use Rattle.aiger_body.specs.Symbols.{symbol_lines}
-use Rattle.aiger_body.specs.Outcomes.{Refusal, outcome, read, with_header, judged, circuit, refusal, of_header, after_header, after_lines, after_numbers, after_uses, of_line, of_number, of_uses, of_cycle, of_symbol, numbers, names, limit, fault}
+use Rattle.aiger_body.specs.Outcomes.{Refusal, outcome, read, judged, circuit, refusal, of_header, after_header, after_lines, after_numbers, after_uses, of_line, of_number, of_uses, of_cycle, of_symbol, numbers, names, limit, fault}
 use Rattle.aiger_print.specs.Printed.{aag_text, aig_text}
 use Rattle.aiger_print.proofs.Forms.{own_header, text_of, aag_is, aig_is}
 use Rattle.aiger_print.proofs.OwnContent.{net_back}

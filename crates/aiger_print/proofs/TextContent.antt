@@ -1,6 +1,6 @@
 -- The content of a printed text is that of the net, and what it uses is defined.
-use Rattle.std.proofs.Common.{◌≡◌, ℕ, zero, suc, ◌+◌, ◌-◌, ◌*◌, ◌/◌, ◌%◌, ◌^◌, ◌<◌, ◌≤◌, ◌⊎◌, Bool, true, false, cond, not, ◌&&◌, ◌||◌, nat_eq, inl, inr, refl, sym, ◌∙◌, ap, subst, arith, Option, Some, None, List, [], ◌∷◌, ◌++◌, map, flat_map, length, get_or, drop}
-use Rattle.std.specs.Prelude.{slice_index, slice_index_or, nat_le, sum}
+use Rattle.std.proofs.Common.{◌≡◌, ℕ, suc, ◌+◌, ◌-◌, ◌*◌, ◌/◌, ◌%◌, ◌^◌, ◌<◌, ◌≤◌, ◌⊎◌, Bool, true, false, cond, not, ◌||◌, nat_eq, inl, inr, refl, sym, ◌∙◌, ap, subst, arith, None, List, [], ◌∷◌, ◌++◌, map, flat_map, length, drop}
+use Rattle.std.specs.Prelude.{slice_index, nat_le}
 use Rattle.std.specs.List.{range_with_len, list_any, concat}
 use Rattle.std.proofs.lemmas.Bool.{le-leb, eq-eqb, eqb-true, cases_lt}
 use Rattle.aig_net.specs.declared.parts.NetParts.{NetParts}
@@ -8,31 +8,31 @@ use Rattle.aig_net.specs.declared.parts.Reset.{Reset}
 use Rattle.aig_net.specs.declared.parts.Reset.TheVariants.{Zero, One, Free}
 use Rattle.aig_net.specs.Nets.{IsNet, Below, variables, first_and, latch_variable, literal_at, reset_at, and_at}
 use Rattle.aig_order.specs.declared.gate.Gate.{Gate}
-use Rattle.aig_order.specs.Firsts.{when, otherwise, first_some}
+use Rattle.aig_order.specs.Firsts.{when, first_some}
 use Rattle.aig_order.specs.Gates.{Depends, depends}
 use Rattle.aig_order.proofs.Firsts.{either, both-and}
 use Rattle.aig_order.proofs.Cycles.{depends-right}
-use Rattle.aiger_body.specs.declared.error.AigKind.TheVariants.{Cycle, Undefined}
+use Rattle.aiger_body.specs.declared.error.AigKind.TheVariants.{Cycle}
 use Rattle.aiger_body.specs.declared.header.Header.{Header}
 use Rattle.aiger_body.specs.declared.content.Content.{Content}
 use Rattle.aiger_body.specs.declared.content.Latch.{Latch}
 use Rattle.aiger_body.specs.declared.section.Section.{Section}
 use Rattle.aiger_body.specs.declared.section.Section.TheVariants.{Inputs, Latches, Outputs, Bads, Constraints, Sizes, Justices, Fairs, Gates}
 use Rattle.aiger_body.specs.Texts.{pieces, piece_at, is_ended}
-use Rattle.aiger_body.specs.Files.{number_in, before, plan, counted, line_start, row, section, section_rows, is_header, used, first_number, latch_of, gate_of, reset_of, content, binary_gate, binary_lhs, groups, delta, behind, tail, ends_number, value_of}
+use Rattle.aiger_body.specs.Files.{number_in, before, plan, counted, line_start, row, section_rows, is_header, used, first_number, latch_of, gate_of, reset_of, content, binary_gate, binary_lhs, groups, delta, behind, tail, ends_number, value_of}
 use Rattle.aiger_body.specs.Circuits.{is_defined}
 use Rattle.aiger_body.specs.Outcomes.{fault, of_uses, of_cycle, of_number, numbers, is_undefined, least, greatest}
 use Rattle.aiger_body.proofs.Groups.{number_clear}
-use Rattle.aiger_body.proofs.Known.{none-first, use-clear, binary-uses}
+use Rattle.aiger_body.proofs.Known.{none-first, use-clear}
 use Rattle.aiger_body.proofs.Pieces.{pieces-concat}
 use Rattle.aiger_body.proofs.Sections.{line-of}
-use Rattle.aiger_print.specs.Printed.{groups_of, reset_row, latch_row, and_row, deltas_of, names_text}
+use Rattle.aiger_print.specs.Printed.{groups_of, reset_row, latch_row, deltas_of, names_text}
 use Rattle.aiger_print.proofs.Stacks.{mapped_twice, same_range, by_place}
-use Rattle.aiger_print.proofs.Forms.{own_header, printed, plan_of, rest_of, text_of}
+use Rattle.aiger_print.proofs.Forms.{own_header, printed, plan_of, text_of}
 use Rattle.aiger_print.proofs.OwnContent.{own_latch, own_gate, content_of, defined, acyclic}
 use Rattle.aiger_print.proofs.OwnRows.{none-left}
 use Rattle.aiger_print.proofs.Deltas.{first_delta, second_delta, groups_from, group_value, group_ended, group_done, all_pieces, first_group, second_group, behind_groups}
-use Rattle.aiger_print.proofs.TextRows.{section_rows_are, section_is, row_is, lines_clear, behind_is}
+use Rattle.aiger_print.proofs.TextRows.{section_rows_are, row_is, behind_is}
 
 unequal : (a b : ℕ) → (a ≡ b → ⊥) → nat_eq a b ≡ false
 unequal a b apart = step (either (nat_eq a b))
@@ -116,7 +116,7 @@ module _ (b : Bool) (net : NetParts) (is : IsNet net) (few : net.inputs + length
         let odd : (2 * k + 1) % 2 ≡ 1 = omega arith in
         let last : 2 * k + 1 - 1 ≡ 2 * k = omega arith in
         let most : greatest h bytes (2 * k + 1) ≡ binary_lhs h k - 1 * delta h bytes (2 * k) =
-            ap (λ m. binary_lhs h ((2 * k + 1) / 2) - m * delta h bytes (2 * k + 1 - 1)) odd ∙ ap (λ m. binary_lhs h m - 1 * delta h bytes (2 * k + 1 - 1)) half ∙ ap (λ m. binary_lhs h k - 1 * delta h bytes m) last in
+        ap (λ m. binary_lhs h ((2 * k + 1) / 2) - m * delta h bytes (2 * k + 1 - 1)) odd ∙ ap (λ m. binary_lhs h m - 1 * delta h bytes (2 * k + 1 - 1)) half ∙ ap (λ m. binary_lhs h k - 1 * delta h bytes m) last in
         number-right (2 * k + 1) (second_delta net k) (piece-second k lt) (delta-small k lt).1 (omega (arith, odd)) (omega (arith, delta-second k lt, most, delta-first k lt, l, lt))
 
     number-none : (j : ℕ) → j < 2 * length net.ands → of_number h bytes j ≡ None
@@ -207,8 +207,8 @@ module _ (b : Bool) (net : NetParts) (is : IsNet net) (few : net.inputs + length
 
   pub uses_clear : first_some (counted h bytes) (of_uses h bytes) ≡ None
   uses_clear = none-first h bytes (counted h bytes) (of_uses h bytes) (λ k lt.
-    let of = line-of h bytes k lt in
-    use-clear h bytes k (ap (λ t. list_any (is_undefined h bytes) (used t (row h bytes k))) of.is ∙ ap (λ n. list_any (is_undefined h bytes) (used of.s (row h bytes n))) of.place ∙ ap (λ r. list_any (is_undefined h bytes) (used of.s r)) (row_is b net is few bytes e small of.s of.j of.small) ∙ used-known of.s of.j of.small))
+      let of = line-of h bytes k lt in
+      use-clear h bytes k (ap (λ t. list_any (is_undefined h bytes) (used t (row h bytes k))) of.is ∙ ap (λ n. list_any (is_undefined h bytes) (used of.s (row h bytes n))) of.place ∙ ap (λ r. list_any (is_undefined h bytes) (used of.s r)) (row_is b net is few bytes e small of.s of.j of.small) ∙ used-known of.s of.j of.small))
 
   pub cycles_clear : first_some (length (content h bytes).gates) (of_cycle h bytes) ≡ None
   cycles_clear = none-first h bytes (length (content h bytes).gates) (of_cycle h bytes) (λ k lt. ap (λ x. when x (fault Cycle (line_start bytes (before (plan h bytes) Gates + k)))) (free k lt (either (depends (content h bytes).gates (length (content h bytes).gates) k k))))

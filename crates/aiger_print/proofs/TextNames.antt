@@ -1,7 +1,6 @@
 -- The names of a printed text are those of the net, and no symbol line is at fault.
-use Rattle.std.proofs.Common.{◌≡◌, ℕ, zero, suc, ◌+◌, ◌*◌, ◌^◌, ◌<◌, ◌≤◌, ◌⊎◌, Bool, true, false, cond, not, ◌&&◌, nat_eq, inl, inr, refl, sym, ◌∙◌, ap, subst, arith, Option, Some, None, List, [], ◌∷◌, ◌++◌, map, flat_map, length, get_or, length-append, append_assoc}
-use Rattle.std.specs.Prelude.{slice_index_or, nat_lt, unwrap_or, IsTrue}
-use Rattle.std.specs.List.{range_with_len}
+use Rattle.std.proofs.Common.{◌≡◌, ℕ, zero, suc, ◌+◌, ◌*◌, ◌^◌, ◌<◌, ◌≤◌, ◌⊎◌, Bool, true, false, cond, not, ◌&&◌, nat_eq, inl, inr, sym, ◌∙◌, ap, arith, Some, None, List, [], ◌++◌, map, flat_map, length, get_or, length-append, append_assoc}
+use Rattle.std.specs.Prelude.{nat_lt, unwrap_or}
 use Rattle.std.proofs.lemmas.Bool.{cases_eq, eqb-true, eq-eqb, lt-ltb}
 use Rattle.std.proofs.lemmas.List.{length-map, get_or-map, get_or_append_left, get_or-append-add}
 use Rattle.std.proofs.lemmas.List.FromFn.{fill_by_all}
@@ -9,20 +8,20 @@ use Rattle.std.proofs.lemmas.Grind.{flat_map-append}
 use Rattle.aig_net.specs.declared.parts.NetParts.{NetParts}
 use Rattle.aig_net.specs.Nets as nets
 use Rattle.aig_net.specs.Nets.{IsNet, AreNames}
-use Rattle.aig_order.specs.Firsts.{when, first_some, first_below, any_below}
+use Rattle.aig_order.specs.Firsts.{when, first_some}
 use Rattle.aig_order.proofs.Firsts.{either, and-both, both-and, any-some, not-false}
 use Rattle.aig_order.proofs.Sorted.{first-empty}
 use Rattle.aiger_body.specs.declared.error.AigKind.TheVariants.{Symbol as SymbolFault}
 use Rattle.aiger_body.specs.declared.header.Header.{Header}
 use Rattle.aiger_body.specs.Texts.{pieces, piece_at, place, is_ended, is_feed, line_text}
-use Rattle.aiger_body.specs.Files.{tail, tail_start}
-use Rattle.aiger_body.specs.Symbols.{Symbol, symbol_of, is_symbol, is_name, names_same, tail_lines, begins_comment, symbol, symbol_lines, is_repeated, is_good_symbol, name_in, name_below, name_of, count_of}
-use Rattle.aiger_body.specs.Outcomes.{fault, of_symbol, names_of, names}
+use Rattle.aiger_body.specs.Files.{tail_start}
+use Rattle.aiger_body.specs.Symbols.{Symbol, symbol_of, is_symbol, names_same, tail_lines, begins_comment, symbol, symbol_lines, is_repeated, is_good_symbol, name_in, name_below, name_of, count_of}
+use Rattle.aiger_body.specs.Outcomes.{fault, of_symbol, names_of}
 use Rattle.aiger_body.proofs.Known.{none-first}
 use Rattle.aiger_body.proofs.Pieces.{Free}
 use Rattle.aiger_print.specs.Printed.{symbols_text, names_text}
-use Rattle.aiger_print.proofs.Forms.{own_header, plan_of, text_of}
-use Rattle.aiger_print.proofs.OwnSymbols.{Every, every_map, every_append, every_at, no_symbol, at, given, IsGiven, every_given, HasSymbol, given_has, key, Rising, rising_append, rising_at, rising_given, words_of, line_of_symbol, symbols_are, lines_cut, IsOwn, words_free, said_back, no_comment, line_ended, name_right}
+use Rattle.aiger_print.proofs.Forms.{own_header, text_of}
+use Rattle.aiger_print.proofs.OwnSymbols.{Every, every_map, every_append, every_at, no_symbol, at, given, IsGiven, every_given, given_has, key, Rising, rising_append, rising_at, rising_given, words_of, line_of_symbol, symbols_are, lines_cut, IsOwn, words_free, said_back, no_comment, line_ended, name_right}
 use Rattle.aiger_print.proofs.TextContent.{tail_is}
 use Rattle.aiger_print.proofs.TextRows.{rows_few}
 
@@ -90,8 +89,8 @@ module _ (b : Bool) (net : NetParts) (is : IsNet net) (few : net.inputs + length
   symbol-lines : symbol_lines h bytes ≡ length all
   symbol-lines =
       ap (λ o. unwrap_or o (length (tail_lines h bytes))) (first-empty (length (tail_lines h bytes)) (λ k. begins_comment (piece_at (tail_lines h bytes) k)) (λ k lt.
-        let inside : k < length all = omega (arith, lt, lines-many) in
-        ap begins_comment (line-at k inside) ∙ no_comment (at all k) (every_at IsOwn all k every-own inside)))
+      let inside : k < length all = omega (arith, lt, lines-many) in
+      ap begins_comment (line-at k inside) ∙ no_comment (at all k) (every_at IsOwn all k every-own inside)))
       ∙ lines-many
 
   -- ---- no two are alike
@@ -195,8 +194,8 @@ module _ (b : Bool) (net : NetParts) (is : IsNet net) (few : net.inputs + length
 
   pub input_names_are : names_of h bytes 105 net.inputs ≡ net.input_names
   input_names_are = kind-names 105 net.inputs net.input_names 0 is.input_names only (λ k lt.
-    let q : 0 + k ≡ k = omega arith in
-    (omega (arith, lt, all-long), ap (at all) q ∙ get_or_append_left I (L ++ O) no_symbol k lt))
+      let q : 0 + k ≡ k = omega arith in
+      (omega (arith, lt, all-long), ap (at all) q ∙ get_or_append_left I (L ++ O) no_symbol k lt))
     where
       only : (s : Symbol) → IsOf s → s.kind ≡ 105 → IsGiven 105 0 net.input_names s
       only s (inl g) same = g
@@ -205,7 +204,7 @@ module _ (b : Bool) (net : NetParts) (is : IsNet net) (few : net.inputs + length
 
   pub latch_names_are : names_of h bytes 108 (length net.latches) ≡ net.latch_names
   latch_names_are = kind-names 108 (length net.latches) net.latch_names (length I) is.latch_names only (λ k lt.
-    (omega (arith, lt, all-long), get_or-append-add I (L ++ O) k no_symbol ∙ get_or_append_left L O no_symbol k lt))
+      (omega (arith, lt, all-long), get_or-append-add I (L ++ O) k no_symbol ∙ get_or_append_left L O no_symbol k lt))
     where
       only : (s : Symbol) → IsOf s → s.kind ≡ 108 → IsGiven 108 0 net.latch_names s
       only s (inl g) same = absurd (omega (arith, g.kind, same))
@@ -214,8 +213,8 @@ module _ (b : Bool) (net : NetParts) (is : IsNet net) (few : net.inputs + length
 
   pub output_names_are : names_of h bytes 111 (length net.outputs) ≡ net.output_names
   output_names_are = kind-names 111 (length net.outputs) net.output_names (length I + length L) is.output_names only (λ k lt.
-    let q : length I + length L + k ≡ length I + (length L + k) = omega arith in
-    (omega (arith, lt, all-long), ap (at all) q ∙ get_or-append-add I (L ++ O) (length L + k) no_symbol ∙ get_or-append-add L O k no_symbol))
+      let q : length I + length L + k ≡ length I + (length L + k) = omega arith in
+      (omega (arith, lt, all-long), ap (at all) q ∙ get_or-append-add I (L ++ O) (length L + k) no_symbol ∙ get_or-append-add L O k no_symbol))
     where
       only : (s : Symbol) → IsOf s → s.kind ≡ 111 → IsGiven 111 0 net.output_names s
       only s (inl g) same = absurd (omega (arith, g.kind, same))

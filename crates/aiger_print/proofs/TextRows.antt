@@ -1,14 +1,13 @@
 -- The lines of a printed text say its rows, and none is at fault.
-use Rattle.std.proofs.Common.{◌≡◌, ℕ, zero, suc, ◌+◌, ◌*◌, ◌/◌, ◌<◌, ◌≤◌, ◌^◌, ◌⊎◌, Bool, true, false, cond, not, ◌&&◌, ◌||◌, nat_eq, inl, inr, refl, sym, ◌∙◌, ap, subst, arith, Option, Some, None, List, [], ◌∷◌, ◌++◌, map, flat_map, length, get_or, take, drop, length-append, append_assoc}
-use Rattle.std.specs.Prelude.{slice_index, slice_index_or, sum, codes, nat_le}
+use Rattle.std.proofs.Common.{◌≡◌, ℕ, zero, suc, ◌+◌, ◌<◌, ◌≤◌, ◌^◌, ◌⊎◌, Bool, true, false, cond, not, ◌&&◌, ◌||◌, nat_eq, inl, inr, refl, sym, ◌∙◌, ap, subst, arith, Some, None, List, [], ◌∷◌, ◌++◌, map, flat_map, length, get_or, drop, length-append, append_assoc}
+use Rattle.std.specs.Prelude.{slice_index, slice_index_or, sum}
 use Rattle.std.specs.List.{range_with_len, list_any, concat}
 use Rattle.std.proofs.lemmas.Bool.{eqb-true, eq-eqb}
 use Rattle.std.proofs.lemmas.List.{length-map, get_or-map, get_or_append_left}
-use Rattle.std.proofs.lemmas.List.FromFn.{length-map-range_with_len}
 use Rattle.std.proofs.lemmas.Grind.{flat_map-append}
 use Rattle.aig_net.specs.declared.parts.NetParts.{NetParts}
-use Rattle.aig_net.specs.Nets.{IsNet, first_and, latch_variable}
-use Rattle.aig_order.specs.Firsts.{when, otherwise, first_some, any_below, holds}
+use Rattle.aig_net.specs.Nets.{IsNet}
+use Rattle.aig_order.specs.Firsts.{when, otherwise, first_some, holds}
 use Rattle.aig_order.proofs.Firsts.{either, any-some, or-either, or-first, or-second}
 use Rattle.aiger_body.specs.declared.error.AigKind.TheVariants.{Truncated, Literal, Redefined}
 use Rattle.aiger_body.specs.declared.header.Header.{Header}
@@ -16,16 +15,16 @@ use Rattle.aiger_body.specs.declared.section.Section.{Section}
 use Rattle.aiger_body.specs.declared.section.Section.TheVariants.{Inputs, Latches, Outputs, Bads, Constraints, Sizes, Justices, Fairs, Gates}
 use Rattle.aiger_body.specs.Texts.{pieces, piece_at, is_ended, is_feed, is_return, line_text, numbers_of}
 use Rattle.aiger_body.specs.Spelled.{AreShort, spelled, line_of}
-use Rattle.aiger_body.specs.Files.{all_sections, number_in, before, plan, counted, lines, line, line_start, rows, row, section, section_rows, with_own, is_right, defined, defined_before, header_with, header_of, behind}
+use Rattle.aiger_body.specs.Files.{all_sections, number_in, before, counted, lines, line, line_start, rows, row, section, section_rows, with_own, is_right, defined, defined_before, header_with, header_of, behind}
 use Rattle.aiger_body.specs.Outcomes.{outcome, with_header, first_line, fault, of_line}
 use Rattle.aiger_body.proofs.Pieces.{Free, pieces-cons, pieces-concat, ended}
 use Rattle.aiger_body.proofs.LineTexts.{free-append, free-end, spelled-free, text-spelled, line-read, rows-pieces}
 use Rattle.aiger_body.proofs.Spelling.{numbers-spelled}
 use Rattle.aiger_body.proofs.Stages.{outcome_headed}
-use Rattle.aiger_body.proofs.Sections.{IsIn, line-in, IsOf, line-of, in-section, named, number-of, number-small}
+use Rattle.aiger_body.proofs.Sections.{line-in, line-of, in-section, named, number-of, number-small}
 use Rattle.aiger_body.proofs.Known.{none-first}
 use Rattle.aiger_print.specs.Printed.{header_row, trimmed}
-use Rattle.aiger_print.proofs.Stacks.{stacked, stacked_long, stacked_at, same_range}
+use Rattle.aiger_print.proofs.Stacks.{stacked_long, stacked_at, same_range}
 use Rattle.aiger_print.proofs.Forms.{own_header, printed, row_in, plan_of, rows_of, word_of, rest_of, text_of}
 use Rattle.aiger_print.proofs.OwnRows.{short_printed, right_printed, own_printed, none-left}
 
@@ -105,8 +104,15 @@ module _ (b : Bool) (net : NetParts) (is : IsNet net) (few : net.inputs + length
 
   pub rows_few : sum (plan_of b net) ≤ 67108864
   rows_few =
-      omega (arith, stacked_long (row_in b net) 0 (plan_of b net), some-lines (rows_of b net), ap length e, small,
-      length-append (word_of b ++ line_of (header_row net)) (flat_map line_of (rows_of b net) ++ rest_of b net), length-append (flat_map line_of (rows_of b net)) (rest_of b net))
+      omega (
+        arith,
+        stacked_long (row_in b net) 0 (plan_of b net),
+        some-lines (rows_of b net),
+        ap length e,
+        small,
+        length-append (word_of b ++ line_of (header_row net)) (flat_map line_of (rows_of b net) ++ rest_of b net),
+        length-append (flat_map line_of (rows_of b net)) (rest_of b net),
+      )
 
   short-header : AreShort (header_row net)
   short-header = (omega arith, (omega arith, (omega arith, (omega (arith, rows_few), (omega arith, trimmed-short (length net.constraints) (length net.fairs) (omega (arith, rows_few)) (omega (arith, rows_few)))))))
@@ -264,9 +270,9 @@ module _ (b : Bool) (net : NetParts) (is : IsNet net) (few : net.inputs + length
 
   pub lines_clear : first_some (counted h bytes) (of_line h bytes) ≡ None
   lines_clear = none-first h bytes (counted h bytes) (of_line h bytes) (λ k lt.
-    ap (λ x. otherwise (when (not x) (fault Truncated (length bytes))) (otherwise (when (not (is_right h (section h bytes k) (row h bytes k))) (fault Literal (line_start bytes k))) (when (not h.binary && list_any (defined_before h bytes k) (defined (section h bytes k) (row h bytes k))) (fault Redefined (line_start bytes k))))) (ended-line k lt)
-    ∙ ap (λ x. otherwise (when (not x) (fault Literal (line_start bytes k))) (when (not h.binary && list_any (defined_before h bytes k) (defined (section h bytes k) (row h bytes k))) (fault Redefined (line_start bytes k)))) (right-line k lt)
-    ∙ ap (λ x. when x (fault Redefined (line_start bytes k))) (again-none k lt))
+      ap (λ x. otherwise (when (not x) (fault Truncated (length bytes))) (otherwise (when (not (is_right h (section h bytes k) (row h bytes k))) (fault Literal (line_start bytes k))) (when (not h.binary && list_any (defined_before h bytes k) (defined (section h bytes k) (row h bytes k))) (fault Redefined (line_start bytes k))))) (ended-line k lt)
+      ∙ ap (λ x. otherwise (when (not x) (fault Literal (line_start bytes k))) (when (not h.binary && list_any (defined_before h bytes k) (defined (section h bytes k) (row h bytes k))) (fault Redefined (line_start bytes k)))) (right-line k lt)
+      ∙ ap (λ x. when x (fault Redefined (line_start bytes k))) (again-none k lt))
 
   -- what stands behind the counted lines
   pub behind_is : behind h bytes ≡ rest_of b net

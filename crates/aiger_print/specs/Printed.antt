@@ -4,7 +4,7 @@ use Rattle.std.specs.List.{flat_map, range_with_len}
 use Rattle.aig_net.specs.declared.parts.And.{And}
 use Rattle.aig_net.specs.declared.parts.Reset.{Reset}
 use Rattle.aig_net.specs.declared.parts.Reset.TheVariants.{Zero, One, Free}
-use Rattle.aig_net.specs.Nets.{Net, latch_variable, first_and, variables, and_at, literal_at, reset_at}
+use Rattle.aig_net.specs.Nets.{Net, latch_variable, first_and, and_at, literal_at, reset_at}
 use Rattle.aiger_body.specs.Spelled.{line_of}
 
 -- ---- rows of numbers

@@ -14,7 +14,8 @@ pub fn push_deltas(text: &mut Text, net: &Net) -> M<()>
     requires net { IsNet net.now }
     requires room { variables net.now ≤ 2 ^ 31 }
     ensures { OnOk result (
-        text.new ≡ text.old ++ flat_map (deltas_of net.now) (range_with_len 0 (length net.now.ands))) }
+        text.new ≡ text.old ++
+        flat_map (deltas_of net.now) (range_with_len 0 (length net.now.ands))) }
 {
     let first = 1 + net.inputs() + net.latches().len() as u32;
     let ands = net.ands().as_slice();

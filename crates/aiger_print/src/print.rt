@@ -10,8 +10,8 @@ use aig_net::Net;
 use hy_base::{M, Text};
 use std::alloc::Global;
 
-/// The text of the net in the ASCII form: its lines with the net's variables, then a symbol for each
-/// name, and no comment. In time linear in the text.
+/// The text of the net in the ASCII form: its lines with the net's variables, then a symbol for
+/// each name, and no comment. In time linear in the text.
 pub fn print_aag(alloc: Global, net: &Net) -> M<Text>
     ensures { IfOk result (λ text. text ≡ aag_text net.now) }
 {

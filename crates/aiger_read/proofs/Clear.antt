@@ -1,24 +1,22 @@
 -- What is read without a fault is a circuit.
-use Rattle.std.proofs.Common.{◌≡◌, ℕ, suc, ◌+◌, ◌-◌, ◌*◌, ◌<◌, ◌≤◌, ◌⊎◌, Bool, true, false, cond, inl, inr, refl, sym, ◌∙◌, ap, subst, arith, Option, Some, None, List, [], ◌∷◌, map, length, get_or}
-use Rattle.std.specs.Prelude.{IsTrue, slice_index, slice_index_or, sum}
+use Rattle.std.proofs.Common.{◌≡◌, ℕ, suc, ◌+◌, ◌-◌, ◌*◌, ◌<◌, ◌≤◌, ◌⊎◌, Bool, true, false, cond, inl, inr, refl, sym, ◌∙◌, ap, subst, arith, None, List, [], ◌∷◌, map, length, get_or}
+use Rattle.std.specs.Prelude.{IsTrue, slice_index, slice_index_or}
 use Rattle.std.specs.List.{range_with_len, list_any}
-use Rattle.std.proofs.lemmas.List.{length-map, get_or-map, get_or_past}
+use Rattle.std.proofs.lemmas.List.{length-map, get_or-map}
 use Rattle.std.proofs.lemmas.Bool.{cases_lt}
-use Rattle.std.proofs.lemmas.List.FromFn.{length-map-range_with_len}
 use Rattle.aiger_body.specs.declared.header.Header.{Header}
 use Rattle.aiger_body.specs.declared.section.Section.{Section}
 use Rattle.aiger_body.specs.declared.section.Section.TheVariants.{Inputs, Latches, Outputs, Constraints, Fairs, Gates}
 use Rattle.aig_order.specs.declared.gate.Gate.{Gate}
 use Rattle.aiger_body.specs.declared.content.Latch.{Latch}
-use Rattle.aig_order.specs.Firsts.{otherwise, first_some}
+use Rattle.aig_order.specs.Firsts.{first_some}
 use Rattle.aig_order.specs.Gates.{gate_at, no_gate, Depends, depends}
 use Rattle.aig_order.proofs.Firsts.{either, or-none, not-not, when-none, none-both, first-none}
 use Rattle.aig_order.proofs.Cycles.{depends-right}
-use Rattle.aiger_body.specs.Texts.{grown, is_ended, is_feed, piece_at, pieces}
+use Rattle.aiger_body.specs.Texts.{grown, is_ended, is_feed, pieces}
 use Rattle.aiger_body.specs.Files.{number_in, before, plan, counted, lines, line, section, section_rows, row, is_right, used, first_number, gate_of, latch_of, binary_gate, content}
 use Rattle.aiger_body.specs.Circuits.{is_defined, AllDefined, no_latch, IsCircuit}
 use Rattle.aiger_body.specs.Outcomes.{of_line, of_uses, of_cycle, is_undefined}
-use Rattle.aiger_body.specs.Answers.{Fits}
 use Rattle.aiger_body.proofs.Sections.{in-section}
 use Rattle.aiger_body.proofs.Scanning.{ended_some}
 use Rattle.aiger_body.proofs.Known.{row-of, long, line-clear, line-right, inputs-long, gates-long, gate-at, defined-below}

@@ -1,16 +1,15 @@
 -- Where the symbol lines end, and which names there are then.
-use Rattle.std.proofs.Common.{◌≡◌, ℕ, zero, suc, ◌+◌, ◌-◌, ◌<◌, ◌≤◌, ◌⊎◌, Bool, true, false, inl, inr, refl, sym, ◌∙◌, ap, subst, arith, List, [], ◌∷◌, map, length, get_or, drop, Option, Some, None}
-use Rattle.std.specs.Prelude.{slice_index_or, unwrap_or}
-use Rattle.std.specs.List.{range_with_len}
+use Rattle.std.proofs.Common.{◌≡◌, ℕ, suc, ◌+◌, ◌<◌, ◌≤◌, Bool, true, false, inl, inr, refl, sym, ◌∙◌, ap, arith, List, [], length, drop, Option, Some, None}
+use Rattle.std.specs.Prelude.{unwrap_or}
 use Rattle.std.proofs.lemmas.Bool.{cases_eq, cases_lt}
 use Rattle.std.proofs.lemmas.List.{get_or_past, drop_all, length-drop}
 use Rattle.std.proofs.lemmas.List.FromFn.{fill_by_all}
 use Rattle.aiger_body.specs.declared.header.Header.{Header}
 use Rattle.aig_order.specs.Firsts.{first_some, first_below}
-use Rattle.aig_order.proofs.Firsts.{first-more, first-here, first-none, below-found}
+use Rattle.aig_order.proofs.Firsts.{first-more, first-here, below-found}
 use Rattle.aig_order.proofs.Sorted.{first-is, first-empty}
 use Rattle.aiger_body.specs.Texts.{pieces, piece_at, place, is_feed}
-use Rattle.aiger_body.specs.Files.{tail, tail_start}
+use Rattle.aiger_body.specs.Files.{tail_start}
 use Rattle.aiger_body.specs.Symbols.{tail_lines, symbol_lines, begins_comment, name_below, name_of}
 use Rattle.aiger_body.specs.Outcomes.{Refusal, of_symbol, names_of}
 use Rattle.aiger_body.specs.Bodies.{IsTail}

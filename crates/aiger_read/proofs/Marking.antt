@@ -1,20 +1,20 @@
 -- One symbol line after the other: what is named behind it.
-use Rattle.std.proofs.Common.{◌≡◌, ℕ, zero, suc, ◌+◌, ◌<◌, ◌≤◌, ◌⊎◌, Bool, true, false, not, ◌&&◌, ◌||◌, nat_eq, inl, inr, refl, sym, ◌∙◌, ap, subst, arith, cond, List, [], ◌∷◌, length, get_or, set, Option, Some, None}
-use Rattle.std.specs.Prelude.{slice_index_or, slice_set, sum, nat_lt, unwrap_or}
+use Rattle.std.proofs.Common.{◌≡◌, ℕ, zero, suc, ◌+◌, ◌<◌, ◌⊎◌, Bool, true, false, not, ◌&&◌, ◌||◌, nat_eq, inl, inr, refl, sym, ◌∙◌, ap, subst, arith, cond, List, [], length, Option, Some, None}
+use Rattle.std.specs.Prelude.{slice_index_or, slice_set, nat_lt}
 use Rattle.std.proofs.lemmas.Bool.{cases_eq, eqb-true, eq-eqb, ltb-true}
 use Rattle.std.proofs.lemmas.List.{get_or-set_same, get_or-set_other, length-set}
 use Rattle.aiger_body.specs.declared.error.AigKind.TheVariants.{Symbol as SymbolFault}
 use Rattle.aiger_body.specs.declared.header.Header.{Header}
-use Rattle.aig_order.specs.Firsts.{when, otherwise, first_some, first_below, any_below}
-use Rattle.aig_order.proofs.Firsts.{either, and-both, not-true, not-false, first-here, first-none, below-found, below-none}
-use Rattle.aiger_body.specs.Texts.{pieces, piece_at, place, is_ended, is_feed, line_text}
-use Rattle.aiger_body.specs.Files.{tail, tail_start}
-use Rattle.aiger_body.specs.Symbols.{Symbol, symbol_of, is_symbol, is_name, names_same, tail_lines, symbol, symbol_lines, is_repeated, is_good_symbol, name_in, name_below, begins_comment, symbol_counts, count_of}
+use Rattle.aig_order.specs.Firsts.{when, first_some, any_below}
+use Rattle.aig_order.proofs.Firsts.{either, and-both, first-here}
+use Rattle.aiger_body.specs.Texts.{piece_at, place, is_ended, is_feed, line_text}
+use Rattle.aiger_body.specs.Files.{tail_start}
+use Rattle.aiger_body.specs.Symbols.{Symbol, symbol_of, is_symbol, is_name, names_same, tail_lines, symbol, is_repeated, is_good_symbol, name_in, name_below, begins_comment, count_of}
 use Rattle.aiger_body.specs.Outcomes.{of_symbol, fault}
 use Rattle.aiger_read.specs.declared.names.Names.{Names}
 use Rattle.aiger_read.specs.declared.names.Reading.{Reading}
 use Rattle.aiger_read.specs.Symbols.{start_of}
-use Rattle.aiger_read.specs.Naming.{AreLong, IsNew, place_of, is_marked, is_kept, IsKept, with_one, with_name}
+use Rattle.aiger_read.specs.Naming.{AreLong, IsNew, place_of, is_marked, is_kept, IsKept, with_one}
 use Rattle.aiger_read.proofs.OwnPlaces.{letter_same, number_same, place_small}
 
 -- symbol line k names number n of the kind with the letter

@@ -1,17 +1,17 @@
 -- The names that symbol lines without a fault give are names.
-use Rattle.std.proofs.Common.{◌≡◌, ℕ, zero, suc, ◌+◌, ◌<◌, ◌≤◌, ◌⊎◌, Bool, true, false, not, ◌&&◌, ◌||◌, nat_eq, inl, inr, refl, sym, ◌∙◌, ap, subst, arith, cond, List, [], ◌∷◌, map, length, get_or, drop, Option, Some, None}
-use Rattle.std.specs.Prelude.{IsTrue, slice_index_or, nat_lt}
-use Rattle.std.specs.List.{list_any, range_with_len, position_or_len, after_first, before_first}
-use Rattle.std.proofs.lemmas.Bool.{eqb-true, eq-eqb, ltb-true}
+use Rattle.std.proofs.Common.{◌≡◌, ℕ, zero, suc, ◌+◌, ◌<◌, ◌≤◌, ◌⊎◌, Bool, true, false, not, ◌&&◌, ◌||◌, nat_eq, inl, inr, refl, sym, ◌∙◌, ap, subst, arith, cond, List, [], ◌∷◌, length, drop, Option, Some, None}
+use Rattle.std.specs.Prelude.{IsTrue, nat_lt}
+use Rattle.std.specs.List.{list_any, position_or_len, after_first, before_first}
+use Rattle.std.proofs.lemmas.Bool.{eqb-true, eq-eqb}
 use Rattle.std.proofs.lemmas.List.FromFn.{length-map-range_with_len, get_or-map-range_with_len}
 use Rattle.aig_net.specs.Nets as nets
 use Rattle.aig_net.specs.Nets.{AreNames, ends_in}
 use Rattle.aig_order.specs.Firsts.{first_some}
-use Rattle.aig_order.proofs.Firsts.{either, and-both, both-and, not-true, not-false, not-not, when-none, first-none}
+use Rattle.aig_order.proofs.Firsts.{either, and-both, both-and, not-false, not-not, when-none, first-none}
 use Rattle.aiger_body.specs.declared.header.Header.{Header}
 use Rattle.aiger_body.specs.Texts.{grown, pieces, piece_at, is_ended, is_feed, is_return, is_space, without_end, line_text, number_of}
 use Rattle.aiger_body.specs.Files.{tail}
-use Rattle.aiger_body.specs.Symbols.{Symbol, symbol_with, symbol_of, is_name, is_symbol, tail_lines, symbol, symbol_lines, is_good_symbol, is_repeated, name_in, name_below, name_of, count_of}
+use Rattle.aiger_body.specs.Symbols.{Symbol, symbol_with, symbol_of, is_name, is_symbol, tail_lines, symbol, symbol_lines, is_good_symbol, name_in, name_below, name_of, count_of}
 use Rattle.aiger_body.specs.Outcomes.{of_symbol, names_of}
 use Rattle.aiger_body.proofs.Pieces.{Free}
 

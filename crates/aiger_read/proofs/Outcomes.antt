@@ -1,8 +1,8 @@
 -- A text of a net has no fault, and its net is one.
-use Rattle.std.proofs.Common.{◌≡◌, ℕ, ◌+◌, ◌≤◌, Bool, true, false, cond, refl, sym, ◌∙◌, ap, subst, arith, Option, Some, None, List, length}
+use Rattle.std.proofs.Common.{◌≡◌, ℕ, Bool, true, false, cond, refl, sym, subst, Option, Some, None, List, length}
 use Rattle.aig_net.specs.declared.parts.NetParts.{NetParts}
 use Rattle.aig_net.specs.Nets.{AreNames, IsNet}
-use Rattle.aig_order.specs.Firsts.{otherwise, first_some}
+use Rattle.aig_order.specs.Firsts.{first_some}
 use Rattle.aig_order.proofs.Firsts.{none-both}
 use Rattle.aiger_body.specs.declared.error.AigKind.TheVariants.{Truncated}
 use Rattle.aiger_body.specs.declared.header.Header.{Header}

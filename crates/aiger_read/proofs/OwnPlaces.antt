@@ -1,5 +1,5 @@
 -- What can be named stands at a place of its own.
-use Rattle.std.proofs.Common.{◌≡◌, ℕ, zero, suc, ◌+◌, ◌<◌, ◌≤◌, ◌^◌, ◌⊎◌, Bool, true, false, not, nat_eq, inl, inr, refl, sym, ◌∙◌, ap, subst, arith, cond, List, [], ◌∷◌, length, get_or, take}
+use Rattle.std.proofs.Common.{◌≡◌, ℕ, zero, suc, ◌+◌, ◌<◌, ◌≤◌, ◌^◌, Bool, true, false, not, nat_eq, inl, inr, refl, sym, ◌∙◌, ap, arith, cond, List, [], ◌∷◌, length, get_or, take}
 use Rattle.std.specs.Prelude.{slice_index, sum}
 use Rattle.std.specs.List.{position_or_len, prefix_len}
 use Rattle.std.proofs.lemmas.Bool.{cases_eq, cases_lt, eqb-true}

@@ -1,6 +1,6 @@
 -- The parts that are made are those of the text's circuit.
-use Rattle.std.proofs.Common.{◌≡◌, ℕ, zero, suc, ◌+◌, ◌*◌, ◌/◌, ◌%◌, ◌<◌, ◌≤◌, ◌^◌, ◌∙◌, sym, ap, subst, arith, refl, max, min, nat_eq, List, [], ◌∷◌, ◌++◌, map, length, length-append}
-use Rattle.std.specs.Prelude.{slice_index, slice_index_or, option_to_list, Option, Some, None}
+use Rattle.std.proofs.Common.{◌≡◌, ℕ, zero, suc, ◌+◌, ◌*◌, ◌/◌, ◌%◌, ◌≤◌, ◌^◌, ◌∙◌, sym, ap, subst, arith, refl, max, min, nat_eq, List, [], ◌∷◌, ◌++◌, map, length, length-append}
+use Rattle.std.specs.Prelude.{option_to_list, Option, Some, None}
 use Rattle.std.specs.List.{position_or_len}
 use Rattle.std.proofs.lemmas.List.{length-map}
 use Rattle.aig_net.specs.declared.parts.And.{And}
@@ -14,9 +14,9 @@ use Rattle.aiger_body.specs.declared.header.Header.{Header}
 use Rattle.aiger_body.specs.declared.content.Content.{Content}
 use Rattle.aiger_body.specs.declared.content.Latch.{Latch}
 use Rattle.aiger_body.specs.Files.{content, own_literal, own_variables}
-use Rattle.aiger_body.specs.Circuits.{in_order, renumbered, and_of, net_of}
-use Rattle.aiger_body.specs.Outcomes.{circuit, names}
-use Rattle.aiger_body.specs.Bodies.{IsBody, IsWhole}
+use Rattle.aiger_body.specs.Circuits.{in_order, renumbered, and_of}
+use Rattle.aiger_body.specs.Outcomes.{circuit}
+use Rattle.aiger_body.specs.Bodies.{IsBody}
 use Rattle.aiger_read.specs.declared.names.Names.{Names}
 use Rattle.aiger_read.specs.Naming.{AreNamed}
 use Rattle.aiger_read.specs.Readings.{AreOf, renumbered_by, and_by}
@@ -55,10 +55,22 @@ module _ (bytes : List ℕ) (b : Body) (is : IsBody bytes b) where
 
   pub variables_few : (variables : List ℕ) → variables ≡ (0 ∷ own_variables b.content) ++ map (λ k. (gate_at b.content.gates k).lhs / 2) b.order → length variables ≤ 2 ^ 30
   variables_few variables e =
-      omega (arith, ap length e, length-append (own_variables b.content) (map (λ k. (gate_at b.content.gates k).lhs / 2) b.order),
-      length-map (b.content.inputs ++ map own_literal b.content.latches) (λ (l : ℕ). l / 2), length-append b.content.inputs (map own_literal b.content.latches), length-map b.content.latches own_literal,
-      length-map b.order (λ (k : ℕ). (gate_at b.content.gates k).lhs / 2), ap length order-is, taken-few b.content.gates (length b.content.gates),
-      inputs_long, latches-long, gates-long, is.fits.sum, is.fits.top)
+      omega (
+        arith,
+        ap length e,
+        length-append (own_variables b.content) (map (λ k. (gate_at b.content.gates k).lhs / 2) b.order),
+        length-map (b.content.inputs ++ map own_literal b.content.latches) (λ (l : ℕ). l / 2),
+        length-append b.content.inputs (map own_literal b.content.latches),
+        length-map b.content.latches own_literal,
+        length-map b.order (λ (k : ℕ). (gate_at b.content.gates k).lhs / 2),
+        ap length order-is,
+        taken-few b.content.gates (length b.content.gates),
+        inputs_long,
+        latches-long,
+        gates-long,
+        is.fits.sum,
+        is.fits.top,
+      )
 
 -- ---- the parts
 

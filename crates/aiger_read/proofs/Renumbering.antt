@@ -160,7 +160,3 @@ module _ (c : Content) (right : IsCircuit c) (names : Names) where
     latch_names = record { many = latches.many ∙ sym (length-map c.latches (λ (l : Latch). renumbered c l.next)); good = latches.good };
     output_names = record { many = outputs.many ∙ sym (length-map c.outputs (renumbered c)); good = outputs.good };
   }
-
-  -- how many variables there are
-  pub variables_are : length (order c.gates) ≡ length c.gates → variables net ≡ 1 + length c.inputs + length c.latches + length c.gates
-  variables_are all = omega (arith, all, length-map c.latches (λ (l : Latch). renumbered c l.next), length-map (order c.gates) (λ (k : ℕ). and_of c (gate_at c.gates k)))

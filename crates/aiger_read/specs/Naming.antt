@@ -1,5 +1,5 @@
 -- What has been named by the symbol lines that were read.
-use Rattle.std.specs.Prelude.{◌≡◌, ℕ, ◌+◌, ◌<◌, Bool, true, false, cond, not, ◌&&◌, nat_eq, List, [], length, slice_index_or, slice_set, sum, Option, Some, None, Result, Ok, Err}
+use Rattle.std.specs.Prelude.{◌≡◌, ℕ, ◌+◌, Bool, true, false, cond, not, ◌&&◌, nat_eq, List, [], length, slice_index_or, slice_set, sum, Option, Some, None, Result, Ok, Err}
 use Rattle.hy_base.specs.declared.memory.Memory.{Memory}
 use Rattle.aiger_body.specs.declared.error.AigerError.{AigerError}
 use Rattle.aiger_body.specs.declared.header.Header.{Header}

@@ -1,5 +1,5 @@
 -- Symbols of a text: what the code holds of one, and where what it names stands among all that can be named.
-use Rattle.std.specs.Prelude.{ℕ, ◌+◌, sum, take, Option, Some, None}
+use Rattle.std.specs.Prelude.{ℕ, sum, take, Option, Some, None}
 use Rattle.aiger_body.specs.declared.header.Header.{Header}
 use Rattle.aiger_body.specs.Symbols as symbols
 use Rattle.aiger_body.specs.Symbols.{kind_number, symbol_counts}

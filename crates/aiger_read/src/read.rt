@@ -19,11 +19,11 @@ use std::alloc::Global;
 /// Reads a circuit text of either form. In time linear in the bytes, but for the order of the ands,
 /// which are taken in time n log n.
 ///
-/// A net comes exactly where the bytes are its text: its inputs and latches in their order, its ands
-/// as they are taken, the first of the text again and again that uses only what has a number, and
-/// their larger right side first. Every other answer but want of memory is what the table of faults
-/// says: `Bad` has the first fault and its byte, `Limit` comes where the header is right and its
-/// greatest variable is past 1,048,576.
+/// A net comes exactly where the bytes are its text: its inputs and latches in their order, its
+/// ands as they are taken, the first of the text again and again that uses only what has a number,
+/// and their larger right side first. Every other answer but want of memory is what the table of
+/// faults says: `Bad` has the first fault and its byte, `Limit` comes where the header is right and
+/// its greatest variable is past 1,048,576.
 pub fn read_aiger(alloc: Global, bytes: &[u8]) -> Result<Net, AigerError>
     requires { length bytes.now ≤ 67108864 }
     ensures answer { IsReadAnswer bytes.now result }
@@ -85,7 +85,8 @@ fn in_order(alloc: Global, body: &Body) -> M<NumList>
 /// Adds the variables of the ands in this order.
 fn push_gates(gates: &[Gate], order: &[u32], list: &mut NumList) -> M<()>
     requires { AreOf order.now gates.now }
-    ensures { OnOk result (list.new ≡ list.old ++ map (λ k. (gate_at gates.now k).lhs / 2) order.now) }
+    ensures { OnOk result (list.new ≡
+        list.old ++ map (λ k. (gate_at gates.now k).lhs / 2) order.now) }
 {
     for k in order {
         list.push(gates[*k as usize].lhs / 2)?;
@@ -95,7 +96,8 @@ fn push_gates(gates: &[Gate], order: &[u32], list: &mut NumList) -> M<()>
 
 /// The next literals of the latches, with the new numbers.
 fn nexts(alloc: Global, latches: &[Latch], numbering: &Numbering) -> M<NumList>
-    ensures { IfOk result (λ list. list ≡ map (λ l. renumbered_by (numbered numbering.now) l.next) latches.now) }
+    ensures { IfOk result (λ list. list ≡
+        map (λ l. renumbered_by (numbered numbering.now) l.next) latches.now) }
 {
     let list = latches
         .iter()
@@ -116,7 +118,8 @@ fn resets(alloc: Global, latches: &[Latch]) -> M<ResetList>
 
 /// The literals with the new numbers.
 fn literals(alloc: Global, literals: &[u32], numbering: &Numbering) -> M<NumList>
-    ensures { IfOk result (λ list. list ≡ map (λ l. renumbered_by (numbered numbering.now) l) literals.now) }
+    ensures { IfOk result (λ list. list ≡
+        map (λ l. renumbered_by (numbered numbering.now) l) literals.now) }
 {
     let list = literals
         .iter()
@@ -128,7 +131,8 @@ fn literals(alloc: Global, literals: &[u32], numbering: &Numbering) -> M<NumList
 /// The ands in this order, with the new numbers.
 fn ands(alloc: Global, gates: &[Gate], order: &[u32], numbering: &Numbering) -> M<AndList>
     requires { AreOf order.now gates.now }
-    ensures { IfOk result (λ list. list ≡ map (λ k. and_by (numbered numbering.now) (gate_at gates.now k)) order.now) }
+    ensures { IfOk result (λ list. list ≡
+        map (λ k. and_by (numbered numbering.now) (gate_at gates.now k)) order.now) }
 {
     let mut list = List::new(alloc);
     for k in order {

@@ -1,8 +1,9 @@
-//! Runs the cases of the files that its arguments name: circuit texts, and what the reader is to answer.
-//! It prints a line for each file, and before it the name of each case whose answer is another.
+//! Runs the cases of the files that its arguments name: circuit texts, and what the reader is to
+//! answer. It prints a line for each file, and before it the name of each case whose answer is
+//! another.
 //!
-//! A line that begins with `#` says nothing, and an empty line ends a case. The first line of a case
-//! is `case NAME`; the text of the circuit and what is expected follow:
+//! A line that begins with `#` says nothing, and an empty line ends a case. The first line of a
+//! case is `case NAME`; the text of the circuit and what is expected follow:
 //!
 //! ```text
 //! line TEXT           the text and a line feed

@@ -1,5 +1,5 @@
 -- The entries of a proof, branch by branch.
-use Rattle.std.proofs.Common.{◌≡◌, ℕ, ◌+◌, ◌<◌, ◌≤◌, List, [], ◌∷◌, ◌++◌, length, map, take, get_or, Some, slice_get, inl, inr, refl, sym, ap, ◌∙◌, subst, arith, length-append}
+use Rattle.std.proofs.Common.{◌≡◌, ℕ, ◌+◌, ◌<◌, ◌≤◌, List, [], ◌∷◌, ◌++◌, length, take, get_or, Some, slice_get, inl, inr, refl, sym, ap, ◌∙◌, subst, arith, length-append}
 use Rattle.std.specs.List.{All}
 use Rattle.std.proofs.Math.Seq.{get_or-append_seam}
 use Rattle.std.proofs.lemmas.Bool.{cases_lt}
@@ -13,7 +13,6 @@ use Rattle.ltl_tableau.proofs.Exploring.{take-whole}
 use Rattle.ea_core.specs.declared.rank_proof.ProofBranch.{ProofBranch}
 use Rattle.ea_core.specs.Proofs.{branch_of, IsAscending}
 use Rattle.ea_core.specs.Shown.{AreEntries}
-
 
 pub entries-none : (list : List Branch) (ranks : Ranks) → AreEntries (take 0 list) ranks []
 entries-none list ranks = record { branches = refl; ranked = λ v d lt. absurd (omega arith); ascending = All-nil IsAscending }

@@ -1,5 +1,5 @@
 -- Numbers joined by commas are the first one, and each other one behind a comma.
-use Rattle.std.proofs.Common.{◌≡◌, ℕ, List, [], ◌∷◌, ◌++◌, ◌≤◌, length, take, map, decimal, ap, sym, ◌∙◌, append-nil, append_assoc}
+use Rattle.std.proofs.Common.{◌≡◌, ℕ, List, [], ◌∷◌, ◌++◌, ◌≤◌, length, take, decimal, ap, sym, ◌∙◌, append-nil, append_assoc}
 use Rattle.ltl_tableau.proofs.Exploring.{take-whole}
 use Rattle.std.specs.List.{flat_map}
 use Rattle.ea_core.specs.ProofTexts.{numbers_text}

@@ -1,5 +1,5 @@
 -- The numbers of a set in a list.
-use Rattle.std.proofs.Common.{◌≡◌, ℕ, zero, suc, ◌+◌, ◌<◌, ◌≤◌, ◌⊎◌, Bool, true, false, cond, List, [], ◌∷◌, ◌++◌, length, get_or, inl, inr, refl, sym, ap, ◌∙◌, subst, arith}
+use Rattle.std.proofs.Common.{◌≡◌, ℕ, zero, suc, ◌+◌, ◌<◌, ◌≤◌, ◌⊎◌, Bool, true, false, cond, List, [], ◌∷◌, ◌++◌, inl, inr, refl, sym, ap, ◌∙◌, subst, arith}
 use Rattle.std.specs.List.{filter, range_with_len}
 use Rattle.std.specs.List.Sorted.{IsStrictlyIncreasing}
 use Rattle.std.specs.FinSet.{contains, same_set, nat_cmp-IsAntisymmetric}
@@ -79,9 +79,9 @@ both-ways false false f g = refl
 pub numbers-set : (s : Members) (n : ℕ) (list : List ℕ) → AreBelow n s → list ≡ numbers_of s n → set_of list ≡ s
 numbers-set s n list below e =
     ap set_of e ∙ same_set nat_cmp_total nat_cmp-IsAntisymmetric (set_of (numbers_of s n)) s (λ q.
-        both-ways _ _ (has-passes (contains s) 0 n q) (λ is. passes-has (contains s) 0 n q (omega arith) (omega (arith, below q is)) is))
+    both-ways _ _ (has-passes (contains s) 0 n q) (λ is. passes-has (contains s) 0 n q (omega arith) (omega (arith, below q is)) is))
 
 pub numbers-ascend : (s : Members) (n : ℕ) (list : List ℕ) → list ≡ numbers_of s n → IsStrictlyIncreasing list
 numbers-ascend s n list e =
     subst IsStrictlyIncreasing (sym e) (IsStrictlyIncreasing-filter (contains s) (range_with_len 0 n) (λ k lt.
-        omega (arith, length-range_with_len 0 n, get_or-range_with_len 0 n k 0 (omega (arith, length-range_with_len 0 n)), get_or-range_with_len 0 n (k + 1) 0 (omega (arith, length-range_with_len 0 n)))))
+    omega (arith, length-range_with_len 0 n, get_or-range_with_len 0 n k 0 (omega (arith, length-range_with_len 0 n)), get_or-range_with_len 0 n (k + 1) 0 (omega (arith, length-range_with_len 0 n)))))

@@ -1,6 +1,6 @@
 -- Ranks that pass are a rank proof of a plan.
-use Rattle.std.proofs.Common.{◌≡◌, ℕ, zero, suc, ◌<◌, ◌≤◌, Bool, true, false, nat_lt, cond, List, [], ◌∷◌, length, map, get_or, Option, Some, None, inl, inr, refl, sym, ap, ◌∙◌, subst, arith}
-use Rattle.std.specs.List.{All, Contains}
+use Rattle.std.proofs.Common.{◌≡◌, ℕ, zero, suc, ◌<◌, Bool, true, false, nat_lt, cond, List, [], ◌∷◌, length, map, get_or, Option, Some, None, inl, inr, refl, sym, ap, ◌∙◌, subst, arith}
+use Rattle.std.specs.List.{Contains}
 use Rattle.std.proofs.lemmas.Bool.{cases_lt, lt-ltb, false≢true}
 use Rattle.std.proofs.lemmas.List.{get_or-map, length-map, get_or_past}
 use Rattle.std.proofs.lemmas.List.Elements.{Contains-append_right, All-contains}
@@ -8,9 +8,9 @@ use Rattle.hy_lasso.proofs.LassoWords.{decided-lassos}
 use Rattle.hy_lasso.specs.Words.{lasso_words}
 use Rattle.rank_check.specs.declared.ranks.Ranks.{Ranks}
 use Rattle.rank_check.specs.Graphs.{Shape, IsWhole}
-use Rattle.rank_check.specs.Ranking.{rank_of, reason_of, IsRanked}
+use Rattle.rank_check.specs.Ranking.{reason_of, IsRanked}
 use Rattle.ltl_closure.specs.Nodes.{Node, node_at, always, never, literal, and, or, next, weak_next, until, release}
-use Rattle.ltl_tableau.specs.Branches.{Members, Branch, postponed_by, postpones}
+use Rattle.ltl_tableau.specs.Branches.{Members, Branch, postponed_by}
 use Rattle.ltl_tableau.specs.GraphWalks.{member_reason, no_entry, entry_at, HasRanks}
 use Rattle.ltl_tableau.specs.Ranks.{Ranked, RankProof as Plain, Explains, IsRankProof}
 use Rattle.ltl_tableau.specs.Reached.{IsReachable, AreDistinct, branch_at, IsTableau}
@@ -18,12 +18,11 @@ use Rattle.ltl_tableau.specs.Walks.{no_branch}
 use Rattle.ltl_tableau.proofs.GraphWalking.{rank-proof}
 use Rattle.ltl_tableau.proofs.TasksTogether.{never-together}
 use Rattle.ea_reduce.specs.Plans.{PlainPlan, plan_tasks}
-use Rattle.ea_reduce.specs.Fulfilled.{IsFulfillable}
 use Rattle.ea_core.specs.declared.rank_proof.RankProof.{RankProof}
 use Rattle.ea_core.specs.declared.rank_proof.ProofBranch.{ProofBranch}
 use Rattle.ea_core.specs.declared.decision.Decision.TheVariants.{Unsat}
-use Rattle.ea_core.specs.Proofs.{plan_nodes, plan_roots, branch_of, branches_of, ranked_of, plain_proof, IsUntilNode, IsProofOf}
-use Rattle.ea_core.specs.Shown.{if_until, until_reason, AreEntries, Shows}
+use Rattle.ea_core.specs.Proofs.{plan_nodes, plan_roots, branch_of, ranked_of, plain_proof, IsUntilNode, IsProofOf}
+use Rattle.ea_core.specs.Shown.{if_until, until_reason, Shows}
 use Rattle.ea_core.specs.Solved.{Solves}
 
 -- what a mapped list has

@@ -1,5 +1,5 @@
 -- From the refusals of the layers to those of the decisions.
-use Rattle.std.proofs.Common.{◌≡◌, ◌≢◌, ℕ, ◌<◌, ◌⊎◌, Bool, true, false, List, length, Result, Ok, Err, IfErr, IsErrOf, OnOk, inl, inr, refl, subst}
+use Rattle.std.proofs.Common.{◌≡◌, ◌≢◌, ℕ, ◌<◌, true, false, List, length, Result, Ok, Err, IfErr, IsErrOf, OnOk, inl, inr, refl, subst}
 use Rattle.ltl_closure.specs.Jobs.{Task, tasks_of, task_nodes}
 use Rattle.ea_reduce.specs.declared.plan.Plan.{Plan}
 use Rattle.ea_reduce.proofs.Jobs.{plain-tasks}
@@ -20,7 +20,7 @@ use Rattle.ea_core.specs.declared.decision.Decision.{Decision}
 use Rattle.ea_core.specs.declared.ea_error.EaError.{EaError}
 use Rattle.ea_core.specs.declared.ea_error.EaError.TheVariants.{Prefix, Limit, States, Memory}
 use Rattle.ea_core.specs.Decided.{Implies}
-use Rattle.ea_core.specs.Undecided.{most_members, HasFewMembers, HasManyMembers, IsCounted, IsWithin, HasFewBranches, HasManyBranches, of_plan, of_closure, of_tableau, RefusesClosure, RefusesClosures, RefusesSearch, RefusesSearches, Undecided, UndecidedImplication, UndecidedEquivalence}
+use Rattle.ea_core.specs.Undecided.{most_members, HasFewMembers, IsCounted, IsWithin, HasFewBranches, HasManyBranches, of_plan, of_closure, of_tableau, RefusesClosure, RefusesClosures, RefusesSearch, RefusesSearches, Undecided, UndecidedImplication, UndecidedEquivalence}
 
 module _ (prefix : List Quant) (body : Tree) (states : ℕ) where
   pub formula-plan : (e : ReduceError) → RefusesReduction prefix (reduction prefix body) e → Undecided prefix body states (of_plan e)

@@ -1,6 +1,6 @@
 -- A fair walk gives lassos that fulfil a plan.
-use Rattle.std.proofs.Common.{◌≡◌, ℕ, zero, suc, ◌+◌, ◌-◌, ◌%◌, ◌<◌, ◌≤◌, Bool, true, false, List, [], ◌∷◌, length, map, get_or, refl, sym, ap, ◌∙◌, subst, arith, zero-add, IsTrue}
-use Rattle.std.specs.List.{All, range_with_len}
+use Rattle.std.proofs.Common.{◌≡◌, ℕ, zero, suc, ◌+◌, ◌-◌, ◌%◌, ◌<◌, ◌≤◌, true, List, [], ◌∷◌, length, map, get_or, refl, sym, ap, ◌∙◌, subst, arith, zero-add, IsTrue}
+use Rattle.std.specs.List.{All}
 use Rattle.std.specs.FinSet.{empty}
 use Rattle.std.proofs.Math.Nat.{mod-eq_of_lt}
 use Rattle.std.proofs.lemmas.List.{length-map}
@@ -13,10 +13,9 @@ use Rattle.hy_lasso.specs.Words.{lasso_words}
 use Rattle.hy_lasso.proofs.LassoWords.{cond-below, cond-above}
 use Rattle.rank_check.specs.Graphs as graphs
 use Rattle.rank_check.specs.Graphs.{Shape, place_of}
-use Rattle.ltl_closure.specs.Nodes as node
 use Rattle.ltl_closure.specs.Nodes.{Node, node_at}
 use Rattle.ltl_closure.specs.Jobs.{AreMappedBelow}
-use Rattle.ltl_tableau.specs.Branches.{Branch, has_literal, words_of}
+use Rattle.ltl_tableau.specs.Branches.{Branch}
 use Rattle.ltl_tableau.specs.GraphWalks.{walk_of}
 use Rattle.ltl_tableau.specs.Reached.{branch_at, IsTableau}
 use Rattle.ltl_tableau.specs.WalkWords as walks
@@ -125,8 +124,7 @@ module _ (plan : PlainPlan) (below : AreMappedBelow plan.vars (plan_tasks plan))
       let same : lassos_from joint 0 plan.vars ≡ lassos_of nodes along plan.vars = same-lassos nodes plan.vars list joint stem cycle s c 0 plan.vars (omega arith) in
       let Q : List (Lasso Letter) → Type 0 = λ t. AreShortened t made in
       let short' : AreShortened (lassos_of nodes along plan.vars) made = subst Q same short in
-      let P : Words → Type 0 = λ w. (name v i : ℕ) → IsTrue (w name v i) → PlanMentions plan name in
-      (
+      let P : Words → Type 0 = λ w. (name v i : ℕ) → IsTrue (w name v i) → PlanMentions plan name in (
         shortened-fulfils plan (lassos_of nodes along plan.vars) made short' fulfilled,
         record { normal = short.normal; names = subst P (shortened-words (lassos_of nodes along plan.vars) made short') named },
       )

@@ -1,9 +1,6 @@
 -- From what is found of plans to what is decided of formulas.
-use Rattle.std.proofs.Common.{◌≡◌, ◌≢◌, ℕ, zero, suc, ◌+◌, true, false, Result, Ok, Err, IfOk, IfErr, ◌<◌, ◌≤◌, ◌⊎◌, ap, ◌∙◌, List, [], ◌∷◌, length, map, inl, inr, refl, sym, subst, arith, IsTrue}
-use Rattle.std.specs.List.{Contains}
-use Rattle.hy_bits.specs.Letter.{Letter}
+use Rattle.std.proofs.Common.{◌≡◌, ◌≢◌, ℕ, ◌+◌, true, false, Result, Ok, Err, IfOk, IfErr, ◌<◌, ◌≤◌, ◌⊎◌, ap, ◌∙◌, List, [], ◌∷◌, length, map, inl, inr, sym, subst, arith, IsTrue}
 use Rattle.hy_formula.specs.Trees.{Tree, vars_below}
-use Rattle.hy_formula.specs.Lassos.{Lasso}
 use Rattle.hy_formula.specs.Classes.{class_of}
 use Rattle.hy_formula.specs.declared.classes.Class.TheVariants.{Other}
 use Rattle.hy_formula.specs.declared.prefix.Quant.{Quant}
@@ -14,13 +11,13 @@ use Rattle.ltl_tableau.specs.Reached.{IsTableau}
 use Rattle.rank_check.specs.Graphs.{Shape}
 use Rattle.ea_reduce.specs.Plans.{PlainPlan, PlainJob, existentials, lassos_for, maps_of, reduction, implication}
 use Rattle.hy_formula.specs.Quantifiers.{turned}
-use Rattle.ea_reduce.specs.Fulfilled.{Separates, IsOfOneKind, IsFulfillable}
+use Rattle.ea_reduce.specs.Fulfilled.{IsOfOneKind, IsFulfillable}
 use Rattle.ea_reduce.proofs.Reducing.{reduced-model, satisfiable-reduced, separated-model, separated-implication}
 use Rattle.ea_core.specs.declared.decision.Decision.{Decision}
 use Rattle.ea_core.specs.declared.decision.Decision.TheVariants.{Sat, Unsat}
 use Rattle.ea_core.specs.declared.decision.Both.{Both}
 use Rattle.ea_core.specs.declared.decision.Both.TheVariants.{Same, First, Second}
-use Rattle.ea_core.specs.Decided.{Mentions, IsShort, Decides, Implies, TellsApart, DecidesImplication, DecidesEquivalence}
+use Rattle.ea_core.specs.Decided.{Mentions, Decides, Implies, DecidesImplication, DecidesEquivalence}
 use Rattle.ea_core.specs.Proofs.{plan_nodes, plan_roots}
 use Rattle.ea_core.specs.Solved.{PlanMentions, Solves, SolvesBoth}
 use Rattle.ea_core.specs.Undecided.{IsCounted, AreWithin, AreSearched, HasFewMembers, HasFewBranches, HasManyBranches, RefusesSearches, UndecidedEquivalence}

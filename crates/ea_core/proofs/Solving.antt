@@ -1,17 +1,15 @@
 -- What the tableau of a plan's closure gives.
-use Rattle.std.proofs.Common.{◌≡◌, ℕ, ◌<◌, ◌≤◌, List, length, IsSome, Option, sym, ap, subst}
+use Rattle.std.proofs.Common.{◌≡◌, ℕ, ◌<◌, ◌≤◌, List, length, IsSome, sym, ap, subst}
 use Rattle.std.specs.List.{All}
 use Rattle.hy_bits.specs.Letter.{Letter}
 use Rattle.hy_formula.specs.Lassos.{Lasso}
 use Rattle.rank_check.specs.declared.ranks.Ranks.{Ranks}
-use Rattle.rank_check.specs.Graphs as graphs
 use Rattle.rank_check.specs.Graphs.{Shape, IsWhole}
-use Rattle.rank_check.specs.Ranking.{rank_of, IsRanked}
+use Rattle.rank_check.specs.Ranking.{rank_of}
 use Rattle.fair_search.specs.declared.found.Found.{Found}
 use Rattle.fair_search.specs.declared.found.Found.TheVariants as found
 use Rattle.fair_search.specs.declared.found.FairLasso.{FairLasso}
 use Rattle.fair_search.specs.Answers.{Answers}
-use Rattle.ltl_closure.specs.Nodes.{Node}
 use Rattle.ltl_closure.specs.Jobs.{Rooted, closure_of, AreMappedBelow}
 use Rattle.ltl_tableau.specs.Branches.{Branch}
 use Rattle.ltl_tableau.specs.Reached.{IsTableau}

@@ -1,5 +1,5 @@
 -- Rank proofs that a plan cannot be fulfilled, as they are kept.
-use Rattle.std.specs.Prelude.{◌≡◌, ◌↔◌, ℕ, ◌<◌, List, map, length, Option, Some, None, All, slice_index_or}
+use Rattle.std.specs.Prelude.{◌≡◌, ◌↔◌, ℕ, ◌<◌, List, map, length, Some, None, All, slice_index_or}
 use Rattle.std.specs.List.{Contains}
 use Rattle.std.specs.List.Sorted.{IsStrictlyIncreasing}
 use Rattle.ltl_closure.specs.Nodes.{Node, node_at, until}

@@ -10,7 +10,7 @@ use Rattle.ltl_tableau.specs.Reached.{branch_at}
 use Rattle.ltl_tableau.specs.WalkWords.{letter_of}
 use Rattle.ea_core.specs.declared.rank_proof.RankProof.{RankProof}
 use Rattle.ea_core.specs.declared.rank_proof.ProofBranch.{ProofBranch}
-use Rattle.ea_core.specs.Proofs.{branch_of, branches_of, IsAscending}
+use Rattle.ea_core.specs.Proofs.{branch_of, IsAscending}
 
 -- the letters of the first variables at a branch, and at the branches of nodes
 abbrev pub letters_of : List Node → ℕ → Branch → List Letter

@@ -1,5 +1,5 @@
 -- When nothing is decided: within which counts a plan is, and past which.
-use Rattle.std.specs.Prelude.{◌≡◌, ◌≢◌, ◌⊎◌, ℕ, ◌<◌, ◌≤◌, Bool, false, List, length}
+use Rattle.std.specs.Prelude.{◌≡◌, ◌≢◌, ◌⊎◌, ℕ, ◌<◌, ◌≤◌, false, List, length}
 use Rattle.std.specs.List.{Contains}
 use Rattle.hy_base.specs.declared.limit.Limit.{Limit as Past}
 use Rattle.hy_base.specs.declared.limit.Kind.TheVariants.{Closure}

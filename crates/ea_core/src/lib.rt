@@ -5,8 +5,8 @@
 mod decision;
 mod directions;
 mod ea_error;
-pub mod laws;
 mod lassos;
+pub mod laws;
 mod proof_text;
 mod questions;
 mod rank_proof;
@@ -15,8 +15,8 @@ mod solve;
 #[cfg(test)]
 mod tests;
 
-pub use questions::{decide, equivalent, implies};
 pub use decision::{Both, Decision};
 pub use ea_error::EaError;
 pub use proof_text::print_rank_proof;
+pub use questions::{decide, equivalent, implies};
 pub use rank_proof::{ProofBranch, RankProof};

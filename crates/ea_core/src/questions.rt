@@ -10,8 +10,8 @@ ghost use Rattle.ea_core.specs.Decided.{Decides, DecidesImplication, DecidesEqui
 ghost use Rattle.ea_core.specs.Undecided.{IsWithin, AreWithin, Undecided, UndecidedImplication, UndecidedEquivalence};
 
 use crate::decision::{Both, Decision};
-use crate::ea_error::EaError;
 use crate::directions::{both_closures, solve_both};
+use crate::ea_error::EaError;
 use crate::solve::{plan_closure, solve};
 use ea_reduce::{implication, reduce};
 use hy_formula::Formula;

@@ -3,8 +3,9 @@
 ghost use Rattle.std.specs.Prelude.{◌≡◌, ◌≤◌, IfOk, IsTrue, length};
 ghost use Rattle.hy_formula.specs.Trees.{tree_of, vars_below};
 
-use crate::{Both, Decision, EaError, ProofBranch, RankProof, decide, equivalent, implies};
-use crate::print_rank_proof;
+use crate::{
+    Both, Decision, EaError, ProofBranch, RankProof, decide, equivalent, implies, print_rank_proof,
+};
 use hy_base::{List, M, NumList};
 use hy_formula::{Atom, Body, Formula, Prefix, Quant};
 use std::alloc::Global;
@@ -104,6 +105,9 @@ fn prints_a_proof(rt: HostRuntime) -> Result<(), EaError> {
     reasons.push(Some(2))?;
     reasons.push(None)?;
     let text = print_rank_proof(alloc, &RankProof { branches, reasons })?;
-    assert_eq!(rt; text.as_slice(), b"proof rank 1 2\nb 0 4,12 -\nu 2\nn\n".as_slice());
+    assert_eq!(rt;
+        text.as_slice(),
+        b"proof rank 1 2\nb 0 4,12 -\nu 2\nn\n".as_slice()
+    );
     Ok(())
 }

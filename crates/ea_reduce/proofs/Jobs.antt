@@ -1,12 +1,11 @@
 -- The tasks of jobs.
-use Rattle.std.proofs.Common.{◌≡◌, ℕ, ◌+◌, ◌<◌, ◌≤◌, Bool, List, [], ◌∷◌, ◌++◌, length, map, refl, ap, sym, subst, arith, IsTrue}
-use Rattle.std.specs.List.{All}
-use Rattle.hy_formula.specs.Trees.{Tree, tree_of, vars_below}
+use Rattle.std.proofs.Common.{◌≡◌, ℕ, ◌+◌, ◌<◌, ◌≤◌, Bool, List, [], ◌∷◌, ◌++◌, map, refl, ap, sym, subst}
+use Rattle.hy_formula.specs.Trees.{Tree, tree_of}
 use Rattle.hy_formula.specs.Temporal.{Span, Words}
 use Rattle.hy_formula.specs.Quantifiers.{Each}
 use Rattle.hy_formula.specs.declared.prefix.Quant.{Quant}
 use Rattle.ltl_closure.specs.declared.job.Job.{Job}
-use Rattle.ltl_closure.specs.Jobs.{Task, tasks_by, tasks_of, variable_in, Holds, AllHold, AreMappedBelow}
+use Rattle.ltl_closure.specs.Jobs.{Task, tasks_by, tasks_of, Holds, AllHold, AreMappedBelow}
 use Rattle.ea_reduce.specs.Plans.{existentials, maps_of, plain_job, tasks_of_jobs}
 use Rattle.ea_reduce.proofs.Maps.{IsBelow, are-below}
 

@@ -1,5 +1,5 @@
 -- Tuples that fulfil a plan, and lists that satisfy its formulas.
-use Rattle.std.proofs.Common.{◌≡◌, ◌≢◌, ℕ, zero, suc, ◌+◌, ◌<◌, ◌≤◌, ◌⊎◌, ◌↔◌, Bool, true, false, List, [], ◌∷◌, ◌++◌, length, get_or, map, inl, inr, refl, sym, ap, ◌∙◌, subst, arith, IsTrue, length-append, append-nil, zero-add}
+use Rattle.std.proofs.Common.{◌≡◌, ◌≢◌, ℕ, zero, suc, ◌+◌, ◌<◌, ◌≤◌, Bool, true, false, List, [], ◌∷◌, ◌++◌, length, get_or, map, inl, inr, refl, sym, ap, ◌∙◌, subst, arith, IsTrue, length-append, append-nil, zero-add}
 use Rattle.std.specs.List.{Contains}
 use Rattle.std.proofs.lemmas.List.{length-map, get_or_append_left, get_or-append_right}
 use Rattle.std.proofs.lemmas.List.Elements.{Contains-get_or}
@@ -15,14 +15,14 @@ use Rattle.hy_formula.specs.declared.prefix.Quant.{Quant}
 use Rattle.hy_formula.specs.declared.prefix.Quant.TheVariants.{Exists, Forall}
 use Rattle.hy_formula.specs.Quantifiers.{Quantified, Each, repeated, turned}
 use Rattle.hy_formula.proofs.Shapes.{exists-shape, forall-shape, exists_forall-shape}
-use Rattle.hy_lasso.specs.Words.{no_lasso, lasso_words, AreLassos, picked, Meets, Satisfies, IsSatisfiable}
+use Rattle.hy_lasso.specs.Words.{no_lasso, lasso_words, AreLassos, picked, Meets, IsSatisfiable}
 use Rattle.hy_lasso.proofs.LassoWords.{any-default}
 use Rattle.hy_lasso.proofs.Negating.{negation}
 use Rattle.ltl_closure.specs.Jobs.{tasks_by, AllHold}
 use Rattle.ea_reduce.specs.Plans.{PlainPlan, existentials, maps_of, lassos_for, reduction, implication, plan_tasks}
 use Rattle.ea_reduce.specs.Fulfilled.{Fulfils, IsFulfillable, IsModel, Separates, IsOfOneKind}
 use Rattle.ea_reduce.specs.Joints.{AreShortened}
-use Rattle.ea_reduce.proofs.Each.{each-map, each-unmap, each-range, each-in_range, each-append, each-place, each-like, each-both}
+use Rattle.ea_reduce.proofs.Each.{each-map, each-unmap, each-range, each-in_range, each-append, each-place, each-both}
 use Rattle.ea_reduce.proofs.Maps.{IsAsLong, are-as_long}
 use Rattle.ea_reduce.proofs.Jobs.{HoldsUnder, all-under, each-under, hold-append, hold-left, hold-right}
 use Rattle.ea_reduce.proofs.Same.{under-picked, shortened-words}
@@ -38,12 +38,11 @@ module _ (tuple : List (Lasso Letter)) (vars : ℕ) (count : length tuple ≡ va
       → UnderAll tuple Body (maps_of vars next prefix) → Quantified (Contains tuple) Body prefix
   quantified Body next [] le (b, _) = b
   quantified Body next (Exists ∷ prefix) le all =
-      let x = get_or tuple next no_lasso in
-      (
+      let x = get_or tuple next no_lasso in (
         x,
         Contains-get_or tuple next no_lasso (omega arith),
         quantified (λ t. Body (x ∷ t)) (suc next) prefix (omega arith)
-        (each-unmap (λ m. Body (picked tuple m)) (λ m. next ∷ m) (maps_of vars (suc next) prefix) all),
+            (each-unmap (λ m. Body (picked tuple m)) (λ m. next ∷ m) (maps_of vars (suc next) prefix) all),
       )
   quantified Body next (Forall ∷ prefix) le all = λ x (k, lt, e).
       let y = get_or tuple k no_lasso in
@@ -69,9 +68,9 @@ module _ (list tuple : List (Lasso Letter)) (vars : ℕ) (count : length tuple �
   every Body next (suc k) q =
       each-range (λ m. Body (picked tuple m)) (λ j. map (λ m. j ∷ m) (maps_of vars next (repeated Forall k))) 0 vars
       (λ j _ lt.
-          let y = get_or tuple j no_lasso in
-          each-map (λ m. Body (picked tuple m)) (λ m. j ∷ m) (maps_of vars next (repeated Forall k))
-          (every (λ t. Body (y ∷ t)) next k (q y (each-place (Contains list) tuple no_lasso members j (omega arith)))))
+      let y = get_or tuple j no_lasso in
+      each-map (λ m. Body (picked tuple m)) (λ m. j ∷ m) (maps_of vars next (repeated Forall k))
+      (every (λ t. Body (y ∷ t)) next k (q y (each-place (Contains list) tuple no_lasso members j (omega arith)))))
 
   chosen : (Body : List (Lasso Letter) → Type 0) (next : ℕ) (xs : List (Lasso Letter)) (k : ℕ)
       → ((j : ℕ) → j < length xs → get_or tuple (next + j) no_lasso ≡ get_or xs j no_lasso)
@@ -156,10 +155,14 @@ witnesses list Body prefix (n, k, is) =
   where
     of-repeated : Quantified (Contains list) Body (repeated Exists n ++ repeated Forall k) → Witnesses list Body (repeated Exists n ++ repeated Forall k)
     of-repeated q =
-        let (xs, l, e, r) = choose list Body n (repeated Forall k) q in
-        (xs, l ∙ sym (existentials-repeated n k), e, λ tuple vars next count members at.
-            let R : ℕ → Type 0 = λ i. UnderAll tuple Body (maps_of vars next (repeated Exists i ++ repeated Forall k)) in
-            subst R l (chosen list tuple vars count members Body next xs k at r))
+        let (xs, l, e, r) = choose list Body n (repeated Forall k) q in (
+          xs,
+          l ∙ sym (existentials-repeated n k),
+          e,
+          λ tuple vars next count members at.
+              let R : ℕ → Type 0 = λ i. UnderAll tuple Body (maps_of vars next (repeated Exists i ++ repeated Forall k)) in
+              subst R l (chosen list tuple vars count members Body next xs k at r),
+        )
 
 -- ---- one job
 
@@ -212,15 +215,17 @@ module _ (prefix : List Quant) (body : Tree) (bound : IsTrue (vars_below (length
   satisfiable-reduced ne (list, some, are, q) =
       let (xs, l, e, holds) = witnesses list (Meets body) prefix (sorted-taken prefix ne) q in
       let (tuple, count, members, same) = padded list some xs e in
-      let full : length tuple ≡ vars = count ∙ ap lassos_for l in
-      (tuple, record {
-        count = full;
-        lassos = members-lassos list are tuple members;
-        hold =
-            hold-append endless (lasso_words tuple) (tasks_by body true (maps_of vars 0 prefix)) []
-            (said body true prefix bound tuple vars 0
-            (holds tuple vars 0 full members (λ j lt. ap (λ i. get_or tuple i no_lasso) (zero-add j) ∙ same j lt))) tt;
-      })
+      let full : length tuple ≡ vars = count ∙ ap lassos_for l in (
+        tuple,
+        record {
+          count = full;
+          lassos = members-lassos list are tuple members;
+          hold =
+              hold-append endless (lasso_words tuple) (tasks_by body true (maps_of vars 0 prefix)) []
+              (said body true prefix bound tuple vars 0
+              (holds tuple vars 0 full members (λ j lt. ap (λ i. get_or tuple i no_lasso) (zero-add j) ∙ same j lt))) tt;
+        },
+      )
 
 -- ---- two formulas
 
@@ -267,19 +272,21 @@ module _ (first : List Quant) (body : Tree) (second : List Quant) (other : Tree)
       let (ys, l', e', holds') = witnesses list (Says other false) more (sorted-turned second two) ((negation list are second other).1 s.fails) in
       let (tuple, count, members, same) = padded list s.model.some (xs ++ ys) (each-append (Contains list) xs ys e e') in
       let both = length-append xs ys in
-      let full : length tuple ≡ all = count ∙ ap lassos_for (omega (arith, l, l', both)) in
-      (tuple, record {
-        count = full;
-        lassos = members-lassos list are tuple members;
-        hold =
-            hold-append endless (lasso_words tuple) (tasks_by body true (maps_of all 0 first)) (tasks_by other false (maps_of all next more) ++ [])
-            (said body true first bound tuple all 0 (holds tuple all 0 full members
-            (λ j lt. ap (λ i. get_or tuple i no_lasso) (zero-add j) ∙ same j (omega (arith, both)) ∙ get_or_append_left xs ys no_lasso j lt)))
-            (hold-append endless (lasso_words tuple) (tasks_by other false (maps_of all next more)) []
-            (said other false more below-more tuple all next (holds' tuple all next full members
-            (λ j lt. same (next + j) (omega (arith, both, l)) ∙ get_or-append_right xs ys next (next + j) no_lasso l (omega arith) ∙ ap (λ i. get_or ys i no_lasso) (omega arith))))
-            tt);
-      })
+      let full : length tuple ≡ all = count ∙ ap lassos_for (omega (arith, l, l', both)) in (
+        tuple,
+        record {
+          count = full;
+          lassos = members-lassos list are tuple members;
+          hold =
+              hold-append endless (lasso_words tuple) (tasks_by body true (maps_of all 0 first)) (tasks_by other false (maps_of all next more) ++ [])
+              (said body true first bound tuple all 0 (holds tuple all 0 full members
+              (λ j lt. ap (λ i. get_or tuple i no_lasso) (zero-add j) ∙ same j (omega (arith, both)) ∙ get_or_append_left xs ys no_lasso j lt)))
+              (hold-append endless (lasso_words tuple) (tasks_by other false (maps_of all next more)) []
+              (said other false more below-more tuple all next (holds' tuple all next full members
+              (λ j lt. same (next + j) (omega (arith, both, l)) ∙ get_or-append_right xs ys next (next + j) no_lasso l (omega arith) ∙ ap (λ i. get_or ys i no_lasso) (omega arith))))
+              tt);
+        },
+      )
 
 -- Lassos may be shortened.
 pub shortened-fulfils : (plan : PlainPlan) (tuple list : List (Lasso Letter)) → AreShortened tuple list → Fulfils plan tuple → Fulfils plan list

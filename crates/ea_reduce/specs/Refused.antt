@@ -1,5 +1,5 @@
 -- When a plan is not made.
-use Rattle.std.specs.Prelude.{◌≡◌, ◌≢◌, ◌⊎◌, ℕ, ◌<◌, ◌≤◌, Bool, true, false, List, length, All}
+use Rattle.std.specs.Prelude.{◌≡◌, ◌≢◌, ℕ, ◌<◌, ◌≤◌, Bool, true, false, List, length, All}
 use Rattle.std.specs.List.{Contains}
 use Rattle.hy_base.specs.declared.limit.Limit.{Limit as Past}
 use Rattle.hy_base.specs.declared.limit.Kind.TheVariants.{Instances}

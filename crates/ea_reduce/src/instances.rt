@@ -65,8 +65,11 @@ pub fn job(
     requires few_vars { vars ≤ 16 }
     requires inside { next + existentials quants.now ≤ 16 }
     requires bound { IsTrue (vars_below (length quants.now) (tree_of body.now)) }
-    ensures job { IfOk result (λ j. plain_job j ≡ record { body = tree_of body.now;
-        positive = positive; maps = maps_of vars next quants.now }) }
+    ensures job { IfOk result (λ j. plain_job j ≡ record {
+      body = tree_of body.now;
+      positive = positive;
+      maps = maps_of vars next quants.now;
+    }) }
     ensures few { OnOk result (length (maps_of vars next quants.now) ≤ most_maps) }
     ensures mapped { IfOk result IsMapped }
     ensures below { next + existentials quants.now ≤ vars

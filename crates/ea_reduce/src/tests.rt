@@ -48,7 +48,10 @@ fn makes_no_more_maps(rt: HostRuntime) -> Result<(), ReduceError> {
         kind: Kind::Instances,
         limit: 4_096,
     };
-    assert_eq!(rt; implication(rt.alloc(), &five, &eight).err(), Some(ReduceError::Limit(past)));
+    assert_eq!(rt;
+        implication(rt.alloc(), &five, &eight).err(),
+        Some(ReduceError::Limit(past))
+    );
     Ok(())
 }
 

@@ -11,21 +11,18 @@ use Rattle.hy_formula.specs.declared.classes.Class.TheVariants as classes
 use Rattle.hy_formula.specs.declared.prefix.Quant.{Quant}
 use Rattle.hy_formula.specs.declared.prefix.Quant.TheVariants as quant
 use Rattle.hy_text.specs.Bytes.{is_line_feed}
+use Rattle.hy_text.specs.Lines.{lines_of}
 use Rattle.hy_finite.specs.declared.event.Event.{Event}
 use Rattle.hy_finite.specs.declared.event.Event.TheVariants.{Whole, Letter, End, Save, Back}
 use Rattle.hy_finite.specs.declared.event.Placed.{Placed}
-use Rattle.hy_finite.specs.EventFiles.{event_of, lines_of, SayEvents}
+use Rattle.hy_finite.specs.EventFiles.{event_of, SayEvents}
 use Rattle.hy_finite.specs.Traces.{Trace}
 use Rattle.hy_read.specs.Answers.{Plain}
 use Rattle.hy_read.specs.Builds.{plain_formula, plain_formulas}
 use Rattle.hy_top.specs.Arrivals.{AreUniversal}
-use Rattle.hy_top.specs.Monitoring.{AreBuilt, first_class, unless_universal}
+use Rattle.hy_top.specs.Classes.{is_universal}
+use Rattle.hy_top.specs.Contents.{AreBuilt}
 use Rattle.hy_top.specs.WholeTraces.{whole_of, wholes, IsTraceFile}
-
-pub not-built : (fs : List Formula) → length fs ≢ 1 → ¬ AreBuilt (plain_formulas fs)
-not-built [] other built = built
-not-built (f ∷ []) other built = other refl
-not-built (f ∷ g ∷ fs) other built = built
 
 pub built-by : (fs : List Formula) (f : Formula) → length fs ≡ 1 → slice_get fs 0 ≡ Some f → (length f.prefix ≤ 2) → AreBuilt (plain_formulas fs)
 built-by [] f one e few = absurd (omega (arith, one))
@@ -66,14 +63,11 @@ choose false false false e = absurd (cc)
 pub universal-class : (prefix : List Quant) → class_of prefix ≡ classes.Forall → AreUniversal prefix
 universal-class prefix e = only-universal prefix (choose (has_only quant.Exists prefix) (has_only quant.Forall prefix) _ e)
 
-pub class-of-one : (formulas : List Plain) (f : Plain) (class : Class) → formulas ≡ f ∷ [] → class ≡ class_of f.prefix → first_class formulas ≡ unless_universal class None
-class-of-one formulas f class e g = ap first_class e ∙ ap (λ c. unless_universal c None) (sym g)
-
-pub other-class : (class : Class) → (class ≡ classes.Forall → ⊥) → unless_universal class None ≡ Some class
-other-class classes.Exists other = refl
-other-class classes.Forall other = absurd (other refl)
-other-class classes.ExistsForall other = refl
-other-class classes.Other other = refl
+pub other-untaken : (class : Class) → (class ≡ classes.Forall → ⊥) → is_universal class ≡ false
+other-untaken classes.Exists other = refl
+other-untaken classes.Forall other = absurd (other refl)
+other-untaken classes.ExistsForall other = refl
+other-untaken classes.Other other = refl
 
 -- ---- how many traces there are
 

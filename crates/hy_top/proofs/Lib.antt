@@ -1,9 +1,15 @@
 pub mod Arriving
+pub mod Deciding
+pub mod Ending
 pub mod FirstSpecs
-pub mod MonitorPipeline
+pub mod Formulas
+pub mod Judging
+pub mod Monitoring
 pub mod OneAnswer
-pub mod Outputting
+pub mod Progress
+pub mod Reading
 pub mod Searches
+pub mod Silence
 pub mod StageOrder
 pub mod Texts
 pub mod TraceLines

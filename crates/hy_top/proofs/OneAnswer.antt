@@ -1,32 +1,48 @@
 -- The first stage that is met gives one answer.
-use Rattle.std.proofs.Common.{◌≡◌, ℕ, zero, suc, ◌<◌, List, [], ◌∷◌, length, take, All, Some, inl, inr, ap, sym, subst, ◌∙◌, arith, refl, true}
+use Rattle.std.proofs.Common.{◌≡◌, ℕ, zero, suc, ◌<◌, ◌⊎◌, List, [], ◌∷◌, length, take, All, inl, inr, refl, sym, ap, subst, ◌∙◌, arith}
 use Rattle.std.proofs.lemmas.Bool.{cases_lt}
 use Rattle.std.proofs.lemmas.List.{length-take}
-use Rattle.hy_formula.specs.declared.prefix.Quant.{Quant}
+use Rattle.hy_bits.specs.Letter.{Letter}
+use Rattle.hy_formula.specs.Lassos.{Lasso}
 use Rattle.hy_formula.specs.Trees.{Tree}
-use Rattle.hy_finite.specs.EventFiles.{lines_of}
+use Rattle.hy_formula.specs.declared.prefix.Quant.{Quant}
 use Rattle.hy_finite.specs.Traces.{Trace}
-use Rattle.hy_read.specs.Answers.{Answer as Found, Answers, Plain, faulty, free, over, read_as}
-use Rattle.hy_read.proofs.Spanning.{answer-once}
-use Rattle.hy_top.specs.declared.answer.Answer.{Answer}
-use Rattle.hy_top.specs.declared.answer.Answer.TheVariants.{NoViolation, Violation, Line, Prefix}
+use Rattle.hy_lasso.specs.Words.{Satisfies as Meant}
+use Rattle.hy_read.specs.Answers.{Plain}
+use Rattle.ea_core.specs.Decided.{Implies, TellsApart}
+use Rattle.ea_core.specs.Undecided.{HasFewBranches, HasManyBranches}
+use Rattle.ea_core.proofs.Searching.{not-both}
+use Rattle.hy_answer.specs.declared.answer.Answer.{Answer}
+use Rattle.hy_answer.specs.declared.answer.Answer.TheVariants as answers
+use Rattle.hy_words.specs.Commands.{Command, monitor, judge, decide, imply, compare}
 use Rattle.hy_top.specs.Arrivals.{AreUniversal, Satisfies, AllSatisfy, ViolatesBy, FirstViolation}
-use Rattle.hy_top.specs.Commands.{Command, monitor}
-use Rattle.hy_top.specs.Monitoring.{HasSpecs, RefusesFound, RefusesSpecs, RefusesLines, RefusesTraces, RefusesClass, first_class, IsJudged, is_clean, is_violated, Judges, most_quantifiers}
-use Rattle.hy_top.specs.Stages.{Stage, opening, reading, size, text, class, work, Given, Met, First, here, later, Agree}
+use Rattle.hy_top.specs.Classes.{takes, file_of, RefusesClass, FirstUntaken}
+use Rattle.hy_top.specs.Contents.{content_of, most_quantifiers, IsRefused}
+use Rattle.hy_top.specs.Deciding.{plan_of, plan_against, Determines, DecidesBy, DecidesOne, DecidesTwo, ComparesTwo, sat, unsat, implied, not_implied, beyond, equivalent, first_alone, second_alone, many_branches}
+use Rattle.hy_top.specs.Files.{Given, RefusesText}
+use Rattle.hy_top.specs.Judging.{HasLassos, Judges, holds, fails}
+use Rattle.hy_top.specs.Monitoring.{HasTraces, IsVerdict, is_clean, is_violated, Monitors}
+use Rattle.hy_top.specs.Stages.{Stage, opening, reading, size, text, class, count, work, Met, First, here, later, ComesTo, Agree, same, other_tuple, other_model, other_proof, other_implied, other_proofs, other_witness, other_side}
 use Rattle.hy_top.specs.WholeTraces.{IsTraceFile}
 use Rattle.hy_top.proofs.Arriving.{quantified-all}
+use Rattle.hy_top.proofs.Formulas.{of_formulas, untaken_once}
+use Rattle.hy_top.proofs.Judging.{lassos_once}
+use Rattle.hy_top.proofs.Progress.{texts_once}
+use Rattle.hy_top.proofs.Reading.{bytes_once}
 use Rattle.hy_top.proofs.Searches.{picked-take}
-use Rattle.hy_top.proofs.StageOrder.{bytes_once}
-use Rattle.hy_top.proofs.TraceLines.{wrong-once, wrong-or-none, traces-once}
+use Rattle.hy_top.proofs.Texts.{refused_once}
+use Rattle.hy_top.proofs.TraceLines.{traces-once}
 
--- ---- two verdicts
+agree : {a b : Answer} → a ≡ b → Agree a b
+agree {a} e = subst (Agree a) e (same a)
+
+-- ---- two verdicts on traces
 
 -- Traces up to the m-th that violate the body do so among all of them.
 violates_later : (n : ℕ) (tree : Tree) (traces : List Trace) (m : ℕ) (pick : List ℕ) → ViolatesBy n tree (take m traces) pick → All (λ x. x < m) pick × ViolatesBy n tree traces pick
-violates_later n tree traces m pick ((long, members), fails) = (
+violates_later n tree traces m pick ((long, members), wrong) = (
   within,
-  ((long, λ i d lt. omega (arith, members i d lt, length-take m traces)), λ holds. fails (subst (Satisfies tree) (sym (picked-take traces m pick within)) holds)),
+  ((long, λ i d lt. omega (arith, members i d lt, length-take m traces)), λ right. wrong (subst (Satisfies tree) (sym (picked-take traces m pick within)) right)),
 )
   where
     within : All (λ x. x < m) pick
@@ -43,8 +59,8 @@ no_earlier n tree traces k l pick other one two lt =
     let (within, violated) = violates_later n tree traces (suc k) pick one.violated in
     let before : All (λ x. x < l) pick = λ i d le. omega (arith, within i d le) in
     let arrives = two.arrives in
-    let holds = two.clean_before pick (violated.0.0, λ i d le. omega (arith, before i d le, length-take l traces)) in
-    violated.1 (subst (Satisfies tree) (picked-take traces l pick before) holds)
+    let right = two.clean_before pick (violated.0.0, λ i d le. omega (arith, before i d le, length-take l traces)) in
+    violated.1 (subst (Satisfies tree) (picked-take traces l pick before) right)
 
 one_arrival : (n : ℕ) (tree : Tree) (traces : List Trace) (k l : ℕ) (pick other : List ℕ) → FirstViolation n tree traces k pick → FirstViolation n tree traces l other → k ≡ l
 one_arrival n tree traces k l pick other one two =
@@ -58,80 +74,163 @@ one_arrival n tree traces k l pick other one two =
     ]
 
 same_clean : (count : ℕ) (kept : List ℕ) (live : ℕ) (other : ℕ) (left : List ℕ) (open' : ℕ)
-    → count ≡ other → kept ≡ left → live ≡ open' → NoViolation count kept live ≡ NoViolation other left open'
-same_clean count kept live other left open' e f h = cc
+    → count ≡ other → kept ≡ left → live ≡ open' → answers.NoViolation count kept live ≡ answers.NoViolation other left open'
+same_clean total kept live other left open' e f h = cc
 
-judged_agree : (prefix : List Quant) (tree : Tree) (traces : List Trace) (a b : Answer) → AreUniversal prefix → IsJudged prefix tree traces a → IsJudged prefix tree traces b → Agree a b
-judged_agree prefix tree traces _ _ universal (is_clean count kept live one) (is_clean other left open' two) =
-    inl (same_clean count kept live other left open' (one.all ∙ sym two.all) (one.kept_all ∙ sym two.kept_all) (one.none_open ∙ sym two.none_open))
-judged_agree prefix tree traces _ _ universal (is_clean count kept live one) (is_violated trace tuple two) =
+verdicts_agree : (prefix : List Quant) (tree : Tree) (traces : List Trace) (a b : Answer) → AreUniversal prefix → IsVerdict prefix tree traces a
+    → IsVerdict prefix tree traces b → Agree a b
+verdicts_agree prefix tree traces _ _ universal (is_clean total kept live one) (is_clean other left open' two) =
+    agree (same_clean total kept live other left open' (one.all ∙ sym two.all) (one.kept_all ∙ sym two.kept_all) (one.none_open ∙ sym two.none_open))
+verdicts_agree prefix tree traces _ _ universal (is_clean total kept live one) (is_violated trace tuple two) =
     absurd (clean_or_not (length prefix) tree traces trace tuple (λ pick (long, members). quantified-all (length traces) _ prefix universal one.clean pick long members) two)
-judged_agree prefix tree traces _ _ universal (is_violated trace tuple one) (is_clean other left open' two) =
+verdicts_agree prefix tree traces _ _ universal (is_violated trace tuple one) (is_clean other left open' two) =
     absurd (clean_or_not (length prefix) tree traces trace tuple (λ pick (long, members). quantified-all (length traces) _ prefix universal two.clean pick long members) one)
-judged_agree prefix tree traces _ _ universal (is_violated trace tuple one) (is_violated arrival pick two) =
-    inr (0, trace, tuple, pick, refl, ap (λ t. Violation 0 t pick) (sym (one_arrival (length prefix) tree traces trace arrival tuple pick one two)))
+verdicts_agree prefix tree traces _ _ universal (is_violated trace tuple one) (is_violated arrival pick two) =
+    let P : ℕ → Type 0 = λ t. Agree (answers.Violation 0 trace tuple) (answers.Violation 0 t pick) in
+    subst P (one_arrival (length prefix) tree traces trace arrival tuple pick one two) (other_tuple 0 trace tuple pick)
+
+-- ---- two decisions
+
+decisions_agree : (f : Plain) (n : ℕ) (a b : Answer) → DecidesOne f n a → DecidesOne f n b → Agree a b
+decisions_agree f n _ _ (sat list one within) (sat other two also) = other_model list other
+decisions_agree f n _ _ (sat list one within) (unsat proof two also) =
+    absurd (two.0 (list, one.0.some, one.0.lassos, one.0.satisfies))
+decisions_agree f n _ _ (sat list one within) (beyond more) = absurd (not-both (plan_of f) n within.branches more)
+decisions_agree f n _ _ (unsat proof one within) (sat list two also) =
+    absurd (one.0 (list, two.0.some, two.0.lassos, two.0.satisfies))
+decisions_agree f n _ _ (unsat proof one within) (unsat other two also) = other_proof proof other
+decisions_agree f n _ _ (unsat proof one within) (beyond more) = absurd (not-both (plan_of f) n within.branches more)
+decisions_agree f n _ _ (beyond more) (sat list two within) = absurd (not-both (plan_of f) n within.branches more)
+decisions_agree f n _ _ (beyond more) (unsat proof two within) = absurd (not-both (plan_of f) n within.branches more)
+decisions_agree f n _ _ (beyond more) (beyond also) = same (answers.States n)
+
+module _ (f g : Plain) where
+  apart_or_implies : (list : List (Lasso Letter)) → TellsApart f.prefix f.body g.prefix g.body list → ¬ Implies f.prefix f.body g.prefix g.body
+  apart_or_implies list apart implies =
+      apart.separates.fails (implies list apart.separates.model.some apart.separates.model.lassos apart.separates.model.satisfies)
+
+implications_agree : (f g : Plain) (n : ℕ) (a b : Answer) → DecidesTwo f g n a → DecidesTwo f g n b → Agree a b
+implications_agree f g n _ _ (implied proof one within) (implied other two also) = other_implied proof other
+implications_agree f g n _ _ (implied proof one within) (not_implied list two also) = absurd (apart_or_implies f g list two one.0)
+implications_agree f g n _ _ (implied proof one within) (beyond more) = absurd (not-both (plan_against f g) n within.branches more)
+implications_agree f g n _ _ (not_implied list one within) (implied proof two also) = absurd (apart_or_implies f g list one two.0)
+implications_agree f g n _ _ (not_implied list one within) (not_implied other two also) = other_witness list other
+implications_agree f g n _ _ (not_implied list one within) (beyond more) = absurd (not-both (plan_against f g) n within.branches more)
+implications_agree f g n _ _ (beyond more) (implied proof two within) = absurd (not-both (plan_against f g) n within.branches more)
+implications_agree f g n _ _ (beyond more) (not_implied list two within) = absurd (not-both (plan_against f g) n within.branches more)
+implications_agree f g n _ _ (beyond more) (beyond also) = same (answers.States n)
+
+-- More branches are reachable than the first direction may have, or than the second where the first formula implies the second.
+module _ (f g : Plain) (n : ℕ) where
+  same-or-beyond : HasFewBranches (plan_against f g) n → HasFewBranches (plan_against g f) n
+      → HasManyBranches (plan_against f g) n
+      ⊎ (HasFewBranches (plan_against f g) n × Implies f.prefix f.body g.prefix g.body × HasManyBranches (plan_against g f) n) → ⊥
+  same-or-beyond few back (inl more) = not-both (plan_against f g) n few more
+  same-or-beyond few back (inr (first, implies, more)) = not-both (plan_against g f) n back more
+
+  first-or-beyond : (list : List (Lasso Letter)) → TellsApart f.prefix f.body g.prefix g.body list → HasFewBranches (plan_against f g) n
+      → HasManyBranches (plan_against f g) n
+      ⊎ (HasFewBranches (plan_against f g) n × Implies f.prefix f.body g.prefix g.body × HasManyBranches (plan_against g f) n) → ⊥
+  first-or-beyond list apart few (inl more) = not-both (plan_against f g) n few more
+  first-or-beyond list apart few (inr (first, implies, more)) = apart_or_implies f g list apart implies
+
+comparisons_agree : (f g : Plain) (n : ℕ) (a b : Answer) → ComparesTwo f g n a → ComparesTwo f g n b → Agree a b
+comparisons_agree f g n _ _ (equivalent p q one within) (equivalent r s two also) = other_proofs p q r s
+comparisons_agree f g n _ _ (equivalent p q one within) (first_alone list two also) = absurd (apart_or_implies f g list two one.0.0)
+comparisons_agree f g n _ _ (equivalent p q one within) (second_alone list two also) = absurd (apart_or_implies g f list two.1 one.1.0)
+comparisons_agree f g n _ _ (equivalent p q one within) (many_branches more) =
+    absurd (same-or-beyond f g n within.0.branches within.1.branches more)
+comparisons_agree f g n _ _ (first_alone list one within) (equivalent p q two also) = absurd (apart_or_implies f g list one two.0.0)
+comparisons_agree f g n _ _ (first_alone list one within) (first_alone other two also) = other_side 0 list other
+comparisons_agree f g n _ _ (first_alone list one within) (second_alone other two also) = absurd (apart_or_implies f g list one two.0)
+comparisons_agree f g n _ _ (first_alone list one within) (many_branches more) = absurd (first-or-beyond f g n list one within.0.branches more)
+comparisons_agree f g n _ _ (second_alone list one within) (equivalent p q two also) = absurd (apart_or_implies g f list one.1 two.1.0)
+comparisons_agree f g n _ _ (second_alone list one within) (first_alone other two also) = absurd (apart_or_implies f g other two one.0)
+comparisons_agree f g n _ _ (second_alone list one within) (second_alone other two also) = other_side 1 list other
+comparisons_agree f g n _ _ (second_alone list one within) (many_branches more) =
+    absurd (same-or-beyond f g n within.0.branches within.1.branches more)
+comparisons_agree f g n _ _ (many_branches more) (equivalent p q two within) =
+    absurd (same-or-beyond f g n within.0.branches within.1.branches more)
+comparisons_agree f g n _ _ (many_branches more) (first_alone list two within) = absurd (first-or-beyond f g n list two within.0.branches more)
+comparisons_agree f g n _ _ (many_branches more) (second_alone list two within) =
+    absurd (same-or-beyond f g n within.0.branches within.1.branches more)
+comparisons_agree f g n _ _ (many_branches more) (many_branches also) = same (answers.States n)
 
 -- ---- one stage, one answer
 
-refused_once : (found : Found) (a b : Answer) → RefusesFound found a → RefusesFound found b → a ≡ b
-refused_once (faulty token byte) a b e f = e ∙ sym f
-refused_once (free byte) a b e f = e ∙ sym f
-refused_once (over count limit) a b e f = e ∙ sym f
-refused_once (read_as formulas names) a b e f = e.1 ∙ sym f.1
+module _ (command : Command) (given : Given) where
+  text_agrees : (k : ℕ) (a b : Answer) → RefusesText command given k a → RefusesText command given k b → a ≡ b
+  text_agrees k a b one two =
+      let names = (texts_once command given k one.formulas two.formulas one.names two.names one.before two.before).1 in
+      let bytes = bytes_once given k one.bytes two.bytes one.came two.came in
+      let P : List (List ℕ) → Type 0 = λ n. IsRefused (most_quantifiers command) n k two.bytes (content_of command k) a in
+      let Q : List ℕ → Type 0 = λ b. IsRefused (most_quantifiers command) one.names k b (content_of command k) a in
+      refused_once (most_quantifiers command) two.names k two.bytes (content_of command k) a b (subst P names (subst Q bytes one.refused)) two.refused
 
-lines_once : (lines : List (List ℕ)) (a b : Answer) → RefusesLines lines a → RefusesLines lines b → a ≡ b
-lines_once lines a b (inl (k, wrong, e)) (inl (j, other, f)) = e ∙ ap (λ n. Line 1 n) (wrong-once 1 lines k j wrong other) ∙ sym f
-lines_once lines a b (inl (k, wrong, e)) (inr (none, some, f)) = absurd (wrong-or-none 1 lines k wrong none)
-lines_once lines a b (inr (none, some, e)) (inl (k, wrong, f)) = absurd (wrong-or-none 1 lines k wrong none)
-lines_once lines a b (inr (none, some, e)) (inr (other, also, f)) = e ∙ sym f
+  class_agrees : (a b : Answer) → RefusesClass command given a → RefusesClass command given b → a ≡ b
+  class_agrees a b one two =
+      let P : List Plain → Type 0 = λ fs. FirstUntaken (takes command) fs one.place one.class in
+      let (place, found) =
+      untaken_once (takes command) two.formulas one.place two.place one.class two.class
+      (subst P (of_formulas command given two.formulas two.has one.formulas one.has) one.first) two.first in
+      one.answered ∙ ap (λ p. answers.Prefix (file_of command p) one.class) place ∙ ap (answers.Prefix (file_of command two.place)) found ∙ sym two.answered
 
-module _ (given : Given) (specs traces : List ℕ) where
-  specs_agree : (s t : List Plain) (m n : List (List ℕ)) → HasSpecs given s m → HasSpecs given t n → read_as s m ≡ read_as t n
-  specs_agree s t m n one two =
-      let P : List ℕ → Type 0 = λ b. Answers true most_quantifiers [] b (read_as s m) in
-      answer-once true most_quantifiers [] two.bytes _ _ (subst P (bytes_once (monitor specs traces) given 0 one.bytes two.bytes one.came two.came) one.read) two.read
+  judgements_agree : (a b : Answer) → Judges command given a → Judges command given b → Agree a b
+  judgements_agree _ _ (holds f list has one) (holds g other also two) = same answers.OnTrue
+  judgements_agree _ _ (holds f list has one) (fails g other also two) =
+      let (formula, lists) = lassos_once command given f g list other has also in
+      let P : Plain → Type 0 = λ h. Meant list h.prefix h.body in
+      let Q : List (Lasso Letter) → Type 0 = λ l. Meant l g.prefix g.body in
+      absurd (two (subst Q lists (subst P formula one)))
+  judgements_agree _ _ (fails f list has one) (holds g other also two) =
+      let (formula, lists) = lassos_once command given g f other list also has in
+      let P : Plain → Type 0 = λ h. Meant other h.prefix h.body in
+      let Q : List (Lasso Letter) → Type 0 = λ l. Meant l f.prefix f.body in
+      absurd (one (subst Q lists (subst P formula two)))
+  judgements_agree _ _ (fails f list has one) (fails g other also two) = same answers.OnFalse
 
-  specs_refused_once : (a b : Answer) → RefusesSpecs given a → RefusesSpecs given b → a ≡ b
-  specs_refused_once a b one two =
-      let P : List ℕ → Type 0 = λ x. Answers true most_quantifiers [] x one.found in
-      let same = answer-once true most_quantifiers [] two.bytes one.found two.found (subst P (bytes_once (monitor specs traces) given 0 one.bytes two.bytes one.came two.came) one.read) two.read in
-      let Q : Found → Type 0 = λ found. RefusesFound found a in
-      refused_once two.found a b (subst Q same one.refused) two.refused
+  traces_agree : (f g : Plain) (traces other : List Trace) → HasTraces command given f traces → HasTraces command given g other
+      → (f ≡ g) × (traces ≡ other)
+  traces_agree f g traces other one two =
+      let (formulas, names) = texts_once command given 1 (f ∷ []) (g ∷ []) one.names two.names one.first two.first in
+      let bytes = bytes_once given 1 one.bytes two.bytes one.came two.came in
+      let P : List ℕ → Type 0 = λ b. IsTraceFile one.names b traces in
+      let Q : List (List ℕ) → Type 0 = λ n. IsTraceFile n two.bytes traces in
+      (cc, traces-once two.names two.bytes traces other (subst Q names (subst P bytes one.spelled)) two.spelled)
 
-  traces_refused_once : (a b : Answer) → RefusesTraces given a → RefusesTraces given b → a ≡ b
-  traces_refused_once a b one two =
-      let P : List ℕ → Type 0 = λ x. RefusesLines (lines_of x) a in
-      lines_once (lines_of two.bytes) a b (subst P (bytes_once (monitor specs traces) given 1 one.bytes two.bytes one.came two.came) one.refused) two.refused
+  monitors_agree : (a b : Answer) → Monitors command given a → Monitors command given b → Agree a b
+  monitors_agree a b one two =
+      let (formula, traces) = traces_agree one.formula two.formula one.traces two.traces one.has two.has in
+      let P : Plain → Type 0 = λ h. IsVerdict h.prefix h.body one.traces a in
+      let Q : List Trace → Type 0 = λ t. IsVerdict two.formula.prefix two.formula.body t a in
+      verdicts_agree two.formula.prefix two.formula.body two.traces a b two.has.universal (subst Q traces (subst P formula one.verdict)) two.verdict
 
-  class_refused_once : (a b : Answer) → RefusesClass given a → RefusesClass given b → a ≡ b
-  class_refused_once a b one two =
-      let same = specs_agree one.formulas two.formulas one.names two.names one.specs two.specs in
-      let formulas : one.formulas ≡ two.formulas = cc in
-      let classes : Some one.class ≡ Some two.class = sym one.first ∙ ap first_class formulas ∙ two.first in
-      let class' : one.class ≡ two.class = cc in
-      one.answered ∙ ap (λ x. Prefix 0 x) class' ∙ sym two.answered
+decided_agree : (command : Command) (formulas : List Plain) (a b : Answer) → DecidesBy command formulas a → DecidesBy command formulas b → Agree a b
+decided_agree (decide formula states proof) (f ∷ []) a b one two = decisions_agree f states a b one two
+decided_agree (imply first second states proof) (f ∷ g ∷ []) a b one two = implications_agree f g states a b one two
+decided_agree (compare first second states proof) (f ∷ g ∷ []) a b one two = comparisons_agree f g states a b one two
+decided_agree _ _ a b one two = absurd one
 
-  verdicts_agree : (a b : Answer) → Judges given a → Judges given b → Agree a b
-  verdicts_agree a b one two =
-      let same = specs_agree (one.formula ∷ []) (two.formula ∷ []) one.names two.names one.specs two.specs in
-      let formula : one.formula ≡ two.formula = cc in
-      let names : one.names ≡ two.names = cc in
-      let P : List ℕ → Type 0 = λ x. IsTraceFile one.names x one.traces in
-      let Q : List (List ℕ) → Type 0 = λ n. IsTraceFile n two.bytes one.traces in
-      let read = traces-once two.names two.bytes one.traces two.traces (subst Q names (subst P (bytes_once (monitor specs traces) given 1 one.bytes two.bytes one.came two.came) one.spelled)) two.spelled in
-      let A : Plain → Type 0 = λ p. IsJudged p.prefix p.body one.traces a in
-      let B : List Trace → Type 0 = λ ts. IsJudged two.formula.prefix two.formula.body ts a in
-      judged_agree two.formula.prefix two.formula.body two.traces a b two.universal (subst B read (subst A formula one.judged)) two.judged
+determined_agree : (command : Command) (given : Given) (a b : Answer) → Determines command given a → Determines command given b → Agree a b
+determined_agree command given a b one two =
+    let P : List Plain → Type 0 = λ fs. DecidesBy command fs a in
+    decided_agree command two.formulas a b (subst P (of_formulas command given two.formulas two.has one.formulas one.has) one.decides) two.decides
+
+works_agree : (command : Command) (given : Given) (a b : Answer) → ComesTo command given a → ComesTo command given b → Agree a b
+works_agree (monitor specs traces) given a b one two = monitors_agree (monitor specs traces) given a b one two
+works_agree (judge formula list) given a b one two = judgements_agree (judge formula list) given a b one two
+works_agree (decide formula states proof) given a b one two = determined_agree (decide formula states proof) given a b one two
+works_agree (imply first second states proof) given a b one two = determined_agree (imply first second states proof) given a b one two
+works_agree (compare first second states proof) given a b one two = determined_agree (compare first second states proof) given a b one two
 
 one_stage : (command : Command) (given : Given) (stage : Stage) (a b : Answer) → Met command given stage a → Met command given stage b → Agree a b
-one_stage command given (opening k) a b e f = inl (e.1 ∙ sym f.1)
-one_stage command given (reading k) a b e f = inl (e.1 ∙ sym f.1)
-one_stage command given (size k) a b e f = inl (e.1 ∙ sym f.1)
-one_stage (monitor specs traces) given (text zero) a b e f = inl (specs_refused_once given specs traces a b e f)
-one_stage (monitor specs traces) given (text (suc zero)) a b e f = inl (traces_refused_once given specs traces a b e f)
-one_stage (monitor specs traces) given (text (suc (suc k))) a b e f = absurd e
-one_stage (monitor specs traces) given class a b e f = inl (class_refused_once given specs traces a b e f)
-one_stage (monitor specs traces) given work a b e f = verdicts_agree given specs traces a b e f
+one_stage command given (opening k) a b e f = agree (e.1 ∙ sym f.1)
+one_stage command given (reading k) a b e f = agree (e.1 ∙ sym f.1)
+one_stage command given (size k) a b e f = agree (e.1 ∙ sym f.1)
+one_stage command given (text k) a b e f = agree (text_agrees command given k a b e f)
+one_stage command given class a b e f = agree (class_agrees command given a b e f)
+one_stage command given (count quantity) a b e f = agree (e.1 ∙ sym f.1)
+one_stage command given work a b e f = works_agree command given a b e f
 
 pub first_once : (command : Command) (given : Given) (stages : List Stage) (a b : Answer) → First command given stages a → First command given stages b → Agree a b
 first_once command given [] a b one two = elim one [ ]

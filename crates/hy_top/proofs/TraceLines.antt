@@ -2,7 +2,8 @@
 use Rattle.std.proofs.Common.{◌≡◌, ℕ, suc, List, [], ◌∷◌, inl, inr, sym, ap, ◌∙◌}
 use Rattle.hy_text.specs.Bytes.{past_blanks}
 use Rattle.hy_finite.specs.declared.event.Placed.{Placed}
-use Rattle.hy_finite.specs.EventFiles.{event_of, lines_of, SayEvents}
+use Rattle.hy_finite.specs.EventFiles.{event_of, SayEvents}
+use Rattle.hy_text.specs.Lines.{lines_of}
 use Rattle.hy_finite.specs.Traces.{Trace}
 use Rattle.hy_finite.proofs.Saying.{nothing-said, one-said}
 use Rattle.hy_top.specs.WholeTraces.{FirstWrong, NoneWrong, SomeUnbuilt, NoneUnbuilt, wholes, IsTraceFile}

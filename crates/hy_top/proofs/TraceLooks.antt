@@ -6,7 +6,7 @@ use Rattle.hy_finite.specs.EventLines.{SaysNothing, IsTooLong, IsGood}
 use Rattle.hy_finite.specs.declared.event.Event.{Event}
 use Rattle.hy_finite.specs.declared.event.Event.TheVariants.{Whole, Letter, End, Save, Back}
 use Rattle.hy_finite.specs.declared.event.Placed.{Placed}
-use Rattle.hy_finite.specs.EventFiles.{lines_of}
+use Rattle.hy_text.specs.Lines.{lines_of}
 use Rattle.hy_finite.specs.LinesLeft.{LinesLeft}
 use Rattle.hy_finite.specs.NextEvents.{IsNextAnswer}
 use Rattle.hy_finite.specs.Remaining.{all_lines}

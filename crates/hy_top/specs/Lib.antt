@@ -1,9 +1,12 @@
 pub mod Arrivals
-pub mod Commands
+pub mod Classes
+pub mod Contents
+pub mod Deciding
+pub mod Files
+pub mod Judging
 pub mod Monitoring
-pub mod Outputs
-pub mod Refusals
 pub mod Runs
 pub mod Searches
 pub mod Stages
+pub mod Steps
 pub mod WholeTraces

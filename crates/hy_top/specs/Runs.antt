@@ -1,37 +1,60 @@
 -- What a run answers, what it has read then, and what it writes.
-use Rattle.std.specs.Prelude.{◌≡◌, ℕ, ◌<◌, ◌⊎◌, List, [], length}
+use Rattle.std.specs.Prelude.{◌≡◌, ℕ, ◌<◌, ◌⊎◌, Bool, true, false, List, [], length}
 use Rattle.hy_base.specs.Shelf.{ReadsFiles}
 use Rattle.hy_base.specs.Sink.{GivesWhole, FailsToGive}
 use Rattle.hy_base.specs.declared.shelf.Shelf.{Ghosts}
 use Rattle.hy_base.specs.declared.sink.Sink as sink
-use Rattle.hy_top.specs.declared.answer.Answer.{Answer}
-use Rattle.hy_top.specs.declared.answer.Answer.TheVariants.{Words, WriteFault, Memory}
-use Rattle.hy_top.specs.declared.answer.Tool.{Tool}
-use Rattle.hy_top.specs.Commands.{Command, IsCommand, HasNoCommand, files_of}
-use Rattle.hy_top.specs.Outputs.{out_text}
-use Rattle.hy_top.specs.Stages.{Given, IsRight, InTurn}
+use Rattle.hy_read.specs.Answers.{Plain}
+use Rattle.hy_answer.specs.declared.answer.Answer.{Answer}
+use Rattle.hy_answer.specs.declared.answer.Answer.TheVariants.{Words, WriteFault, Memory}
+use Rattle.hy_answer.specs.declared.answer.Extras.{Extras}
+use Rattle.hy_answer.specs.Outputs.{out_text}
+use Rattle.hy_words.specs.declared.item.Tool.{Tool}
+use Rattle.hy_words.specs.Commands.{Command, monitor, judge, decide, imply, compare, IsCommand, HasNoCommand, files_of}
+use Rattle.hy_top.specs.Files.{Given, HasAll}
+use Rattle.hy_top.specs.Stages.{IsRight, InTurn}
 
 -- This came of reading the files of the command, each in its turn.
 pub record Reads {S : Type 0} (g : Ghosts S) (old new : S) (command : Command) (given : Given) : Type 0 where
   pub read : ReadsFiles g old new (files_of command) given
   pub in_turn : InTurn command given
 
--- How a command comes to its answer: the first stage that is met gives it, by what the reads gave; or memory ran out.
-pub data Follows {S : Type 0} (g : Ghosts S) (old new : S) (command : Command) : Answer → Type 0 where
-  decided : (given : Given) (answer : Answer) → Reads g old new command given → IsRight command given answer
-      → Follows g old new command answer
-  short : (given : Given) → Reads g old new command given → Follows g old new command Memory
+-- what the text of an answer shows beside the verdict
+abbrev pub extras_of : Command → Extras
+extras_of (monitor specs traces) = record { kept = false; proof = false }
+extras_of (judge formula list) = record { kept = false; proof = false }
+extras_of (decide formula states proof) = record { kept = false; proof = proof }
+extras_of (imply first second states proof) = record { kept = false; proof = proof }
+extras_of (compare first second states proof) = record { kept = false; proof = proof }
 
--- How a run comes to its answer: the words are no command, and no file is touched; or they are one.
-pub data Comes {S : Type 0} (g : Ghosts S) (tool : Tool) (words : List (List ℕ)) (old new : S) : Answer → Type 0 where
-  unworded : HasNoCommand tool words → old ≡ new → Comes g tool words old new Words
-  worded : (command : Command) (answer : Answer) → IsCommand tool words command → Follows g old new command answer
-      → Comes g tool words old new answer
+-- This text is due with the answer: lassos are printed by the names of the command's formulas.
+pub record IsTextDue (command : Command) (given : Given) (answer : Answer) (text : List ℕ) : Type 0 where
+  pub names : List (List ℕ)
+  pub printed : text ≡ out_text (extras_of command) names answer
+  pub known : 0 < length text → (formulas : List Plain) × HasAll command given formulas names
+
+-- How a command comes to its answer and its text: the first stage that is met gives the answer, by what the reads
+-- gave; or memory ran out.
+pub data Follows {S : Type 0} (g : Ghosts S) (old new : S) (command : Command) : Answer → List ℕ → Type 0 where
+  decided : (given : Given) (answer : Answer) (text : List ℕ) → Reads g old new command given
+      → IsRight command given answer → IsTextDue command given answer text → Follows g old new command answer text
+  short : (given : Given) → Reads g old new command given → Follows g old new command Memory []
+
+-- How a run comes to its answer and its text: the words are no command, and no file is touched; or they are one.
+pub data Comes {S : Type 0} (g : Ghosts S) (tool : Tool) (words : List (List ℕ)) (old new : S) : Answer → List ℕ → Type 0 where
+  unworded : HasNoCommand tool words → old ≡ new → Comes g tool words old new Words []
+  worded : (command : Command) (answer : Answer) (text : List ℕ) → IsCommand tool words command
+      → Follows g old new command answer text → Comes g tool words old new answer text
 
 -- What is answered once the text of the answer that was due was written: that answer. Where a put failed it is
 -- `WriteFault`, and where memory ran out nothing was written.
-abbrev pub IsWritten : {O : Type 0} → sink.Ghosts O → O → O → Answer → Answer → Type 0
-IsWritten g old new due answer =
-    ((answer ≡ due) × GivesWhole g old new (out_text due))
-    ⊎ ((answer ≡ WriteFault) × (0 < length (out_text due)) × FailsToGive g old new (out_text due))
+abbrev pub IsWritten : {O : Type 0} → sink.Ghosts O → O → O → Answer → List ℕ → Answer → Type 0
+IsWritten g old new due text answer =
+    ((answer ≡ due) × GivesWhole g old new text)
+    ⊎ ((answer ≡ WriteFault) × (0 < length text) × FailsToGive g old new text)
     ⊎ ((answer ≡ Memory) × GivesWhole g old new [])
+
+-- The names of the files that the words name: those of their command, or none.
+pub data Names (tool : Tool) (words : List (List ℕ)) : List (List ℕ) → Type 0 where
+  of_command : (command : Command) → IsCommand tool words command → Names tool words (files_of command)
+  of_none : HasNoCommand tool words → Names tool words []

@@ -1,21 +1,41 @@
 -- The order of refusals, in one place. A run looks at one stage after another, and the first that is met answers.
-use Rattle.std.specs.Prelude.{◌≡◌, ◌⊎◌, ℕ, zero, suc, ◌<◌, List, [], ◌∷◌, ◌++◌, length, Some, Err, slice_get}
-use Rattle.hy_base.specs.Shelf.{Read}
-use Rattle.hy_base.specs.declared.limit.Kind.TheVariants.{Bytes}
-use Rattle.hy_base.specs.declared.reading.FileError.{FileError}
+use Rattle.std.specs.Prelude.{◌≡◌, ◌⊎◌, ℕ, zero, suc, ◌<◌, List, [], ◌∷◌, ◌++◌, length, map, Err}
+use Rattle.hy_base.specs.Limits.{most}
+use Rattle.hy_base.specs.declared.limit.Kind.{Kind}
+use Rattle.hy_base.specs.declared.limit.Kind.TheVariants as kinds
 use Rattle.hy_base.specs.declared.reading.FileError.TheVariants as errors
 use Rattle.hy_base.specs.declared.reading.TheConstants.{BYTES_LIMIT}
-use Rattle.hy_top.specs.declared.answer.Answer.{Answer}
-use Rattle.hy_top.specs.declared.answer.Answer.TheVariants.{Violation, OpenFault, ReadFault, Limit, Memory}
-use Rattle.hy_top.specs.Commands.{Command, monitor, files_of}
+use Rattle.hy_bits.specs.Letter.{Letter}
+use Rattle.hy_formula.specs.Lassos.{Lasso}
+use Rattle.ea_core.specs.declared.rank_proof.RankProof.{RankProof}
+use Rattle.hy_answer.specs.declared.answer.Answer.{Answer}
+use Rattle.hy_answer.specs.declared.answer.Answer.TheVariants.{Sat, Unsat, Implied, NotImplied, Equivalent, NotEquivalent, Violation, OpenFault, ReadFault, Limit}
+use Rattle.hy_words.specs.Commands.{Command, monitor, judge, decide, imply, compare, files_of}
+use Rattle.hy_top.specs.Files.{Given, Came, RefusesText}
+use Rattle.hy_top.specs.Classes.{RefusesClass}
+use Rattle.hy_top.specs.Deciding as deciding
+use Rattle.hy_top.specs.Judging as judging
 use Rattle.hy_top.specs.Monitoring as monitoring
 
--- the answer that file k was not read
-abbrev pub fault_answer : FileError → ℕ → Answer
-fault_answer errors.OpenFailed k = OpenFault k
-fault_answer errors.ReadFailed k = ReadFault k
-fault_answer errors.Limit k = Limit Bytes BYTES_LIMIT
-fault_answer errors.Memory k = Memory
+-- what is counted over all formulas of a command before the work
+pub data Quantity : Type 0 where
+  -- maps of one job
+  instances : Quantity
+  -- members of a closure
+  closure : Quantity
+  -- positions after which all lassos repeat
+  joint : Quantity
+  -- different indexed atoms of a formula
+  atoms : Quantity
+  -- residuals of a formula times its joint letters
+  table : Quantity
+
+abbrev pub kind_of : Quantity → Kind
+kind_of instances = kinds.Instances
+kind_of closure = kinds.Closure
+kind_of joint = kinds.Joint
+kind_of atoms = kinds.Atoms
+kind_of table = kinds.Table
 
 pub data Stage : Type 0 where
   -- file k, by its place among the files of the command, is opened
@@ -28,6 +48,8 @@ pub data Stage : Type 0 where
   text : ℕ → Stage
   -- the formulas are of a class that the command takes
   class : Stage
+  -- a count over all formulas is within its limit
+  count : Quantity → Stage
   -- what the command asks for
   work : Stage
 
@@ -39,43 +61,43 @@ abbrev pub stages_of_files : ℕ → List Stage
 stages_of_files zero = []
 stages_of_files (suc n) = stages_of_files n ++ stages_of_file n
 
+-- the stages behind the files and before the work
+abbrev pub stages_of_formulas : List Stage
+stages_of_formulas = class ∷ count instances ∷ count closure ∷ count joint ∷ count atoms ∷ count table ∷ []
+
 -- the stages that come before the work
 abbrev pub stages_before_work : Command → List Stage
-stages_before_work command = stages_of_files (length (files_of command)) ++ class ∷ []
+stages_before_work command = stages_of_files (length (files_of command)) ++ stages_of_formulas
 
 -- the order of refusals
 abbrev pub stages_of : Command → List Stage
 stages_of command = stages_before_work command ++ work ∷ []
 
--- what came of reading the files, by their places, as far as they were read
-abbrev pub Given : Type 0
-Given = List Read
-
--- This came of reading file k.
-abbrev pub Came : Given → ℕ → Read → Type 0
-Came given k read = slice_get given k ≡ Some read
-
--- The text of file k is refused by this answer.
-abbrev pub RefusesText : Command → ℕ → Given → Answer → Type 0
-RefusesText (monitor specs traces) zero given answer = monitoring.RefusesSpecs given answer
-RefusesText (monitor specs traces) (suc zero) given answer = monitoring.RefusesTraces given answer
-RefusesText (monitor specs traces) (suc (suc k)) given answer = ⊥
-
--- The class of a formula is not taken, and so is answered.
-abbrev pub RefusesClass : Command → Given → Answer → Type 0
-RefusesClass (monitor specs traces) given answer = monitoring.RefusesClass given answer
+-- The quantity is past its limit.
+abbrev pub IsPast : Command → Given → Quantity → Type 0
+IsPast command given instances = deciding.HasManyInstances command given
+IsPast command given closure = deciding.HasLargeClosure command given
+IsPast command given joint = judging.IsTooJoint command given
+IsPast command given atoms = ⊥
+IsPast command given table = ⊥
 
 -- The work of the command comes to this answer.
 abbrev pub ComesTo : Command → Given → Answer → Type 0
-ComesTo (monitor specs traces) given answer = monitoring.Judges given answer
+ComesTo (monitor specs traces) given answer = monitoring.Monitors (monitor specs traces) given answer
+ComesTo (judge formula list) given answer = judging.Judges (judge formula list) given answer
+ComesTo (decide formula states proof) given answer = deciding.Determines (decide formula states proof) given answer
+ComesTo (imply first second states proof) given answer = deciding.Determines (imply first second states proof) given answer
+ComesTo (compare first second states proof) given answer = deciding.Determines (compare first second states proof) given answer
 
 -- The stage is met, and this answers it.
 abbrev pub Met : Command → Given → Stage → Answer → Type 0
 Met command given (opening k) answer = Came given k (Err errors.OpenFailed) × (answer ≡ OpenFault k)
 Met command given (reading k) answer = Came given k (Err errors.ReadFailed) × (answer ≡ ReadFault k)
-Met command given (size k) answer = Came given k (Err errors.Limit) × (answer ≡ Limit Bytes BYTES_LIMIT)
-Met command given (text k) answer = RefusesText command k given answer
+Met command given (size k) answer = Came given k (Err errors.Limit) × (answer ≡ Limit kinds.Bytes BYTES_LIMIT)
+Met command given (text k) answer = RefusesText command given k answer
 Met command given class answer = RefusesClass command given answer
+Met command given (count quantity) answer =
+    IsPast command given quantity × (answer ≡ Limit (kind_of quantity) (most (kind_of quantity)))
 Met command given work answer = ComesTo command given answer
 
 abbrev pub Passed : Command → Given → Stage → Type 0
@@ -100,7 +122,14 @@ IsRight command given answer = First command given (stages_of command) answer
 abbrev pub InTurn : Command → Given → Type 0
 InTurn command given = (k : ℕ) → k < length given → AllPassed command given (stages_of_files k)
 
--- Two answers say the same. Two violations may name different tuples of the same arrival.
-abbrev pub Agree : Answer → Answer → Type 0
-Agree a b =
-    (a ≡ b) ⊎ ((spec trace : ℕ) × (tuple other : List ℕ) × (a ≡ Violation spec trace tuple) × (b ≡ Violation spec trace other))
+-- Two answers say the same. Two violations may name different tuples of the same arrival, and two answers that give
+-- lassos or proofs as evidence may give different ones.
+pub data Agree : Answer → Answer → Type 0 where
+  same : (answer : Answer) → Agree answer answer
+  other_tuple : (spec trace : ℕ) (tuple other : List ℕ) → Agree (Violation spec trace tuple) (Violation spec trace other)
+  other_model : (list other : List (Lasso Letter)) → Agree (Sat list) (Sat other)
+  other_proof : (proof other : RankProof) → Agree (Unsat proof) (Unsat other)
+  other_implied : (proof other : RankProof) → Agree (Implied proof) (Implied other)
+  other_proofs : (first second third fourth : RankProof) → Agree (Equivalent first second) (Equivalent third fourth)
+  other_witness : (list other : List (Lasso Letter)) → Agree (NotImplied list) (NotImplied other)
+  other_side : (side : ℕ) (list other : List (Lasso Letter)) → Agree (NotEquivalent side list) (NotEquivalent side other)

@@ -2,7 +2,8 @@
 use Rattle.std.specs.Prelude.{◌≡◌, ℕ, suc, ◌⊎◌, ◌||◌, nat_eq, Bool, false, IsTrue, List, [], ◌∷◌}
 use Rattle.hy_formula.specs.Quantifiers.{Each}
 use Rattle.hy_text.specs.Bytes.{past_blanks}
-use Rattle.hy_finite.specs.EventFiles.{lines_of, IsEventFile}
+use Rattle.hy_finite.specs.EventFiles.{IsEventFile}
+use Rattle.hy_text.specs.Lines.{lines_of}
 use Rattle.hy_finite.specs.EventLines.{IsFaulty, IsTooLong, IsGood}
 use Rattle.hy_finite.specs.Traces.{Trace}
 use Rattle.hy_finite.specs.declared.event.Event.{Event}

@@ -1,8 +1,8 @@
 //! A run on this machine: real words, files and streams.
 
-use crate::answer::Tool;
 use crate::runs::run;
 use hy_base::{DiskShelf, M, Memory, StdSink, write_all};
+use hy_words::Tool;
 use std::alloc::Global;
 use std::env;
 use std::io::ErrorKind;

@@ -1,10 +1,11 @@
 //! Laws of the definitions: a run has one answer.
 
 ghost use Rattle.std.specs.Prelude.{◌≡◌, ℕ, List};
-ghost use Rattle.hy_top.specs.Commands.{Command};
-ghost use Rattle.hy_top.specs.Stages.{Given, IsRight, Agree, AllPassed, ComesTo, stages_before_work};
+ghost use Rattle.hy_words.specs.Commands.{Command};
+ghost use Rattle.hy_top.specs.Files.{Given};
+ghost use Rattle.hy_top.specs.Stages.{IsRight, Agree, AllPassed, ComesTo, stages_before_work};
 
-use crate::answer::Answer;
+use hy_answer::Answer;
 
 /// The first stage that is met gives one answer, save that violations may name different tuples. So
 /// a run to which memory suffices gives each answer exactly where its cause holds.

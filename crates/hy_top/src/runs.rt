@@ -1,18 +1,25 @@
 //! A run: from words and files to an answer, a text and a status.
 
-ghost use Rattle.std.specs.Prelude.{◌≡◌, ◌⊎◌, ◌∷◌, List, [], ℕ, map};
+ghost use Rattle.std.specs.Prelude.{◌≡◌, ◌⊎◌, ◌∷◌, List, [], ℕ};
 ghost use Rattle.hy_base.specs.Shelf.{KeepsShelf};
 ghost use Rattle.hy_base.specs.Sink.{KeepsSink};
-ghost use Rattle.hy_top.specs.Commands.{texts, Names};
-ghost use Rattle.hy_top.specs.Outputs.{error_line, out_text, status_of, Received, plain};
-ghost use Rattle.hy_top.specs.Runs.{Comes, IsWritten};
+ghost use Rattle.hy_answer.specs.Outputs.{error_line, out_text, status_of, Received, plain};
+ghost use Rattle.hy_words.specs.Words.{texts};
+ghost use Rattle.hy_top.specs.Runs.{Comes, IsWritten, Names};
 
-use crate::answer::{Answer, Done, Tool};
-use crate::output::{out_text, status_of};
-use crate::refusal::write_error;
-use crate::rvhyper;
+use crate::{eahyper, rvhyper};
+use hy_answer::{Answer, Extras, out_text, status_of, write_error};
 use hy_base::{Memory, Shelf, Sink, SinkFailed, write_all};
+use hy_formula::NameTable;
+use hy_words::{Command, Tool, command_of};
 use std::alloc::Global;
+
+/// The end of a run: its exit status, and what it answered.
+#[derive(Drop)]
+pub struct Done {
+    pub status: u8,
+    pub answer: Answer,
+}
 
 /// Runs a tool: reads the files that `words` name on the shelf, answers, writes the text of the
 /// answer to `out` or its error line to `err`, and gives the exit status with the answer.
@@ -26,8 +33,9 @@ pub fn run<S: Shelf, O: Sink, E: Sink>(
     out: &mut O,
     err: &mut E,
 ) -> Done
-    ensures right { (due : Answer) × Comes S.Shelf tool (texts words.now) shelf.old shelf.new due
-        × IsWritten O.Sink out.old out.new due result.answer }
+    ensures right { (due : Answer) × (text : List ℕ)
+        × Comes S.Shelf tool (texts words.now) shelf.old shelf.new due text
+        × IsWritten O.Sink out.old out.new due text result.answer }
     ensures status { result.status ≡ status_of result.answer }
     ensures err { (names : List (List ℕ)) × Names tool (texts words.now) names
         × Received E.Sink err.old err.new (error_line names result.answer) }
@@ -35,33 +43,78 @@ pub fn run<S: Shelf, O: Sink, E: Sink>(
     ensures keeps_out { KeepsSink O.Sink out.old out.new }
     ensures keeps_err { KeepsSink E.Sink err.old err.new }
 {
-    match tool {
-        Tool::RvHyper => match rvhyper::command_of(words) {
-            None => finish(alloc, Answer::Words, &[], out, err),
-            Some(command) => {
-                let due = rvhyper::monitor(alloc, command, shelf);
-                finish(alloc, due, &[command.specs, command.traces], out, err)
-            }
-        },
+    let plain = Extras {
+        kept: false,
+        proof: false,
+    };
+    let Ok(mut names) = NameTable::new(alloc) else {
+        unreachable!()
+    };
+    let command = match command_of(tool, words) {
+        Some(command) => command,
+        None => return finish(alloc, Answer::Words, plain, &names, &[], out, err),
+    };
+    match command {
+        Command::Monitor { specs, traces } => {
+            let due = rvhyper::monitor(alloc, shelf, specs, traces, &mut names);
+            finish(alloc, due, plain, &names, &[specs, traces], out, err)
+        }
+        Command::Judge { formula, lassos } => {
+            let due = eahyper::judge(alloc, shelf, formula, lassos, &mut names);
+            finish(alloc, due, plain, &names, &[formula, lassos], out, err)
+        }
+        Command::Decide {
+            formula,
+            states,
+            proof,
+        } => {
+            let due = eahyper::decide(alloc, shelf, formula, states, &mut names);
+            let extras = Extras { kept: false, proof };
+            finish(alloc, due, extras, &names, &[formula], out, err)
+        }
+        Command::Imply {
+            first,
+            second,
+            states,
+            proof,
+        } => {
+            let due = eahyper::imply(alloc, shelf, (first, second), states, &mut names);
+            let extras = Extras { kept: false, proof };
+            finish(alloc, due, extras, &names, &[first, second], out, err)
+        }
+        Command::Compare {
+            first,
+            second,
+            states,
+            proof,
+        } => {
+            let due = eahyper::compare(alloc, shelf, (first, second), states, &mut names);
+            let extras = Extras { kept: false, proof };
+            finish(alloc, due, extras, &names, &[first, second], out, err)
+        }
     }
 }
 
-/// Ends a run whose command has files of these names, and to which this answer is due.
+/// Ends a run whose command has files of these names, and to which this answer is due: lassos are
+/// printed by the names of the table.
 fn finish<O: Sink, E: Sink>(
     alloc: Global,
     due: Answer,
-    names: &[&str],
+    extras: Extras,
+    names: &NameTable,
+    files: &[&str],
     out: &mut O,
     err: &mut E,
 ) -> Done
-    ensures written { IsWritten O.Sink out.old out.new due result.answer }
+    ensures written { IsWritten O.Sink out.old out.new due (out_text extras names.now due)
+        result.answer }
     ensures status { result.status ≡ status_of result.answer }
-    ensures err { Received E.Sink err.old err.new (error_line (plain names.now) result.answer) }
+    ensures err { Received E.Sink err.old err.new (error_line (plain files.now) result.answer) }
     ensures keeps_out { KeepsSink O.Sink out.old out.new }
     ensures keeps_err { KeepsSink E.Sink err.old err.new }
 {
-    let answer = write_answer(alloc, due, out);
-    write_error(&answer, names, err);
+    let answer = write_answer(alloc, due, extras, names, out);
+    write_error(&answer, files, err);
     Done {
         status: status_of(&answer),
         answer,
@@ -69,11 +122,17 @@ fn finish<O: Sink, E: Sink>(
 }
 
 /// Writes the text of an answer to `out`, and gives the answer that then stands.
-fn write_answer<O: Sink>(alloc: Global, due: Answer, out: &mut O) -> Answer
+fn write_answer<O: Sink>(
+    alloc: Global,
+    due: Answer,
+    extras: Extras,
+    names: &NameTable,
+    out: &mut O,
+) -> Answer
     ensures keeps { KeepsSink O.Sink out.old out.new }
-    ensures written { IsWritten O.Sink out.old out.new due result }
+    ensures written { IsWritten O.Sink out.old out.new due (out_text extras names.now due) result }
 {
-    let text = match out_text(alloc, &due) {
+    let text = match out_text(alloc, extras, names, &due) {
         Ok(text) => text,
         Err(Memory) => return Answer::Memory,
     };

@@ -3,15 +3,16 @@
 ghost use Rattle.std.specs.Prelude.{◌≡◌, ◌≤◌, ◌<◌, ◌++◌, IfOk, IfErr, OnOk, length, List, [], ℕ};
 ghost use Rattle.hy_base.specs.declared.reading.TheConstants.{BYTES_LIMIT};
 ghost use Rattle.hy_text.specs.Bytes.{past_blanks};
-ghost use Rattle.hy_finite.specs.EventFiles.{lines_of};
+ghost use Rattle.hy_text.specs.Lines.{lines_of};
 ghost use Rattle.hy_finite.specs.EventLines.{IsGood};
 ghost use Rattle.hy_finite.specs.NextEvents.{IsNextAnswer};
 ghost use Rattle.hy_finite.specs.Remaining.{remaining};
 ghost use Rattle.hy_formula.specs.Quantifiers.{Each};
-ghost use Rattle.hy_top.specs.Monitoring.{RefusesLines, OrMemory};
+ghost use Rattle.hy_top.specs.Monitoring.{OrMemory};
+ghost use Rattle.hy_top.specs.Contents.{RefusesLines};
 ghost use Rattle.hy_top.specs.WholeTraces.{is_marked, IsTraceFile, AreLines, IsLine, NoneWrong, NoneUnbuilt, IsTraces, whole_of};
 
-use crate::answer::Answer;
+use hy_answer::Answer;
 use hy_base::{BYTES_LIMIT, List, M, Memory};
 use hy_bits::Letters;
 use hy_finite::{Event, EventLines, LineCheck, Placed, TraceList, check_line, split_line};
@@ -43,7 +44,7 @@ enum Line {
 pub fn read_traces(alloc: Global, bytes: &[u8], names: &NameTable) -> Result<TraceList, Answer>
     requires few { length bytes.now ≤ BYTES_LIMIT }
     ensures ok { IfOk result (λ traces. IsTraceFile names.now bytes.now traces) }
-    ensures refused { IfErr result (λ answer. OrMemory answer (RefusesLines (lines_of bytes.now) answer)) }
+    ensures refused { IfErr result (λ answer. OrMemory answer (RefusesLines 1 (lines_of bytes.now) answer)) }
 {
     match check_lines(bytes, names) {
         Lines::Wrong { line } => Err(Answer::Line { file: 1, line }),

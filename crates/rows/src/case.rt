@@ -3,7 +3,7 @@
 use crate::escape::{text_of, word_of};
 use anyhow::{Context, Result, bail, ensure};
 use hy_base::{File, FileList, NumList, Text};
-use hy_top::Tool;
+use hy_words::Tool;
 use std::alloc::Global;
 use std::num::NonZeroU32;
 
@@ -28,7 +28,19 @@ pub struct Case {
     /// `None` until the line that says it.
     pub status: Option<u8>,
     pub out: Text,
+    /// What is expected of the lassos behind the text of `out`, where some are.
+    pub lassos: Option<Lassos>,
     pub err: Text,
+}
+
+/// How many lassos are expected, and what formulas say of them.
+#[derive(Drop)]
+pub struct Lassos {
+    pub count: u32,
+    /// A formula that they satisfy.
+    pub satisfy: Option<Text>,
+    /// A formula that they do not satisfy.
+    pub violate: Option<Text>,
 }
 
 impl Case {
@@ -48,6 +60,7 @@ impl Case {
             most: NonZeroU32::MAX,
             status: None,
             out: Text::new(alloc),
+            lassos: None,
             err: Text::new(alloc),
         })
     }
@@ -66,6 +79,9 @@ impl Case {
             "most" => self.most = text.parse::<NonZeroU32>().context("no number from 1")?,
             "status" => self.status = Some(text.parse::<u8>().context("no status")?),
             "out" => self.out = text_of(alloc, text)?,
+            "lassos" => self.count_lassos(text)?,
+            "satisfy" => self.expected()?.satisfy = Some(text_of(alloc, text)?),
+            "violate" => self.expected()?.violate = Some(text_of(alloc, text)?),
             "err" => self.err = text_of(alloc, text)?,
             _ => bail!("no line of a case begins with {directive:?}"),
         }
@@ -75,10 +91,26 @@ impl Case {
     fn set_tool(&mut self, text: &str) -> Result<()> {
         ensure!(self.tool.is_none(), "a case names one tool");
         self.tool = match text {
+            "eahyper" => Some(Tool::EaHyper),
             "rvhyper" => Some(Tool::RvHyper),
             _ => bail!("no tool is {text:?}"),
         };
         Ok(())
+    }
+
+    /// Expects that many lassos behind the text of the output.
+    fn count_lassos(&mut self, text: &str) -> Result<()> {
+        self.lassos = Some(Lassos {
+            count: text.parse::<u32>().context("no number")?,
+            satisfy: None,
+            violate: None,
+        });
+        Ok(())
+    }
+
+    /// What is expected of the lassos, whose count stands before.
+    fn expected(&mut self) -> Result<&mut Lassos> {
+        self.lassos.as_mut().context("no lassos are expected")
     }
 
     /// Adds a text many times to the last file.

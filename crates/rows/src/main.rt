@@ -17,6 +17,9 @@
 //! most N              how many bytes one put takes at most
 //! status N            the exit status that is expected
 //! out TEXT            what the output is to receive; nothing where no line says it
+//! lassos N            behind that text the output is to have N lassos
+//! satisfy TEXT        a formula that these lassos satisfy
+//! violate TEXT        a formula that these lassos do not satisfy
 //! err TEXT            what the error stream is to receive; nothing where no line says it
 //! ```
 //!
@@ -26,6 +29,7 @@
 
 mod case;
 mod escape;
+mod lassos;
 mod report;
 
 use anyhow::{Context, Result};

@@ -2,6 +2,7 @@
 
 use crate::case::{Case, shelf_files};
 use crate::escape::escaped;
+use crate::lassos::are_wanted;
 use anyhow::{Result, bail};
 use hy_base::{MemShelf, MemSink};
 use hy_top::run;
@@ -48,9 +49,13 @@ pub fn report(rt: &HostRuntime, tally: &mut Tally, case: Case) -> Result<()> {
         &mut out,
         &mut err,
     );
+    let wanted = case.out.as_slice();
     let same = status == done.status
-        && case.out.as_slice() == out.bytes()
-        && case.err.as_slice() == err.bytes();
+        && case.err.as_slice() == err.bytes()
+        && match &case.lassos {
+            None => wanted == out.bytes(),
+            Some(lassos) => are_wanted(rt, wanted, lassos, out.bytes())?,
+        };
     tally.cases = tally.cases.saturating_add(1);
     if same {
         return Ok(());

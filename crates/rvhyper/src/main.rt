@@ -1,7 +1,8 @@
 //! `rvhyper SPECS TRACES` monitors a file of finite traces.
 #![tactic(auto)]
 
-use hy_top::{Tool, run_here};
+use hy_top::run_here;
+use hy_words::Tool;
 use std::process::ExitCode;
 
 fn main(rt: HostRuntime) -> ExitCode {

@@ -1,6 +1,5 @@
 use Rattle.std.proofs.Common.{◌≤◌, arith, below_more}
 use Rattle.std.specs.Prelude.{slice_index}
-use Rattle.aig_order.specs.Gates.{Depends}
 use Rattle.aig_order.proofs.Ranks.{above_free}
 use Rattle.aig_order.proofs.cycle.first_level.Goals as goal
 

@@ -1,4 +1,4 @@
-use Rattle.std.proofs.Common.{◌≡◌, ◌+◌, ◌<◌, ◌∙◌, ℕ, length, get_or, subst, sym, ap, arith, rules, true, false}
+use Rattle.std.proofs.Common.{◌≡◌, ◌+◌, ◌<◌, ◌∙◌, ℕ, length, get_or, subst, sym, arith, false}
 use Rattle.aig_order.specs.declared.cycle.Reach.{Reach}
 use Rattle.aig_order.proofs.Reach.{read-at, IsReach, reach-start, reach-next, reach-past, reach-all}
 use Rattle.aig_order.proofs.cycle.is_cyclic.Goals as goal

@@ -1,4 +1,4 @@
-use Rattle.std.proofs.Common.{◌≤◌, length, sym, arith}
+use Rattle.std.proofs.Common.{length, arith}
 use Rattle.aig_order.proofs.Takes.{definer_small}
 use Rattle.aig_order.proofs.Reach.{sides, visited_long}
 use Rattle.aig_order.proofs.cycle.visit_sides.Goals as goal

@@ -1,5 +1,4 @@
-use Rattle.std.proofs.Common.{◌≡◌, ◌||◌, ◌∙◌, [], sym, arith}
-use Rattle.aig_order.specs.Takings.{AreSetUp}
+use Rattle.std.proofs.Common.{◌∙◌, []}
 use Rattle.aig_order.proofs.Takes.{waits_is, start_readied}
 use Rattle.aig_order.proofs.taking.first_ready.Goals as goal
 

@@ -1,4 +1,4 @@
-use Rattle.aig_order.proofs.Takes.{rest_none, popped_none}
+use Rattle.aig_order.proofs.Takes.{popped_none}
 use Rattle.aig_order.proofs.taking.next_ready.Goals as goal
 
 pub returns : goal.returns

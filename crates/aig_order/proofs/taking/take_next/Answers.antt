@@ -1,4 +1,4 @@
-use Rattle.std.proofs.Common.{◌≡◌, ◌∙◌, sym, ap, arith, refl, Some, true, length, ℕ, List, []}
+use Rattle.std.proofs.Common.{◌∙◌, ap, arith, refl, []}
 use Rattle.std.proofs.lemmas.List.{get_or_read}
 use Rattle.aig_order.specs.Firsts.{holds}
 use Rattle.aig_order.proofs.Takes.{next_some, next_none, taken_none, with_some, with_none, take_first}

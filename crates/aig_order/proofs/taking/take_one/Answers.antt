@@ -1,4 +1,3 @@
-use Rattle.std.proofs.Common.{◌≡◌, ◌∙◌, sym, arith}
 use Rattle.aig_order.proofs.Takes.{user_readied}
 use Rattle.aig_order.proofs.taking.take_one.Goals as goal
 

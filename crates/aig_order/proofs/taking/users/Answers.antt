@@ -1,5 +1,4 @@
-use Rattle.std.proofs.Common.{◌≡◌, ◌≤◌, length, subst, sym, arith, ℕ}
-use Rattle.aig_order.specs.Takings.{AreUsers}
+use Rattle.std.proofs.Common.{length, arith}
 use Rattle.aig_order.proofs.Takes.{definer_small, users_long, users_more}
 use Rattle.aig_order.proofs.taking.users.Goals as goal
 

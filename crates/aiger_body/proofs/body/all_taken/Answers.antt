@@ -1,7 +1,7 @@
-use Rattle.std.proofs.Common.{◌≡◌, ◌+◌, ◌≤◌, ◌<◌, ◌∙◌, ℕ, suc, List, length, sym, ap, subst, arith, refl, Some, Option}
+use Rattle.std.proofs.Common.{◌≡◌, ◌+◌, ◌<◌, ◌∙◌, ℕ, suc, List, length, sym, ap, subst, arith, Some, Option}
 use Rattle.aig_order.specs.declared.gate.Gate.{Gate}
 use Rattle.aiger_body.specs.declared.content.Content.{Content}
-use Rattle.aiger_body.specs.Files.{content, lines, counts, plan, before}
+use Rattle.aiger_body.specs.Files.{lines, counts, plan, before}
 use Rattle.aig_order.specs.Gates.{order, Depends}
 use Rattle.aiger_body.specs.declared.error.AigKind.TheVariants.{Cycle}
 use Rattle.aiger_body.specs.declared.section.Section.TheVariants.{Gates}

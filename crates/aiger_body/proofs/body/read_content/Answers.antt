@@ -1,4 +1,3 @@
-use Rattle.std.proofs.Common.{◌≡◌, ◌∙◌, ap}
 use Rattle.std.proofs.lemmas.Result.{err_from_is_err_and}
 use Rattle.aiger_body.proofs.Composing.{uses_tells}
 use Rattle.aiger_body.proofs.body.read_content.Goals as goal

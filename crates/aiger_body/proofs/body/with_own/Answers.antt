@@ -1,7 +1,4 @@
-use Rattle.std.proofs.Common.{◌≡◌, ◌∙◌, sym, ap, None, refl}
-use Rattle.std.specs.Prelude.{cond}
-use Rattle.aig_order.specs.Firsts.{first_some}
-use Rattle.aiger_body.specs.Outcomes.{of_number}
+use Rattle.std.proofs.Common.{◌∙◌}
 use Rattle.aiger_body.proofs.Apart.{ascii_tail, binary_tail, ascii_content, binary_content}
 use Rattle.aiger_body.proofs.Composing.{no_numbers, all_numbers}
 use Rattle.aiger_body.proofs.body.with_own.Goals as goal

@@ -1,7 +1,7 @@
-use Rattle.std.proofs.Common.{◌≡◌, ◌<◌, ◌≤◌, ◌∙◌, ℕ, sym, ap, arith, Some}
+use Rattle.std.proofs.Common.{◌≤◌, ◌∙◌, sym, ap, arith, Some}
 use Rattle.aiger_body.specs.declared.error.AigKind.TheVariants.{Delta}
 use Rattle.aiger_body.specs.Outcomes.{fault, least, greatest}
-use Rattle.aiger_body.proofs.Groups.{group_place, group_is, group_next, group_inside, group_long, group_ended, group_short, group_value, long_fault, cut_fault, too_small, too_large, just_right}
+use Rattle.aiger_body.proofs.Groups.{group_place, group_is, group_next, group_long, group_ended, group_short, group_value, long_fault, cut_fault, too_small, too_large, just_right}
 use Rattle.aiger_body.proofs.deltas.read_delta.Goals as goal
 use Rattle.aiger_body.proofs.deltas.read_delta.Goals.{then-value-least-via-then-value-least, then-value-least-via-else-value-least+then-greatest-value}
 

@@ -1,7 +1,6 @@
-use Rattle.std.proofs.Common.{◌≡◌, ◌+◌, ◌-◌, ◌*◌, ◌%◌, ◌^◌, ◌<◌, ◌≤◌, ℕ, sym, ◌∙◌, ap, length, drop, get_or, arith}
+use Rattle.std.proofs.Common.{◌-◌, ◌≤◌, length, drop, arith}
 use Rattle.std.proofs.lemmas.List.{length-drop}
-use Rattle.aiger_body.specs.Files.{value_of}
-use Rattle.aiger_body.proofs.Groups.{value_step, value_bound}
+use Rattle.aiger_body.proofs.Groups.{value_bound}
 use Rattle.aiger_body.proofs.deltas.value_of.Goals as goal
 
 pub overflow_mul-value : goal.overflow_mul-value

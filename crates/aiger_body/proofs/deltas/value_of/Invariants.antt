@@ -1,4 +1,4 @@
-use Rattle.std.proofs.Common.{◌≡◌, ◌-◌, ◌^◌, ◌<◌, length, drop}
+use Rattle.std.proofs.Common.{◌≡◌, ◌-◌, length, drop}
 use Rattle.aiger_body.specs.Files.{value_of}
 use Rattle.aiger_body.proofs.deltas.value_of.Given as goal
 

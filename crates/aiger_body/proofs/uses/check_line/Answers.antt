@@ -1,10 +1,10 @@
-use Rattle.std.proofs.Common.{◌≡◌, ◌∙◌, ℕ, List, Bool, suc, sym, ap, subst, arith, Some, None, true, false, not}
+use Rattle.std.proofs.Common.{◌≡◌, ◌∙◌, ℕ, List, Bool, sym, ap, arith, Some, true, false, not}
 use Rattle.std.proofs.lemmas.Result.{err_from_is_err_and}
 use Rattle.std.specs.List.{list_any}
 use Rattle.aiger_body.specs.declared.error.AigKind.TheVariants.{Undefined}
 use Rattle.aiger_body.specs.declared.header.Header.{Header}
 use Rattle.aiger_body.specs.declared.section.Section.{Section}
-use Rattle.aiger_body.specs.Files.{used, counted, section as section_of, row as row_of}
+use Rattle.aiger_body.specs.Files.{used, section as section_of, row as row_of}
 use Rattle.aiger_body.specs.Outcomes.{fault, of_uses, is_undefined}
 use Rattle.aiger_body.specs.Passes.{IsRow}
 use Rattle.aiger_body.specs.Uses.{is_marked, AreKnown}

@@ -1,5 +1,4 @@
-use Rattle.std.proofs.Common.{◌≡◌, ◌∷◌, [], ◌++◌, flat_map, take}
-use Rattle.std.specs.List.{range_with_len}
+use Rattle.std.proofs.Common.{◌≡◌, ◌++◌}
 use Rattle.aiger_print.specs.Printed.{lines_of, and_row}
 use Rattle.aiger_print.proofs.lines.push_ands.Given as goal
 

@@ -1,5 +1,4 @@
 use Rattle.std.proofs.Common.{◌≡◌, ◌∷◌, [], ◌++◌, flat_map, take}
-use Rattle.std.specs.List.{range_with_len}
 use Rattle.aiger_body.specs.Spelled.{line_of}
 use Rattle.aiger_print.proofs.lines.push_literals.Given as goal
 

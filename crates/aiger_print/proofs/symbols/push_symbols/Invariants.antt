@@ -1,4 +1,4 @@
-use Rattle.std.proofs.Common.{◌≡◌, ◌∷◌, [], ◌++◌, flat_map, take}
+use Rattle.std.proofs.Common.{◌≡◌, ◌++◌, flat_map}
 use Rattle.std.specs.List.{range_with_len}
 use Rattle.aiger_print.specs.Printed.{symbol_line, name_at}
 use Rattle.aiger_print.proofs.symbols.push_symbols.Given as goal

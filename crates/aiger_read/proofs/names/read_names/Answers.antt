@@ -1,13 +1,13 @@
-use Rattle.std.proofs.Common.{◌≡◌, ℕ, ◌+◌, ◌<◌, ◌≤◌, ◌∙◌, Bool, true, false, List, length, drop, Some, Ok, refl, sym, ap, subst, arith, suc}
+use Rattle.std.proofs.Common.{◌≡◌, ℕ, ◌+◌, ◌<◌, ◌≤◌, ◌∙◌, Bool, true, false, List, length, drop, Some, Ok, sym, ap, subst, arith, suc}
 use Rattle.aiger_body.specs.declared.error.AigKind.TheVariants.{Symbol as SymbolFault}
 use Rattle.aiger_body.specs.declared.header.Header.{Header}
 use Rattle.aiger_body.specs.Texts.{pieces, piece_at, place, is_feed}
-use Rattle.aiger_body.specs.Files.{tail, tail_start}
+use Rattle.aiger_body.specs.Files.{tail}
 use Rattle.aiger_body.specs.Symbols.{tail_lines, begins_comment}
 use Rattle.aiger_body.specs.Outcomes.{fault}
 use Rattle.aiger_body.specs.Bodies.{IsTail}
 use Rattle.aiger_read.specs.declared.names.Reading.{Reading}
-use Rattle.aiger_read.specs.Naming.{IsKeepAnswer, IsKept}
+use Rattle.aiger_read.specs.Naming.{IsKeepAnswer}
 use Rattle.aiger_read.proofs.Marking.{AreRead, kept_good, fault_here, read_more}
 use Rattle.aiger_read.proofs.Ending.{no_line, some_line, lines_comment, lines_all, line_among, fault_first, named_all, line_byte}
 use Rattle.aiger_read.proofs.names.read_names.Goals as goal

@@ -1,4 +1,4 @@
-use Rattle.std.proofs.Common.{◌≡◌, ◌/◌, [], ◌∷◌, ◌++◌, map, take}
+use Rattle.std.proofs.Common.{◌≡◌, ◌/◌, ◌∷◌, ◌++◌, map, take}
 use Rattle.aiger_read.proofs.read.in_order.Given as goal
 
 abbrev pub invariant-loop-l : goal.invariant-loop-l

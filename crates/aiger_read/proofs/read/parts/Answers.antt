@@ -1,4 +1,4 @@
-use Rattle.std.proofs.Common.{◌≡◌, ℕ, ◌≤◌, ◌∙◌, List, length, map, nat_eq, sym, ap, subst, arith}
+use Rattle.std.proofs.Common.{◌≡◌, ℕ, ◌∙◌, List, length, map, nat_eq, sym, ap, subst, arith}
 use Rattle.std.specs.List.{position_or_len}
 use Rattle.aig_order.specs.Gates.{gate_at}
 use Rattle.aig_order.specs.declared.gate.Gate.{Gate}
@@ -10,7 +10,6 @@ use Rattle.aiger_body.specs.Outcomes.{circuit}
 use Rattle.aiger_read.specs.Numbers.{numbered}
 use Rattle.aiger_read.specs.Readings.{AreOf, renumbered_by, and_by}
 use Rattle.aiger_read.proofs.Parts.{order_of, variables_few, inputs_long, same_parts, latches_are, ands_are, literals_are}
-use Rattle.aiger_read.proofs.Clear.{inputs_many}
 use Rattle.aiger_read.proofs.read.parts.Goals as goal
 
 pub in_order-requires : goal.in_order-requires

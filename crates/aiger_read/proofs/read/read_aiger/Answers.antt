@@ -1,13 +1,12 @@
-use Rattle.std.proofs.Common.{◌≡◌, ℕ, ◌+◌, ◌≤◌, ◌∙◌, List, length, sym, ap, subst, arith}
+use Rattle.std.proofs.Common.{ℕ, ◌+◌, ◌≤◌, List, length, sym, ap, subst, arith}
 use Rattle.std.proofs.lemmas.List.{length-map}
 use Rattle.aig_net.specs.declared.parts.NetParts.{NetParts}
-use Rattle.aig_net.specs.Nets.{IsNet, variables}
+use Rattle.aig_net.specs.Nets.{IsNet}
 use Rattle.aiger_body.specs.declared.body.Body.{Body}
 use Rattle.aiger_body.specs.declared.content.Latch.{Latch}
 use Rattle.aiger_body.specs.Bodies.{IsBody}
 use Rattle.aiger_body.specs.Circuits.{renumbered}
 use Rattle.aiger_body.specs.Files.{content}
-use Rattle.aiger_body.specs.Outcomes.{circuit, names}
 use Rattle.aiger_read.specs.declared.names.Names.{Names}
 use Rattle.aiger_read.specs.Naming.{AreNamed}
 use Rattle.aiger_read.specs.Readings.{AreParts}
@@ -24,14 +23,35 @@ module _ (bytes : List ℕ) (b : Body) (is : IsBody bytes b) (found : Names) (na
   net = let P : NetParts → Type 0 = λ p. IsNet p in subst P (sym are) (circuit_net b.header bytes clear)
 
   few : parts.inputs + length parts.latches + length parts.ands ≤ 1048576
-  few = omega (arith, ap (λ (p : NetParts). p.inputs) are, ap (λ (p : NetParts). length p.latches) are, ap (λ (p : NetParts). length p.ands) are,
-      inputs_many b.header bytes, latches_many b.header bytes, gates_many b.header bytes, length-map (content b.header bytes).latches (λ (l : Latch). renumbered (content b.header bytes) l.next),
-      ands_few b.header bytes, is.fits.sum, is.fits.top)
+  few = omega (
+    arith,
+    ap (λ (p : NetParts). p.inputs) are,
+    ap (λ (p : NetParts). length p.latches) are,
+    ap (λ (p : NetParts). length p.ands) are,
+    inputs_many b.header bytes,
+    latches_many b.header bytes,
+    gates_many b.header bytes,
+    length-map (content b.header bytes).latches (λ (l : Latch). renumbered (content b.header bytes) l.next),
+    ands_few b.header bytes,
+    is.fits.sum,
+    is.fits.top,
+  )
 
   literals : length parts.outputs + length parts.constraints + length parts.fairs ≤ length bytes
-  literals = omega (arith, ap (λ (p : NetParts). length p.outputs) are, ap (λ (p : NetParts). length p.constraints) are, ap (λ (p : NetParts). length p.fairs) are,
-      length-map (content b.header bytes).outputs (renumbered (content b.header bytes)), length-map (content b.header bytes).constraints (renumbered (content b.header bytes)), length-map (content b.header bytes).fairs (renumbered (content b.header bytes)),
-      outputs_many b.header bytes, constraints_many b.header bytes, fairs_many b.header bytes, used_few b.header bytes, counted_few b.header bytes is.content.lines)
+  literals = omega (
+    arith,
+    ap (λ (p : NetParts). length p.outputs) are,
+    ap (λ (p : NetParts). length p.constraints) are,
+    ap (λ (p : NetParts). length p.fairs) are,
+    length-map (content b.header bytes).outputs (renumbered (content b.header bytes)),
+    length-map (content b.header bytes).constraints (renumbered (content b.header bytes)),
+    length-map (content b.header bytes).fairs (renumbered (content b.header bytes)),
+    outputs_many b.header bytes,
+    constraints_many b.header bytes,
+    fairs_many b.header bytes,
+    used_few b.header bytes,
+    counted_few b.header bytes is.content.lines,
+  )
 
 pub new-requires-clause-net : goal.new-requires-clause-net
 new-requires-clause-net c = net c.args.bytes.now c.in_ok-body.body c.in_ok-body.ensures c.in_ok-names.names c.in_ok-names.ensures c.in_ok-parts.parts c.in_ok-parts.ensures

@@ -1,4 +1,4 @@
-use Rattle.std.proofs.Common.{◌≡◌, ◌<◌, length, not, sym, ◌∙◌, ap, ◌&&◌, arith}
+use Rattle.std.proofs.Common.{◌<◌, length, not, sym, ◌∙◌, ap, ◌&&◌, arith}
 use Rattle.std.proofs.lemmas.Bool.{eqb-false, lt-ltb}
 use Rattle.aiger_body.specs.Texts.{is_return, is_ended}
 use Rattle.aiger_body.proofs.Scanning.{ended_last}

@@ -1,4 +1,4 @@
-use Rattle.std.proofs.Common.{◌≡◌, ℕ, length, ap, ◌∙◌, arith}
+use Rattle.std.proofs.Common.{◌≡◌, length, ap, ◌∙◌, arith}
 use Rattle.ltl_tableau.specs.WalkWords.{letter_below}
 use Rattle.ea_core.proofs.Lettering.{letters-all}
 use Rattle.ea_core.proofs.lassos.letters.Goals as goal

@@ -1,4 +1,4 @@
-use Rattle.std.proofs.Common.{◌≡◌, Some, ap, sym, ◌∙◌}
+use Rattle.std.proofs.Common.{Some, ap, sym, ◌∙◌}
 use Rattle.ea_core.proofs.Entering.{entries-more}
 use Rattle.ea_core.proofs.ranking.entries.Goals as goal
 

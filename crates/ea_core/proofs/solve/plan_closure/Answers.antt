@@ -1,8 +1,7 @@
-use Rattle.std.proofs.Common.{◌≡◌, ◌≤◌, List, length, ap, ◌∙◌, subst}
+use Rattle.std.proofs.Common.{◌≤◌, List, length, ap, ◌∙◌, subst}
 use Rattle.std.proofs.lemmas.Result.{err_from_is_err_and}
 use Rattle.ltl_closure.specs.Jobs.{Task, task_nodes, closure_of}
 use Rattle.ea_reduce.proofs.Jobs.{plain-tasks}
-use Rattle.ea_reduce.specs.Plans.{plain_plan}
 use Rattle.ea_core.specs.Undecided.{most_members}
 use Rattle.ea_core.proofs.Refusing.{closure-refused}
 use Rattle.ea_core.proofs.solve.plan_closure.Goals as goal

@@ -7,8 +7,7 @@ pub joint-requires : goal.joint-requires
 joint-requires g c =
     let plan = plain_plan c.args.plan.now in
     let t = c.in_ok-tableau.tableau in
-    let walk = found-walk c.graph.result.now t.graph c.in_ok-found.found c.in-Lasso.walk c.in_ok-found.ensures c.in-Lasso.is c.graph.ensures.same in
-    (
+    let walk = found-walk c.graph.result.now t.graph c.in_ok-found.found c.in-Lasso.walk c.in_ok-found.ensures c.in-Lasso.is c.graph.ensures.same in (
       omega arith,
       (
         c.requires.width,
@@ -48,13 +47,12 @@ returns-in-Lasso-clause-few g c =
 pub rank_proof-requires : goal.rank_proof-requires
 rank_proof-requires g c =
     let t = c.in_ok-tableau.tableau in
-    let ranks = found-ranks c.graph.result.now t.graph c.in_ok-found.found c.in-Ranks.ranks c.in_ok-found.ensures c.in-Ranks.is c.graph.ensures.same in
-    (
+    let ranks = found-ranks c.graph.result.now t.graph c.in_ok-found.found c.in-Ranks.ranks c.in_ok-found.ensures c.in-Ranks.is c.graph.ensures.same in (
       omega arith,
       (
         c.requires.width,
         all-ranked (plain_plan c.args.plan.now) c.args.c.now c.requires.closure c.requires.below t.branches.keys t.graph c.in_ok-tableau.ensures.tableau
-        (rw c.graph.ensures.same at c.graph.ensures.whole) c.in-Ranks.ranks ranks,
+            (rw c.graph.ensures.same at c.graph.ensures.whole) c.in-Ranks.ranks ranks,
       ),
     )
 

@@ -1,4 +1,4 @@
-use Rattle.std.proofs.Common.{◌≡◌, Option, true, false, is_some, rules, refl}
+use Rattle.std.proofs.Common.{◌≡◌, true, is_some, rules, refl}
 use Rattle.ea_reduce.proofs.Maps.{maps-mapped, few-maps, many-maps}
 use Rattle.ea_reduce.proofs.Jobs.{maps-below}
 use Rattle.ea_reduce.proofs.instances.job.Goals as goal

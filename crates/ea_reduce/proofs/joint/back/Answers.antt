@@ -1,4 +1,4 @@
-use Rattle.std.proofs.Common.{◌≡◌, ℕ, ap, sym, ◌∙◌, ◌+◌, ◌++◌, ◌∷◌, [], List, subst, zero-add, ◌<◌, length}
+use Rattle.std.proofs.Common.{◌≡◌, ap, sym, ◌∙◌, ◌+◌, ◌++◌, ◌∷◌, [], List, subst, zero-add, ◌<◌, length}
 use Rattle.hy_bits.specs.Letter.{Letter}
 use Rattle.hy_formula.specs.Lassos.{Lasso}
 use Rattle.hy_lasso.specs.Words.{letter_at}

@@ -1,4 +1,3 @@
-use Rattle.std.proofs.Common.{◌≡◌, ◌≤◌}
 use Rattle.ea_reduce.specs.Joints.{lassos_from, AreShortened}
 use Rattle.ea_reduce.proofs.joint.back.Given as goal
 

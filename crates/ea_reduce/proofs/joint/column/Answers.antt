@@ -1,4 +1,3 @@
-use Rattle.std.proofs.Common.{Some, subst, ℕ, ◌≡◌, slice_get}
 use Rattle.ea_reduce.proofs.Adding.{column-more}
 use Rattle.ea_reduce.proofs.joint.column.Goals as goal
 

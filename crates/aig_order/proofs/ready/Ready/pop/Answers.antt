@@ -1,7 +1,5 @@
-use Rattle.std.proofs.Common.{◌≡◌, ◌-◌, ◌<◌, ◌^◌, ◌∙◌, ℕ, List, sym, ap, subst, arith, refl, true}
-use Rattle.std.specs.BinaryHeap.{IsUpperBound, heap_items}
-use Rattle.std.specs.List.Sorted.{IsPermutation}
-use Rattle.std.specs.Ordering.{nat_cmp}
+use Rattle.std.proofs.Common.{◌-◌, ◌∙◌, sym, ap, arith, refl}
+use Rattle.std.specs.BinaryHeap.{heap_items}
 use Rattle.aig_order.specs.Takings.{has}
 use Rattle.aig_order.proofs.Heaps.{least_popped, has_popped}
 use Rattle.aig_order.proofs.ready.Ready.pop.Goals as goal

@@ -1,4 +1,4 @@
-use Rattle.std.proofs.Common.{◌≡◌, ◌-◌, ◌<◌, ◌||◌, ◌∙◌, nat_eq, ℕ, List, sym, ap, refl, arith}
+use Rattle.std.proofs.Common.{◌-◌, ◌||◌, ◌∙◌, nat_eq, ap, refl, arith}
 use Rattle.std.specs.BinaryHeap.{heap_items}
 use Rattle.aig_order.specs.Takings.{has}
 use Rattle.aig_order.proofs.Heaps.{has_pushed}

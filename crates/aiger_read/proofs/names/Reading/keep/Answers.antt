@@ -1,4 +1,4 @@
-use Rattle.std.proofs.Common.{◌≡◌, ℕ, ◌∙◌, ◌&&◌, ◌++◌, Bool, true, false, not, List, Some, refl, sym, ap}
+use Rattle.std.proofs.Common.{◌≡◌, ℕ, ◌∙◌, ◌&&◌, ◌++◌, Bool, true, false, List, Some, refl, sym, ap}
 use Rattle.std.specs.Prelude.{slice_get, slice_set}
 use Rattle.aig_order.proofs.Firsts.{both-and, not-false}
 use Rattle.aig_order.proofs.Reach.{read-at}

@@ -1,0 +1,119 @@
+//! The answers of all tools.
+
+use ea_core::RankProof;
+use hy_base::{Kind, NumList};
+use hy_formula::Class;
+use hy_lasso::LassoList;
+
+/// The numbers of traces, one for each quantifier, in order.
+pub type Tuple = NumList;
+
+/// What a run answers. `file` is 0 for the first file of the command, and 1 for the second.
+#[derive(Drop)]
+pub enum Answer {
+    /// The formula is satisfiable: these lassos satisfy it.
+    Sat {
+        list: LassoList,
+    },
+    /// No list of lassos satisfies the formula.
+    Unsat {
+        proof: RankProof,
+    },
+    /// The first formula implies the second: no list satisfies the first and not the second.
+    Implied {
+        proof: RankProof,
+    },
+    /// The first formula does not imply the second: these lassos satisfy the first alone.
+    NotImplied {
+        list: LassoList,
+    },
+    /// The formulas are equivalent: the first implies the second, and the second the first.
+    Equivalent {
+        first: RankProof,
+        second: RankProof,
+    },
+    /// The formulas are not equivalent: these lassos satisfy one alone, the first for side 0, the
+    /// second for side 1.
+    NotEquivalent {
+        side: u8,
+        list: LassoList,
+    },
+    /// The given lassos satisfy the formula.
+    OnTrue,
+    /// The given lassos do not satisfy the formula.
+    OnFalse,
+    /// No tuple of the traces violates. `kept` has the number of kept traces for each formula, and
+    /// `live` is the number of sessions that are open.
+    NoViolation {
+        traces: u32,
+        kept: NumList,
+        live: u32,
+    },
+    /// Trace `trace` is the first after which some tuple of traces violates formula `spec`: this one.
+    Violation {
+        spec: u32,
+        trace: u32,
+        tuple: Tuple,
+    },
+    /// The words are no command.
+    Words,
+    /// A formula text is none: the number of tokens before the fault, and its byte.
+    Syntax {
+        file: u8,
+        token: u32,
+        byte: u32,
+    },
+    /// An atom of a formula text has a variable without a quantifier: its first byte.
+    Unbound {
+        file: u8,
+        byte: u32,
+    },
+    /// A formula is of a class that the command does not take.
+    Prefix {
+        file: u8,
+        class: Class,
+    },
+    /// A line of a file, counted from 1, is no text; line 0 where a file of lassos has none.
+    Line {
+        file: u8,
+        line: u32,
+    },
+    /// The event of a line is refused: it ends a session that is not open, or goes back without a save.
+    Session {
+        line: u32,
+    },
+    /// A file did not open.
+    OpenFault {
+        file: u8,
+    },
+    /// A file could not be read.
+    ReadFault {
+        file: u8,
+    },
+    /// The output could not be written.
+    WriteFault,
+    /// A count is past its limit.
+    Limit {
+        kind: Kind,
+        limit: u64,
+    },
+    /// More than `n` branches are reachable.
+    States {
+        n: u32,
+    },
+    /// A file holds what is not built yet.
+    Unbuilt {
+        file: u8,
+    },
+    /// Memory ran out.
+    Memory,
+}
+
+/// What the text of an answer shows beside the verdict.
+#[derive(Clone, Copy)]
+pub struct Extras {
+    /// How many traces were kept for each formula.
+    pub kept: bool,
+    /// The proof of a verdict that has one.
+    pub proof: bool,
+}

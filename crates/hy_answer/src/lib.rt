@@ -1,0 +1,10 @@
+//! What the tools answer: the text of each answer, its error line, and its exit status.
+#![tactic(auto)]
+
+mod answer;
+mod output;
+mod refusal;
+
+pub use answer::{Answer, Extras, Tuple};
+pub use output::{out_text, status_of};
+pub use refusal::{fault_answer, line_answer, text_answer, write_error};

@@ -1,0 +1,64 @@
+-- What is said of the formulas of a command behind its files, stage by stage.
+use Rattle.std.proofs.Common.{◌≡◌, ◌≢◌, ℕ, zero, suc, ◌<◌, ◌≤◌, Bool, true, false, List, [], ◌∷◌, length, inl, inr, refl, sym, ap, subst, ◌∙◌, arith}
+use Rattle.std.specs.List.{Contains}
+use Rattle.std.proofs.lemmas.List.Elements.{All-contains}
+use Rattle.hy_formula.specs.Classes.{class_of}
+use Rattle.hy_formula.specs.Quantifiers.{Each}
+use Rattle.hy_formula.proofs.Tuples.{contains-none, contains-cases}
+use Rattle.hy_formula.specs.declared.classes.Class.{Class}
+use Rattle.hy_read.specs.Answers.{Plain}
+use Rattle.ea_reduce.specs.Plans.{PlainPlan, PlainJob}
+use Rattle.ea_reduce.specs.Refused.{HasFewMaps, HasManyMaps, most_maps}
+use Rattle.ea_core.specs.Undecided.{HasFewMembers, HasManyMembers, IsCounted}
+use Rattle.hy_answer.specs.declared.answer.Answer.{Answer}
+use Rattle.hy_words.specs.Commands.{Command, files_of}
+use Rattle.hy_top.specs.Classes.{takes, file_of, FirstUntaken, AreTaken, RefusesClass}
+use Rattle.hy_top.specs.Deciding.{plans_of, HasManyInstances, HasLargeClosure}
+use Rattle.hy_top.specs.Files.{Given, HasTexts, HasFormulas}
+use Rattle.hy_top.specs.Stages.{class, count, instances, closure, Passed}
+use Rattle.hy_top.proofs.Progress.{texts_once}
+
+untaken_or_taken : (takes : Class → Bool) (formulas : List Plain) (place : ℕ) (found : Class) → FirstUntaken takes formulas place found
+    → ¬ Each (λ (f : Plain). takes (class_of f.prefix) ≡ true) formulas
+untaken_or_taken takes [] place found first all = first
+untaken_or_taken takes (f ∷ formulas) zero found (is, out) (fits, all) = let e : takes found ≡ true = ap takes (sym is) ∙ fits in cc
+untaken_or_taken takes (f ∷ formulas) (suc place) found (fits, first) (also, all) = untaken_or_taken takes formulas place found first all
+
+-- One formula is the first whose class is not taken.
+pub untaken_once : (takes : Class → Bool) (formulas : List Plain) (place other : ℕ) (found next : Class) → FirstUntaken takes formulas place found
+    → FirstUntaken takes formulas other next → (place ≡ other) × (found ≡ next)
+untaken_once takes [] place other found next one two = absurd one
+untaken_once takes (f ∷ formulas) zero zero found next (is, out) (also, two) = (refl, sym is ∙ also)
+untaken_once takes (f ∷ formulas) zero (suc other) found next (is, out) (fits, two) = let e : takes found ≡ true = ap takes (sym is) ∙ fits in cc
+untaken_once takes (f ∷ formulas) (suc place) zero found next (fits, one) (is, out) = let e : takes next ≡ true = ap takes (sym is) ∙ fits in cc
+untaken_once takes (f ∷ formulas) (suc place) (suc other) found next (fits, one) (also, two) =
+    let (same, known) = untaken_once takes formulas place other found next one two in (ap suc same, known)
+
+each_contains : {A : Type 0} (P : A → Type 0) (xs : List A) (x : A) → Each P xs → Contains xs x → P x
+each_contains P [] x all there = absurd (contains-none x there)
+each_contains P (y ∷ ys) x (first, all) there =
+    elim (contains-cases y x ys there) [ inl e ↦ subst P e first | inr later ↦ each_contains P ys x all later ]
+
+few_or_many : (plan : PlainPlan) → HasFewMaps plan → ¬ HasManyMaps plan
+few_or_many plan few (job, there, many) =
+    let le = All-contains (λ (j : PlainJob). length j.maps ≤ most_maps) plan.jobs job few there in omega (arith, le, many)
+
+module _ (command : Command) (given : Given) (formulas : List Plain) (has : HasFormulas command given formulas) where
+  -- What is said of the formulas that were found is said of these.
+  pub of_formulas : (others : List Plain) → HasFormulas command given others → others ≡ formulas
+  of_formulas others (names, texts) = (texts_once command given (length (files_of command)) others formulas names has.0 texts has.1).0
+
+  pub class_passed : AreTaken command formulas → Passed command given class
+  class_passed taken a refuses =
+      let P : List Plain → Type 0 = λ fs. FirstUntaken (takes command) fs refuses.place refuses.class in
+      untaken_or_taken (takes command) formulas refuses.place refuses.class (subst P (of_formulas refuses.formulas refuses.has) refuses.first) taken
+
+  pub instances_passed : Each HasFewMaps (plans_of command formulas) → Passed command given (count instances)
+  instances_passed few a (past, e) =
+      let P : List Plain → Type 0 = λ fs. Contains (plans_of command fs) past.plan in
+      few_or_many past.plan (each_contains HasFewMaps (plans_of command formulas) past.plan few (subst P (of_formulas past.formulas past.has) past.of)) past.many
+
+  pub closure_passed : Each HasFewMembers (plans_of command formulas) → Passed command given (count closure)
+  closure_passed few a (past, e) =
+      let P : List Plain → Type 0 = λ fs. Contains (plans_of command fs) past.plan in
+      omega (arith, each_contains HasFewMembers (plans_of command formulas) past.plan few (subst P (of_formulas past.formulas past.has) past.of), past.many)

@@ -1,0 +1,19 @@
+use Rattle.std.proofs.Common.{refl}
+use Rattle.hy_words.specs.Commands.{judge}
+use Rattle.hy_top.proofs.Progress.{ends_first}
+use Rattle.hy_top.proofs.Judging.{ends_at_lassos, judgement_follows}
+use Rattle.hy_top.proofs.eahyper.judge.Goals as goal
+
+pub returns-in-Err-clause-follows : goal.returns-in-Err-clause-follows
+returns-in-Err-clause-follows g c =
+    ends_first g.S.Shelf (judge c.args.formula.now c.args.lassos.now) _ _ _ _ _ refl (rw c.requires at c.in-Err.ensures.ended)
+
+pub returns-in-Ok-lassos_in-clause-follows : goal.returns-in-Ok-lassos_in-clause-follows
+returns-in-Ok-lassos_in-clause-follows g c =
+    judgement_follows g.S.Shelf _ _ _ c.args.formula.now c.args.lassos.now _ _ (rw c.requires at c.in-Ok.ensures.taken) _
+    c.in-Ok-lassos_in.ensures.taken _ c.judge_list.ensures
+
+pub returns-clause-follows : goal.returns-clause-follows
+returns-clause-follows g c =
+    ends_at_lassos g.S.Shelf _ _ _ c.args.formula.now c.args.lassos.now _ _ (rw c.requires at c.in-Ok.ensures.taken) _
+    c.in-Err-lassos_in.ensures.ended

@@ -1,0 +1,11 @@
+use Rattle.hy_top.specs.Steps.{unread}
+use Rattle.hy_top.proofs.Ending.{lassos-ends}
+use Rattle.hy_top.proofs.files.lassos_in.Goals as goal
+
+pub returns-in-Err-clause-ended : goal.returns-in-Err-clause-ended
+returns-in-Err-clause-ended g c = rw c.fault_answer.ensures (unread c.in-Err.error c.in-Err.ensures.read)
+
+pub returns-clause-ended : goal.returns-clause-ended
+returns-clause-ended g c =
+    rw c.line_answer.ensures
+    (lassos-ends g.S.Shelf _ _ _ _ _ _ _ _ c.in-Ok.ensures.read c.as_slice.ensures _ c.in-Err-read_lassos.ensures.answer)

@@ -1,0 +1,45 @@
+-- What came of reading the files of a command, and what was found in them.
+use Rattle.std.specs.Prelude.{◌≡◌, ℕ, zero, suc, List, [], ◌++◌, length, Some, Ok, slice_get}
+use Rattle.hy_base.specs.Shelf.{Read}
+use Rattle.hy_read.specs.Answers.{Plain}
+use Rattle.hy_answer.specs.declared.answer.Answer.{Answer}
+use Rattle.hy_words.specs.Commands.{Command, files_of}
+use Rattle.hy_top.specs.Contents.{content_of, most_quantifiers, IsText, IsRefused}
+
+-- what came of reading the files, by their places, as far as they were read
+abbrev pub Given : Type 0
+Given = List Read
+
+-- This came of reading file k.
+abbrev pub Came : Given → ℕ → Read → Type 0
+Came given k read = slice_get given k ≡ Some read
+
+-- File k was read, and is a text with these formulas, where the names were `old` and then are `new`.
+pub record HasText (command : Command) (given : Given) (k : ℕ) (old : List (List ℕ)) (formulas : List Plain) (new : List (List ℕ)) : Type 0 where
+  pub bytes : List ℕ
+  pub came : Came given k (Ok bytes)
+  pub is : IsText (most_quantifiers command) old bytes (content_of command k) formulas new
+
+-- The first k files were read, and are texts: with these formulas, one file after the other, and these names.
+abbrev pub HasTexts : Command → Given → ℕ → List Plain → List (List ℕ) → Type 0
+HasTexts command given zero formulas names = (formulas ≡ []) × (names ≡ [])
+HasTexts command given (suc k) formulas names =
+    (before more : List Plain) × (old : List (List ℕ)) × HasTexts command given k before old
+    × HasText command given k old more names × (formulas ≡ before ++ more)
+
+-- All files were read, and are texts.
+abbrev pub HasAll : Command → Given → List Plain → List (List ℕ) → Type 0
+HasAll command given formulas names = HasTexts command given (length (files_of command)) formulas names
+
+-- All files together have these formulas.
+abbrev pub HasFormulas : Command → Given → List Plain → Type 0
+HasFormulas command given formulas = (names : List (List ℕ)) × HasAll command given formulas names
+
+-- The text of file k is refused, where those before it are taken.
+pub record RefusesText (command : Command) (given : Given) (k : ℕ) (answer : Answer) : Type 0 where
+  pub formulas : List Plain
+  pub names : List (List ℕ)
+  pub before : HasTexts command given k formulas names
+  pub bytes : List ℕ
+  pub came : Came given k (Ok bytes)
+  pub refused : IsRefused (most_quantifiers command) names k bytes (content_of command k) answer

@@ -1,0 +1,192 @@
+//! `eahyper`: from its files to its answers.
+
+ghost use Rattle.std.specs.Prelude.{◌≡◌, ◌<◌, ◌-◌, ◌^◌, ◌∷◌, [], List, ℕ, Bool, length};
+ghost use Rattle.hy_base.specs.Shelf.{KeepsShelf};
+ghost use Rattle.hy_formula.specs.Trees.{tree_of};
+ghost use Rattle.hy_read.specs.Builds.{plain_formula};
+ghost use Rattle.hy_answer.specs.Outputs.{out_text};
+ghost use Rattle.hy_words.specs.Commands.{judge, decide, imply, compare};
+ghost use Rattle.hy_top.specs.Deciding.{Outcome, refusal_answer};
+ghost use Rattle.hy_top.specs.Judging.{IsJudgement};
+ghost use Rattle.hy_top.specs.Runs.{Follows, extras_of};
+
+use crate::files::{formula_in, lassos_in};
+use ea_core::{Both, Decision, EaError};
+use hy_answer::Answer;
+use hy_base::Shelf;
+use hy_formula::{Formula, NameTable};
+use hy_lasso::{HoldsError, LassoList, holds};
+use std::alloc::Global;
+
+/// Whether the lassos of a file satisfy a formula, whose names are added to the empty table.
+pub fn judge<S: Shelf>(
+    alloc: Global,
+    shelf: &mut S,
+    formula: &str,
+    lassos: &str,
+    names: &mut NameTable,
+) -> Answer
+    requires { names.old ≡ [] }
+    ensures keeps { KeepsShelf S.Shelf shelf.old shelf.new }
+    ensures follows { let command = judge formula.now lassos.now in
+        Follows S.Shelf shelf.old shelf.new command result
+        (out_text (extras_of command) names.new result) }
+{
+    let formula = match formula_in(alloc, shelf, formula, 0, names) {
+        Ok(formula) => formula,
+        Err(answer) => return answer,
+    };
+    match lassos_in(alloc, shelf, lassos, 1, names) {
+        Ok(list) => judge_list(alloc, &formula, &list),
+        Err(answer) => answer,
+    }
+}
+
+/// Whether the lassos satisfy the formula.
+fn judge_list(alloc: Global, formula: &Formula, list: &LassoList) -> Answer
+    requires some { 0 < length list.now }
+    requires countable { length list.now < 2 ^ 32 }
+    ensures { IsJudgement formula.now.prefix (tree_of formula.now.body) list.now result }
+{
+    match holds(alloc, formula, list) {
+        Ok(true) => Answer::OnTrue,
+        Ok(false) => Answer::OnFalse,
+        Err(HoldsError::Limit(limit)) => Answer::Limit {
+            kind: limit.kind,
+            limit: limit.limit,
+        },
+        Err(HoldsError::Memory) => Answer::Memory,
+    }
+}
+
+/// Whether a formula is satisfiable, by at most `states` branches. Its names are added to the empty
+/// table.
+pub fn decide<S: Shelf>(
+    alloc: Global,
+    shelf: &mut S,
+    formula: &str,
+    states: u32,
+    names: &mut NameTable,
+) -> Answer
+    requires empty { names.old ≡ [] }
+    requires states { states < 2 ^ 32 - 1 }
+    ensures keeps { KeepsShelf S.Shelf shelf.old shelf.new }
+    ensures follows { (proof : Bool) → let command = decide formula.now states proof in
+        Follows S.Shelf shelf.old shelf.new command result
+        (out_text (extras_of command) names.new result) }
+{
+    match formula_in(alloc, shelf, formula, 0, names) {
+        Ok(formula) => decide_formula(alloc, &formula, states),
+        Err(answer) => answer,
+    }
+}
+
+/// Whether the formula is satisfiable.
+fn decide_formula(alloc: Global, formula: &Formula, states: u32) -> Answer
+    requires { states < 2 ^ 32 - 1 }
+    ensures { (name : List ℕ) (proof : Bool)
+        → Outcome (decide name states proof) (plain_formula formula.now ∷ []) result }
+{
+    match ea_core::decide(alloc, formula, states) {
+        Ok(Decision::Sat(list)) => Answer::Sat { list },
+        Ok(Decision::Unsat(proof)) => Answer::Unsat { proof },
+        Err(error) => refusal_answer(error, states),
+    }
+}
+
+/// Whether a formula implies another, by at most `states` branches. Their names are added to the
+/// empty table.
+pub fn imply<S: Shelf>(
+    alloc: Global,
+    shelf: &mut S,
+    files: (&str, &str),
+    states: u32,
+    names: &mut NameTable,
+) -> Answer
+    requires empty { names.old ≡ [] }
+    requires states { states < 2 ^ 32 - 1 }
+    ensures keeps { KeepsShelf S.Shelf shelf.old shelf.new }
+    ensures follows { (proof : Bool) → let command = imply files.entry.0.now files.entry.1.now states proof in
+        Follows S.Shelf shelf.old shelf.new command result
+        (out_text (extras_of command) names.new result) }
+{
+    let first = match formula_in(alloc, shelf, files.0, 0, names) {
+        Ok(formula) => formula,
+        Err(answer) => return answer,
+    };
+    match formula_in(alloc, shelf, files.1, 1, names) {
+        Ok(second) => imply_formula(alloc, &first, &second, states),
+        Err(answer) => answer,
+    }
+}
+
+/// Whether the first formula implies the second.
+fn imply_formula(alloc: Global, first: &Formula, second: &Formula, states: u32) -> Answer
+    requires { states < 2 ^ 32 - 1 }
+    ensures { (name other : List ℕ) (proof : Bool) → Outcome (imply name other states proof)
+        (plain_formula first.now ∷ plain_formula second.now ∷ []) result }
+{
+    match ea_core::implies(alloc, first, second, states) {
+        Ok(Decision::Sat(list)) => Answer::NotImplied { list },
+        Ok(Decision::Unsat(proof)) => Answer::Implied { proof },
+        Err(error) => refusal_answer(error, states),
+    }
+}
+
+/// Whether two formulas are equivalent, by at most `states` branches for each direction. Their names
+/// are added to the empty table.
+pub fn compare<S: Shelf>(
+    alloc: Global,
+    shelf: &mut S,
+    files: (&str, &str),
+    states: u32,
+    names: &mut NameTable,
+) -> Answer
+    requires empty { names.old ≡ [] }
+    requires states { states < 2 ^ 32 - 1 }
+    ensures keeps { KeepsShelf S.Shelf shelf.old shelf.new }
+    ensures follows { (proof : Bool) → let command = compare files.entry.0.now files.entry.1.now states proof in
+        Follows S.Shelf shelf.old shelf.new command result
+        (out_text (extras_of command) names.new result) }
+{
+    let first = match formula_in(alloc, shelf, files.0, 0, names) {
+        Ok(formula) => formula,
+        Err(answer) => return answer,
+    };
+    match formula_in(alloc, shelf, files.1, 1, names) {
+        Ok(second) => compare_formulas(alloc, &first, &second, states),
+        Err(answer) => answer,
+    }
+}
+
+/// Whether the formulas are equivalent.
+fn compare_formulas(alloc: Global, first: &Formula, second: &Formula, states: u32) -> Answer
+    requires { states < 2 ^ 32 - 1 }
+    ensures { (name other : List ℕ) (proof : Bool) → Outcome (compare name other states proof)
+        (plain_formula first.now ∷ plain_formula second.now ∷ []) result }
+{
+    match ea_core::equivalent(alloc, first, second, states) {
+        Ok(Both::Same(first, second)) => Answer::Equivalent { first, second },
+        Ok(Both::First(list)) => Answer::NotEquivalent { side: 0, list },
+        Ok(Both::Second(list)) => Answer::NotEquivalent { side: 1, list },
+        Err(error) => refusal_answer(error, states),
+    }
+}
+
+/// The answer for an error of a decision by at most `states` branches.
+fn refusal_answer(error: EaError, states: u32) -> Answer
+    ensures { result ≡ refusal_answer states error }
+{
+    match error {
+        EaError::Prefix { second, class } => Answer::Prefix {
+            file: u8::from(second),
+            class,
+        },
+        EaError::Limit(limit) => Answer::Limit {
+            kind: limit.kind,
+            limit: limit.limit,
+        },
+        EaError::States => Answer::States { n: states },
+        EaError::Memory => Answer::Memory,
+    }
+}

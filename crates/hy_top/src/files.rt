@@ -1,0 +1,128 @@
+//! Files that are read whole and taken, or end the run.
+
+ghost use Rattle.std.specs.Prelude.{◌∷◌, ◌↔◌, ◌<◌, ◌^◌, [], length, IfOk, IfErr, IsTrue};
+ghost use Rattle.hy_base.specs.Shelf.{KeepsShelf};
+ghost use Rattle.hy_read.specs.Builds.{plain_formula, plain_formulas};
+ghost use Rattle.hy_top.specs.Contents.{specifications, one_formula, events, lassos, AreBuilt};
+ghost use Rattle.hy_top.specs.Steps.{Takes, TakesTraces, TakesLassos, Ends};
+
+use crate::whole_traces::read_traces;
+use hy_answer::{Answer, fault_answer, line_answer, text_answer};
+use hy_base::{Shelf, read_all};
+use hy_finite::TraceList;
+use hy_formula::{Formula, NameTable};
+use hy_lasso::{LassoList, read_lassos};
+use hy_read::{SpecList, read_formula, read_specs};
+use std::alloc::Global;
+
+/// Most quantifiers of a formula of `eahyper`.
+const MOST_QUANTIFIERS: u8 = 8;
+
+/// Most quantifiers of a formula of `rvhyper`.
+const MOST_OF_SPECS: u8 = 4;
+
+/// The formula that file `file` of the command is, whose names are added to the table; or the answer
+/// with which the run ends there.
+pub fn formula_in<S: Shelf>(
+    alloc: Global,
+    shelf: &mut S,
+    name: &str,
+    file: u8,
+    names: &mut NameTable,
+) -> Result<Formula, Answer>
+    ensures keeps { KeepsShelf S.Shelf shelf.old shelf.new }
+    ensures taken { IfOk result (λ f. Takes S.Shelf shelf.old shelf.new name.now 8 names.old
+        one_formula (plain_formula f ∷ []) names.new) }
+    ensures ended { IfErr result (λ answer. Ends S.Shelf shelf.old shelf.new name.now 8 names.old
+        file one_formula answer) }
+{
+    let bytes = match read_all(alloc, shelf, name) {
+        Ok(bytes) => bytes,
+        Err(error) => return Err(fault_answer(error, file)),
+    };
+    match read_formula(alloc, bytes.as_slice(), MOST_QUANTIFIERS, names) {
+        Ok(formula) => Ok(formula),
+        Err(error) => Err(text_answer(error, file)),
+    }
+}
+
+/// The formulas that the first file of the command is, whose names are added to the table; or the
+/// answer with which the run ends there.
+pub fn specs_in<S: Shelf>(
+    alloc: Global,
+    shelf: &mut S,
+    name: &str,
+    names: &mut NameTable,
+) -> Result<SpecList, Answer>
+    ensures keeps { KeepsShelf S.Shelf shelf.old shelf.new }
+    ensures taken { IfOk result (λ specs. Takes S.Shelf shelf.old shelf.new name.now 4 names.old
+        specifications (plain_formulas specs) names.new) }
+    ensures ended { IfErr result (λ answer. Ends S.Shelf shelf.old shelf.new name.now 4 names.old
+        0 specifications answer) }
+{
+    let bytes = match read_all(alloc, shelf, name) {
+        Ok(bytes) => bytes,
+        Err(error) => return Err(fault_answer(error, 0)),
+    };
+    let specs = match read_specs(alloc, bytes.as_slice(), MOST_OF_SPECS, names) {
+        Ok(specs) => specs,
+        Err(error) => return Err(text_answer(error, 0)),
+    };
+    if !are_built(&specs) {
+        return Err(Answer::Unbuilt { file: 0 });
+    }
+    Ok(specs)
+}
+
+/// Whether there is one formula, with at most two quantifiers.
+fn are_built(specs: &SpecList) -> bool
+    ensures { IsTrue result ↔ AreBuilt (plain_formulas specs.now) }
+{
+    specs.len() == 1 && specs.at(0).prefix.len() <= 2
+}
+
+/// The traces that the second file of the command has, or the answer with which the run ends there.
+pub fn traces_in<S: Shelf>(
+    alloc: Global,
+    shelf: &mut S,
+    name: &str,
+    names: &NameTable,
+) -> Result<TraceList, Answer>
+    ensures keeps { KeepsShelf S.Shelf shelf.old shelf.new }
+    ensures taken { IfOk result (λ traces. TakesTraces S.Shelf shelf.old shelf.new name.now
+        names.now traces) }
+    ensures ended { IfErr result (λ answer. Ends S.Shelf shelf.old shelf.new name.now 4 names.now
+        1 events answer) }
+{
+    let bytes = match read_all(alloc, shelf, name) {
+        Ok(bytes) => bytes,
+        Err(error) => return Err(fault_answer(error, 1)),
+    };
+    read_traces(alloc, bytes.as_slice(), names)
+}
+
+/// The lassos that file `file` of the command has, or the answer with which the run ends there.
+pub fn lassos_in<S: Shelf>(
+    alloc: Global,
+    shelf: &mut S,
+    name: &str,
+    file: u8,
+    names: &NameTable,
+) -> Result<LassoList, Answer>
+    ensures keeps { KeepsShelf S.Shelf shelf.old shelf.new }
+    ensures taken { IfOk result (λ list. TakesLassos S.Shelf shelf.old shelf.new name.now names.now
+        list) }
+    ensures some { IfOk result (λ list. 0 < length list) }
+    ensures countable { IfOk result (λ list. length list < 2 ^ 32) }
+    ensures ended { IfErr result (λ answer. Ends S.Shelf shelf.old shelf.new name.now 8 names.now
+        file lassos answer) }
+{
+    let bytes = match read_all(alloc, shelf, name) {
+        Ok(bytes) => bytes,
+        Err(error) => return Err(fault_answer(error, file)),
+    };
+    match read_lassos(alloc, bytes.as_slice(), names) {
+        Ok(list) => Ok(list),
+        Err(error) => Err(line_answer(error, file)),
+    }
+}
