@@ -14,7 +14,7 @@ use Rattle.ea_core.specs.ProofTexts.{proof_text}
 use Rattle.hy_answer.specs.declared.answer.Answer.{Answer}
 use Rattle.hy_answer.specs.declared.answer.Answer.TheVariants.{Sat, Unsat, Implied, NotImplied, Equivalent, NotEquivalent, OnTrue, OnFalse, NoViolation, Violation}
 use Rattle.hy_answer.specs.declared.answer.Answer.TheVariants.{Words, Syntax, Unbound, Prefix, Line, Session, OpenFault, ReadFault}
-use Rattle.hy_answer.specs.declared.answer.Answer.TheVariants.{WriteFault, Limit, States, Unbuilt, Memory}
+use Rattle.hy_answer.specs.declared.answer.Answer.TheVariants.{WriteFault, Limit, States, Memory}
 use Rattle.hy_answer.specs.declared.answer.Extras.{Extras}
 
 -- numbers, each behind a space
@@ -67,7 +67,6 @@ out_text extras names (ReadFault file) = []
 out_text extras names WriteFault = []
 out_text extras names (Limit kind limit) = []
 out_text extras names (States n) = []
-out_text extras names (Unbuilt file) = []
 out_text extras names Memory = []
 
 abbrev pub kind_text : Kind → List ℕ
@@ -113,7 +112,6 @@ error_line names (ReadFault file) = codes "error E6 " ++ name_of_file names file
 error_line names WriteFault = codes "error E8\n"
 error_line names (Limit kind limit) = codes "error E5: " ++ kind_text kind ++ codes " " ++ decimal limit ++ codes "\n"
 error_line names (States n) = codes "error E13: states " ++ decimal n ++ codes "\n"
-error_line names (Unbuilt file) = codes "error: unbuilt " ++ name_of_file names file ++ codes "\n"
 error_line names Memory = codes "error: memory\n"
 error_line names (Sat list) = []
 error_line names (Unsat proof) = []
@@ -143,7 +141,6 @@ status_of (Syntax file token byte) = 2
 status_of (Unbound file byte) = 2
 status_of (Prefix file class) = 2
 status_of (Line file line) = 2
-status_of (Unbuilt file) = 2
 status_of (Session line) = 2
 status_of (OpenFault file) = 3
 status_of (ReadFault file) = 3

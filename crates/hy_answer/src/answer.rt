@@ -4,9 +4,7 @@ use ea_core::RankProof;
 use hy_base::{Kind, NumList};
 use hy_formula::Class;
 use hy_lasso::LassoList;
-
-/// The numbers of traces, one for each quantifier, in order.
-pub type Tuple = NumList;
+use tuple_walk::Tuple;
 
 /// What a run answers. `file` is 0 for the first file of the command, and 1 for the second.
 #[derive(Drop)]
@@ -42,8 +40,8 @@ pub enum Answer {
     OnTrue,
     /// The given lassos do not satisfy the formula.
     OnFalse,
-    /// No tuple of the traces violates. `kept` has the number of kept traces for each formula, and
-    /// `live` is the number of sessions that are open.
+    /// No tuple of the traces violates a formula. `kept` has the number of kept traces for each formula,
+    /// and `live` is the number of sessions that are open.
     NoViolation {
         traces: u32,
         kept: NumList,
@@ -100,10 +98,6 @@ pub enum Answer {
     /// More than `n` branches are reachable.
     States {
         n: u32,
-    },
-    /// A file holds what is not built yet.
-    Unbuilt {
-        file: u8,
     },
     /// Memory ran out.
     Memory,

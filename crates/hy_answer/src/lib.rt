@@ -5,6 +5,6 @@ mod answer;
 mod output;
 mod refusal;
 
-pub use answer::{Answer, Extras, Tuple};
+pub use answer::{Answer, Extras};
 pub use output::{out_text, status_of};
 pub use refusal::{fault_answer, line_answer, text_answer, write_error};

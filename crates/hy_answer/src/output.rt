@@ -185,7 +185,6 @@ pub fn out_text(alloc: Global, extras: Extras, names: &NameTable, answer: &Answe
         | Answer::WriteFault
         | Answer::Limit { .. }
         | Answer::States { .. }
-        | Answer::Unbuilt { .. }
         | Answer::Memory => Ok(Text::new(alloc)),
     }
 }
@@ -210,8 +209,7 @@ pub fn status_of(answer: &Answer) -> u8
         | Answer::Unbound { .. }
         | Answer::Prefix { .. }
         | Answer::Line { .. }
-        | Answer::Session { .. }
-        | Answer::Unbuilt { .. } => 2,
+        | Answer::Session { .. } => 2,
         Answer::OpenFault { .. } | Answer::ReadFault { .. } | Answer::WriteFault => 3,
         Answer::Limit { .. } | Answer::States { .. } => 5,
         Answer::Memory => 6,

@@ -241,9 +241,6 @@ fn write_line<E: Sink>(answer: &Answer, names: &[&str], err: &mut E) -> Result<(
             let n = buffer.format(*n).as_bytes();
             write_pieces(err, &[b"error E13: states ", n, b"\n"])
         }
-        Answer::Unbuilt { file } => {
-            write_with_name(err, b"error: unbuilt ", name_of_file(names, *file))
-        }
         Answer::Memory => write_all(err, b"error: memory\n"),
     }
 }

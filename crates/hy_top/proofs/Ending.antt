@@ -2,7 +2,7 @@
 use Rattle.std.proofs.Common.{◌≡◌, ◌⊎◌, ℕ, Bool, true, false, List, [], Result, Ok, Err, IfErr, inl, inr, refl, sym, ap, subst, ◌∙◌}
 use Rattle.hy_base.specs.Shelf.{ReadsFile}
 use Rattle.hy_base.specs.declared.shelf.Shelf.{Ghosts}
-use Rattle.hy_finite.specs.Traces.{Trace}
+use Rattle.hy_finite.specs.EventFiles.{FirstFault}
 use Rattle.hy_text.specs.Lines.{lines_of}
 use Rattle.hy_text.specs.declared.line_error.LineError.{LineError}
 use Rattle.hy_text.specs.declared.line_error.LineError.TheVariants as faults
@@ -15,9 +15,12 @@ use Rattle.hy_read.specs.declared.error.ReadError.TheVariants as errors
 use Rattle.hy_answer.specs.declared.answer.Answer.{Answer}
 use Rattle.hy_answer.specs.declared.answer.Answer.TheVariants as answers
 use Rattle.hy_answer.specs.Refusals.{Refuses, IsTextAnswer, line_answer}
-use Rattle.hy_top.specs.Contents.{Content, specifications, one_formula, events, lassos, AreBuilt, RefusesSpecs, RefusesLines, IsRefused}
-use Rattle.hy_top.specs.Monitoring.{OrMemory}
+use Rattle.hy_top.specs.Contents.{Content, specifications, one_formula, events, lassos, IsRefused}
 use Rattle.hy_top.specs.Steps.{Ends, spent, refused}
+
+-- Memory ran out, or the fact holds.
+abbrev OrMemory : Answer → Type 0 → Type 0
+OrMemory answer P = (answer ≡ answers.Memory) ⊎ P
 
 -- What a reader of formulas refuses is found in the bytes, or memory ran out.
 text_found : {F : Type 0} (plain : F → List Plain) (many : Bool) (quantifiers : ℕ) (old table : List (List ℕ)) (bytes : List ℕ) (k : ℕ) (error : ReadError) (a : Answer)
@@ -28,12 +31,6 @@ text_found plain many quantifiers old table bytes k (errors.Unbound byte) a is e
 text_found plain many quantifiers old table bytes k (errors.Limit l) a (c, kind, limit, is) e =
     inr (over c (most quantifiers c), is, let same : answers.Limit l.kind l.limit ≡ answers.Limit _ _ = cc in e ∙ same)
 text_found plain many quantifiers old table bytes k errors.Memory a is e = inl e
-
-as-specs : (k : ℕ) (found : Found) (a : Answer) → Refuses k found a → RefusesSpecs k found a
-as-specs k (faulty token byte) a e = e
-as-specs k (free byte) a e = e
-as-specs k (over count limit) a e = e
-as-specs k (read_as formulas names) a e = absurd e
 
 module _ {S : Type 0} (g : Ghosts S) (old new : S) (name : List ℕ) (quantifiers : ℕ) (names : List (List ℕ)) (k : ℕ) (bytes read : List ℕ)
     (came : ReadsFile g old new name (Ok bytes)) (same : read ≡ bytes) where
@@ -56,23 +53,13 @@ module _ {S : Type 0} (g : Ghosts S) (old new : S) (name : List ℕ) (quantifier
   specs-ends plain table error a is e =
       elim (text_found plain true quantifiers names table read k error a is e) [
         | inl memory ↦ short-ends specifications a memory
-        | inr found ↦ refused-ends specifications a (found.0, found.1, as-specs k found.0 a found.2)
+        | inr found ↦ refused-ends specifications a found
       ]
-
-  pub unbuilt-ends : (formulas : List Plain) (table : List (List ℕ)) → Answers true quantifiers names read (read_as formulas table) → ¬ AreBuilt formulas
-      → Ends g old new name quantifiers names k specifications (answers.Unbuilt k)
-  unbuilt-ends formulas table is other = refused-ends specifications _ (read_as formulas table, is, (other, refl))
 
   pub lassos-ends : (fault : LineError) → IsLassosAnswer names read (Err fault) → Ends g old new name quantifiers names k lassos (line_answer k fault)
   lassos-ends (faults.Syntax line) is = refused-ends lassos _ (line, is, refl)
   lassos-ends faults.Limit is = absurd is
   lassos-ends faults.Memory is = spent bytes came
 
-  traces-end-one : (a : Answer) → OrMemory a (RefusesLines k (lines_of read) a) → Ends g old new name quantifiers names k events a
-  traces-end-one a (inl e) = short-ends events a e
-  traces-end-one a (inr is) = refused-ends events a is
-
-  pub traces-end : (r : Result (List Trace) Answer) → IfErr r (λ a. OrMemory a (RefusesLines k (lines_of read) a))
-      → IfErr r (λ a. Ends g old new name quantifiers names k events a)
-  traces-end (Ok traces) is = tt
-  traces-end (Err a) is = traces-end-one a is
+  pub events-end : (line : ℕ) → FirstFault 1 (lines_of read) line → Ends g old new name quantifiers names k events (answers.Line k line)
+  events-end line fault = refused-ends events _ (line, fault, refl)

@@ -1,4 +1,3 @@
-pub mod Arriving
 pub mod Deciding
 pub mod Ending
 pub mod FirstSpecs
@@ -8,9 +7,7 @@ pub mod Monitoring
 pub mod OneAnswer
 pub mod Progress
 pub mod Reading
-pub mod Searches
 pub mod Silence
 pub mod StageOrder
 pub mod Texts
 pub mod TraceLines
-pub mod TraceLooks

@@ -1,12 +1,11 @@
 -- Answers that print nothing.
-use Rattle.std.proofs.Common.{◌≡◌, ℕ, List, [], inl, inr, refl, sym, subst}
-use Rattle.hy_text.specs.Lines.{lines_of}
+use Rattle.std.proofs.Common.{◌≡◌, ℕ, List, [], refl, sym, subst}
 use Rattle.hy_read.specs.Answers.{Answer as Found, faulty, free, over, read_as}
 use Rattle.hy_answer.specs.declared.answer.Answer.{Answer}
 use Rattle.hy_answer.specs.declared.answer.Extras.{Extras}
 use Rattle.hy_answer.specs.Outputs.{out_text}
 use Rattle.hy_answer.specs.Refusals.{Refuses}
-use Rattle.hy_top.specs.Contents.{Content, specifications, one_formula, events, lassos, RefusesSpecs, RefusesLines, IsRefused}
+use Rattle.hy_top.specs.Contents.{Content, specifications, one_formula, events, lassos, IsRefused}
 
 -- Nothing is printed for the answer.
 abbrev pub IsSilent : Answer → Type 0
@@ -21,19 +20,9 @@ found-silent k (free byte) a e = silent-as e (λ extras names. refl)
 found-silent k (over count limit) a e = silent-as e (λ extras names. refl)
 found-silent k (read_as formulas names) a e = absurd e
 
-specs-silent : (k : ℕ) (found : Found) (a : Answer) → RefusesSpecs k found a → IsSilent a
-specs-silent k (faulty token byte) a e = silent-as e (λ extras names. refl)
-specs-silent k (free byte) a e = silent-as e (λ extras names. refl)
-specs-silent k (over count limit) a e = silent-as e (λ extras names. refl)
-specs-silent k (read_as formulas names) a (other, e) = silent-as e (λ extras names. refl)
-
-lines-silent : (k : ℕ) (lines : List (List ℕ)) (a : Answer) → RefusesLines k lines a → IsSilent a
-lines-silent k lines a (inl (n, wrong, e)) = silent-as e (λ extras names. refl)
-lines-silent k lines a (inr (none, some, e)) = silent-as e (λ extras names. refl)
-
 pub refused-silent : (quantifiers : ℕ) (old : List (List ℕ)) (k : ℕ) (bytes : List ℕ) (content : Content) (a : Answer)
     → IsRefused quantifiers old k bytes content a → IsSilent a
-refused-silent quantifiers old k bytes specifications a (found, answers, refuses) = specs-silent k found a refuses
+refused-silent quantifiers old k bytes specifications a (found, answers, refuses) = found-silent k found a refuses
 refused-silent quantifiers old k bytes one_formula a (found, answers, refuses) = found-silent k found a refuses
-refused-silent quantifiers old k bytes events a refused = lines-silent k (lines_of bytes) a refused
+refused-silent quantifiers old k bytes events a (line, fault, e) = silent-as e (λ extras names. refl)
 refused-silent quantifiers old k bytes lassos a (line, refused, e) = silent-as e (λ extras names. refl)

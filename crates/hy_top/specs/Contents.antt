@@ -1,16 +1,18 @@
 -- What each file of a command is to be, and what its bytes are by that.
-use Rattle.std.specs.Prelude.{◌≡◌, ◌⊎◌, ◌≤◌, ℕ, zero, suc, List, [], ◌∷◌, length, Ok, Err, true, false}
+use Rattle.std.specs.Prelude.{◌≡◌, ℕ, zero, suc, List, [], Ok, Err, true, false}
 use Rattle.hy_bits.specs.Letter.{Letter}
 use Rattle.hy_formula.specs.Lassos.{Lasso}
+use Rattle.hy_formula.specs.Quantifiers.{Each}
 use Rattle.hy_text.specs.Lines.{lines_of}
 use Rattle.hy_text.specs.declared.line_error.LineError.TheVariants as faults
+use Rattle.hy_finite.specs.EventLines as event_line
+use Rattle.hy_finite.specs.EventFiles.{FirstFault}
 use Rattle.hy_lasso.specs.LassoFiles.{IsLassosAnswer}
 use Rattle.hy_read.specs.Answers.{Answer as Found, Answers, Plain, faulty, free, over, read_as}
 use Rattle.hy_answer.specs.declared.answer.Answer.{Answer}
-use Rattle.hy_answer.specs.declared.answer.Answer.TheVariants.{Line, Unbuilt}
+use Rattle.hy_answer.specs.declared.answer.Answer.TheVariants.{Line}
 use Rattle.hy_answer.specs.Refusals.{Refuses}
 use Rattle.hy_words.specs.Commands.{Command, monitor, judge, decide, imply, compare}
-use Rattle.hy_top.specs.WholeTraces.{FirstWrong, NoneWrong, SomeUnbuilt, NoneUnbuilt}
 
 pub data Content : Type 0 where
   -- formulas, joined by semicolons
@@ -39,41 +41,23 @@ most_quantifiers (decide formula states proof) = 8
 most_quantifiers (imply first second states proof) = 8
 most_quantifiers (compare first second states proof) = 8
 
--- What is built so far of a specification file: one formula with at most two quantifiers.
-abbrev pub AreBuilt : List Plain → Type 0
-AreBuilt [] = ⊥
-AreBuilt (formula ∷ []) = length formula.prefix ≤ 2
-AreBuilt (formula ∷ other ∷ formulas) = ⊥
-
--- What is found in the specification file k is refused, or not built, and so is answered.
-abbrev pub RefusesSpecs : ℕ → Found → Answer → Type 0
-RefusesSpecs k (read_as formulas names) answer = (¬ AreBuilt formulas) × (answer ≡ Unbuilt k)
-RefusesSpecs k (faulty token byte) answer = Refuses k (faulty token byte) answer
-RefusesSpecs k (free byte) answer = Refuses k (free byte) answer
-RefusesSpecs k (over count limit) answer = Refuses k (over count limit) answer
-
--- The lines of the trace file k are refused, and so is answered.
-abbrev pub RefusesLines : ℕ → List (List ℕ) → Answer → Type 0
-RefusesLines k lines answer =
-    ((n : ℕ) × FirstWrong 1 lines n × (answer ≡ Line k n)) ⊎ (NoneWrong lines × SomeUnbuilt lines × (answer ≡ Unbuilt k))
-
 -- The bytes are a text of this content, where `old` are the names of the files before: it has these formulas, and
 -- `new` are the names then.
 abbrev pub IsText : ℕ → List (List ℕ) → List ℕ → Content → List Plain → List (List ℕ) → Type 0
-IsText quantifiers old bytes specifications formulas new =
-    Answers true quantifiers old bytes (read_as formulas new) × AreBuilt formulas
+IsText quantifiers old bytes specifications formulas new = Answers true quantifiers old bytes (read_as formulas new)
 IsText quantifiers old bytes one_formula formulas new = Answers false quantifiers old bytes (read_as formulas new)
 IsText quantifiers old bytes events formulas new =
-    NoneWrong (lines_of bytes) × NoneUnbuilt (lines_of bytes) × (formulas ≡ []) × (new ≡ old)
+    Each event_line.IsText (lines_of bytes) × (formulas ≡ []) × (new ≡ old)
 IsText quantifiers old bytes lassos formulas new =
     ((list : List (Lasso Letter)) × IsLassosAnswer old bytes (Ok list)) × (formulas ≡ []) × (new ≡ old)
 
 -- The text of file k, which is to be of this content, is refused, and so is answered.
 abbrev pub IsRefused : ℕ → List (List ℕ) → ℕ → List ℕ → Content → Answer → Type 0
 IsRefused quantifiers old k bytes specifications answer =
-    (found : Found) × Answers true quantifiers old bytes found × RefusesSpecs k found answer
+    (found : Found) × Answers true quantifiers old bytes found × Refuses k found answer
 IsRefused quantifiers old k bytes one_formula answer =
     (found : Found) × Answers false quantifiers old bytes found × Refuses k found answer
-IsRefused quantifiers old k bytes events answer = RefusesLines k (lines_of bytes) answer
+IsRefused quantifiers old k bytes events answer =
+    (line : ℕ) × FirstFault 1 (lines_of bytes) line × (answer ≡ Line k line)
 IsRefused quantifiers old k bytes lassos answer =
     (line : ℕ) × IsLassosAnswer old bytes (Err (faults.Syntax line)) × (answer ≡ Line k line)

@@ -1,4 +1,3 @@
-pub mod Arrivals
 pub mod Classes
 pub mod Contents
 pub mod Deciding
@@ -6,7 +5,6 @@ pub mod Files
 pub mod Judging
 pub mod Monitoring
 pub mod Runs
-pub mod Searches
 pub mod Stages
 pub mod Steps
-pub mod WholeTraces
+pub mod Watching

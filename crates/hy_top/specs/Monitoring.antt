@@ -1,58 +1,135 @@
--- What `rvhyper` takes so far, and what it answers for its traces.
-use Rattle.std.specs.Prelude.{◌≡◌, ◌⊎◌, ℕ, true, false, List, [], ◌∷◌, length, Ok}
+-- What `rvhyper` answers: how the formulas are counted, and what comes of the events of a file, one after another.
+use Rattle.std.specs.Prelude.{◌≡◌, ◌⊎◌, ℕ, Bool, true, false, nat_lt, if◌then◌else◌, List, [], ◌∷◌, length, map, replicate, Ok}
+use Rattle.std.specs.List.{Contains}
+use Rattle.hy_base.specs.Limits.{most}
+use Rattle.hy_base.specs.declared.limit.Kind.TheVariants.{Closure, Atoms, Table, Length, Sessions, Saves}
 use Rattle.hy_formula.specs.Classes.{class_of}
-use Rattle.hy_formula.specs.declared.prefix.Quant.{Quant}
+use Rattle.hy_formula.specs.declared.classes.Class.{Class}
+use Rattle.hy_formula.specs.Quantifiers.{Each}
 use Rattle.hy_formula.specs.Trees.{Tree}
-use Rattle.hy_finite.specs.Traces.{Trace}
+use Rattle.hy_finite.specs.declared.event.Event.{Event}
+use Rattle.hy_finite.specs.declared.event.Event.TheVariants.{Whole}
+use Rattle.hy_finite.specs.declared.event.Placed.{Placed}
+use Rattle.hy_finite.specs.declared.lengths.Lengths.TheVariants.{Min}
+use Rattle.hy_finite.specs.EventFiles.{IsEventFile}
+use Rattle.hy_finite.specs.Traces.{Trace, most_letters}
 use Rattle.hy_read.specs.Answers.{Plain}
+use Rattle.fin_monitor.specs.Limits.{HasLargeClosure, HasSmallClosure, HasManyAtoms, HasFewAtoms, HasLargeTable, IsTaken}
+use Rattle.rv_core.specs.Endings.{Spec, IsClean}
+use Rattle.rv_core.specs.Histories.{History, empty_history, Refusal, no_session, no_save, too_long, too_many_sessions, too_many_saves, Step, refused, goes, step, arrives}
+use Rattle.rv_core.specs.Replies.{IsFound}
 use Rattle.hy_answer.specs.declared.answer.Answer.{Answer}
-use Rattle.hy_answer.specs.declared.answer.Answer.TheVariants.{NoViolation, Violation, Prefix, Memory}
-use Rattle.hy_words.specs.Commands.{Command}
-use Rattle.hy_top.specs.Arrivals.{AreUniversal, SatisfyFormula, FirstViolation}
-use Rattle.hy_top.specs.Classes.{is_universal}
-use Rattle.hy_top.specs.Files.{Given, Came, HasTexts}
-use Rattle.hy_top.specs.WholeTraces.{IsTraceFile}
+use Rattle.hy_answer.specs.declared.answer.Answer.TheVariants.{NoViolation, Violation, Prefix, Session, Limit, Memory}
+use Rattle.hy_words.specs.Commands.{Command, monitor, judge, decide, imply, compare}
+use Rattle.hy_top.specs.Classes.{is_universal, FirstUntaken}
+use Rattle.hy_top.specs.Files.{Given, Came, HasTexts, HasFormulas}
 
--- No tuple of the traces violates the formula.
-pub record IsClean (prefix : List Quant) (tree : Tree) (traces : List Trace) (count : ℕ) (kept : List ℕ) (live : ℕ) : Type 0 where
-  pub all : count ≡ length traces
-  pub kept_all : kept ≡ length traces ∷ []
-  pub none_open : live ≡ 0
-  pub clean : SatisfyFormula prefix tree traces
+-- ---- the formulas
 
--- What a verdict says of the traces: that they satisfy the formula; or the first trace after which all that arrived
--- violate it, and a tuple of those that does.
-pub data IsVerdict (prefix : List Quant) (tree : Tree) (traces : List Trace) : Answer → Type 0 where
-  is_clean : (count : ℕ) (kept : List ℕ) (live : ℕ) → IsClean prefix tree traces count kept live
-      → IsVerdict prefix tree traces (NoViolation count kept live)
-  is_violated : (trace : ℕ) (tuple : List ℕ) → FirstViolation (length prefix) tree traces trace tuple
-      → IsVerdict prefix tree traces (Violation 0 trace tuple)
+abbrev pub AreUniversal : List Plain → Type 0
+AreUniversal formulas = Each (λ (f : Plain). is_universal (class_of f.prefix) ≡ true) formulas
 
--- The first file is this universal formula, and the second has these traces.
-pub record HasTraces (command : Command) (given : Given) (formula : Plain) (traces : List Trace) : Type 0 where
+-- It holds of the body of some formula.
+abbrev pub SomePlain : (Tree → Type 0) → List Plain → Type 0
+SomePlain Q formulas = (f : Plain) × Contains formulas f × Q f.body
+
+-- It holds of the body of each.
+abbrev pub EachPlain : (Tree → Type 0) → List Plain → Type 0
+EachPlain Q formulas = Each (λ (f : Plain). Q f.body) formulas
+
+-- the formulas that a command has monitors of
+abbrev pub monitored : Command → List Plain → List Plain
+monitored (monitor specs traces) formulas = formulas
+monitored (judge formula list) formulas = []
+monitored (decide formula states proof) formulas = []
+monitored (imply first second states proof) formulas = []
+monitored (compare first second states proof) formulas = []
+
+-- It holds of some body that the command has a monitor of.
+pub record SomeBody (Q : Tree → Type 0) (command : Command) (given : Given) : Type 0 where
+  pub formulas : List Plain
+  pub has : HasFormulas command given formulas
+  pub some : SomePlain Q (monitored command formulas)
+
+-- what a formula says of tuples
+abbrev pub spec_of : Plain → Spec
+spec_of f = record { variables = length f.prefix; body = f.body }
+
+abbrev pub specs_of : List Plain → List Spec
+specs_of formulas = map spec_of formulas
+
+-- ---- the events
+
+-- whether the event is a trace of too many letters
+abbrev pub is_long : Event → Bool
+is_long (Whole t) = nat_lt most_letters (length t)
+is_long _ = false
+
+-- what the event of a line does
+abbrev pub step_of : History → Event → Step
+step_of h event = if is_long event then refused too_long else step h event
+
+-- the answer for the refused event of a line
+abbrev pub refusal_answer : ℕ → Refusal → Answer
+refusal_answer line no_session = Session line
+refusal_answer line no_save = Session line
+refusal_answer line too_long = Limit Length (most Length)
+refusal_answer line too_many_sessions = Limit Sessions (most Sessions)
+refusal_answer line too_many_saves = Limit Saves (most Saves)
+
+-- The traces that arrived violate a formula, and so is answered: by the first such one, the last trace, and a tuple.
+pub record IsViolation (specs : List Spec) (arrived : List Trace) (answer : Answer) : Type 0 where
+  pub spec : ℕ
+  pub trace : ℕ
+  pub tuple : List ℕ
+  pub found : IsFound Min specs arrived spec trace tuple
+  pub answered : answer ≡ Violation spec trace tuple
+
+-- that no event was refused or violated a formula: how many traces arrived, how many of them each of n formulas
+-- keeps, and how many sessions are open
+abbrev pub clean_answer : ℕ → History → Answer
+clean_answer n h =
+    NoViolation (length h.present.arrived) (replicate n (length h.present.arrived)) (length h.present.sessions)
+
+-- What comes of the event of a line, where `Rest` says what comes behind it.
+abbrev pub Comes : List Spec → ℕ → Bool → Step → (History → Type 0) → Answer → Type 0
+Comes specs line arriving (refused r) Rest answer = answer ≡ refusal_answer line r
+Comes specs line false (goes h) Rest answer = Rest h
+Comes specs line true (goes h) Rest answer =
+    IsViolation specs h.present.arrived answer ⊎ (IsClean Min specs h.present.arrived × Rest h)
+
+-- The events from a history on, one after another, come to this answer: the first that is refused or brings a violation
+-- gives it.
+abbrev pub ComesTo : List Spec → History → List Placed → Answer → Type 0
+ComesTo specs h [] answer = answer ≡ clean_answer (length specs) h
+ComesTo specs h (placed ∷ events) answer =
+    Comes specs placed.line (arrives placed.event) (step_of h placed.event)
+    (λ next. ComesTo specs next events answer) answer
+
+-- The lines of a file say events that come to this answer.
+abbrev pub IsVerdict : List Plain → List (List ℕ) → List ℕ → Answer → Type 0
+IsVerdict formulas names bytes answer =
+    (events : List Placed) × IsEventFile names bytes events × ComesTo (specs_of formulas) empty_history events answer
+
+-- The files are formulas and events, and this is what they come to.
+pub record Monitors (command : Command) (given : Given) (answer : Answer) : Type 0 where
+  pub formulas : List Plain
   pub names : List (List ℕ)
-  pub first : HasTexts command given 1 (formula ∷ []) names
-  pub universal : AreUniversal formula.prefix
+  pub first : HasTexts command given 1 formulas names
   pub bytes : List ℕ
   pub came : Came given 1 (Ok bytes)
-  pub spelled : IsTraceFile names bytes traces
+  pub verdict : IsVerdict formulas names bytes answer
 
--- The files are one formula and traces, and this is the verdict on them.
-pub record Monitors (command : Command) (given : Given) (answer : Answer) : Type 0 where
-  pub formula : Plain
-  pub traces : List Trace
-  pub has : HasTraces command given formula traces
-  pub verdict : IsVerdict formula.prefix formula.body traces answer
-
--- What a specification file that is built comes to on traces: its class is not taken, this is the verdict, or memory
--- ran out.
-pub data IsOutcome (formulas : List Plain) (traces : List Trace) : Answer → Type 0 where
-  untaken : (formula : Plain) → formulas ≡ formula ∷ [] → is_universal (class_of formula.prefix) ≡ false
-      → IsOutcome formulas traces (Prefix 0 (class_of formula.prefix))
-  verdict : (formula : Plain) (answer : Answer) → formulas ≡ formula ∷ [] → is_universal (class_of formula.prefix) ≡ true
-      → AreUniversal formula.prefix → IsVerdict formula.prefix formula.body traces answer → IsOutcome formulas traces answer
-  spent : IsOutcome formulas traces Memory
-
--- Memory ran out, or the fact holds.
-abbrev pub OrMemory : Answer → Type 0 → Type 0
-OrMemory answer P = (answer ≡ Memory) ⊎ P
+-- What formulas come to on the events of a file: the first of these that is met, or memory ran out.
+pub data IsOutcome (formulas : List Plain) (names : List (List ℕ)) (bytes : List ℕ) : Answer → Type 0 where
+  untaken : (place : ℕ) (class : Class) → FirstUntaken is_universal formulas place class
+      → IsOutcome formulas names bytes (Prefix 0 class)
+  large_closure : AreUniversal formulas → SomePlain HasLargeClosure formulas
+      → IsOutcome formulas names bytes (Limit Closure (most Closure))
+  many_atoms : AreUniversal formulas → EachPlain HasSmallClosure formulas → SomePlain HasManyAtoms formulas
+      → IsOutcome formulas names bytes (Limit Atoms (most Atoms))
+  large_table : AreUniversal formulas → EachPlain HasSmallClosure formulas → EachPlain HasFewAtoms formulas
+      → SomePlain HasLargeTable formulas → IsOutcome formulas names bytes (Limit Table (most Table))
+  done : (answer : Answer) → AreUniversal formulas → EachPlain IsTaken formulas → IsVerdict formulas names bytes answer
+      → IsOutcome formulas names bytes answer
+  spent : IsOutcome formulas names bytes Memory

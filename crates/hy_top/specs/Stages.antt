@@ -8,6 +8,7 @@ use Rattle.hy_base.specs.declared.reading.TheConstants.{BYTES_LIMIT}
 use Rattle.hy_bits.specs.Letter.{Letter}
 use Rattle.hy_formula.specs.Lassos.{Lasso}
 use Rattle.ea_core.specs.declared.rank_proof.RankProof.{RankProof}
+use Rattle.fin_monitor.specs.Limits.{HasLargeClosure, HasManyAtoms, HasLargeTable}
 use Rattle.hy_answer.specs.declared.answer.Answer.{Answer}
 use Rattle.hy_answer.specs.declared.answer.Answer.TheVariants.{Sat, Unsat, Implied, NotImplied, Equivalent, NotEquivalent, Violation, OpenFault, ReadFault, Limit}
 use Rattle.hy_words.specs.Commands.{Command, monitor, judge, decide, imply, compare, files_of}
@@ -76,10 +77,10 @@ stages_of command = stages_before_work command ++ work ∷ []
 -- The quantity is past its limit.
 abbrev pub IsPast : Command → Given → Quantity → Type 0
 IsPast command given instances = deciding.HasManyInstances command given
-IsPast command given closure = deciding.HasLargeClosure command given
+IsPast command given closure = deciding.HasLargeClosure command given ⊎ monitoring.SomeBody HasLargeClosure command given
 IsPast command given joint = judging.IsTooJoint command given
-IsPast command given atoms = ⊥
-IsPast command given table = ⊥
+IsPast command given atoms = monitoring.SomeBody HasManyAtoms command given
+IsPast command given table = monitoring.SomeBody HasLargeTable command given
 
 -- The work of the command comes to this answer.
 abbrev pub ComesTo : Command → Given → Answer → Type 0

@@ -5,14 +5,15 @@ use Rattle.hy_base.specs.declared.reading.FileError.{FileError}
 use Rattle.hy_base.specs.declared.shelf.Shelf.{Ghosts}
 use Rattle.hy_bits.specs.Letter.{Letter}
 use Rattle.hy_formula.specs.Lassos.{Lasso}
-use Rattle.hy_finite.specs.Traces.{Trace}
+use Rattle.hy_finite.specs.EventLines as event_line
+use Rattle.hy_formula.specs.Quantifiers.{Each}
+use Rattle.hy_text.specs.Lines.{lines_of}
 use Rattle.hy_lasso.specs.LassoFiles.{IsLassosAnswer}
 use Rattle.hy_read.specs.Answers.{Plain}
 use Rattle.hy_answer.specs.declared.answer.Answer.{Answer}
 use Rattle.hy_answer.specs.declared.answer.Answer.TheVariants.{Memory}
 use Rattle.hy_answer.specs.Refusals.{fault_answer}
 use Rattle.hy_top.specs.Contents.{Content, IsText, IsRefused}
-use Rattle.hy_top.specs.WholeTraces.{IsTraceFile}
 
 -- The file was read, and is a text of this content.
 pub record Takes {S : Type 0} (g : Ghosts S) (old new : S) (name : List ℕ) (quantifiers : ℕ) (names : List (List ℕ)) (content : Content) (formulas : List Plain) (later : List (List ℕ)) : Type 0 where
@@ -26,11 +27,10 @@ pub record TakesLassos {S : Type 0} (g : Ghosts S) (old new : S) (name : List �
   pub read : ReadsFile g old new name (Ok bytes)
   pub is : IsLassosAnswer names bytes (Ok list)
 
--- The file was read, and has these traces.
-pub record TakesTraces {S : Type 0} (g : Ghosts S) (old new : S) (name : List ℕ) (names : List (List ℕ)) (traces : List Trace) : Type 0 where
-  pub bytes : List ℕ
+-- The file was read, these are its bytes, and each of its lines is a text.
+pub record TakesEvents {S : Type 0} (g : Ghosts S) (old new : S) (name : List ℕ) (bytes : List ℕ) : Type 0 where
   pub read : ReadsFile g old new name (Ok bytes)
-  pub is : IsTraceFile names bytes traces
+  pub lines : Each event_line.IsText (lines_of bytes)
 
 -- The run ends at file k, which is to be of this content, with this answer: it was not read, memory ran out, or its
 -- text is refused.

@@ -1,15 +1,15 @@
 //! Files that are read whole and taken, or end the run.
 
-ghost use Rattle.std.specs.Prelude.{◌∷◌, ◌↔◌, ◌<◌, ◌^◌, [], length, IfOk, IfErr, IsTrue};
+ghost use Rattle.std.specs.Prelude.{◌∷◌, ◌<◌, ◌≤◌, ◌^◌, [], ℕ, List, length, IfOk, IfErr};
 ghost use Rattle.hy_base.specs.Shelf.{KeepsShelf};
+ghost use Rattle.hy_base.specs.declared.reading.TheConstants.{BYTES_LIMIT};
 ghost use Rattle.hy_read.specs.Builds.{plain_formula, plain_formulas};
-ghost use Rattle.hy_top.specs.Contents.{specifications, one_formula, events, lassos, AreBuilt};
-ghost use Rattle.hy_top.specs.Steps.{Takes, TakesTraces, TakesLassos, Ends};
+ghost use Rattle.hy_top.specs.Contents.{specifications, one_formula, events, lassos};
+ghost use Rattle.hy_top.specs.Steps.{Takes, TakesEvents, TakesLassos, Ends};
 
-use crate::whole_traces::read_traces;
 use hy_answer::{Answer, fault_answer, line_answer, text_answer};
-use hy_base::{Shelf, read_all};
-use hy_finite::TraceList;
+use hy_base::{Shelf, Text, read_all};
+use hy_finite::{LineError, check_events};
 use hy_formula::{Formula, NameTable};
 use hy_lasso::{LassoList, read_lassos};
 use hy_read::{SpecList, read_formula, read_specs};
@@ -64,41 +64,29 @@ pub fn specs_in<S: Shelf>(
         Ok(bytes) => bytes,
         Err(error) => return Err(fault_answer(error, 0)),
     };
-    let specs = match read_specs(alloc, bytes.as_slice(), MOST_OF_SPECS, names) {
-        Ok(specs) => specs,
-        Err(error) => return Err(text_answer(error, 0)),
-    };
-    if !are_built(&specs) {
-        return Err(Answer::Unbuilt { file: 0 });
+    match read_specs(alloc, bytes.as_slice(), MOST_OF_SPECS, names) {
+        Ok(specs) => Ok(specs),
+        Err(error) => Err(text_answer(error, 0)),
     }
-    Ok(specs)
 }
 
-/// Whether there is one formula, with at most two quantifiers.
-fn are_built(specs: &SpecList) -> bool
-    ensures { IsTrue result ↔ AreBuilt (plain_formulas specs.now) }
-{
-    specs.len() == 1 && specs.at(0).prefix.len() <= 2
-}
-
-/// The traces that the second file of the command has, or the answer with which the run ends there.
-pub fn traces_in<S: Shelf>(
-    alloc: Global,
-    shelf: &mut S,
-    name: &str,
-    names: &NameTable,
-) -> Result<TraceList, Answer>
+/// The bytes of the second file of the command, each of whose lines is a text; or the answer with
+/// which the run ends there.
+pub fn events_in<S: Shelf>(alloc: Global, shelf: &mut S, name: &str) -> Result<Text, Answer>
     ensures keeps { KeepsShelf S.Shelf shelf.old shelf.new }
-    ensures taken { IfOk result (λ traces. TakesTraces S.Shelf shelf.old shelf.new name.now
-        names.now traces) }
-    ensures ended { IfErr result (λ answer. Ends S.Shelf shelf.old shelf.new name.now 4 names.now
-        1 events answer) }
+    ensures taken { IfOk result (λ bytes. TakesEvents S.Shelf shelf.old shelf.new name.now bytes) }
+    ensures few { IfOk result (λ bytes. length bytes ≤ BYTES_LIMIT) }
+    ensures ended { IfErr result (λ answer. (names : List (List ℕ))
+        → Ends S.Shelf shelf.old shelf.new name.now 4 names 1 events answer) }
 {
     let bytes = match read_all(alloc, shelf, name) {
         Ok(bytes) => bytes,
         Err(error) => return Err(fault_answer(error, 1)),
     };
-    read_traces(alloc, bytes.as_slice(), names)
+    match check_events(alloc, bytes.as_slice()) {
+        Ok(()) | Err(LineError::Limit) => Ok(bytes),
+        Err(error) => Err(line_answer(error, 1)),
+    }
 }
 
 /// The lassos that file `file` of the command has, or the answer with which the run ends there.

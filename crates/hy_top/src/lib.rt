@@ -1,14 +1,13 @@
 //! The programs, from words and files to answers and texts.
 #![tactic(auto)]
 
-mod arrivals;
 mod eahyper;
 mod files;
 mod host;
 mod laws;
 mod runs;
 mod rvhyper;
-mod whole_traces;
+mod watching;
 
 pub use host::run_here;
 pub use laws::{one_answer, verdict};

@@ -1,24 +1,30 @@
 //! `rvhyper`: from its files to its answers.
 
-ghost use Rattle.std.specs.Prelude.{◌≡◌, ◌<◌, ◌^◌, ◌⊎◌, ◌∷◌, List, [], ℕ, length};
+ghost use Rattle.std.specs.Prelude.{◌≡◌, ◌≤◌, ◌<◌, ◌^◌, List, [], length};
 ghost use Rattle.hy_base.specs.Shelf.{KeepsShelf};
+ghost use Rattle.hy_base.specs.declared.reading.TheConstants.{BYTES_LIMIT};
+ghost use Rattle.hy_formula.specs.Quantifiers.{Each};
+ghost use Rattle.hy_text.specs.Lines.{lines_of};
+ghost use Rattle.hy_finite.specs.EventLines.{IsText};
 ghost use Rattle.hy_read.specs.Builds.{plain_formulas};
+ghost use Rattle.rv_core.specs.Built.{HasFewQuantifiers, IsNewRefusal};
 ghost use Rattle.hy_answer.specs.Outputs.{out_text};
 ghost use Rattle.hy_words.specs.Commands.{monitor};
-ghost use Rattle.hy_top.specs.Contents.{AreBuilt};
 ghost use Rattle.hy_top.specs.Monitoring.{IsOutcome};
 ghost use Rattle.hy_top.specs.Runs.{Follows, extras_of};
 
-use crate::arrivals::first_violation;
-use crate::files::{specs_in, traces_in};
+use crate::files::{events_in, specs_in};
+use crate::watching::watch;
 use hy_answer::Answer;
-use hy_base::{Memory, NumList, Shelf};
-use hy_finite::TraceList;
-use hy_formula::{Class, NameTable, class};
+use hy_base::Shelf;
+use hy_finite::Lengths;
+use hy_formula::NameTable;
 use hy_read::SpecList;
+use rv_core::{Rv, RvNewError};
 use std::alloc::Global;
+use std::sync::ledger::{Blank, Brand};
 
-/// Whether the traces of a file violate the formula of another, whose names are added to the empty
+/// Whether the traces of a file violate the formulas of another, whose names are added to the empty
 /// table.
 pub fn monitor<S: Shelf>(
     alloc: Global,
@@ -37,46 +43,38 @@ pub fn monitor<S: Shelf>(
         Ok(specs) => specs,
         Err(answer) => return answer,
     };
-    match traces_in(alloc, shelf, traces, names) {
-        Ok(traces) => judge(alloc, &specs, &traces),
+    match events_in(alloc, shelf, traces) {
+        Ok(bytes) => judge(alloc, &specs, bytes.as_slice(), names),
         Err(answer) => answer,
     }
 }
 
-/// What the one formula comes to on traces that arrive in order.
-fn judge(alloc: Global, specs: &SpecList, traces: &TraceList) -> Answer
-    requires few { length traces.now < 2 ^ 32 }
-    requires built { AreBuilt (plain_formulas specs.now) }
-    ensures { IsOutcome (plain_formulas specs.now) traces.now result }
+/// What formulas come to on the events of lines, each of which is a text.
+fn judge(alloc: Global, specs: &SpecList, bytes: &[u8], names: &NameTable) -> Answer
+    requires quantifiers { Each HasFewQuantifiers specs.now }
+    requires countable { length specs.now < 2 ^ 32 }
+    requires few { length bytes.now ≤ BYTES_LIMIT }
+    requires texts { Each IsText (lines_of bytes.now) }
+    ensures { IsOutcome (plain_formulas specs.now) names.now bytes.now result }
 {
-    let formula = specs.at(0);
-    match class(formula) {
-        Class::Forall => {}
-        class => return Answer::Prefix { file: 0, class },
-    }
-    match first_violation(alloc, &formula.body, formula.prefix.len(), traces) {
-        Err(Memory) => Answer::Memory,
-        Ok(Some(found)) => Answer::Violation {
-            spec: 0,
-            trace: found.trace,
-            tuple: found.tuple,
-        },
-        Ok(None) => clean_answer(alloc, traces.len() as u32),
+    match Rv::new(alloc, specs.as_slice(), Lengths::Min) {
+        Ok(mut rv) => watch::<Brand>(alloc, &mut rv, specs.len() as u32, bytes, names, Blank::new(1)),
+        Err(error) => new_answer(error),
     }
 }
 
-/// The answer that `count` traces met no violation.
-fn clean_answer(alloc: Global, count: u32) -> Answer
-    ensures { (result ≡ Answer.Memory) ⊎
-        ((kept : List ℕ) × (kept ≡ count ∷ []) × (result ≡ Answer.NoViolation count kept 0)) }
+/// The answer for formulas that are not monitored.
+fn new_answer(error: RvNewError) -> Answer
+    ensures { (formulas : List Formula) → IsNewRefusal formulas error
+        → (names : List (List ℕ)) (bytes : List ℕ)
+        → IsOutcome (plain_formulas formulas) names bytes result }
 {
-    let mut kept = NumList::new(alloc);
-    match kept.push(count) {
-        Ok(()) => Answer::NoViolation {
-            traces: count,
-            kept,
-            live: 0,
+    match error {
+        RvNewError::Prefix { class, .. } => Answer::Prefix { file: 0, class },
+        RvNewError::Limit(kind) => Answer::Limit {
+            kind,
+            limit: kind.most(),
         },
-        Err(Memory) => Answer::Memory,
+        RvNewError::Memory => Answer::Memory,
     }
 }

@@ -1,0 +1,46 @@
+-- What comes of one line after another of a file of events, given to a monitor.
+use Rattle.std.specs.Prelude.{◌≡◌, ◌⊎◌, ℕ, Bool, true, List, length, Err, Result, Option}
+use Rattle.hy_base.specs.Limits.{most}
+use Rattle.hy_base.specs.declared.limit.Kind.TheVariants.{Length}
+use Rattle.hy_finite.specs.declared.event.Placed.{Placed}
+use Rattle.hy_finite.specs.declared.lengths.Lengths.TheVariants.{Min}
+use Rattle.hy_finite.specs.EventFiles.{IsEventFile}
+use Rattle.hy_finite.specs.LinesLeft.{LinesLeft}
+use Rattle.hy_finite.specs.NextEvents.{IsNextAnswer}
+use Rattle.hy_text.specs.declared.line_error.LineError.TheVariants as faults
+use Rattle.rv_core.specs.Endings.{Spec, IsClean}
+use Rattle.rv_core.specs.Held.{Held, StandsFor, specs_of}
+use Rattle.rv_core.specs.Histories.{History, empty_history, goes, step, arrives}
+use Rattle.hy_answer.specs.declared.answer.Answer.{Answer}
+use Rattle.hy_answer.specs.declared.answer.Answer.TheVariants.{Limit, Memory}
+use Rattle.hy_top.specs.Monitoring.{Comes, ComesTo, clean_answer}
+
+-- Memory ran out, or the fact holds.
+abbrev pub OrMemory : Answer → Type 0 → Type 0
+OrMemory answer P = (answer ≡ Memory) ⊎ P
+
+-- The next line that says something is a trace that is too long, and so is answered.
+abbrev pub IsLongAnswer : List (List ℕ) → LinesLeft → LinesLeft → Answer → Type 0
+IsLongAnswer names old new answer = (answer ≡ Limit Length (most Length)) × IsNextAnswer names old new (Err faults.Limit)
+
+-- The event of a line leads from a history to one that the monitor then stands for, and no formula is violated.
+pub record GoesOn (specs : List Spec) (h : History) (placed : Placed) (new : Held) : Type 0 where
+  pub next : History
+  pub steps : step h placed.event ≡ goes next
+  pub stands : StandsFor new next
+  pub clean : arrives placed.event ≡ true → IsClean Min specs next.present.arrived
+
+-- The event of a line is refused, or violates a formula, and so is answered.
+abbrev pub Stops : List Spec → History → Placed → Answer → Type 0
+Stops specs h placed answer = (Rest : History → Type 0) → Comes specs placed.line (arrives placed.event) (step h placed.event) Rest answer
+
+-- The lines of a file say events that come to this answer.
+abbrev pub LinesCome : List Spec → List (List ℕ) → List ℕ → Answer → Type 0
+LinesCome specs names bytes answer =
+    (events : List Placed) × IsEventFile names bytes events × ComesTo specs empty_history events answer
+
+-- No event of the lines of a file was refused or violated a formula: the monitor stands for the history behind the last
+-- one, so that the lines come to its answer.
+abbrev pub IsThrough : List Spec → List (List ℕ) → List ℕ → Held → Type 0
+IsThrough specs names bytes new =
+    (h : History) × StandsFor new h × LinesCome specs names bytes (clean_answer (length specs) h)

@@ -1,0 +1,167 @@
+//! The events of a file's lines, given to a monitor one after another.
+
+ghost use Rattle.std.specs.Prelude.{◌≡◌, ◌+◌, ◌<◌, ◌≤◌, ◌^◌, IfOk, IfErr, OnOk, IsTrue, List, ℕ, length, replicate};
+ghost use Rattle.hy_base.specs.declared.reading.TheConstants.{BYTES_LIMIT};
+ghost use Rattle.hy_formula.specs.Quantifiers.{Each};
+ghost use Rattle.hy_text.specs.Lines.{lines_of};
+ghost use Rattle.hy_finite.specs.declared.lengths.Lengths.TheVariants.{Min};
+ghost use Rattle.hy_finite.specs.EventLines.{IsText};
+ghost use Rattle.hy_finite.specs.NextEvents.{IsNextAnswer};
+ghost use Rattle.hy_finite.specs.Remaining.{remaining};
+ghost use Rattle.rv_core.specs.Held.{StandsFor, specs_of};
+ghost use Rattle.rv_core.specs.Histories.{History, empty_history};
+ghost use Rattle.hy_answer.specs.declared.answer.Answer.TheVariants.{NoViolation};
+ghost use Rattle.hy_top.specs.Watching.{OrMemory, IsLongAnswer, GoesOn, Stops, LinesCome, IsThrough};
+
+use hy_answer::Answer;
+use hy_base::{Kind, M, Memory, NumList, Steps};
+use hy_bits::Letters;
+use hy_finite::{EventLines, LineError, Placed};
+use hy_formula::NameTable;
+use rv_core::{Reply, Rv, RvError};
+use std::alloc::Global;
+use std::sync::ledger::{Blank, Ledger};
+
+/// What the events of lines, each of which is a text, come to with a monitor of `specs` formulas to
+/// which nothing has come yet.
+pub fn watch<L: Ledger>(
+    alloc: Global,
+    rv: &mut Rv,
+    specs: u32,
+    bytes: &[u8],
+    names: &NameTable,
+    blank: Blank,
+) -> Answer
+    requires stands { StandsFor rv.old empty_history }
+    requires rule { rv.old.rule ≡ Min }
+    requires specs { specs ≡ length (specs_of rv.old) }
+    requires few { length bytes.now ≤ BYTES_LIMIT }
+    requires texts { Each IsText (lines_of bytes.now) }
+    requires name { blank.name ≡ L.name }
+    requires parts { blank.parts ≡ L.parts }
+    requires some { 0 < blank.parts }
+    ensures { OrMemory result (LinesCome (specs_of rv.old) names.now bytes.now result) }
+{
+    let mut steps = Steps::<L>::new(blank);
+    match watch_lines(alloc, rv, bytes, names, &mut steps) {
+        Ok(()) => clean_answer(alloc, rv, specs),
+        Err(answer) => answer,
+    }
+}
+
+/// Gives the monitor the events of lines, up to the first that is refused or violates a formula, and
+/// then says what is answered.
+fn watch_lines<L: Ledger>(
+    alloc: Global,
+    rv: &mut Rv,
+    bytes: &[u8],
+    names: &NameTable,
+    steps: &mut Steps<L>,
+) -> Result<(), Answer>
+    requires stands { StandsFor rv.old empty_history }
+    requires rule { rv.old.rule ≡ Min }
+    requires few { length bytes.now ≤ BYTES_LIMIT }
+    requires texts { Each IsText (lines_of bytes.now) }
+    ensures specs { specs_of rv.new ≡ specs_of rv.old }
+    ensures through { OnOk result (IsThrough (specs_of rv.old) names.now bytes.now rv.new) }
+    ensures ended { IfErr result (λ answer. OrMemory answer
+        (LinesCome (specs_of rv.old) names.now bytes.now answer)) }
+{
+    let mut lines = EventLines::new(bytes);
+    let mut letters = Letters::new(alloc);
+    while let Some(placed) = next_event(&mut lines, names, letters)? {
+        take(alloc, rv, &placed, steps)?;
+        letters = placed.event.into_letters(alloc);
+    }
+    Ok(())
+}
+
+/// The next event of lines, each of which is a text, in the memory of `letters`; or the answer where
+/// it is a trace that is too long.
+fn next_event(
+    lines: &mut EventLines,
+    names: &NameTable,
+    letters: Letters,
+) -> Result<Option<Placed>, Answer>
+    requires { Each IsText (remaining lines.old).lines }
+    ensures next { IfOk result (λ next. IsNextAnswer names.now (remaining lines.old)
+        (remaining lines.new) (Ok next)) }
+    ensures ended { IfErr result (λ answer. OrMemory answer
+        (IsLongAnswer names.now (remaining lines.old) (remaining lines.new) answer)) }
+{
+    match lines.next(names, letters) {
+        Ok(next) => Ok(next),
+        Err(LineError::Limit) => Err(Answer::Limit {
+            kind: Kind::Length,
+            limit: Kind::Length.most(),
+        }),
+        Err(LineError::Memory) => Err(Answer::Memory),
+        Err(LineError::Syntax { .. }) => unreachable!(),
+    }
+}
+
+/// Gives the monitor an event, or says what is answered where it is refused or violates a formula.
+fn take<L: Ledger>(
+    alloc: Global,
+    rv: &mut Rv,
+    placed: &Placed,
+    steps: &mut Steps<L>,
+) -> Result<(), Answer>
+    requires clean { IsTrue rv.old.clean }
+    requires rule { rv.old.rule ≡ Min }
+    requires few { rv.old.arrived < 2 ^ 31 }
+    ensures specs { specs_of rv.new ≡ specs_of rv.old }
+    ensures rule { rv.new.rule ≡ rv.old.rule }
+    ensures went { OnOk result ((h : History) → StandsFor rv.old h
+        → GoesOn (specs_of rv.old) h placed.now rv.new) }
+    ensures ended { IfErr result (λ answer. OrMemory answer ((h : History) → StandsFor rv.old h
+        → Stops (specs_of rv.old) h placed.now answer)) }
+{
+    match rv.event(alloc, &placed.event, steps) {
+        Ok(Reply::Quiet | Reply::Arrived { .. }) => Ok(()),
+        Ok(Reply::Violation { spec, trace, tuple }) => Err(Answer::Violation { spec, trace, tuple }),
+        Err(error) => Err(event_answer(error, placed.line)),
+    }
+}
+
+/// The answer for a line whose event is refused.
+fn event_answer(error: RvError, line: u32) -> Answer
+    ensures { IsEventAnswer error line result }
+{
+    match error {
+        RvError::NoLetter | RvError::NoSave => Answer::Session { line },
+        RvError::Limit(kind) => Answer::Limit {
+            kind,
+            limit: kind.most(),
+        },
+        RvError::Memory => Answer::Memory,
+    }
+}
+
+/// The answer that no event was refused or violated one of `specs` formulas.
+fn clean_answer(alloc: Global, rv: &Rv, specs: u32) -> Answer
+    requires { specs ≡ length (specs_of rv.now) }
+    ensures { OrMemory result ((kept : List ℕ) × (kept ≡ replicate specs rv.now.arrived)
+        × (result ≡ NoViolation rv.now.arrived kept (length rv.now.sessions))) }
+{
+    match kept_of(alloc, rv, specs) {
+        Ok(kept) => Answer::NoViolation {
+            traces: rv.traces(),
+            kept,
+            live: rv.live(),
+        },
+        Err(Memory) => Answer::Memory,
+    }
+}
+
+/// How many traces are kept for each of `specs` formulas.
+fn kept_of(alloc: Global, rv: &Rv, specs: u32) -> M<NumList>
+    requires { specs ≡ length (specs_of rv.now) }
+    ensures { IfOk result (λ kept. kept ≡ replicate specs rv.now.arrived) }
+{
+    let mut kept = NumList::new(alloc);
+    for spec in 0..specs {
+        kept.push(rv.kept(spec))?;
+    }
+    Ok(kept)
+}
