@@ -49,7 +49,7 @@ module _ (rule : Lengths) (specs : List Spec) where
   comes-one k true (refused r) P Q x y rest p q = p ∙ sym q
   comes-one k false (refused r) P Q x y rest p q = p ∙ sym q
   comes-one k false (goes h) P Q x y rest p q = rest h p q
-  comes-one k true (goes h) P Q x y rest (inl (s, f, e)) (inl (s', f', e')) = e ∙ ap (violation k) (first-one h.present.arrived s s' f f') ∙ sym e'
+  comes-one k true (goes h) P Q x y rest (inl (s, f, e)) (inl (s', f', e')) = e ∙ ap (λ n. violation k n h) (first-one h.present.arrived s s' f f') ∙ sym e'
   comes-one k true (goes h) P Q x y rest (inl (s, f, e)) (inr (c, q)) = absurd (c s f.there f.violated)
   comes-one k true (goes h) P Q x y rest (inr (c, p)) (inl (s, f, e)) = absurd (c s f.there f.violated)
   comes-one k true (goes h) P Q x y rest (inr (c, p)) (inr (c', q)) = rest h p q
@@ -67,7 +67,7 @@ module _ (rule : Lengths) (specs : List Spec) where
   comes-some k false (goes h) P rest = rest h
   comes-some k true (goes h) P rest =
       elim (judged-list h.present.arrived) [
-        | inl (s, f) ↦ (violation k s, inl (s, f, refl))
+        | inl (s, f) ↦ (violation k s h, inl (s, f, refl))
         | inr c ↦ let (x, p) = rest h in (x, inr (c, p))
       ]
 

@@ -30,18 +30,19 @@ pub record FirstViolated (rule : Lengths) (specs : List Spec) (list : List Trace
   pub violated : ViolatesSpec rule list (spec_at specs s)
   pub before : (r : ℕ) → r < s → ¬ ViolatesSpec rule list (spec_at specs r)
 
--- how a run ends: with no event refused or violating, or at the first such event, by its number
+-- how a run ends: behind its last event, with what came of all; at an event that is refused, by its number; or at an
+-- arrival, by its number, with the first spec that is violated and what came of the events up to it
 pub data Ending : Type 0 where
   clean : History → Ending
   refusal : ℕ → Refusal → Ending
-  violation : ℕ → ℕ → Ending
+  violation : ℕ → ℕ → History → Ending
 
 -- what comes of event k, where `Rest` says how the run ends from the next history
 abbrev pub Comes : Lengths → List Spec → ℕ → Bool → Step → (History → Type 0) → Ending → Type 0
 Comes rule specs k arriving (refused r) Rest ending = ending ≡ refusal k r
 Comes rule specs k false (goes h) Rest ending = Rest h
 Comes rule specs k true (goes h) Rest ending =
-    ((s : ℕ) × FirstViolated rule specs h.present.arrived s × (ending ≡ violation k s))
+    ((s : ℕ) × FirstViolated rule specs h.present.arrived s × (ending ≡ violation k s h))
     ⊎ (IsClean rule specs h.present.arrived × Rest h)
 
 -- how events end from a history, the first of them being event k
