@@ -1,0 +1,5 @@
+pub mod Built
+pub mod Endings
+pub mod Held
+pub mod Histories
+pub mod Replies

@@ -1,0 +1,4 @@
+//! The monitor of runs: traces and sessions, saves and returns, and the first violation.
+#![tactic(auto)]
+
+pub mod laws;

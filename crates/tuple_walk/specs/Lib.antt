@@ -1,0 +1,5 @@
+pub mod Choices
+pub mod Searches
+pub mod Seen
+pub mod States
+pub mod Watched
