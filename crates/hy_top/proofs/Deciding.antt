@@ -25,16 +25,20 @@ use Rattle.hy_answer.specs.declared.answer.Answer.{Answer}
 use Rattle.hy_answer.specs.declared.answer.Answer.TheVariants as answers
 use Rattle.hy_answer.specs.Outputs.{out_text}
 use Rattle.hy_words.specs.Commands.{Command, decide, imply, compare, files_of}
+use Rattle.hy_formula.specs.Trees.{Tree}
+use Rattle.fin_monitor.specs.Limits.{HasSmallClosure, HasFewAtoms, HasSmallTable}
 use Rattle.hy_top.specs.Classes.{FirstUntaken, AreTaken, is_decided, is_of_one_kind}
 use Rattle.hy_top.specs.Contents.{one_formula}
 use Rattle.hy_top.specs.Deciding.{plan_of, plan_against, plans_of, sat, unsat, implied, not_implied, beyond, equivalent, first_alone, second_alone, many_branches}
 use Rattle.hy_top.specs.Deciding.{Determines, Outcome, untaken, many_instances, large_closure, done, spent, refusal_answer}
 use Rattle.hy_top.specs.Files.{Given, HasTexts, HasFormulas}
 use Rattle.hy_top.specs.Judging.{IsJudging}
+use Rattle.hy_top.specs.Monitoring.{monitored, EachPlain}
 use Rattle.hy_top.specs.Runs.{Follows, extras_of}
 use Rattle.hy_top.specs.Stages.{work, First, here, later, ComesTo, stages_of_formulas}
 use Rattle.hy_top.specs.Steps.{Takes, Ends}
-use Rattle.hy_top.proofs.Formulas.{class_passed, instances_passed, closure_passed}
+use Rattle.hy_top.proofs.Bodies.{closure_passed, atoms_passed, table_passed}
+use Rattle.hy_top.proofs.Formulas.{class_passed, instances_passed}
 use Rattle.hy_top.proofs.Progress.{Progress, begun, goes_on, ends_here, answers_behind, runs_short}
 
 few_maps : (plans : List PlainPlan) → Each IsCounted plans → Each HasFewMaps plans
@@ -47,7 +51,7 @@ few_members (p ∷ plans) (first, all) = (first.members, few_members plans all)
 
 module _ {S : Type 0} (g : Ghosts S) (command : Command) (old new : S) (given : Given) (formulas : List Plain) (names : List (List ℕ))
     (progress : Progress g command old new given formulas names) (all : length given ≡ length (files_of command))
-    (other : ¬ IsJudging command) (works : (a : Answer) → Determines command given a → ComesTo command given a) where
+    (other : ¬ IsJudging command) (unwatched : (Q : Tree → Type 0) → EachPlain Q (monitored command formulas)) (works : (a : Answer) → Determines command given a → ComesTo command given a) where
   has : HasFormulas command given formulas
   has = (names, let P : ℕ → Type 0 = λ n. HasTexts command given n formulas names in subst P all progress.texts)
 
@@ -66,15 +70,15 @@ module _ {S : Type 0} (g : Ghosts S) (command : Command) (old new : S) (given : 
       behind _
       (later (class_passed command given formulas has taken)
       (later (instances_passed command given formulas has few)
-      (here (record { formulas = formulas; has = has; plan = plan; of = there; many = many }, refl))))
+      (here (inl (record { formulas = formulas; has = has; plan = plan; of = there; many = many }), refl))))
   outcome_follows a (done _ taken counted decides) =
       behind a
       (later (class_passed command given formulas has taken)
       (later (instances_passed command given formulas has (few_maps (plans_of command formulas) counted))
-      (later (closure_passed command given formulas has (few_members (plans_of command formulas) counted))
+      (later (closure_passed command given formulas has (few_members (plans_of command formulas) counted) (unwatched HasSmallClosure))
       (later (λ b met. other met.0.judges)
-      (later (λ b met. met.0)
-      (later (λ b met. met.0) (here (works a (record { formulas = formulas; has = has; decides = decides })))))))))
+      (later (atoms_passed command given formulas has (unwatched HasFewAtoms))
+      (later (table_passed command given formulas has (unwatched HasSmallTable)) (here (works a (record { formulas = formulas; has = has; decides = decides })))))))))
   outcome_follows _ spent = runs_short g command old new given formulas names progress
 
 -- ---- what the calls of decisions say
@@ -220,7 +224,7 @@ module _ {S : Type 0} (g : Ghosts S) (old new : S) (names : List (List ℕ)) whe
   decide_follows formula states proof f first a outcome =
       outcome_follows g (decide formula states proof) old new (Ok first.bytes ∷ []) (f ∷ []) names
       (goes_on g (decide formula states proof) old old new [] [] (f ∷ []) [] names formula (begun g (decide formula states proof) old) refl first)
-      refl (λ judging. judging) (λ b is. is) a outcome
+      refl (λ judging. judging) (λ Q. tt) (λ b is. is) a outcome
 
 module _ {S : Type 0} (g : Ghosts S) (old mid new : S) (first second : List ℕ) (f : Plain) (names : List (List ℕ))
     (takes : Takes g old mid first 8 [] one_formula (f ∷ []) names) where
@@ -239,7 +243,7 @@ module _ {S : Type 0} (g : Ghosts S) (old mid new : S) (first second : List ℕ)
   imply_follows states proof h known next a outcome =
       outcome_follows g (imply first second states proof) old new (Ok takes.bytes ∷ Ok next.bytes ∷ []) (f ∷ h ∷ []) known
       (goes_on g (imply first second states proof) old mid new (Ok takes.bytes ∷ []) (f ∷ []) (h ∷ []) names known second (imply_first states proof) refl next)
-      refl (λ judging. judging) (λ b is. is) a outcome
+      refl (λ judging. judging) (λ Q. tt) (λ b is. is) a outcome
 
   compare_first : (states : ℕ) (proof : Bool) → Progress g (compare first second states proof) old mid (Ok takes.bytes ∷ []) (f ∷ []) names
   compare_first states proof = goes_on g (compare first second states proof) old old mid [] [] (f ∷ []) [] names first (begun g (compare first second states proof) old) refl takes
@@ -256,4 +260,4 @@ module _ {S : Type 0} (g : Ghosts S) (old mid new : S) (first second : List ℕ)
   compare_follows states proof h known next a outcome =
       outcome_follows g (compare first second states proof) old new (Ok takes.bytes ∷ Ok next.bytes ∷ []) (f ∷ h ∷ []) known
       (goes_on g (compare first second states proof) old mid new (Ok takes.bytes ∷ []) (f ∷ []) (h ∷ []) names known second (compare_first states proof) refl next)
-      refl (λ judging. judging) (λ b is. is) a outcome
+      refl (λ judging. judging) (λ Q. tt) (λ b is. is) a outcome

@@ -1,8 +1,11 @@
 -- A run that ends at a file whose text is refused.
-use Rattle.std.proofs.Common.{◌≡◌, ◌⊎◌, ℕ, Bool, true, false, List, [], Result, Ok, Err, IfErr, inl, inr, refl, sym, ap, subst, ◌∙◌}
+use Rattle.std.proofs.Common.{◌≡◌, ◌⊎◌, ℕ, Bool, true, false, List, [], ◌∷◌, Ok, Err, inl, inr, refl, sym, ap, subst, ◌∙◌}
 use Rattle.hy_base.specs.Shelf.{ReadsFile}
 use Rattle.hy_base.specs.declared.shelf.Shelf.{Ghosts}
-use Rattle.hy_finite.specs.EventFiles.{FirstFault}
+use Rattle.hy_formula.specs.Quantifiers.{Each}
+use Rattle.hy_finite.specs.EventFiles.{FirstFault, SomeTooLong}
+use Rattle.hy_finite.specs.EventLines.{IsText, IsGood}
+use Rattle.hy_finite.proofs.Collecting.{good-text}
 use Rattle.hy_text.specs.Lines.{lines_of}
 use Rattle.hy_text.specs.declared.line_error.LineError.{LineError}
 use Rattle.hy_text.specs.declared.line_error.LineError.TheVariants as faults
@@ -16,7 +19,7 @@ use Rattle.hy_answer.specs.declared.answer.Answer.{Answer}
 use Rattle.hy_answer.specs.declared.answer.Answer.TheVariants as answers
 use Rattle.hy_answer.specs.Refusals.{Refuses, IsTextAnswer, line_answer}
 use Rattle.hy_top.specs.Contents.{Content, specifications, one_formula, events, lassos, IsRefused}
-use Rattle.hy_top.specs.Steps.{Ends, spent, refused}
+use Rattle.hy_top.specs.Steps.{Ends, TakesEvents, spent, refused}
 
 -- Memory ran out, or the fact holds.
 abbrev OrMemory : Answer → Type 0 → Type 0
@@ -63,3 +66,17 @@ module _ {S : Type 0} (g : Ghosts S) (old new : S) (name : List ℕ) (quantifier
 
   pub events-end : (line : ℕ) → FirstFault 1 (lines_of read) line → Ends g old new name quantifiers names k events (answers.Line k line)
   events-end line fault = refused-ends events _ (line, fault, refl)
+
+  good-lines : (lines : List (List ℕ)) → Each IsGood lines → Each IsText lines
+  good-lines [] each = tt
+  good-lines (line ∷ lines) (good, each) = (good-text line good, good-lines lines each)
+
+  -- Where all lines are good, or texts of which one is too long, they are texts.
+  pub events-taken : Each IsGood (lines_of read) → TakesEvents g old new name bytes
+  events-taken each =
+      let P : List ℕ → Type 0 = λ b. Each IsText (lines_of b) in
+      record { read = came; lines = subst P same (good-lines (lines_of read) each) }
+
+  pub events-long : Each IsText (lines_of read) × SomeTooLong (lines_of read) → TakesEvents g old new name bytes
+  events-long (texts, some) =
+      let P : List ℕ → Type 0 = λ b. Each IsText (lines_of b) in record { read = came; lines = subst P same texts }

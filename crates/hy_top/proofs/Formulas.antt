@@ -15,7 +15,7 @@ use Rattle.hy_words.specs.Commands.{Command, files_of}
 use Rattle.hy_top.specs.Classes.{takes, file_of, FirstUntaken, AreTaken, RefusesClass}
 use Rattle.hy_top.specs.Deciding.{plans_of, HasManyInstances, HasLargeClosure}
 use Rattle.hy_top.specs.Files.{Given, HasTexts, HasFormulas}
-use Rattle.hy_top.specs.Stages.{class, count, instances, closure, Passed}
+use Rattle.hy_top.specs.Stages.{class, count, instances, Passed}
 use Rattle.hy_top.proofs.Progress.{texts_once}
 
 untaken_or_taken : (takes : Class → Bool) (formulas : List Plain) (place : ℕ) (found : Class) → FirstUntaken takes formulas place found
@@ -34,7 +34,7 @@ untaken_once takes (f ∷ formulas) (suc place) zero found next (fits, one) (is,
 untaken_once takes (f ∷ formulas) (suc place) (suc other) found next (fits, one) (also, two) =
     let (same, known) = untaken_once takes formulas place other found next one two in (ap suc same, known)
 
-each_contains : {A : Type 0} (P : A → Type 0) (xs : List A) (x : A) → Each P xs → Contains xs x → P x
+pub each_contains : {A : Type 0} (P : A → Type 0) (xs : List A) (x : A) → Each P xs → Contains xs x → P x
 each_contains P [] x all there = absurd (contains-none x there)
 each_contains P (y ∷ ys) x (first, all) there =
     elim (contains-cases y x ys there) [ inl e ↦ subst P e first | inr later ↦ each_contains P ys x all later ]
@@ -58,7 +58,7 @@ module _ (command : Command) (given : Given) (formulas : List Plain) (has : HasF
       let P : List Plain → Type 0 = λ fs. Contains (plans_of command fs) past.plan in
       few_or_many past.plan (each_contains HasFewMaps (plans_of command formulas) past.plan few (subst P (of_formulas past.formulas past.has) past.of)) past.many
 
-  pub closure_passed : Each HasFewMembers (plans_of command formulas) → Passed command given (count closure)
-  closure_passed few a (past, e) =
+  pub few-members : Each HasFewMembers (plans_of command formulas) → ¬ HasLargeClosure command given
+  few-members few past =
       let P : List Plain → Type 0 = λ fs. Contains (plans_of command fs) past.plan in
       omega (arith, each_contains HasFewMembers (plans_of command formulas) past.plan few (subst P (of_formulas past.formulas past.has) past.of), past.many)

@@ -22,7 +22,8 @@ use Rattle.hy_top.specs.Judging.{HasLassos, IsTooJoint, Judges, holds, fails, Is
 use Rattle.hy_top.specs.Runs.{Follows, extras_of}
 use Rattle.hy_top.specs.Stages.{Passed, count, joint, atoms, table, work, First, here, later, stages_of_formulas}
 use Rattle.hy_top.specs.Steps.{Takes, Ends, TakesLassos}
-use Rattle.hy_top.proofs.Formulas.{class_passed, instances_passed, closure_passed}
+use Rattle.hy_top.proofs.Bodies.{closure_passed, atoms_passed, table_passed}
+use Rattle.hy_top.proofs.Formulas.{class_passed, instances_passed}
 use Rattle.hy_top.proofs.Progress.{Progress, begun, goes_on, ends_here, answers_behind, runs_short, texts_once, texts_still}
 use Rattle.hy_top.proofs.Reading.{bytes_once}
 use Rattle.hy_lasso.proofs.OneAnswer.{one_answer}
@@ -80,14 +81,15 @@ module _ {S : Type 0} (g : Ghosts S) (old mid new : S) (formula file : List ℕ)
         answers_behind g (judge formula file) old new (Ok first.bytes ∷ Ok second.bytes ∷ []) (f ∷ []) names a read_all refl
         (later (class_passed (judge formula file) (Ok first.bytes ∷ Ok second.bytes ∷ []) (f ∷ []) formulas (refl, tt))
         (later (instances_passed (judge formula file) (Ok first.bytes ∷ Ok second.bytes ∷ []) (f ∷ []) formulas tt)
-        (later (closure_passed (judge formula file) (Ok first.bytes ∷ Ok second.bytes ∷ []) (f ∷ []) formulas tt) rest)))
+        (later (closure_passed (judge formula file) (Ok first.bytes ∷ Ok second.bytes ∷ []) (f ∷ []) formulas tt tt) rest)))
 
     judged : (a : Answer) → IsJudged list → Judges (judge formula file) (Ok first.bytes ∷ Ok second.bytes ∷ []) a
         → Follows g old new (judge formula file) a (out_text (extras_of (judge formula file)) names a)
     judged a fits judges =
         before_joint a
         (later (joint_passed (judge formula file) (Ok first.bytes ∷ Ok second.bytes ∷ []) f list has fits)
-        (later (λ b met. met.0) (later (λ b met. met.0) (here judges))))
+        (later (atoms_passed (judge formula file) (Ok first.bytes ∷ Ok second.bytes ∷ []) (f ∷ []) formulas tt)
+        (later (table_passed (judge formula file) (Ok first.bytes ∷ Ok second.bytes ∷ []) (f ∷ []) formulas tt) (here judges))))
 
     -- The run follows the judgement.
     pub judgement_follows : (a : Answer) → IsJudgement f.prefix f.body list a

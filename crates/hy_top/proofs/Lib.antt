@@ -1,5 +1,8 @@
+pub mod Bodies
 pub mod Deciding
 pub mod Ending
+pub mod EventLines
+pub mod EventSteps
 pub mod FirstSpecs
 pub mod Formulas
 pub mod Judging
@@ -10,4 +13,3 @@ pub mod Reading
 pub mod Silence
 pub mod StageOrder
 pub mod Texts
-pub mod TraceLines

@@ -1,26 +1,25 @@
--- What traces that arrive come to is the answer of the run.
-use Rattle.std.proofs.Common.{◌≡◌, ℕ, true, false, List, [], ◌∷◌, ◌++◌, length, Ok, inl, inr, refl, sym, ap, subst, ◌∙◌, append-nil, ◌⊎◌}
+-- What formulas come to on the events of a file is the answer of the run.
+use Rattle.std.proofs.Common.{◌≡◌, ℕ, true, List, [], ◌∷◌, ◌++◌, length, Ok, inl, inr, refl, sym, subst, append-nil, ◌<◌, ◌≤◌, ◌⊎◌}
+use Rattle.std.specs.List.{Contains}
 use Rattle.hy_base.specs.declared.shelf.Shelf.{Ghosts}
 use Rattle.hy_formula.specs.Classes.{class_of}
+use Rattle.hy_formula.specs.declared.classes.Class.{Class}
+use Rattle.hy_formula.specs.Quantifiers.{Each}
 use Rattle.hy_formula.specs.Trees.{Tree}
-use Rattle.hy_formula.specs.declared.prefix.Quant.{Quant}
-use Rattle.hy_finite.specs.Traces.{Trace}
+use Rattle.fin_monitor.specs.Limits.{HasLargeClosure, HasSmallClosure, HasManyAtoms, HasFewAtoms, HasLargeTable, HasSmallTable, IsTaken}
 use Rattle.hy_read.specs.Answers.{Plain}
 use Rattle.hy_answer.specs.declared.answer.Answer.{Answer}
-use Rattle.hy_answer.specs.declared.answer.Answer.TheVariants as answers
 use Rattle.hy_answer.specs.Outputs.{out_text}
 use Rattle.hy_words.specs.Commands.{Command, monitor, files_of}
-use Rattle.hy_top.specs.Arrivals.{AreUniversal, AllSatisfy}
-use Rattle.hy_top.specs.Classes.{is_universal}
+use Rattle.hy_top.specs.Classes.{takes}
 use Rattle.hy_top.specs.Contents.{specifications, events}
 use Rattle.hy_top.specs.Files.{Given, HasTexts, HasFormulas}
-use Rattle.hy_top.specs.Monitoring.{OrMemory, IsVerdict, is_clean, HasTraces, IsOutcome, untaken, verdict, spent}
+use Rattle.hy_top.specs.Monitoring.{AreUniversal, SomePlain, EachPlain, SomeBody, IsVerdict, IsOutcome, untaken, large_closure, many_atoms, large_table, done, spent}
 use Rattle.hy_top.specs.Runs.{Follows, extras_of}
-use Rattle.hy_top.specs.Stages.{First, here, later, work, stages_of_formulas}
-use Rattle.hy_top.specs.Steps.{Takes, TakesTraces, Ends}
-use Rattle.hy_top.specs.WholeTraces.{IsTraceFile}
-use Rattle.hy_top.proofs.Arriving.{all-quantified}
-use Rattle.hy_top.proofs.Formulas.{class_passed, instances_passed, closure_passed}
+use Rattle.hy_top.specs.Stages.{First, here, later, class, count, instances, closure, joint, atoms, table, work, Passed, stages_of_formulas}
+use Rattle.hy_top.specs.Steps.{Takes, TakesEvents, Ends}
+use Rattle.hy_top.proofs.Bodies.{closure_passed, atoms_passed, table_passed}
+use Rattle.hy_top.proofs.Formulas.{class_passed, instances_passed}
 use Rattle.hy_top.proofs.Progress.{Progress, begun, goes_on, ends_here, answers_behind, runs_short, texts_still}
 
 module _ {S : Type 0} (g : Ghosts S) (old mid new : S) (specs file : List ℕ) (formulas : List Plain) (names : List (List ℕ))
@@ -28,69 +27,87 @@ module _ {S : Type 0} (g : Ghosts S) (old mid new : S) (specs file : List ℕ) (
   read_first : Progress g (monitor specs file) old mid (Ok first.bytes ∷ []) formulas names
   read_first = goes_on g (monitor specs file) old old mid [] [] formulas [] names specs (begun g (monitor specs file) old) refl first
 
-  -- The run ends at the file of traces.
-  pub ends_at_traces : (a : Answer) → Ends g mid new file 4 names 1 events a
+  -- The run ends at the file of events.
+  pub ends_at_events : (a : Answer) → Ends g mid new file 4 names 1 events a
       → Follows g old new (monitor specs file) a (out_text (extras_of (monitor specs file)) names a)
-  ends_at_traces a ends =
+  ends_at_events a ends =
       ends_here g (monitor specs file) old mid new (Ok first.bytes ∷ []) formulas names names file a read_first refl ends
 
-  module _ (traces : List Trace) (second : TakesTraces g mid new file names traces) where
-    read_all : Progress g (monitor specs file) old new (Ok first.bytes ∷ Ok second.bytes ∷ []) (formulas ++ []) names
+  module _ (bytes : List ℕ) (second : TakesEvents g mid new file bytes) where
+    abbrev given : Given
+    given = Ok first.bytes ∷ Ok bytes ∷ []
+
+    read_all : Progress g (monitor specs file) old new given (formulas ++ []) names
     read_all =
         goes_on g (monitor specs file) old mid new (Ok first.bytes ∷ []) formulas [] names names file read_first refl
-        (record { bytes = second.bytes; read = second.read; is = (second.is.none_wrong, second.is.none_unbuilt, refl, refl) })
+        (record { bytes = bytes; read = second.read; is = (second.lines, refl, refl) })
 
-    has : (f : Plain) → formulas ≡ f ∷ [] → AreUniversal f.prefix → HasTraces (monitor specs file) (Ok first.bytes ∷ Ok second.bytes ∷ []) f traces
-    has f e universal = record {
-      names = names;
-      first = let P : List Plain → Type 0 = λ fs. HasTexts (monitor specs file) (Ok first.bytes ∷ Ok second.bytes ∷ []) 1 fs names in
-          subst P e (texts_still (monitor specs file) (Ok first.bytes ∷ []) (Ok second.bytes ∷ []) 1 formulas names read_first.texts);
-      universal = universal;
-      bytes = second.bytes;
-      came = refl;
-      spelled = second.is;
-    }
-
-    all_of : (f : Plain) → formulas ≡ f ∷ [] → HasFormulas (monitor specs file) (Ok first.bytes ∷ Ok second.bytes ∷ []) (f ∷ [])
-    all_of f e = (
+    all_of : HasFormulas (monitor specs file) given formulas
+    all_of = (
       names,
-      let P : List Plain → Type 0 = λ fs. HasTexts (monitor specs file) (Ok first.bytes ∷ Ok second.bytes ∷ []) 2 fs names in
-          subst P (append-nil formulas ∙ e) read_all.texts,
+      let P : List Plain → Type 0 = λ fs. HasTexts (monitor specs file) given 2 fs names in
+          subst P (append-nil formulas) read_all.texts,
     )
 
-    behind : (a : Answer) → First (monitor specs file) (Ok first.bytes ∷ Ok second.bytes ∷ []) (stages_of_formulas ++ work ∷ []) a
+    specs_first : HasTexts (monitor specs file) given 1 formulas names
+    specs_first = texts_still (monitor specs file) (Ok first.bytes ∷ []) (Ok bytes ∷ []) 1 formulas names read_first.texts
+
+    behind : (a : Answer) → First (monitor specs file) given (stages_of_formulas ++ work ∷ []) a
         → Follows g old new (monitor specs file) a (out_text (extras_of (monitor specs file)) names a)
-    behind a rest = answers_behind g (monitor specs file) old new (Ok first.bytes ∷ Ok second.bytes ∷ []) (formulas ++ []) names a read_all refl rest
+    behind a rest = answers_behind g (monitor specs file) old new given (formulas ++ []) names a read_all refl rest
+
+    some_body : (Q : Tree → Type 0) → SomePlain Q formulas → SomeBody Q (monitor specs file) given
+    some_body Q some = record { formulas = formulas; has = all_of; some = some }
+
+    -- Behind the classes and the instances the closures come.
+    behind_class : (a : Answer) → AreUniversal formulas
+        → First (monitor specs file) given (count closure ∷ count joint ∷ count atoms ∷ count table ∷ work ∷ []) a
+        → Follows g old new (monitor specs file) a (out_text (extras_of (monitor specs file)) names a)
+    behind_class a universal rest =
+        behind a
+        (later (class_passed (monitor specs file) given formulas all_of universal)
+        (later (instances_passed (monitor specs file) given formulas all_of tt) rest))
+
+    behind_closures : (a : Answer) → AreUniversal formulas → EachPlain HasSmallClosure formulas
+        → First (monitor specs file) given (count atoms ∷ count table ∷ work ∷ []) a
+        → Follows g old new (monitor specs file) a (out_text (extras_of (monitor specs file)) names a)
+    behind_closures a universal small rest =
+        behind_class a universal (later (closure_passed (monitor specs file) given formulas all_of tt small) (later (λ b met. met.0.judges) rest))
+
+    behind_atoms : (a : Answer) → AreUniversal formulas → EachPlain HasSmallClosure formulas → EachPlain HasFewAtoms formulas
+        → First (monitor specs file) given (count table ∷ work ∷ []) a
+        → Follows g old new (monitor specs file) a (out_text (extras_of (monitor specs file)) names a)
+    behind_atoms a universal small few rest =
+        behind_closures a universal small
+        (later (atoms_passed (monitor specs file) given formulas all_of few) rest)
 
     -- The run follows the outcome.
-    pub outcome_follows : (a : Answer) → IsOutcome formulas traces a
+    pub outcome_follows : (a : Answer) → IsOutcome formulas names bytes a
         → Follows g old new (monitor specs file) a (out_text (extras_of (monitor specs file)) names a)
-    outcome_follows _ (untaken f e other) =
-        behind _ (here (record { formulas = f ∷ []; has = all_of f e; place = 0; class = class_of f.prefix; first = (refl, other); answered = refl }))
-    outcome_follows a (verdict f _ e taken universal is) =
-        behind a
-        (later (class_passed (monitor specs file) _ (f ∷ []) (all_of f e) (taken, tt))
-        (later (instances_passed (monitor specs file) _ (f ∷ []) (all_of f e) tt)
-        (later (closure_passed (monitor specs file) _ (f ∷ []) (all_of f e) tt)
-        (later (λ b met. met.0.judges)
-        (later (λ b met. met.0)
-        (later (λ b met. met.0) (here (record { formula = f; traces = traces; has = has f e universal; verdict = is }))))))))
-    outcome_follows _ spent = runs_short g (monitor specs file) old new _ (formulas ++ []) names read_all
+    outcome_follows _ (untaken place found is) =
+        behind _ (here (record { formulas = formulas; has = all_of; place = place; class = found; first = is; answered = refl }))
+    outcome_follows _ (large_closure universal some) =
+        behind_class _ universal (here (inr (some_body HasLargeClosure some), refl))
+    outcome_follows _ (many_atoms universal small some) =
+        behind_closures _ universal small (here (some_body HasManyAtoms some, refl))
+    outcome_follows _ (large_table universal small few some) =
+        behind_atoms _ universal small few (here (some_body HasLargeTable some, refl))
+    outcome_follows a (done _ universal taken verdict) =
+        behind_atoms a universal (taken-closures formulas taken) (taken-atoms formulas taken)
+        (later
+        (table_passed (monitor specs file) given formulas all_of (taken-tables formulas taken))
+        (here
+        (record { formulas = formulas; names = names; first = specs_first; bytes = bytes; came = refl; verdict = verdict })))
+      where
+      taken-closures : (fs : List Plain) → EachPlain IsTaken fs → EachPlain HasSmallClosure fs
+      taken-closures [] all = tt
+      taken-closures (f ∷ fs) (t, all) = (t.closure, taken-closures fs all)
 
--- ---- what judging comes to
+      taken-atoms : (fs : List Plain) → EachPlain IsTaken fs → EachPlain HasFewAtoms fs
+      taken-atoms [] all = tt
+      taken-atoms (f ∷ fs) (t, all) = (t.atoms, taken-atoms fs all)
 
-pub clean_verdict : (prefix : List Quant) (tree : Tree) (traces : List Trace) (count : ℕ) (a : Answer) → AreUniversal prefix
-    → (a ≡ answers.Memory) ⊎ ((kept : List ℕ) × (kept ≡ count ∷ []) × (a ≡ answers.NoViolation count kept 0))
-    → count ≡ length traces → AllSatisfy (length prefix) tree traces → OrMemory a (IsVerdict prefix tree traces a)
-clean_verdict prefix tree traces count a universal (inl e) all clean = inl e
-clean_verdict prefix tree traces count a universal (inr (kept, e, f)) all clean =
-    let P : Answer → Type 0 = λ b. IsVerdict prefix tree traces b in
-    inr
-    (subst P (sym f)
-    (is_clean count kept 0
-    (record { all = all; kept_all = e ∙ ap (λ k. k ∷ []) all; none_open = refl; clean = all-quantified (length traces) _ prefix universal (λ pick long members. clean pick (long, members)) })))
-
-pub with_verdict : (formulas : List Plain) (traces : List Trace) (f : Plain) (a : Answer) → formulas ≡ f ∷ [] → is_universal (class_of f.prefix) ≡ true
-    → AreUniversal f.prefix → OrMemory a (IsVerdict f.prefix f.body traces a) → IsOutcome formulas traces a
-with_verdict formulas traces f a e taken universal (inl memory) = let P : Answer → Type 0 = λ b. IsOutcome formulas traces b in subst P (sym memory) spent
-with_verdict formulas traces f a e taken universal (inr is) = verdict f a e taken universal is
+      taken-tables : (fs : List Plain) → EachPlain IsTaken fs → EachPlain HasSmallTable fs
+      taken-tables [] all = tt
+      taken-tables (f ∷ fs) (t, all) = (t.table, taken-tables fs all)
+    outcome_follows _ spent = runs_short g (monitor specs file) old new given (formulas ++ []) names read_all

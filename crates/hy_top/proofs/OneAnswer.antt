@@ -1,12 +1,14 @@
 -- The first stage that is met gives one answer.
-use Rattle.std.proofs.Common.{◌≡◌, ℕ, zero, suc, ◌<◌, ◌⊎◌, List, [], ◌∷◌, length, take, All, inl, inr, refl, sym, ap, subst, ◌∙◌, arith}
+use Rattle.std.proofs.Common.{◌≡◌, ℕ, suc, ◌<◌, ◌⊎◌, Bool, true, false, List, [], ◌∷◌, inl, inr, sym, ap, subst, ◌∙◌, arith}
 use Rattle.std.proofs.lemmas.Bool.{cases_lt}
-use Rattle.std.proofs.lemmas.List.{length-take}
 use Rattle.hy_bits.specs.Letter.{Letter}
 use Rattle.hy_formula.specs.Lassos.{Lasso}
-use Rattle.hy_formula.specs.Trees.{Tree}
-use Rattle.hy_formula.specs.declared.prefix.Quant.{Quant}
+use Rattle.hy_text.specs.Lines.{lines_of}
+use Rattle.hy_finite.specs.declared.event.Placed.{Placed}
+use Rattle.hy_finite.specs.declared.lengths.Lengths.TheVariants.{Min}
 use Rattle.hy_finite.specs.Traces.{Trace}
+use Rattle.rv_core.specs.Endings.{Spec, IsClean, FirstViolated}
+use Rattle.rv_core.specs.Histories.{History, empty_history, Step, refused, goes, arrives}
 use Rattle.hy_lasso.specs.Words.{Satisfies as Meant}
 use Rattle.hy_read.specs.Answers.{Plain}
 use Rattle.ea_core.specs.Decided.{Implies, TellsApart}
@@ -15,79 +17,75 @@ use Rattle.ea_core.proofs.Searching.{not-both}
 use Rattle.hy_answer.specs.declared.answer.Answer.{Answer}
 use Rattle.hy_answer.specs.declared.answer.Answer.TheVariants as answers
 use Rattle.hy_words.specs.Commands.{Command, monitor, judge, decide, imply, compare}
-use Rattle.hy_top.specs.Arrivals.{AreUniversal, Satisfies, AllSatisfy, ViolatesBy, FirstViolation}
 use Rattle.hy_top.specs.Classes.{takes, file_of, RefusesClass, FirstUntaken}
 use Rattle.hy_top.specs.Contents.{content_of, most_quantifiers, IsRefused}
 use Rattle.hy_top.specs.Deciding.{plan_of, plan_against, Determines, DecidesBy, DecidesOne, DecidesTwo, ComparesTwo, sat, unsat, implied, not_implied, beyond, equivalent, first_alone, second_alone, many_branches}
 use Rattle.hy_top.specs.Files.{Given, RefusesText}
 use Rattle.hy_top.specs.Judging.{HasLassos, Judges, holds, fails}
-use Rattle.hy_top.specs.Monitoring.{HasTraces, IsVerdict, is_clean, is_violated, Monitors}
+use Rattle.hy_top.specs.Monitoring.{specs_of, step_of, IsViolation, Comes, IsVerdict, Monitors}
+use Rattle.hy_top.specs.Monitoring.{ComesTo as ComesToAnswer}
 use Rattle.hy_top.specs.Stages.{Stage, opening, reading, size, text, class, count, work, Met, First, here, later, ComesTo, Agree, same, other_tuple, other_model, other_proof, other_implied, other_proofs, other_witness, other_side}
-use Rattle.hy_top.specs.WholeTraces.{IsTraceFile}
-use Rattle.hy_top.proofs.Arriving.{quantified-all}
 use Rattle.hy_top.proofs.Formulas.{of_formulas, untaken_once}
 use Rattle.hy_top.proofs.Judging.{lassos_once}
 use Rattle.hy_top.proofs.Progress.{texts_once}
 use Rattle.hy_top.proofs.Reading.{bytes_once}
-use Rattle.hy_top.proofs.Searches.{picked-take}
 use Rattle.hy_top.proofs.Texts.{refused_once}
-use Rattle.hy_top.proofs.TraceLines.{traces-once}
+use Rattle.hy_top.proofs.EventLines.{events-once}
 
 agree : {a b : Answer} → a ≡ b → Agree a b
 agree {a} e = subst (Agree a) e (same a)
 
--- ---- two verdicts on traces
+-- ---- two verdicts on events
 
--- Traces up to the m-th that violate the body do so among all of them.
-violates_later : (n : ℕ) (tree : Tree) (traces : List Trace) (m : ℕ) (pick : List ℕ) → ViolatesBy n tree (take m traces) pick → All (λ x. x < m) pick × ViolatesBy n tree traces pick
-violates_later n tree traces m pick ((long, members), wrong) = (
-  within,
-  ((long, λ i d lt. omega (arith, members i d lt, length-take m traces)), λ right. wrong (subst (Satisfies tree) (sym (picked-take traces m pick within)) right)),
-)
-  where
-    within : All (λ x. x < m) pick
-    within i d lt = omega (arith, members i d lt, length-take m traces)
+same-clean : (specs : List Spec) (list : List Trace) (s : ℕ) → FirstViolated Min specs list s → ¬ IsClean Min specs list
+same-clean specs list s first clean = clean s first.there first.violated
 
-clean_or_not : (n : ℕ) (tree : Tree) (traces : List Trace) (k : ℕ) (pick : List ℕ) → AllSatisfy n tree traces → FirstViolation n tree traces k pick → ⊥
-clean_or_not n tree traces k pick clean first =
-    let violated = (violates_later n tree traces (suc k) pick first.violated).1 in
-    violated.1 (clean pick violated.0)
-
--- The earlier violation is one that the traces before the later one show.
-no_earlier : (n : ℕ) (tree : Tree) (traces : List Trace) (k l : ℕ) (pick other : List ℕ) → FirstViolation n tree traces k pick → FirstViolation n tree traces l other → k < l → ⊥
-no_earlier n tree traces k l pick other one two lt =
-    let (within, violated) = violates_later n tree traces (suc k) pick one.violated in
-    let before : All (λ x. x < l) pick = λ i d le. omega (arith, within i d le) in
-    let arrives = two.arrives in
-    let right = two.clean_before pick (violated.0.0, λ i d le. omega (arith, before i d le, length-take l traces)) in
-    violated.1 (subst (Satisfies tree) (picked-take traces l pick before) right)
-
-one_arrival : (n : ℕ) (tree : Tree) (traces : List Trace) (k l : ℕ) (pick other : List ℕ) → FirstViolation n tree traces k pick → FirstViolation n tree traces l other → k ≡ l
-one_arrival n tree traces k l pick other one two =
-    elim (cases_lt k l) [
-      | inl lt ↦ absurd (no_earlier n tree traces k l pick other one two lt)
+one-violated : (specs : List Spec) (list : List Trace) (s t : ℕ) → FirstViolated Min specs list s → FirstViolated Min specs list t → s ≡ t
+one-violated specs list s t one two =
+    elim (cases_lt s t) [
+      | inl lt ↦ absurd (two.before s lt one.violated)
       | inr from ↦
-          elim (cases_lt l k) [
-            | inl lt ↦ absurd (no_earlier n tree traces l k other pick two one lt)
+          elim (cases_lt t s) [
+            | inl lt ↦ absurd (one.before t lt two.violated)
             | inr to ↦ omega arith
           ]
     ]
 
-same_clean : (count : ℕ) (kept : List ℕ) (live : ℕ) (other : ℕ) (left : List ℕ) (open' : ℕ)
-    → count ≡ other → kept ≡ left → live ≡ open' → answers.NoViolation count kept live ≡ answers.NoViolation other left open'
-same_clean total kept live other left open' e f h = cc
+violations-agree : (specs : List Spec) (list : List Trace) (a b : Answer) → IsViolation specs list a → IsViolation specs list b → Agree a b
+violations-agree specs list a b one two =
+    let spec = one-violated specs list one.spec two.spec one.found.first two.found.first in
+    let trace : one.trace ≡ two.trace = let p = one.found.last in let q = two.found.last in omega (arith, p, q) in
+    let P : Answer → Type 0 = λ x. Agree x b in
+    let Q : Answer → Type 0 = λ y. Agree (answers.Violation one.spec one.trace one.tuple) y in
+    let R : ℕ → Type 0 = λ s. Agree (answers.Violation one.spec one.trace one.tuple) (answers.Violation s one.trace two.tuple) in
+    let T : ℕ → Type 0 = λ t. Agree (answers.Violation one.spec one.trace one.tuple) (answers.Violation two.spec t two.tuple) in
+    subst P (sym one.answered) (subst Q (sym two.answered) (subst T trace (subst R spec (other_tuple one.spec one.trace one.tuple two.tuple))))
 
-verdicts_agree : (prefix : List Quant) (tree : Tree) (traces : List Trace) (a b : Answer) → AreUniversal prefix → IsVerdict prefix tree traces a
-    → IsVerdict prefix tree traces b → Agree a b
-verdicts_agree prefix tree traces _ _ universal (is_clean total kept live one) (is_clean other left open' two) =
-    agree (same_clean total kept live other left open' (one.all ∙ sym two.all) (one.kept_all ∙ sym two.kept_all) (one.none_open ∙ sym two.none_open))
-verdicts_agree prefix tree traces _ _ universal (is_clean total kept live one) (is_violated trace tuple two) =
-    absurd (clean_or_not (length prefix) tree traces trace tuple (λ pick (long, members). quantified-all (length traces) _ prefix universal one.clean pick long members) two)
-verdicts_agree prefix tree traces _ _ universal (is_violated trace tuple one) (is_clean other left open' two) =
-    absurd (clean_or_not (length prefix) tree traces trace tuple (λ pick (long, members). quantified-all (length traces) _ prefix universal two.clean pick long members) one)
-verdicts_agree prefix tree traces _ _ universal (is_violated trace tuple one) (is_violated arrival pick two) =
-    let P : ℕ → Type 0 = λ t. Agree (answers.Violation 0 trace tuple) (answers.Violation 0 t pick) in
-    subst P (one_arrival (length prefix) tree traces trace arrival tuple pick one two) (other_tuple 0 trace tuple pick)
+step-agrees : (specs : List Spec) (line : ℕ) (arriving : Bool) (st : Step) (Rest : History → Answer → Type 0)
+    → ((h : History) (a b : Answer) → Rest h a → Rest h b → Agree a b) → (a b : Answer)
+    → Comes specs line arriving st (λ h. Rest h a) a → Comes specs line arriving st (λ h. Rest h b) b → Agree a b
+step-agrees specs line arriving (refused r) Rest again a b one two = agree (one ∙ sym two)
+step-agrees specs line false (goes h) Rest again a b one two = again h a b one two
+step-agrees specs line true (goes h) Rest again a b (inl one) (inl two) = violations-agree specs h.present.arrived a b one two
+step-agrees specs line true (goes h) Rest again a b (inl one) (inr (clean, two)) =
+    absurd (same-clean specs h.present.arrived one.spec one.found.first clean)
+step-agrees specs line true (goes h) Rest again a b (inr (clean, one)) (inl two) =
+    absurd (same-clean specs h.present.arrived two.spec two.found.first clean)
+step-agrees specs line true (goes h) Rest again a b (inr (clean, one)) (inr (also, two)) = again h a b one two
+
+events-agree : (specs : List Spec) (events : List Placed) (h : History) (a b : Answer) → ComesToAnswer specs h events a
+    → ComesToAnswer specs h events b → Agree a b
+events-agree specs [] h a b one two = agree (one ∙ sym two)
+events-agree specs (placed ∷ events) h a b one two =
+    step-agrees specs placed.line (arrives placed.event) (step_of h placed.event) (λ next x. ComesToAnswer specs next events x)
+    (λ next x y. events-agree specs events next x y) a b one two
+
+verdicts-agree : (formulas : List Plain) (names : List (List ℕ)) (bytes : List ℕ) (a b : Answer) → IsVerdict formulas names bytes a
+    → IsVerdict formulas names bytes b → Agree a b
+verdicts-agree formulas names bytes a b (events, said, one) (others, also, two) =
+    let same = events-once names 1 (lines_of bytes) events others said also in
+    let P : List Placed → Type 0 = λ es. ComesToAnswer (specs_of formulas) empty_history es a in
+    events-agree (specs_of formulas) others empty_history a b (subst P same one) two
 
 -- ---- two decisions
 
@@ -189,21 +187,14 @@ module _ (command : Command) (given : Given) where
       absurd (one (subst Q lists (subst P formula two)))
   judgements_agree _ _ (fails f list has one) (fails g other also two) = same answers.OnFalse
 
-  traces_agree : (f g : Plain) (traces other : List Trace) → HasTraces command given f traces → HasTraces command given g other
-      → (f ≡ g) × (traces ≡ other)
-  traces_agree f g traces other one two =
-      let (formulas, names) = texts_once command given 1 (f ∷ []) (g ∷ []) one.names two.names one.first two.first in
-      let bytes = bytes_once given 1 one.bytes two.bytes one.came two.came in
-      let P : List ℕ → Type 0 = λ b. IsTraceFile one.names b traces in
-      let Q : List (List ℕ) → Type 0 = λ n. IsTraceFile n two.bytes traces in
-      (cc, traces-once two.names two.bytes traces other (subst Q names (subst P bytes one.spelled)) two.spelled)
-
   monitors_agree : (a b : Answer) → Monitors command given a → Monitors command given b → Agree a b
   monitors_agree a b one two =
-      let (formula, traces) = traces_agree one.formula two.formula one.traces two.traces one.has two.has in
-      let P : Plain → Type 0 = λ h. IsVerdict h.prefix h.body one.traces a in
-      let Q : List Trace → Type 0 = λ t. IsVerdict two.formula.prefix two.formula.body t a in
-      verdicts_agree two.formula.prefix two.formula.body two.traces a b two.has.universal (subst Q traces (subst P formula one.verdict)) two.verdict
+      let (formulas, names) = texts_once command given 1 one.formulas two.formulas one.names two.names one.first two.first in
+      let bytes = bytes_once given 1 one.bytes two.bytes one.came two.came in
+      let P : List Plain → Type 0 = λ fs. IsVerdict fs one.names one.bytes a in
+      let Q : List (List ℕ) → Type 0 = λ ns. IsVerdict two.formulas ns one.bytes a in
+      let R : List ℕ → Type 0 = λ bs. IsVerdict two.formulas two.names bs a in
+      verdicts-agree two.formulas two.names two.bytes a b (subst R bytes (subst Q names (subst P formulas one.verdict))) two.verdict
 
 decided_agree : (command : Command) (formulas : List Plain) (a b : Answer) → DecidesBy command formulas a → DecidesBy command formulas b → Agree a b
 decided_agree (decide formula states proof) (f ∷ []) a b one two = decisions_agree f states a b one two

@@ -1,5 +1,5 @@
 -- What comes of one line after another of a file of events, given to a monitor.
-use Rattle.std.specs.Prelude.{◌≡◌, ◌⊎◌, ℕ, Bool, true, List, length, Err, Result, Option}
+use Rattle.std.specs.Prelude.{◌≡◌, ◌⊎◌, ℕ, true, List, length, Err}
 use Rattle.hy_base.specs.Limits.{most}
 use Rattle.hy_base.specs.declared.limit.Kind.TheVariants.{Length}
 use Rattle.hy_finite.specs.declared.event.Placed.{Placed}
@@ -11,8 +11,10 @@ use Rattle.hy_text.specs.declared.line_error.LineError.TheVariants as faults
 use Rattle.rv_core.specs.Endings.{Spec, IsClean}
 use Rattle.rv_core.specs.Held.{Held, StandsFor, specs_of}
 use Rattle.rv_core.specs.Histories.{History, empty_history, goes, step, arrives}
+use Rattle.rv_core.specs.declared.rv_error.RvError.{RvError}
+use Rattle.rv_core.specs.declared.rv_error.RvError.TheVariants as errors
 use Rattle.hy_answer.specs.declared.answer.Answer.{Answer}
-use Rattle.hy_answer.specs.declared.answer.Answer.TheVariants.{Limit, Memory}
+use Rattle.hy_answer.specs.declared.answer.Answer.TheVariants.{Session, Limit, Memory}
 use Rattle.hy_top.specs.Monitoring.{Comes, ComesTo, clean_answer}
 
 -- Memory ran out, or the fact holds.
@@ -23,6 +25,13 @@ OrMemory answer P = (answer ≡ Memory) ⊎ P
 abbrev pub IsLongAnswer : List (List ℕ) → LinesLeft → LinesLeft → Answer → Type 0
 IsLongAnswer names old new answer = (answer ≡ Limit Length (most Length)) × IsNextAnswer names old new (Err faults.Limit)
 
+-- The answer for a line whose event was answered by this error.
+abbrev pub IsEventAnswer : RvError → ℕ → Answer → Type 0
+IsEventAnswer errors.NoLetter line answer = answer ≡ Session line
+IsEventAnswer errors.NoSave line answer = answer ≡ Session line
+IsEventAnswer (errors.Limit kind) line answer = answer ≡ Limit kind (most kind)
+IsEventAnswer errors.Memory line answer = answer ≡ Memory
+
 -- The event of a line leads from a history to one that the monitor then stands for, and no formula is violated.
 pub record GoesOn (specs : List Spec) (h : History) (placed : Placed) (new : Held) : Type 0 where
   pub next : History
@@ -32,7 +41,8 @@ pub record GoesOn (specs : List Spec) (h : History) (placed : Placed) (new : Hel
 
 -- The event of a line is refused, or violates a formula, and so is answered.
 abbrev pub Stops : List Spec → History → Placed → Answer → Type 0
-Stops specs h placed answer = (Rest : History → Type 0) → Comes specs placed.line (arrives placed.event) (step h placed.event) Rest answer
+Stops specs h placed answer =
+    Comes specs placed.line (arrives placed.event) (step h placed.event) (λ next. ⊥) answer
 
 -- The lines of a file say events that come to this answer.
 abbrev pub LinesCome : List Spec → List (List ℕ) → List ℕ → Answer → Type 0

@@ -84,8 +84,10 @@ pub fn events_in<S: Shelf>(alloc: Global, shelf: &mut S, name: &str) -> Result<T
         Err(error) => return Err(fault_answer(error, 1)),
     };
     match check_events(alloc, bytes.as_slice()) {
-        Ok(()) | Err(LineError::Limit) => Ok(bytes),
-        Err(error) => Err(line_answer(error, 1)),
+        Ok(()) => Ok(bytes),
+        Err(LineError::Limit) => Ok(bytes),
+        Err(LineError::Syntax { line }) => Err(Answer::Line { file: 1, line }),
+        Err(LineError::Memory) => Err(Answer::Memory),
     }
 }
 

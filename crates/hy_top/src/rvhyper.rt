@@ -1,9 +1,10 @@
 //! `rvhyper`: from its files to its answers.
 
-ghost use Rattle.std.specs.Prelude.{◌≡◌, ◌≤◌, ◌<◌, ◌^◌, List, [], length};
+ghost use Rattle.std.specs.Prelude.{◌≡◌, ◌≤◌, ◌<◌, ◌^◌, ℕ, List, [], length};
 ghost use Rattle.hy_base.specs.Shelf.{KeepsShelf};
 ghost use Rattle.hy_base.specs.declared.reading.TheConstants.{BYTES_LIMIT};
 ghost use Rattle.hy_formula.specs.Quantifiers.{Each};
+ghost use Rattle.hy_formula.specs.declared.formula.Formula.{Formula};
 ghost use Rattle.hy_text.specs.Lines.{lines_of};
 ghost use Rattle.hy_finite.specs.EventLines.{IsText};
 ghost use Rattle.hy_read.specs.Builds.{plain_formulas};
@@ -22,7 +23,8 @@ use hy_formula::NameTable;
 use hy_read::SpecList;
 use rv_core::{Rv, RvNewError};
 use std::alloc::Global;
-use std::sync::ledger::{Blank, Brand};
+use std::marker::Brand;
+use std::sync::ledger::Blank;
 
 /// Whether the traces of a file violate the formulas of another, whose names are added to the empty
 /// table.

@@ -9,9 +9,10 @@ ghost use Rattle.hy_finite.specs.EventLines.{IsText};
 ghost use Rattle.hy_finite.specs.NextEvents.{IsNextAnswer};
 ghost use Rattle.hy_finite.specs.Remaining.{remaining};
 ghost use Rattle.rv_core.specs.Held.{StandsFor, specs_of};
+ghost use Rattle.rv_core.specs.Seen.{held};
 ghost use Rattle.rv_core.specs.Histories.{History, empty_history};
 ghost use Rattle.hy_answer.specs.declared.answer.Answer.TheVariants.{NoViolation};
-ghost use Rattle.hy_top.specs.Watching.{OrMemory, IsLongAnswer, GoesOn, Stops, LinesCome, IsThrough};
+ghost use Rattle.hy_top.specs.Watching.{OrMemory, IsLongAnswer, IsEventAnswer, GoesOn, Stops, LinesCome, IsThrough};
 
 use hy_answer::Answer;
 use hy_base::{Kind, M, Memory, NumList, Steps};
@@ -32,15 +33,15 @@ pub fn watch<L: Ledger>(
     names: &NameTable,
     blank: Blank,
 ) -> Answer
-    requires stands { StandsFor rv.old empty_history }
-    requires rule { rv.old.rule ≡ Min }
-    requires specs { specs ≡ length (specs_of rv.old) }
+    requires stands { StandsFor (held rv.old) empty_history }
+    requires rule { (held rv.old).rule ≡ Min }
+    requires specs { specs ≡ length (specs_of (held rv.old)) }
     requires few { length bytes.now ≤ BYTES_LIMIT }
     requires texts { Each IsText (lines_of bytes.now) }
     requires name { blank.name ≡ L.name }
     requires parts { blank.parts ≡ L.parts }
     requires some { 0 < blank.parts }
-    ensures { OrMemory result (LinesCome (specs_of rv.old) names.now bytes.now result) }
+    ensures { OrMemory result (LinesCome (specs_of (held rv.old)) names.now bytes.now result) }
 {
     let mut steps = Steps::<L>::new(blank);
     match watch_lines(alloc, rv, bytes, names, &mut steps) {
@@ -58,14 +59,14 @@ fn watch_lines<L: Ledger>(
     names: &NameTable,
     steps: &mut Steps<L>,
 ) -> Result<(), Answer>
-    requires stands { StandsFor rv.old empty_history }
-    requires rule { rv.old.rule ≡ Min }
+    requires stands { StandsFor (held rv.old) empty_history }
+    requires rule { (held rv.old).rule ≡ Min }
     requires few { length bytes.now ≤ BYTES_LIMIT }
     requires texts { Each IsText (lines_of bytes.now) }
-    ensures specs { specs_of rv.new ≡ specs_of rv.old }
-    ensures through { OnOk result (IsThrough (specs_of rv.old) names.now bytes.now rv.new) }
+    ensures specs { specs_of (held rv.new) ≡ specs_of (held rv.old) }
+    ensures through { OnOk result (IsThrough (specs_of (held rv.old)) names.now bytes.now (held rv.new)) }
     ensures ended { IfErr result (λ answer. OrMemory answer
-        (LinesCome (specs_of rv.old) names.now bytes.now answer)) }
+        (LinesCome (specs_of (held rv.old)) names.now bytes.now answer)) }
 {
     let mut lines = EventLines::new(bytes);
     let mut letters = Letters::new(alloc);
@@ -107,15 +108,15 @@ fn take<L: Ledger>(
     placed: &Placed,
     steps: &mut Steps<L>,
 ) -> Result<(), Answer>
-    requires clean { IsTrue rv.old.clean }
-    requires rule { rv.old.rule ≡ Min }
-    requires few { rv.old.arrived < 2 ^ 31 }
-    ensures specs { specs_of rv.new ≡ specs_of rv.old }
-    ensures rule { rv.new.rule ≡ rv.old.rule }
-    ensures went { OnOk result ((h : History) → StandsFor rv.old h
-        → GoesOn (specs_of rv.old) h placed.now rv.new) }
-    ensures ended { IfErr result (λ answer. OrMemory answer ((h : History) → StandsFor rv.old h
-        → Stops (specs_of rv.old) h placed.now answer)) }
+    requires clean { IsTrue (held rv.old).clean }
+    requires rule { (held rv.old).rule ≡ Min }
+    requires few { (held rv.old).arrived < 2 ^ 31 }
+    ensures specs { specs_of (held rv.new) ≡ specs_of (held rv.old) }
+    ensures rule { (held rv.new).rule ≡ (held rv.old).rule }
+    ensures went { OnOk result ((h : History) → StandsFor (held rv.old) h
+        → GoesOn (specs_of (held rv.old)) h placed.now (held rv.new)) }
+    ensures ended { IfErr result (λ answer. OrMemory answer ((h : History) → StandsFor (held rv.old) h
+        → Stops (specs_of (held rv.old)) h placed.now answer)) }
 {
     match rv.event(alloc, &placed.event, steps) {
         Ok(Reply::Quiet | Reply::Arrived { .. }) => Ok(()),
@@ -140,9 +141,9 @@ fn event_answer(error: RvError, line: u32) -> Answer
 
 /// The answer that no event was refused or violated one of `specs` formulas.
 fn clean_answer(alloc: Global, rv: &Rv, specs: u32) -> Answer
-    requires { specs ≡ length (specs_of rv.now) }
-    ensures { OrMemory result ((kept : List ℕ) × (kept ≡ replicate specs rv.now.arrived)
-        × (result ≡ NoViolation rv.now.arrived kept (length rv.now.sessions))) }
+    requires { specs ≡ length (specs_of (held rv.now)) }
+    ensures { OrMemory result ((kept : List ℕ) × (kept ≡ replicate specs (held rv.now).arrived)
+        × (result ≡ NoViolation (held rv.now).arrived kept (length (held rv.now).sessions))) }
 {
     match kept_of(alloc, rv, specs) {
         Ok(kept) => Answer::NoViolation {
@@ -156,8 +157,8 @@ fn clean_answer(alloc: Global, rv: &Rv, specs: u32) -> Answer
 
 /// How many traces are kept for each of `specs` formulas.
 fn kept_of(alloc: Global, rv: &Rv, specs: u32) -> M<NumList>
-    requires { specs ≡ length (specs_of rv.now) }
-    ensures { IfOk result (λ kept. kept ≡ replicate specs rv.now.arrived) }
+    requires { specs ≡ length (specs_of (held rv.now)) }
+    ensures { IfOk result (λ kept. kept ≡ replicate specs (held rv.now).arrived) }
 {
     let mut kept = NumList::new(alloc);
     for spec in 0..specs {

@@ -1,0 +1,282 @@
+-- The events of lines, given to a monitor one after another.
+use Rattle.std.proofs.Common.{◌≡◌, ℕ, suc, ◌+◌, ◌<◌, ◌≤◌, ◌^◌, Bool, true, false, nat_lt, if◌then◌else◌, List, [], ◌∷◌, ◌++◌, length, map, take, Option, Some, None, Ok, Err, Result, inl, inr, refl, sym, ap, subst, ◌∙◌, arith}
+use Rattle.std.proofs.lemmas.Bool.Decides.{nat_tests}
+use Rattle.std.proofs.lemmas.List.{length-map, length-append, length-take}
+use Rattle.std.proofs.lemmas.List.Splits.{length-slice_split}
+use Rattle.std.proofs.lemmas.List.Sums.{count_by-le-length}
+use Rattle.hy_base.specs.Limits.{most}
+use Rattle.hy_base.specs.declared.limit.Kind.TheVariants as kinds
+use Rattle.hy_bits.specs.Letter.{Letter}
+use Rattle.hy_formula.specs.Quantifiers.{Each}
+use Rattle.hy_text.specs.Bytes.{is_line_feed}
+use Rattle.hy_text.specs.Lines.{lines_of}
+use Rattle.hy_text.specs.declared.line_error.LineError.TheVariants as faults
+use Rattle.hy_text.specs.Sets.{letter_of}
+use Rattle.hy_finite.specs.declared.event.Event.{Event}
+use Rattle.hy_finite.specs.declared.event.Event.TheVariants as event
+use Rattle.hy_finite.specs.declared.event.Placed.{Placed}
+use Rattle.hy_finite.specs.declared.lengths.Lengths.{Lengths}
+use Rattle.hy_finite.specs.declared.lengths.Lengths.TheVariants.{Min}
+use Rattle.hy_finite.specs.EventLines.{Said, word, letter, finish, save, back, IsShort, IsText, SaysNothing}
+use Rattle.hy_finite.specs.EventFiles.{event_of, SayEvents}
+use Rattle.hy_finite.specs.LinesLeft.{LinesLeft}
+use Rattle.hy_finite.specs.Remaining.{all_lines}
+use Rattle.hy_finite.specs.NextEvents.{IsNextAnswer}
+use Rattle.hy_finite.specs.Traces.{Trace, most_letters}
+use Rattle.hy_finite.proofs.Collecting.{next-more, next-fewer, silent-says, reached-says}
+use Rattle.rv_core.specs.declared.reply.Reply.{Reply}
+use Rattle.rv_core.specs.declared.reply.Reply.TheVariants.{Quiet, Arrived, Violation}
+use Rattle.rv_core.specs.declared.rv_error.RvError.{RvError}
+use Rattle.rv_core.specs.declared.rv_error.RvError.TheVariants as errors
+use Rattle.rv_core.specs.Endings.{Spec, IsClean}
+use Rattle.rv_core.specs.Held.{Held, Saved, AreSaves, StandsFor, specs_of}
+use Rattle.rv_core.specs.Histories.{Present, History, empty_history, Session, Refusal, no_session, no_save, too_long, too_many_sessions, too_many_saves, Step, refused, goes, step, arrives, letters_of, letter_step, end_step, save_step, back_step, with_sessions, with_trace, extended, closed, most_sessions, most_saves}
+use Rattle.rv_core.specs.Replies.{error_of, IsFound, IsAnswer, quiet, arrived, violated, refused_by, spent, Answers}
+use Rattle.hy_answer.specs.declared.answer.Answer.{Answer}
+use Rattle.hy_answer.specs.declared.answer.Answer.TheVariants as answers
+use Rattle.hy_top.specs.Monitoring.{is_long, step_of, refusal_answer, IsViolation, clean_answer, Comes, ComesTo}
+use Rattle.hy_top.specs.Watching.{OrMemory, IsLongAnswer, IsEventAnswer, GoesOn, Stops, LinesCome, IsThrough}
+use Rattle.hy_top.proofs.EventLines.{texts-say, next-texts, reached-text}
+
+-- ---- one event
+
+module _ (specs : List Spec) (line : ℕ) where
+  goes-comes : (arriving : Bool) (st : Step) (next : History) (Rest : History → Type 0) (a : Answer) → st ≡ goes next
+      → (arriving ≡ true → IsClean Min specs next.present.arrived) → Rest next → Comes specs line arriving st Rest a
+  goes-comes false st next Rest a e clean rest =
+      let P : Step → Type 0 = λ s. Comes specs line false s Rest a in subst P (sym e) rest
+  goes-comes true st next Rest a e clean rest =
+      let P : Step → Type 0 = λ s. Comes specs line true s Rest a in subst P (sym e) (inr (clean refl, rest))
+
+  stops-comes : (arriving : Bool) (st : Step) (Rest : History → Type 0) (a : Answer) → Comes specs line arriving st (λ next. ⊥) a
+      → Comes specs line arriving st Rest a
+  stops-comes arriving (refused r) Rest a is = is
+  stops-comes false (goes h) Rest a is = absurd is
+  stops-comes true (goes h) Rest a (inl violation) = inl violation
+  stops-comes true (goes h) Rest a (inr (clean, none)) = absurd none
+
+-- The refusal of an event is answered as its error is.
+refusal-answered : (r : Refusal) (line : ℕ) (a : Answer) → IsEventAnswer (error_of r) line a → a ≡ refusal_answer line r
+refusal-answered no_session line a is = is
+refusal-answered no_save line a is = is
+refusal-answered too_long line a is = is
+refusal-answered too_many_sessions line a is = is
+refusal-answered too_many_saves line a is = is
+
+module _ (old new : Held) (placed : Placed) (rule : old.rule ≡ Min) (same : specs_of new ≡ specs_of old) (rules : new.rule ≡ old.rule) (h : History) where
+  goes-quiet : (r : Result Reply RvError) → r ≡ Ok Quiet → IsAnswer old new placed.event h r → GoesOn (specs_of old) h placed new
+  goes-quiet _ e (quiet next steps silent stands) =
+      record { next = next; steps = steps; stands = stands; clean = λ loud. absurd (let both : true ≡ false = sym loud ∙ silent in cc) }
+  goes-quiet _ e (arrived next steps loud stands) = absurd (cc)
+  goes-quiet _ e (violated next s trace tuple steps loud found unclean) = absurd (cc)
+  goes-quiet _ e (refused_by r steps stands) = absurd (cc)
+  goes-quiet _ e (spent takes stands) = absurd (cc)
+
+  goes-arrived : (r : Result Reply RvError) (trace : ℕ) → r ≡ Ok (Arrived trace) → IsAnswer old new placed.event h r → GoesOn (specs_of old) h placed new
+  goes-arrived _ trace e (quiet next steps silent stands) = absurd (cc)
+  goes-arrived _ trace e (arrived next steps loud stands) =
+      let P : List Spec → Type 0 = λ specs. IsClean Min specs next.present.arrived in
+      let Q : Lengths → Type 0 = λ l. IsClean l (specs_of new) next.present.arrived in
+      record { next = next; steps = steps; stands = stands; clean = λ _. subst P same (subst Q (rules ∙ rule) stands.quiet.now) }
+  goes-arrived _ trace e (violated next s t tuple steps loud found unclean) = absurd (cc)
+  goes-arrived _ trace e (refused_by r steps stands) = absurd (cc)
+  goes-arrived _ trace e (spent takes stands) = absurd (cc)
+
+  violation-stops : (r : Result Reply RvError) (s trace : ℕ) (tuple : List ℕ) → r ≡ Ok (Violation s trace tuple)
+      → IsAnswer old new placed.event h r → Stops (specs_of old) h placed (answers.Violation s trace tuple)
+  violation-stops _ s trace tuple e (quiet next steps silent stands) = absurd (cc)
+  violation-stops _ s trace tuple e (arrived next steps loud stands) = absurd (cc)
+  violation-stops _ s trace tuple e (violated next spec last found_tuple steps loud found unclean) =
+      let P : Step → Type 0 = λ st. Comes (specs_of old) placed.line (arrives placed.event) st (λ n. ⊥) (answers.Violation s trace tuple) in
+      let Q : Bool → Type 0 = λ b. Comes (specs_of old) placed.line b (goes next) (λ n. ⊥) (answers.Violation s trace tuple) in
+      let R : Lengths → Type 0 = λ l. IsFound l (specs_of old) next.present.arrived spec last found_tuple in
+      let answered : answers.Violation s trace tuple ≡ answers.Violation spec last found_tuple = cc in
+      subst P (sym steps)
+      (subst Q (sym loud) (inl (record { spec = spec; trace = last; tuple = found_tuple; found = subst R rule found; answered = answered })))
+  violation-stops _ s trace tuple e (refused_by r steps stands) = absurd (cc)
+  violation-stops _ s trace tuple e (spent takes stands) = absurd (cc)
+
+  error-stops : (r : Result Reply RvError) (error : RvError) (a : Answer) → r ≡ Err error → IsEventAnswer error placed.line a
+      → IsAnswer old new placed.event h r → OrMemory a (Stops (specs_of old) h placed a)
+  error-stops _ error a e is (quiet next steps silent stands) = absurd (cc)
+  error-stops _ error a e is (arrived next steps loud stands) = absurd (cc)
+  error-stops _ error a e is (violated next s trace tuple steps loud found unclean) = absurd (cc)
+  error-stops _ error a e is (refused_by r steps stands) =
+      let same_error : error ≡ error_of r = cc in
+      let P : RvError → Type 0 = λ x. IsEventAnswer x placed.line a in
+      let Q : Step → Type 0 = λ st. Comes (specs_of old) placed.line (arrives placed.event) st (λ n. ⊥) a in
+      inr (subst Q (sym steps) (refusal-answered r placed.line a (subst P same_error is)))
+  error-stops _ error a e is (spent takes stands) =
+      let same_error : error ≡ errors.Memory = cc in
+      let P : RvError → Type 0 = λ x. IsEventAnswer x placed.line a in
+      inl (subst P same_error is)
+
+-- An error is answered in one way for all histories that the monitor stood for.
+pub error-ends : (old new : Held) (placed : Placed) (error : RvError) (a : Answer) → Answers old new placed.event (Err error)
+    → old.rule ≡ Min → IsEventAnswer error placed.line a → OrMemory a ((h : History) → StandsFor old h → Stops (specs_of old) h placed a)
+error-ends old new placed errors.Memory a said rule is = inl is
+error-ends old new placed errors.NoLetter a said rule is =
+    inr (λ h stands. not-memory (error-stops old new placed rule said.specs said.rule h _ errors.NoLetter a refl is (said.right h stands)))
+  where
+  not-memory : {P : Type 0} → OrMemory a P → P
+  not-memory (inl e) = absurd (let both : answers.Memory ≡ answers.Session placed.line = sym e ∙ is in cc)
+  not-memory (inr p) = p
+error-ends old new placed errors.NoSave a said rule is =
+    inr (λ h stands. not-memory (error-stops old new placed rule said.specs said.rule h _ errors.NoSave a refl is (said.right h stands)))
+  where
+  not-memory : {P : Type 0} → OrMemory a P → P
+  not-memory (inl e) = absurd (let both : answers.Memory ≡ answers.Session placed.line = sym e ∙ is in cc)
+  not-memory (inr p) = p
+error-ends old new placed (errors.Limit kind) a said rule is =
+    inr (λ h stands. not-memory (error-stops old new placed rule said.specs said.rule h _ (errors.Limit kind) a refl is (said.right h stands)))
+  where
+  not-memory : {P : Type 0} → OrMemory a P → P
+  not-memory (inl e) = absurd (let both : answers.Memory ≡ answers.Limit kind (most kind) = sym e ∙ is in cc)
+  not-memory (inr p) = p
+
+-- ---- how many traces there are
+
+shorter-save : (list : List Trace) (ss : List Saved) (p : Present) (ps : List Present) → AreSaves list ss (p ∷ ps)
+    → length p.arrived ≤ length list
+shorter-save list [] p ps are = absurd are
+shorter-save list (s ∷ ss) p ps (kept, rest) = rw kept.front (omega (arith, length-take s.arrived list))
+
+-- An event brings at most one trace.
+one-more : (m : Held) (h : History) (e : Event) (next : History) → StandsFor m h → step h e ≡ goes next
+    → length next.present.arrived ≤ suc (length h.present.arrived)
+one-more m h (event.Whole t) next stands e =
+    let same : next ≡ with_trace h t h.present.sessions = cc in
+    rw same (omega (arith, length-append h.present.arrived (t ∷ [])))
+one-more m h (event.Letter n a) next stands e = by-letters (letters_of n h.present.sessions) e
+  where
+  by-test : (b : Bool) (r : Refusal) → (if b then goes (with_sessions h (extended n a h.present.sessions)) else refused r) ≡ goes next
+      → length next.present.arrived ≤ suc (length h.present.arrived)
+  by-test true r f = let same : next ≡ with_sessions h (extended n a h.present.sessions) = cc in rw same (omega arith)
+  by-test false r f = absurd (cc)
+
+  by-letters : (o : Option (List Letter)) → letter_step h n a o ≡ goes next → length next.present.arrived ≤ suc (length h.present.arrived)
+  by-letters (Some letters) f = by-test (nat_lt (length letters) most_letters) too_long f
+  by-letters None f = by-test (nat_lt (length h.present.sessions) most_sessions) too_many_sessions f
+one-more m h (event.End n) next stands e = by-letters (letters_of n h.present.sessions) e
+  where
+  by-letters : (o : Option (List Letter)) → end_step h n o ≡ goes next → length next.present.arrived ≤ suc (length h.present.arrived)
+  by-letters (Some letters) f =
+      let same : next ≡ with_trace h letters (closed n h.present.sessions) = cc in
+      rw same (omega (arith, length-append h.present.arrived (letters ∷ [])))
+  by-letters None f = absurd (cc)
+one-more m h event.Save next stands e = by-test (nat_lt (length h.saves) most_saves) e
+  where
+  by-test : (b : Bool) → (if b then goes (record { present = h.present; saves = h.present ∷ h.saves }) else refused too_many_saves) ≡ goes next
+      → length next.present.arrived ≤ suc (length h.present.arrived)
+  by-test true f = let same : next ≡ record { present = h.present; saves = h.present ∷ h.saves } = cc in rw same (omega arith)
+  by-test false f = absurd (cc)
+one-more m h event.Back next stands e = by-saves h.saves stands.saves e
+  where
+  by-saves : (ps : List Present) → AreSaves h.present.arrived m.saves ps → back_step ps ≡ goes next
+      → length next.present.arrived ≤ suc (length h.present.arrived)
+  by-saves [] are f = absurd (cc)
+  by-saves (p ∷ ps) are f =
+      let same : next ≡ record { present = p; saves = ps } = cc in
+      let le = shorter-save h.present.arrived m.saves p ps are in
+      rw same (omega (arith, le))
+
+-- ---- one line after another
+
+-- The lines before these were given to the monitor, and no event of them was refused or violated a formula.
+pub record Passed (specs : List Spec) (names : List (List ℕ)) (bytes : List ℕ) (left : LinesLeft) (m : Held) : Type 0 where
+  pub history : History
+  pub stands : StandsFor m history
+  pub specs_are : specs_of m ≡ specs
+  pub rule : m.rule ≡ Min
+  pub few : length history.present.arrived + length left.lines ≤ length (lines_of bytes)
+  pub texts : Each IsText left.lines
+  pub back : (more : List Placed) (a : Answer) → SayEvents names left.first left.lines more → ComesTo specs history more a
+      → LinesCome specs names bytes a
+
+pub passed-none : (names : List (List ℕ)) (bytes : List ℕ) (left : LinesLeft) (m : Held) → left ≡ all_lines bytes
+    → StandsFor m empty_history → m.rule ≡ Min → Each IsText (lines_of bytes) → Passed (specs_of m) names bytes left m
+passed-none names bytes left m e stands rule texts =
+    let P : LinesLeft → Type 0 = λ l. Passed (specs_of m) names bytes l m in
+    subst P (sym e)
+    (record {
+      history = empty_history;
+      stands = stands;
+      specs_are = refl;
+      rule = rule;
+      few = omega arith;
+      texts = texts;
+      back = λ more a say comes. (more, say, comes);
+    })
+
+short-event : (names : List (List ℕ)) (said : Said) → IsShort said → is_long (event_of names said) ≡ false
+short-event names (word sets) short =
+    let long : length (map (letter_of names) sets) ≡ length sets = length-map sets (letter_of names) in
+    let few : length sets ≤ most_letters = short in
+    rw long (grind (arith, nat_tests))
+short-event names (letter n set) short = refl
+short-event names (finish n) short = refl
+short-event names save short = refl
+short-event names back short = refl
+
+module _ (specs : List Spec) (names : List (List ℕ)) (bytes : List ℕ) (old new : LinesLeft) (m : Held) (before : Passed specs names bytes old m) where
+  -- what a placed event does
+  steps-as : (placed : Placed) → IsNextAnswer names old new (Ok (Some placed)) → (h : History) → step_of h placed.event ≡ step h placed.event
+  steps-as placed (line, said, reached, next, says, short, e) h =
+      let P : Event → Type 0 = λ x. is_long x ≡ false in
+      let not_long : is_long placed.event ≡ false = subst P (sym e) (short-event names said short) in
+      rw not_long refl
+
+  pub passed-more : (placed : Placed) (m' : Held) → IsNextAnswer names old new (Ok (Some placed)) → specs_of m' ≡ specs_of m
+      → m'.rule ≡ m.rule → GoesOn (specs_of m) before.history placed m' → Passed specs names bytes new m'
+  passed-more placed m' found same rules goes_on =
+      let h = before.history in
+      let more_traces = one-more m h placed.event goes_on.next before.stands goes_on.steps in
+      let fewer = next-fewer names old new placed found in
+      let few = before.few in
+      let Q : List Spec → Type 0 = λ s. IsClean Min s goes_on.next.present.arrived in
+      record {
+        history = goes_on.next;
+        stands = goes_on.stands;
+        specs_are = same ∙ before.specs_are;
+        rule = rules ∙ before.rule;
+        few = omega (arith, more_traces, fewer, few);
+        texts = next-texts names old new placed found before.texts;
+        back = λ more a say comes.
+            before.back (placed ∷ more) a (next-more names old new placed more found say)
+            (goes-comes specs placed.line (arrives placed.event) (step_of h placed.event) goes_on.next
+            (λ next. ComesTo specs next more a) a (steps-as placed found h ∙ goes_on.steps)
+            (λ loud. subst Q before.specs_are (goes_on.clean loud)) comes);
+      }
+
+  pub passed-stops : (placed : Placed) (a : Answer) → IsNextAnswer names old new (Ok (Some placed))
+      → Stops (specs_of m) before.history placed a → LinesCome specs names bytes a
+  passed-stops placed a found stops =
+      let h = before.history in
+      let (more, say) = texts-say names new.first new.lines (next-texts names old new placed found before.texts) in
+      let P : List Spec → Type 0 = λ s. Comes s placed.line (arrives placed.event) (step h placed.event) (λ next. ⊥) a in
+      let Q : Step → Type 0 = λ st. Comes specs placed.line (arrives placed.event) st (λ next. ⊥) a in
+      let stops_so = subst Q (sym (steps-as placed found h)) (subst P before.specs_are stops) in
+      before.back (placed ∷ more) a (next-more names old new placed more found say)
+      (stops-comes specs placed.line (arrives placed.event) (step_of h placed.event) (λ next. ComesTo specs next more a) a stops_so)
+
+  pub passed-long : (a : Answer) → IsLongAnswer names old new a → LinesCome specs names bytes a
+  passed-long a (e, (kept, (k, line, rest, reached, long))) =
+      let placed : Placed = record { line = k; event = event_of names (word long.sets) } in
+      let (more, say) = texts-say names (suc k) rest (reached-text old.first old.lines k line rest reached before.texts).1 in
+      let count : length (map (letter_of names) long.sets) ≡ length long.sets = length-map long.sets (letter_of names) in
+      let many = long.long in
+      let is_past : nat_lt most_letters (length (map (letter_of names) long.sets)) ≡ true = rw count (grind (arith, nat_tests)) in
+      before.back (placed ∷ more) a
+      (reached-says names old.first old.lines k line rest (word long.sets) more reached long.says say)
+      (rw is_past e)
+
+  pub passed-all : Each SaysNothing old.lines → IsThrough specs names bytes m
+  passed-all silent =
+      (before.history, before.stands,
+      before.back [] (clean_answer (length specs) before.history) (silent-says names old.first old.lines silent) refl)
+
+  pub few-arrived : length bytes ≤ 67108864 → m.arrived < 2 ^ 31
+  few-arrived short =
+      let few = before.few in
+      let count = before.stands.count in
+      omega (arith, few, count, short, length-slice_split is_line_feed bytes, count_by-le-length is_line_feed bytes)
