@@ -1,22 +1,13 @@
 -- What a monitor holds, and the histories that it stands for.
-use Rattle.std.specs.Prelude.{◌≡◌, ℕ, ◌≤◌, Bool, true, nat_eq, List, [], ◌∷◌, length, map, take, Option}
-use Rattle.std.specs.Map.{lookup}
-use Rattle.hy_bits.specs.Letter.{Letter}
+use Rattle.std.specs.Prelude.{◌≡◌, ℕ, ◌^◌, ◌<◌, ◌≤◌, Bool, true, nat_eq, List, [], ◌∷◌, length, map, take, Option}
 use Rattle.hy_formula.specs.Quantifiers.{Each}
 use Rattle.hy_finite.specs.declared.lengths.Lengths.{Lengths}
 use Rattle.hy_finite.specs.Traces.{Trace}
 use Rattle.tuple_walk.specs.Watched.{Watched, count_of, Holds}
+use Rattle.rv_core.specs.declared.saved.Saved.{Saved}
+use Rattle.rv_core.specs.Opened.{Open, letters_in}
 use Rattle.rv_core.specs.Histories.{Session, Present, History, letters_of}
 use Rattle.rv_core.specs.Endings.{Spec, IsQuiet}
-
--- open sessions, each by its number and its letters, in any order
-abbrev pub Sessions : Type 0
-Sessions = List (ℕ × List Letter)
-
--- a save: how many traces had arrived, and the sessions that were open
-pub record Saved : Type 0 where
-  pub arrived : ℕ
-  pub sessions : Sessions
 
 pub record Held : Type 0 where
   pub rule : Lengths
@@ -24,7 +15,7 @@ pub record Held : Type 0 where
   pub watches : List Watched
   -- how many traces have arrived
   pub arrived : ℕ
-  pub sessions : Sessions
+  pub sessions : Open
   -- the last save first
   pub saves : List Saved
   -- no violation was found
@@ -37,10 +28,6 @@ spec_of w = record { variables = w.machine.variables; body = w.machine.body }
 abbrev pub specs_of : Held → List Spec
 specs_of m = map spec_of m.watches
 
--- the letters of a session, where it is open
-abbrev pub letters_in : ℕ → Sessions → Option (List Letter)
-letters_in n sessions = lookup (nat_eq n) sessions
-
 -- The watches hold these traces.
 abbrev pub AllHold : List Watched → List Trace → Type 0
 AllHold watches traces = Each (λ w. Holds w traces) watches
@@ -51,7 +38,7 @@ AreApart [] = Unit {0}
 AreApart (s ∷ ss) = Each (λ (t : Session). ¬ (s.number ≡ t.number)) ss × AreApart ss
 
 -- The open sessions are these, in some order.
-pub record AreSessions (sessions : Sessions) (ss : List Session) : Type 0 where
+pub record AreSessions (sessions : Open) (ss : List Session) : Type 0 where
   pub letters : (n : ℕ) → letters_in n sessions ≡ letters_of n ss
   pub count : length sessions ≡ length ss
   pub apart : AreApart ss
@@ -89,3 +76,4 @@ pub record IsSound (m : Held) : Type 0 where
   pub rules : Each (λ (w : Watched). w.lengths ≡ m.rule) m.watches
   pub counts : Each (λ w. count_of w ≡ m.arrived) m.watches
   pub saves : AreWithin m.arrived m.saves
+  pub countable : length m.watches < 2 ^ 32
