@@ -75,9 +75,9 @@ earlier (Some kind.Atoms) k = kind.Atoms
 earlier r k = k
 
 -- A watch of a formula, with no trace.
-pub record IsFresh (rule : Lengths) (f : Formula) (w : Watched) : Type 0 where
+pub record IsFresh (lengths : Lengths) (f : Formula) (w : Watched) : Type 0 where
   pub spec : spec_of w ≡ spec_of_formula f
-  pub rule : w.lengths ≡ rule
+  pub rule : w.lengths ≡ lengths
   pub none : Holds w []
   pub count : count_of w ≡ 0
 

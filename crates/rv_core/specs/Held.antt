@@ -1,5 +1,6 @@
 -- What a monitor holds, and the histories that it stands for.
-use Rattle.std.specs.Prelude.{◌≡◌, ℕ, ◌^◌, ◌<◌, ◌≤◌, Bool, true, nat_eq, List, [], ◌∷◌, length, map, take, Option}
+use Rattle.std.specs.Prelude.{◌≡◌, ℕ, ◌≤◌, Bool, true, nat_eq, List, [], ◌∷◌, length, map, take, Option}
+use Rattle.std.specs.Coded.{×_prop, Unit-prop, le_prop, Coded-set, coded_ℕ}
 use Rattle.hy_formula.specs.Quantifiers.{Each}
 use Rattle.hy_finite.specs.declared.lengths.Lengths.{Lengths}
 use Rattle.hy_finite.specs.Traces.{Trace}
@@ -27,6 +28,10 @@ spec_of w = record { variables = w.machine.variables; body = w.machine.body }
 -- the specs that are watched
 abbrev pub specs_of : Held → List Spec
 specs_of m = map spec_of m.watches
+
+-- Each watch has so many traces.
+abbrev pub AllCount : ℕ → List Watched → Type 0
+AllCount n watches = Each (λ w. count_of w ≡ n) watches
 
 -- The watches hold these traces.
 abbrev pub AllHold : List Watched → List Trace → Type 0
@@ -60,6 +65,7 @@ AreSaves arrived (s ∷ ss) (p ∷ ps) = IsSave arrived s p × AreSaves p.arrive
 -- arrived traces violates a spec.
 pub record StandsFor (m : Held) (h : History) : Type 0 where
   pub clean : m.clean ≡ true
+  pub rules : Each (λ (w : Watched). w.lengths ≡ m.rule) m.watches
   pub count : m.arrived ≡ length h.present.arrived
   pub traces : AllHold m.watches h.present.arrived
   pub sessions : AreSessions m.sessions h.present.sessions
@@ -71,9 +77,10 @@ abbrev pub AreWithin : ℕ → List Saved → Type 0
 AreWithin n [] = Unit {0}
 AreWithin n (s ∷ ss) = (s.arrived ≤ n) × AreWithin s.arrived ss
 
--- What a monitor holds fits together.
-pub record IsSound (m : Held) : Type 0 where
-  pub rules : Each (λ (w : Watched). w.lengths ≡ m.rule) m.watches
-  pub counts : Each (λ w. count_of w ≡ m.arrived) m.watches
-  pub saves : AreWithin m.arrived m.saves
-  pub countable : length m.watches < 2 ^ 32
+pub AllCount-prop : (n : ℕ) (ws : List Watched) → IsProp (AllCount n ws)
+AllCount-prop n [] = Unit-prop
+AllCount-prop n (w ∷ ws) = ×_prop (Coded-set coded_ℕ (count_of w) n) (AllCount-prop n ws)
+
+pub AreWithin-prop : (n : ℕ) (ss : List Saved) → IsProp (AreWithin n ss)
+AreWithin-prop n [] = Unit-prop
+AreWithin-prop n (s ∷ ss) = ×_prop le_prop (AreWithin-prop s.arrived ss)

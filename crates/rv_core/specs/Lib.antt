@@ -4,4 +4,5 @@ pub mod Held
 pub mod Histories
 pub mod Opened
 pub mod Replies
+pub mod Seen
 pub mod Watching

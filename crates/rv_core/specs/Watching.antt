@@ -7,10 +7,10 @@ use Rattle.tuple_walk.specs.Watched.{Watched, count_of, Holds}
 use Rattle.tuple_walk.specs.Searches.{IsViolation, StaysClean}
 
 -- The watch has so many traces, those that the traces before become.
-pub record Turns (count : ℕ) (turned : List Trace → List Trace) (old new : Watched) : Type 0 where
+pub record Turns (n : ℕ) (turned : List Trace → List Trace) (old new : Watched) : Type 0 where
   pub machine : new.machine ≡ old.machine
   pub lengths : new.lengths ≡ old.lengths
-  pub count : count_of new ≡ count
+  pub count : count_of new ≡ n
   pub holds : (traces : List Trace) → Holds old traces → Holds new (turned traces)
 
 -- The first n are related, and the rest is as it was.
@@ -35,9 +35,6 @@ AllStay count old new = AllTurn count (λ traces. traces) old new
 -- Each keeps the first ones.
 abbrev pub AllCut : ℕ → List Watched → List Watched → Type 0
 AllCut count old new = AllTurn count (take count) old new
-
-abbrev pub AllCount : ℕ → List Watched → Type 0
-AllCount count watches = Each (λ w. count_of w ≡ count) watches
 
 -- The watch with this number is the first that finds a violation, by this tuple.
 pub record FirstFound (watches : List Watched) (k : ℕ) (tuple : List ℕ) : Type 0 where

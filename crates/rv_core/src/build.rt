@@ -8,6 +8,7 @@ ghost use Rattle.tuple_walk.specs.Seen.{watched};
 ghost use Rattle.tuple_walk.specs.Watched.{Watched, count_of, Holds};
 ghost use Rattle.rv_core.specs.Built.{HasFewQuantifiers, AreUniversal, EachBody, earlier, IsFresh, AreFresh, IsNewRefusal, FirstOther, spec_of_formula};
 ghost use Rattle.rv_core.specs.Held.{spec_of};
+ghost use Rattle.rv_core.specs.Seen.{watched_by};
 
 use crate::rv::Rv;
 use crate::rv_error::RvNewError;
@@ -23,6 +24,7 @@ use tuple_walk::Watch;
 impl Rv {
     ghost use Rattle.rv_core.specs.Histories.{empty_history};
     ghost use Rattle.rv_core.specs.Held.{specs_of, StandsFor};
+    ghost use Rattle.rv_core.specs.Seen.{held};
 
     /// The monitor of formulas, which number their specs from 0, before all events. Tuples of traces
     /// are judged by the rule.
@@ -34,9 +36,9 @@ impl Rv {
     pub fn new(alloc: Global, formulas: &[Formula], rule: Lengths) -> Result<Rv, RvNewError>
         requires quantifiers { All HasFewQuantifiers formulas.now }
         requires countable { length formulas.now < 2 ^ 32 }
-        ensures stands { IfOk result (λ rv. StandsFor rv empty_history) }
-        ensures rule { IfOk result (λ rv. rv.rule ≡ rule) }
-        ensures specs { IfOk result (λ rv. specs_of rv ≡ map spec_of_formula formulas.now) }
+        ensures stands { IfOk result (λ rv. StandsFor (held rv) empty_history) }
+        ensures rule { IfOk result (λ rv. (held rv).rule ≡ rule) }
+        ensures specs { IfOk result (λ rv. specs_of (held rv) ≡ map spec_of_formula formulas.now) }
         ensures universal { OnOk result (AreUniversal formulas.now) }
         ensures taken { OnOk result (EachBody IsTaken formulas.now) }
         ensures refused { IfErr result (IsNewRefusal formulas.now) }
@@ -76,7 +78,7 @@ fn all_universal(formulas: &[Formula]) -> Result<(), RvNewError>
 fn watches_of(alloc: Global, formulas: &[Formula], rule: Lengths) -> Result<Watches, RvNewError>
     requires quantifiers { All HasFewQuantifiers formulas.now }
     requires universal { AreUniversal formulas.now }
-    ensures fresh { IfOk result (λ made. AreFresh rule formulas.now made) }
+    ensures fresh { IfOk result (λ made. AreFresh rule formulas.now (watched_by made)) }
     ensures taken { OnOk result (EachBody IsTaken formulas.now) }
     ensures refused { IfErr result (IsNewRefusal formulas.now) }
 {

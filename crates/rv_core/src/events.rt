@@ -20,6 +20,7 @@ const MOST_SAVES: usize = 64;
 
 impl Rv {
     ghost use Rattle.rv_core.specs.Replies.{Answers, IsAsBefore};
+    ghost use Rattle.rv_core.specs.Seen.{held};
 
     /// Takes the next event of a run.
     ///
@@ -41,10 +42,10 @@ impl Rv {
         event: &Event,
         steps: &mut Steps<L>,
     ) -> Result<Reply, RvError>
-        requires clean { IsTrue self.old.clean }
-        requires few { self.old.arrived < 2 ^ 31 }
-        ensures answers { Answers self.old self.new event.now result }
-        ensures refused { OnErr result (IsAsBefore self.old self.new) }
+        requires clean { IsTrue (held self.old).clean }
+        requires few { (held self.old).arrived < 2 ^ 31 }
+        ensures answers { Answers (held self.old) (held self.new) event.now result }
+        ensures refused { OnErr result (IsAsBefore (held self.old) (held self.new)) }
         ensures counted { steps.old ≤ steps.new }
     {
         match event {
@@ -62,10 +63,10 @@ impl Rv {
         trace: &Trace,
         steps: &mut Steps<L>,
     ) -> Result<Reply, RvError>
-        requires clean { IsTrue self.old.clean }
-        requires few { self.old.arrived < 2 ^ 31 }
-        ensures answers { Answers self.old self.new (occurs.Whole trace.now) result }
-        ensures refused { OnErr result (IsAsBefore self.old self.new) }
+        requires clean { IsTrue (held self.old).clean }
+        requires few { (held self.old).arrived < 2 ^ 31 }
+        ensures answers { Answers (held self.old) (held self.new) (occurs.Whole trace.now) result }
+        ensures refused { OnErr result (IsAsBefore (held self.old) (held self.new)) }
         ensures counted { steps.old ≤ steps.new }
     {
         let number = self.traces;
@@ -83,9 +84,9 @@ impl Rv {
         session: u32,
         letter: LetterMask,
     ) -> Result<Reply, RvError>
-        requires clean { IsTrue self.old.clean }
-        ensures answers { Answers self.old self.new (occurs.Letter session letter) result }
-        ensures refused { OnErr result (IsAsBefore self.old self.new) }
+        requires clean { IsTrue (held self.old).clean }
+        ensures answers { Answers (held self.old) (held self.new) (occurs.Letter session letter) result }
+        ensures refused { OnErr result (IsAsBefore (held self.old) (held self.new)) }
     {
         self.sessions.extend(alloc, session, letter)?;
         Ok(Reply::Quiet)
@@ -97,10 +98,10 @@ impl Rv {
         session: u32,
         steps: &mut Steps<L>,
     ) -> Result<Reply, RvError>
-        requires clean { IsTrue self.old.clean }
-        requires few { self.old.arrived < 2 ^ 31 }
-        ensures answers { Answers self.old self.new (occurs.End session) result }
-        ensures refused { OnErr result (IsAsBefore self.old self.new) }
+        requires clean { IsTrue (held self.old).clean }
+        requires few { (held self.old).arrived < 2 ^ 31 }
+        ensures answers { Answers (held self.old) (held self.new) (occurs.End session) result }
+        ensures refused { OnErr result (IsAsBefore (held self.old) (held self.new)) }
         ensures counted { steps.old ≤ steps.new }
     {
         let Some(letters) = self.sessions.letters(session) else {
@@ -116,9 +117,9 @@ impl Rv {
 
     /// The present is put aside.
     fn take_save(&mut self, alloc: Global) -> Result<Reply, RvError>
-        requires clean { IsTrue self.old.clean }
-        ensures answers { Answers self.old self.new occurs.Save result }
-        ensures refused { OnErr result (IsAsBefore self.old self.new) }
+        requires clean { IsTrue (held self.old).clean }
+        ensures answers { Answers (held self.old) (held self.new) occurs.Save result }
+        ensures refused { OnErr result (IsAsBefore (held self.old) (held self.new)) }
     {
         if self.saves.len() >= MOST_SAVES {
             return Err(RvError::Limit(Kind::Saves));
@@ -131,9 +132,9 @@ impl Rv {
 
     /// What was put aside last comes back.
     fn take_back(&mut self) -> Result<Reply, RvError>
-        requires clean { IsTrue self.old.clean }
-        ensures answers { Answers self.old self.new occurs.Back result }
-        ensures refused { OnErr result (IsAsBefore self.old self.new) }
+        requires clean { IsTrue (held self.old).clean }
+        ensures answers { Answers (held self.old) (held self.new) occurs.Back result }
+        ensures refused { OnErr result (IsAsBefore (held self.old) (held self.new)) }
     {
         let Some(Saved { arrived, sessions }) = self.saves.pop() else {
             return Err(RvError::NoSave);

@@ -22,9 +22,13 @@ pub(crate) struct Sessions {
 }
 
 impl Model for Sessions {
+    ghost use Rattle.std.specs.Coded.{coded_ℕ, coded×, coded_list};
+    ghost use Rattle.std.specs.FinSet as set;
     ghost use Rattle.rv_core.specs.Opened.{Open, AreOpen};
 
     ghost Value = { Open };
+
+    ghost coded = { coded_list (coded× coded_ℕ (coded_list (set.code coded_ℕ))) };
 
     ghost view = { λ s. s.map.entries };
 

@@ -5,29 +5,19 @@ ghost use Rattle.hy_formula.specs.Quantifiers.{Each};
 ghost use Rattle.tuple_walk.specs.Searches.{StaysClean};
 ghost use Rattle.tuple_walk.specs.Seen.{watched};
 ghost use Rattle.tuple_walk.specs.Watched.{count_of};
-ghost use Rattle.rv_core.specs.Watching.{AllGain, AllStay, AllCut, AllCount, FirstFound, FirstTurn, Turns};
+ghost use Rattle.rv_core.specs.Held.{AllCount};
+ghost use Rattle.rv_core.specs.Watching.{AllGain, AllStay, AllCut, FirstFound, FirstTurn, Turns};
 
 use hy_base::{M, Steps};
 use hy_bits::LetterMask;
 use std::alloc::Global;
-use std::marker::Model;
 use std::sync::ledger::Ledger;
 use tuple_walk::{Tuple, Watch};
 
 /// The watch of each spec, in their order.
 #[derive(Drop)]
 pub(crate) struct Watches {
-    items: Vec<Watch>,
-}
-
-impl Model for Watches {
-    ghost use Rattle.std.specs.Prelude.{List, map};
-    ghost use Rattle.tuple_walk.specs.Seen.{watched};
-    ghost use Rattle.tuple_walk.specs.Watched.{Watched};
-
-    ghost Value = { List Watched };
-
-    ghost view = { λ w. map watched w.items.items };
+    pub(crate) items: Vec<Watch>,
 }
 
 /// A violation: of which spec, and by which traces.
@@ -38,9 +28,11 @@ pub(crate) struct Found {
 }
 
 impl Watches {
+    ghost use Rattle.rv_core.specs.Seen.{watched_by};
+
     /// No watch. Takes no memory.
     pub(crate) fn new(alloc: Global) -> Watches
-        ensures { result ≡ [] }
+        ensures { watched_by result ≡ [] }
     {
         Watches {
             items: Vec::new(alloc),
@@ -49,8 +41,8 @@ impl Watches {
 
     /// Adds a watch last. Refused for memory it changes nothing.
     pub(crate) fn push(&mut self, watch: Watch) -> M<()>
-        ensures added { OnOk result (self.new ≡ self.old ++ watched watch ∷ []) }
-        ensures refused { OnErr result (self.new ≡ self.old) }
+        ensures added { OnOk result (watched_by self.new ≡ watched_by self.old ++ watched watch ∷ []) }
+        ensures refused { OnErr result (watched_by self.new ≡ watched_by self.old) }
     {
         self.items.push(watch)?;
         Ok(())
@@ -66,14 +58,14 @@ impl Watches {
     ) -> M<Option<Found>>
         requires some { 1 ≤ length trace.now }
         requires short { length trace.now ≤ 1024 }
-        requires counted { AllCount count self.old }
+        requires counted { AllCount count (watched_by self.old) }
         requires few { count < 2 ^ 31 }
-        requires countable { length self.old < 2 ^ 32 }
-        ensures gained { OnOk result (AllGain count trace.now self.old self.new) }
-        ensures clean { IfOk result (λ found. IfNone found (Each StaysClean self.new)) }
+        requires countable { length (watched_by self.old) < 2 ^ 32 }
+        ensures gained { OnOk result (AllGain count trace.now (watched_by self.old) (watched_by self.new)) }
+        ensures clean { IfOk result (λ found. IfNone found (Each StaysClean (watched_by self.new))) }
         ensures violated { IfOk result (λ found. IfSome found
-            (λ f. FirstFound self.new f.spec f.tuple)) }
-        ensures refused { OnErr result (AllStay count self.old self.new) }
+            (λ f. FirstFound (watched_by self.new) f.spec f.tuple)) }
+        ensures refused { OnErr result (AllStay count (watched_by self.old) (watched_by self.new)) }
         ensures steps { steps.old ≤ steps.new }
     {
         push_to(&mut self.items, trace, count)?;
@@ -82,10 +74,10 @@ impl Watches {
 
     /// The first spec that is violated with the newest trace, where it was not without it.
     fn first_violation<L: Ledger>(&self, steps: &mut Steps<L>) -> Option<Found>
-        requires some { Each (λ w. 0 < count_of w) self.now }
-        requires countable { length self.now < 2 ^ 32 }
-        ensures clean { IfNone result (Each StaysClean self.now) }
-        ensures violated { IfSome result (λ f. FirstFound self.now f.spec f.tuple) }
+        requires some { Each (λ w. 0 < count_of w) (watched_by self.now) }
+        requires countable { length (watched_by self.now) < 2 ^ 32 }
+        ensures clean { IfNone result (Each StaysClean (watched_by self.now)) }
+        ensures violated { IfSome result (λ f. FirstFound (watched_by self.now) f.spec f.tuple) }
         ensures steps { steps.old ≤ steps.new }
     {
         for i in 0..self.items.len() {
@@ -99,8 +91,8 @@ impl Watches {
 
     /// Keeps the first `count` traces of each. Takes no memory.
     pub(crate) fn truncate(&mut self, count: u32)
-        requires { Each (λ w. count ≤ count_of w) self.old }
-        ensures { AllCut count self.old self.new }
+        requires { Each (λ w. count ≤ count_of w) (watched_by self.old) }
+        ensures { AllCut count (watched_by self.old) (watched_by self.new) }
     {
         let all = self.items.len();
         cut_first(&mut self.items, all, count);
