@@ -1,2 +1,5 @@
 mod Ending
+mod Places
+mod SessionLists
 mod Stepping
+mod WatchLists

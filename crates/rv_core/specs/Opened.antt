@@ -32,11 +32,12 @@ pub data Extends (n : ℕ) (a : Letter) (old new : Open) : Type 0 where
       → Puts n (Some (a ∷ [])) old new → length new ≡ length old + 1 → Extends n a old new
 
 -- why a letter is not taken
-pub data IsNotTaken (n : ℕ) (old : Open) : RvError → Type 0 where
-  too_long : (word : List Letter) → letters_in n old ≡ Some word → 1024 ≤ length word
-      → IsNotTaken n old (error.Limit kind.Length)
-  too_many : letters_in n old ≡ None → 1024 ≤ length old → IsNotTaken n old (error.Limit kind.Sessions)
-  spent : IsNotTaken n old error.Memory
+abbrev pub IsNotTaken : ℕ → Open → RvError → Type 0
+IsNotTaken n old (error.Limit kind.Length) =
+    (word : List Letter) × (letters_in n old ≡ Some word) × (1024 ≤ length word)
+IsNotTaken n old (error.Limit kind.Sessions) = (letters_in n old ≡ None) × (1024 ≤ length old)
+IsNotTaken n old error.Memory = Unit {0}
+IsNotTaken n old _ = ⊥
 
 -- The session is not open any more.
 pub record Closes (n : ℕ) (old new : Open) : Type 0 where

@@ -94,7 +94,8 @@ impl Sessions {
         ensures { IfOk result (λ made. made ≡ self.now) }
     {
         let mut map = IndexMap::new(alloc);
-        for (number, letters) in self.map.iter() {
+        for i in 0..self.map.len() {
+            let (number, letters) = self.map.get_index(i).unwrap();
             insert(&mut map, *number, letters.copy(alloc)?)?;
         }
         Ok(Sessions { map })
