@@ -1,5 +1,7 @@
+mod Answering
 mod Ending
 mod Places
 mod SessionLists
+mod Standing
 mod Stepping
 mod WatchLists

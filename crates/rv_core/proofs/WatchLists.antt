@@ -1,12 +1,16 @@
 -- Watches one after another that take a trace, or give the last ones back.
-use Rattle.std.proofs.Common.{◌≡◌, ℕ, zero, suc, ◌+◌, ◌<◌, ◌≤◌, List, [], ◌∷◌, ◌++◌, length, take, slice_get, Option, Some, None, map, set, refl, sym, ap, ◌∙◌, subst, add-one, arith}
-use Rattle.std.specs.List.{AllZip}
+use Rattle.std.proofs.Common.{◌≡◌, ℕ, zero, suc, ◌+◌, ◌<◌, ◌≤◌, List, [], ◌∷◌, ◌++◌, length, take, slice_get, Option, Some, None, map, set, true, false, Result, Ok, Err, OnOk, OnErr, is_err, refl, sym, ap, ◌∙◌, subst, add-one, arith}
+use Rattle.std.specs.List.{AllZip, slice_index_or}
+use Rattle.std.specs.Option.{option_map}
+use Rattle.std.proofs.lemmas.Option.{slice_get-map, slice_get_read}
 use Rattle.std.proofs.Math.Seq.{take-append_seam}
 use Rattle.hy_formula.specs.Quantifiers.{Each}
 use Rattle.hy_finite.specs.Traces.{Trace}
+use Rattle.tuple_walk.specs.declared.watch.Watch.{Watch}
+use Rattle.tuple_walk.specs.Seen.{watched}
 use Rattle.tuple_walk.specs.Watched.{Watched, count_of, Holds}
 use Rattle.rv_core.specs.Held.{AllCount}
-use Rattle.rv_core.specs.Watching.{Turns, FirstTurn, AllStay}
+use Rattle.rv_core.specs.Watching.{Turns, FirstTurn, AllTurn, AllStay}
 
 module _ (R : Watched → Watched → Type 0) where
   pub first-length : (i : ℕ) (old new : List Watched) → FirstTurn i R old new → length new ≡ length old
@@ -84,3 +88,28 @@ module _ (n : ℕ) (t : Trace) where
   can-give-back (suc i) [] (m ∷ ms) f = absurd f
   can-give-back (suc i) (o ∷ os) [] f = absurd f
   can-give-back (suc i) (o ∷ os) (m ∷ ms) (r, f) = (omega (arith, r.count), can-give-back i os ms f)
+
+pub all-some : (n : ℕ) (turned : List Trace → List Trace) (old new : List Watched) → AllTurn (n + 1) turned old new
+    → Each (λ w. 0 < count_of w) new
+all-some n turned [] [] a = tt
+all-some n turned [] (m ∷ ms) a = absurd a
+all-some n turned (o ∷ os) [] a = absurd a
+all-some n turned (o ∷ os) (m ∷ ms) (r, a) = (omega (arith, r.count), all-some n turned os ms a)
+
+-- the watch at a place of a vector, as contracts see it
+pub seen-at : (items : List Watch) (i : ℕ) (w : Watch) → i < length items → w ≡ slice_index_or items i w
+    → slice_get (map watched items) i ≡ Some (watched w)
+seen-at items i w lt at =
+    slice_get-map watched items i ∙ ap (option_map watched) (slice_get_read items (length items) i w refl lt at)
+
+pub on-err : {T E P : Type 0} (r : Result T E) → is_err r ≡ true → OnErr r P → P
+on-err (Ok x) e p = absurd (cc)
+on-err (Err x) e p = p
+
+pub on-ok : {T E P : Type 0} (r : Result T E) → is_err r ≡ false → OnOk r P → P
+on-ok (Ok x) e p = p
+on-ok (Err x) e p = absurd (cc)
+
+pub at-each : {T E P : Type 0} (r : Result T E) → P → OnErr r P
+at-each (Ok x) p = tt
+at-each (Err x) p = p

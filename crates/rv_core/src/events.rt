@@ -136,9 +136,10 @@ impl Rv {
         ensures answers { Answers (held self.old) (held self.new) occurs.Back result }
         ensures refused { OnErr result (IsAsBefore (held self.old) (held self.new)) }
     {
-        let Some(Saved { arrived, sessions }) = self.saves.pop() else {
+        if self.saves.is_empty() {
             return Err(RvError::NoSave);
-        };
+        }
+        let Saved { arrived, sessions } = self.saves.pop().unwrap();
         self.watches.truncate(arrived);
         self.traces = arrived;
         self.sessions = sessions;
