@@ -1,5 +1,6 @@
 -- The answer to each event is right for each history that the monitor stands for.
-use Rattle.std.proofs.Common.{◌≡◌, ℕ, ◌+◌, ◌<◌, ◌≤◌, Bool, true, false, List, [], ◌∷◌, ◌++◌, length, reverse, take, Option, Some, None, Result, Ok, Err, IfSome, IfNone, is_none, refl, sym, ap, ◌∙◌, subst, arith}
+use Rattle.std.proofs.Common.{◌≡◌, ℕ, ◌+◌, ◌<◌, ◌≤◌, Bool, true, false, List, [], ◌∷◌, ◌++◌, length, reverse, take, Option, Some, None, Result, Ok, Err, IfSome, IfNone, is_some, not, nat_eq, zero, suc, refl, sym, ap, ◌∙◌, subst, arith}
+use Rattle.std.proofs.lemmas.Bool.{eqb-true}
 use Rattle.std.proofs.lemmas.List.{reverse-append}
 use Rattle.hy_base.specs.declared.limit.Kind.TheVariants as kind
 use Rattle.hy_bits.specs.Letter.{Letter}
@@ -96,7 +97,7 @@ module _ (m : Held) (e : Event) (t : Trace) (os : Open) (brings : Brings m e t o
 
   pub answered-arrival : (found : Option Found) (reply : Reply) → IsReplyTo m.arrived found reply → IfNone found (Each StaysClean ws)
       → IfSome found (λ f. FirstFound ws f.spec f.tuple)
-      → Answers m (changed m ws (m.arrived + 1) os (is_none found)) e (Ok reply)
+      → Answers m (changed m ws (m.arrived + 1) os (not (is_some found))) e (Ok reply)
   answered-arrival None reply r clean first =
       let P : Reply → Type 0 = λ q. Answers m (changed m ws (m.arrived + 1) os true) e (Ok q) in
       subst P (sym r) (answered-clean clean)
@@ -177,3 +178,14 @@ no-back m none = record {
 
 pub reverse-push : (saves : List Saved) (x : Saved) → reverse (saves ++ x ∷ []) ≡ x ∷ reverse saves
 reverse-push saves x = reverse-append saves (x ∷ [])
+
+pub none-left : (saves : List Saved) → nat_eq (length saves) 0 ≡ true → reverse saves ≡ []
+none-left saves e = ap reverse (by saves (eqb-true (length saves) 0 e))
+  where
+    by : (xs : List Saved) → length xs ≡ 0 → xs ≡ []
+    by [] f = refl
+    by (x ∷ xs) f = absurd (omega arith)
+
+pub by-none : (some none : Bool) → some ≡ not none → not some ≡ none
+by-none some true e = ap not e
+by-none some false e = ap not e

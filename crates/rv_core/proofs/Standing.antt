@@ -1,13 +1,16 @@
 -- What a monitor stands for after each change of what it holds.
-use Rattle.std.proofs.Common.{◌≡◌, ℕ, zero, suc, ◌+◌, ◌<◌, ◌≤◌, Bool, true, false, List, [], ◌∷◌, ◌++◌, length, take, map, slice_get, slice_index_or, Option, Some, None, refl, sym, ap, ◌∙◌, subst, arith}
+use Rattle.std.proofs.Common.{◌≡◌, ℕ, zero, suc, ◌+◌, ◌<◌, ◌≤◌, Bool, true, false, List, [], ◌∷◌, ◌++◌, length, reverse, take, map, Result, Ok, Err, OnOk, OnErr, slice_get, slice_index_or, Option, Some, None, refl, sym, ap, ◌∙◌, subst, arith}
 use Rattle.std.specs.List.{AllZip, All}
-use Rattle.std.proofs.lemmas.List.{length-append, length-map, length-take-le, take-append-le}
+use Rattle.std.proofs.lemmas.List.{length-append, length-map, reverse-append, length-take-le, take-append-le}
 use Rattle.std.proofs.lemmas.List.Elements.{All-weaker}
 use Rattle.std.proofs.lemmas.Option.{slice_get_within, slice_get-get_or}
+use Rattle.std.proofs.lemmas.Slice.Zip.{AllZip-long}
 use Rattle.std.proofs.Math.Seq.{take-length}
 use Rattle.hy_formula.specs.Quantifiers.{Each}
 use Rattle.hy_finite.specs.declared.lengths.Lengths.{Lengths}
 use Rattle.hy_finite.specs.Traces.{Trace, Violates, ViolatesBy, picked}
+use Rattle.tuple_walk.specs.declared.watch.Watch.{Watch}
+use Rattle.tuple_walk.specs.Seen.{watched}
 use Rattle.tuple_walk.specs.Watched.{Watched, count_of, Holds}
 use Rattle.tuple_walk.specs.Searches.{IsViolation, StaysClean}
 use Rattle.rv_core.specs.declared.saved.Saved.{Saved}
@@ -290,3 +293,31 @@ saves-long arrived [] [] a = refl
 saves-long arrived [] (p ∷ ps) a = absurd a
 saves-long arrived (x ∷ xs) [] a = absurd a
 saves-long arrived (x ∷ xs) (p ∷ ps) (is, later) = ap suc (saves-long p.arrived xs ps later)
+
+-- ---- what a monitor holds fits together
+
+pub turned-long : (n : ℕ) (turned : List Trace → List Trace) (os ns : List Watch) → AllTurn n turned (map watched os) (map watched ns)
+    → length ns ≡ length os
+turned-long n turned os ns a =
+    sym (length-map ns watched) ∙ AllZip-long (Turns n turned) (map watched os) (map watched ns) a ∙ length-map os watched
+
+pub within-more : (n : ℕ) (saves : List Saved) → AreWithin n saves → AreWithin (n + 1) saves
+within-more n [] w = tt
+within-more n (x ∷ xs) (le, w) = (omega arith, w)
+
+pub within-pushed : {E : Type 0} (r : Result (Unit {0}) E) (n : ℕ) (saves new : List Saved) (x : Saved) → x.arrived ≡ n
+    → OnOk r (new ≡ saves ++ x ∷ []) → OnErr r (new ≡ saves) → AreWithin n (reverse saves) → AreWithin n (reverse new)
+within-pushed (Ok u) n saves new x e added same w =
+    let back : reverse new ≡ x ∷ reverse saves = ap reverse added ∙ reverse-append saves (x ∷ []) in
+    let P : List Saved → Type 0 = AreWithin n in
+    let Q : ℕ → Type 0 = λ k. AreWithin k (reverse saves) in
+    subst P (sym back) (omega (arith, e), subst Q (sym e) w)
+within-pushed (Err u) n saves new x e added same w =
+    let P : List Saved → Type 0 = λ q. AreWithin n (reverse q) in
+    subst P (sym same) w
+
+pub within-popped : (n : ℕ) (saves new : List Saved) (x : Saved) → saves ≡ new ++ x ∷ [] → AreWithin n (reverse saves)
+    → AreWithin n (x ∷ reverse new)
+within-popped n saves new x e w =
+    let P : List Saved → Type 0 = AreWithin n in
+    subst P (ap reverse e ∙ reverse-append new (x ∷ [])) w
