@@ -1,4 +1,5 @@
 mod Answering
+mod Building
 mod Ending
 mod Places
 mod SessionLists

@@ -69,14 +69,16 @@ IsCause formulas (Some k) = IsTooLarge formulas k
 
 -- Of two kinds that are refused, the one that is answered.
 abbrev pub earlier : Option Kind → Kind → Kind
-earlier (Some kind.Closure) k = kind.Closure
 earlier r kind.Closure = kind.Closure
+earlier (Some kind.Closure) k = kind.Closure
+earlier r kind.Atoms = kind.Atoms
 earlier (Some kind.Atoms) k = kind.Atoms
 earlier r k = k
 
 -- A watch of a formula, with no trace.
 pub record IsFresh (lengths : Lengths) (f : Formula) (w : Watched) : Type 0 where
   pub spec : spec_of w ≡ spec_of_formula f
+  pub some : 1 ≤ w.machine.variables
   pub rule : w.lengths ≡ lengths
   pub none : Holds w []
   pub count : count_of w ≡ 0
