@@ -1,0 +1,4 @@
+pub mod Holding
+pub mod Joints
+pub mod Rows
+pub mod Running
