@@ -1,5 +1,5 @@
 -- What a watch holds after a trace more, and after a cut.
-use Rattle.std.proofs.Common.{◌≡◌, ◌⊎◌, ◌+◌, ◌-◌, ◌*◌, ◌<◌, ◌≤◌, ℕ, zero, suc, List, [], ◌∷◌, ◌++◌, length, take, drop, map, get_or, refl, sym, ap, ◌∙◌, subst, inl, inr, arith, length-append}
+use Rattle.std.proofs.Common.{◌≡◌, ◌+◌, ◌-◌, ◌*◌, ◌<◌, ◌≤◌, ℕ, zero, suc, List, [], ◌∷◌, ◌++◌, length, take, drop, get_or, refl, sym, ap, ◌∙◌, subst, inl, inr, arith, length-append}
 use Rattle.std.specs.FinSet.{empty}
 use Rattle.std.proofs.Math.ListN.{get_or-append, get_or-eq_default}
 use Rattle.std.proofs.Math.Nat.{mul-le-mul, mul-le-mul_left, mul-le-mul_right}
@@ -8,7 +8,7 @@ use Rattle.std.proofs.lemmas.Bool.{cases_lt}
 use Rattle.std.proofs.lemmas.List.{get_or-append-add, get_or-take, get_or-drop, length-take, length-take-le, length-drop}
 use Rattle.hy_finite.specs.Traces.{Trace}
 use Rattle.fin_monitor.specs.Codes.{part_of}
-use Rattle.fin_monitor.specs.Machines.{Machine, codes, IsMonitor}
+use Rattle.fin_monitor.specs.Machines.{codes}
 use Rattle.tuple_walk.specs.States.{AreCodesOf, IsColumn}
 use Rattle.tuple_walk.specs.Watched.{Watched, count_of, start_of, trace_at, place_of, Holds, IsWatch, rows_of}
 use Rattle.tuple_walk.proofs.Rows.{length-rows, rows-at, rows-lt, none-lt, below-append, part-empty}
@@ -41,8 +41,8 @@ module _ (slice parts : List ℕ) (same : slice ≡ parts) (from letters : ℕ) 
         | inl there ↦ omega (arith, sliced i there, below (from + i))
         | inr past ↦
             let none : get_or (take (from + letters - from) (drop from slice)) i 0 ≡ 0 =
-              get_or-eq_default (take (from + letters - from) (drop from slice)) 0
-              (omega (arith, length-take (from + letters - from) (drop from slice))) in
+            get_or-eq_default (take (from + letters - from) (drop from slice)) 0
+            (omega (arith, length-take (from + letters - from) (drop from slice))) in
             omega arith
       ]
 
@@ -74,8 +74,11 @@ module _ (w : Watched) (is : IsWatch w) where
       → (w.machine.variables * start_of w k ≤ length w.parts)
       × (w.machine.variables * start_of w k ≤ 8796093022208)
   cut-within four k le = (
-    omega (arith, is.whole,
-    mul-le-mul_left w.machine.variables (rising k (count_of w) le (omega arith))),
+    omega (
+      arith,
+      is.whole,
+      mul-le-mul_left w.machine.variables (rising k (count_of w) le (omega arith)),
+    ),
     omega (arith, most-letters k le, is.few, mul-le-mul four (most-letters k le)),
   )
 
@@ -86,11 +89,11 @@ module _ (w : Watched) (is : IsWatch w) where
   column-within k variable letters lt within long =
       let n = w.machine.variables in
       let row : variable * letters + letters ≤ n * letters =
-        let all : suc variable * letters ≤ n * letters = mul-le-mul_right letters within in
-        let more : suc variable * letters ≡ variable * letters + letters = omega arith in
-        omega arith in
+      let all : suc variable * letters ≤ n * letters = mul-le-mul_right letters within in
+      let more : suc variable * letters ≡ variable * letters + letters = omega arith in
+      omega arith in
       let whole : n * start_of w (k + 1) ≡ n * start_of w k + n * letters =
-        ap (λ s. n * s) long ∙ omega arith in
+      ap (λ s. n * s) long ∙ omega arith in
       omega (arith, is.whole, mul-le-mul_left n (rising (k + 1) (count_of w) (omega arith) (omega arith)))
 
   pub parts-lt : AreCodesOf w.machine w.parts
@@ -109,7 +112,7 @@ module _ (w : Watched) (is : IsWatch w) where
       → start_of w (k + 1) ≡ start_of w k + letters
       → (column : List ℕ) → length column ≡ letters
       → ((i : ℕ) → i < letters → get_or column i 0 ≡
-        get_or w.parts (w.machine.variables * start_of w k + variable * letters + i) 0)
+      get_or w.parts (w.machine.variables * start_of w k + variable * letters + i) 0)
       → IsColumn w.machine variable (trace_at traces k) column
   is-column traces holds k variable letters lt within long column length_is at =
       let t = trace_at traces k in
@@ -175,10 +178,10 @@ module _ (w : Watched) (is : IsWatch w) where
     pushed-whole =
         let n = w.machine.variables in
         let end : start_of pushed (count_of pushed) ≡ start_of w (count_of w) + length t =
-          ap (start_of pushed) pushed-count ∙ new-start (count_of w) refl
-          ∙ ap (λ s. s + length t) (old-start (count_of w) (omega arith)) in
+        ap (start_of pushed) pushed-count ∙ new-start (count_of w) refl
+        ∙ ap (λ s. s + length t) (old-start (count_of w) (omega arith)) in
         let product : n * start_of pushed (count_of pushed)
-          ≡ n * start_of w (count_of w) + n * length t = ap (λ s. n * s) end ∙ omega arith in
+        ≡ n * start_of w (count_of w) + n * length t = ap (λ s. n * s) end ∙ omega arith in
         length-append w.parts (rows_of w.machine n t)
         ∙ omega (arith, is.whole, length-rows w.machine n t)
 
@@ -213,9 +216,13 @@ module _ (w : Watched) (is : IsWatch w) where
       pushed-lengths k lt =
           elim (cases_lt k (length traces)) [
             | inl old ↦
-                omega (arith, holds.lengths k old, ap length (old-trace k old),
-                old-start k (omega (arith, holds.counted)),
-                old-start (k + 1) (omega (arith, holds.counted)))
+                omega (
+                  arith,
+                  holds.lengths k old,
+                  ap length (old-trace k old),
+                  old-start k (omega (arith, holds.counted)),
+                  old-start (k + 1) (omega (arith, holds.counted)),
+                )
             | inr new ↦
                 let last : k ≡ length traces = omega (arith, pushed-count-traces) in
                 omega (arith, new-start k (last ∙ sym holds.counted), ap length (new-trace k last))
@@ -229,13 +236,16 @@ module _ (w : Watched) (is : IsWatch w) where
       old-parts k variable i lt within there =
           let letters = length (trace_at traces k) in
           let place : place_of pushed letters k variable i ≡ place_of w letters k variable i =
-            ap (λ s. w.machine.variables * s + variable * letters + i)
-            (old-start k (omega (arith, holds.counted))) in
+          ap (λ s. w.machine.variables * s + variable * letters + i)
+          (old-start k (omega (arith, holds.counted))) in
           ap (λ p. get_or pushed.parts p 0) place
           ∙ get_or-append w.parts (rows_of w.machine w.machine.variables t) 0
-            (place_of w letters k variable i)
-            (omega (arith, column-within k variable letters (omega (arith, holds.counted)) within
-              (holds.lengths k lt)))
+          (place_of w letters k variable i)
+          (omega (
+            arith,
+            column-within k variable letters (omega (arith, holds.counted)) within
+                (holds.lengths k lt),
+          ))
           ∙ holds.parts k variable i lt within there
 
       new-parts : (k variable i : ℕ) → k ≡ length traces → variable < w.machine.variables
@@ -246,11 +256,11 @@ module _ (w : Watched) (is : IsWatch w) where
       new-parts k variable i last within there =
           let n = w.machine.variables in
           let start : start_of pushed k ≡ start_of w (count_of w) =
-            old-start k (omega (arith, holds.counted))
-            ∙ ap (start_of w) (last ∙ sym holds.counted) in
+          old-start k (omega (arith, holds.counted))
+          ∙ ap (start_of w) (last ∙ sym holds.counted) in
           let place : place_of pushed (length t) k variable i
-            ≡ length w.parts + (variable * length t + i) =
-            ap (λ s. n * s + variable * length t + i) start ∙ omega (arith, is.whole) in
+          ≡ length w.parts + (variable * length t + i) =
+          ap (λ s. n * s + variable * length t + i) start ∙ omega (arith, is.whole) in
           ap (λ p. get_or pushed.parts p 0) place
           ∙ get_or-append-add w.parts (rows_of w.machine n t) (variable * length t + i) 0
           ∙ rows-at w.machine n t variable i within there
@@ -264,14 +274,14 @@ module _ (w : Watched) (is : IsWatch w) where
             elim (cases_lt k (length traces)) [
               | inl old ↦
                   let P : Trace → Type 0 = λ u. i < length u
-                      → get_or pushed.parts (place_of pushed (length u) k variable i) 0
-                      ≡ part_of w.machine.atoms variable (get_or u i empty) in
+                  → get_or pushed.parts (place_of pushed (length u) k variable i) 0
+                  ≡ part_of w.machine.atoms variable (get_or u i empty) in
                   subst P (sym (old-trace k old)) (old-parts k variable i old within) there
               | inr new ↦
                   let last : k ≡ length traces = omega (arith, pushed-count-traces) in
                   let P : Trace → Type 0 = λ u. i < length u
-                      → get_or pushed.parts (place_of pushed (length u) k variable i) 0
-                      ≡ part_of w.machine.atoms variable (get_or u i empty) in
+                  → get_or pushed.parts (place_of pushed (length u) k variable i) 0
+                  ≡ part_of w.machine.atoms variable (get_or u i empty) in
                   subst P (sym (new-trace k last)) (new-parts k variable i last within) there
             ];
       }
@@ -325,10 +335,20 @@ module _ (w : Watched) (is : IsWatch w) where
       one = omega (arith, cut-length);
       few = omega (arith, cut-length, is.few);
       first = kept-start 0 (omega arith) ∙ is.first;
-      longer = λ k lt. omega (arith, cut-length, kept-start k (omega (arith, cut-length)),
-          kept-start (k + 1) (omega (arith, cut-length)), is.longer k (omega (arith, cut-length)));
-      short = λ k lt. omega (arith, cut-length, kept-start k (omega (arith, cut-length)),
-          kept-start (k + 1) (omega (arith, cut-length)), is.short k (omega (arith, cut-length)));
+      longer = λ k lt. omega (
+        arith,
+        cut-length,
+        kept-start k (omega (arith, cut-length)),
+        kept-start (k + 1) (omega (arith, cut-length)),
+        is.longer k (omega (arith, cut-length)),
+      );
+      short = λ k lt. omega (
+        arith,
+        cut-length,
+        kept-start k (omega (arith, cut-length)),
+        kept-start (k + 1) (omega (arith, cut-length)),
+        is.short k (omega (arith, cut-length)),
+      );
       whole =
           let last : count_of cut ≡ count = omega (arith, cut-length) in
           cut-parts four ∙ ap (λ s. w.machine.variables * s)
@@ -352,18 +372,18 @@ module _ (w : Watched) (is : IsWatch w) where
           let n = w.machine.variables in
           let letters = length (trace_at traces k) in
           let place : place_of cut letters k variable i ≡ place_of w letters k variable i =
-            ap (λ s. n * s + variable * letters + i) (kept-start k (omega arith)) in
+          ap (λ s. n * s + variable * letters + i) (kept-start k (omega arith)) in
           let long : start_of w (k + 1) ≡ start_of w k + letters =
-            holds.lengths k (omega (arith, holds.counted)) in
+          holds.lengths k (omega (arith, holds.counted)) in
           let row : variable * letters + letters ≤ n * letters =
-            let all : suc variable * letters ≤ n * letters = mul-le-mul_right letters inside in
-            let more : suc variable * letters ≡ variable * letters + letters = omega arith in
-            omega arith in
+          let all : suc variable * letters ≤ n * letters = mul-le-mul_right letters inside in
+          let more : suc variable * letters ≡ variable * letters + letters = omega arith in
+          omega arith in
           let whole : n * start_of w (k + 1) ≡ n * start_of w k + n * letters =
-            ap (λ s. n * s) long ∙ omega arith in
+          ap (λ s. n * s) long ∙ omega arith in
           ap (λ p. get_or cut.parts p 0) place
           ∙ kept-part (place_of w letters k variable i)
-            (omega (arith, mul-le-mul_left n (rising (k + 1) count (omega arith) within)))
+          (omega (arith, mul-le-mul_left n (rising (k + 1) count (omega arith) within)))
           ∙ holds.parts k variable i (omega (arith, holds.counted)) inside there
 
       cut-holds : Holds cut (take count traces)
@@ -371,15 +391,19 @@ module _ (w : Watched) (is : IsWatch w) where
       cut-holds = record {
         counted = omega (arith, cut-length, kept-length);
         lengths = λ k lt.
-            omega (arith, kept-length, holds.lengths k (omega (arith, holds.counted, kept-length)),
-            ap length (kept-trace k (omega (arith, kept-length))),
-            kept-start k (omega (arith, kept-length)),
-            kept-start (k + 1) (omega (arith, kept-length)));
+            omega (
+              arith,
+              kept-length,
+              holds.lengths k (omega (arith, holds.counted, kept-length)),
+              ap length (kept-trace k (omega (arith, kept-length))),
+              kept-start k (omega (arith, kept-length)),
+              kept-start (k + 1) (omega (arith, kept-length)),
+            );
         parts = λ k variable i lt inside there.
             let less : k < count = omega (arith, kept-length) in
             let P : Trace → Type 0 = λ u. i < length u
-                → get_or cut.parts (place_of cut (length u) k variable i) 0
-                ≡ part_of w.machine.atoms variable (get_or u i empty) in
+            → get_or cut.parts (place_of cut (length u) k variable i) 0
+            ≡ part_of w.machine.atoms variable (get_or u i empty) in
             subst P (sym (kept-trace k less)) (kept-place k variable i less inside) there;
       }
 

@@ -1,5 +1,5 @@
 -- The parts of the codes that a trace gives, variable by variable.
-use Rattle.std.proofs.Common.{◌≡◌, ◌⊎◌, ◌+◌, ◌*◌, ◌^◌, ◌<◌, ◌≤◌, ℕ, zero, suc, Bool, false, ◌&&◌, nat_eq, List, [], ◌∷◌, ◌++◌, length, take, map, get_or, refl, sym, ap, ◌∙◌, subst, inl, inr, arith, length-append}
+use Rattle.std.proofs.Common.{◌≡◌, ◌+◌, ◌*◌, ◌<◌, ◌≤◌, ℕ, zero, suc, false, ◌&&◌, nat_eq, List, [], ◌∷◌, ◌++◌, length, take, map, get_or, refl, sym, ap, ◌∙◌, inl, inr, arith, length-append}
 use Rattle.std.specs.Ordering.{nat_cmp}
 use Rattle.std.specs.FinSet.{empty, contains, contains-empty}
 use Rattle.std.proofs.Math.Bool.{and-false}
@@ -28,12 +28,12 @@ rows-at m (suc n) t variable i within there =
     elim (cases_lt variable n) [
       | inl less ↦
           get_or-append (rows_of m n t) (map (part_of m.atoms n) t) 0 (variable * length t + i)
-            (omega (arith, length-rows m n t, mul-add-lt variable (length t) i n less there))
+          (omega (arith, length-rows m n t, mul-add-lt variable (length t) i n less there))
           ∙ rows-at m n t variable i less there
       | inr at_least ↦
           let is : variable ≡ n = omega arith in
           let place : variable * length t + i ≡ length (rows_of m n t) + i =
-            ap (λ v. v * length t + i) is ∙ omega (arith, length-rows m n t) in
+          ap (λ v. v * length t + i) is ∙ omega (arith, length-rows m n t) in
           ap (λ p. get_or (rows_of m n t ++ map (part_of m.atoms n) t) p 0) place
           ∙ get_or-append-add (rows_of m n t) (map (part_of m.atoms n) t) i 0
           ∙ get_or-map (part_of m.atoms n) t i empty 0 there
@@ -68,8 +68,8 @@ pub part-empty : (atoms : List IndexedAtom) (variable : ℕ) → part_of atoms v
 part-empty [] variable = refl
 part-empty (a ∷ atoms) variable =
     let none : (nat_eq a.variable variable && contains empty a.name) ≡ false =
-      ap (λ b. nat_eq a.variable variable && b) (contains-empty nat_cmp a.name)
-      ∙ and-false (nat_eq a.variable variable) in
+    ap (λ b. nat_eq a.variable variable && b) (contains-empty nat_cmp a.name)
+    ∙ and-false (nat_eq a.variable variable) in
     ap (λ b. one_if b + 2 * part_of atoms variable empty) none
     ∙ omega (arith, part-empty atoms variable)
 
@@ -86,5 +86,5 @@ pub take-restored : (old more middle new : List ℕ) → middle ≡ old ++ more
     → take (length middle) new ≡ middle → take (length old) new ≡ old
 take-restored old more middle new is kept =
     sym (take-take (length old) (length middle) new
-      (omega (arith, ap length is, length-append old more)))
+    (omega (arith, ap length is, length-append old more)))
     ∙ ap (take (length old)) (kept ∙ is) ∙ take-append_seam old more

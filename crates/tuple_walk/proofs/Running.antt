@@ -26,7 +26,7 @@ module _ (m : Machine) (is : IsMonitor m) (code : ℕ → ℕ) (i : ℕ) where
       let e : i + suc d ≡ suc (i + d) = omega arith in
       ap (state_on m code) e
       ∙ ap (λ q. next_state m q (code (i + d)))
-        (stays d (λ j le lt. below j le (omega arith)) settled)
+      (stays d (λ j le lt. below j le (omega arith)) settled)
       ∙ is.stays (code (i + d)) (below (i + d) (omega arith) (omega arith))
 
   -- the settled state is never left

@@ -137,7 +137,7 @@ impl Watch {
             ≡ start_of (watched self.now) k + letters }
         ensures place { result
             ≡ (machine_of self.now.monitor).variables * start_of (watched self.now) k
-                + variable * letters }
+            + variable * letters }
         ensures within { result + letters ≤ length self.now.parts }
     {
         self.rows_before(k) + variable * letters

@@ -27,27 +27,27 @@ returns-after-a-both-clause-state g c =
     let code = joint_code c.args.a.now c.args.b.now in
     let both : c.loop-i.i ≡ c.min-both.result = omega arith in
     let start : c.loop-i.q ≡ state_on m code c.min-both.result =
-      c.loop-i.invariant.state ∙ ap (state_on m code) both in
+    c.loop-i.invariant.state ∙ ap (state_on m code) both in
     let all : of_two c.args.lengths (length c.args.a.now) (length c.args.b.now)
-      ≡ max (length c.args.a.now) (length c.args.b.now) =
-      ap (λ (rule : Lengths). of_two rule (length c.args.a.now) (length c.args.b.now)) c.in-Pad.is in
+    ≡ max (length c.args.a.now) (length c.args.b.now) =
+    ap (λ (rule : Lengths). of_two rule (length c.args.a.now) (length c.args.b.now)) c.in-Pad.is in
     elim c.if-a-both.branch [
       | then-a-both w ↦
           let is : c.if-a-both.after.now ≡ c.args.a.now = ap (λ (x : Bor (List ℕ)). x.now) w.after-is in
           let long : length c.if-a-both.after.now
-            ≡ of_two c.args.lengths (length c.args.a.now) (length c.args.b.now) =
-            omega (arith, ap length is, all) in
+          ≡ of_two c.args.lengths (length c.args.a.now) (length c.args.b.now) =
+          omega (arith, ap length is, all) in
           c.after.ensures.state code start
           (λ i from lt. joint-first c.args.a.now c.args.b.now i (omega arith)
-            ∙ ap (λ (l : List ℕ). slice_index l i) (sym is))
+          ∙ ap (λ (l : List ℕ). slice_index l i) (sym is))
           ∙ ap (state_on m code) long
       | else-a-both w ↦
           let is : c.if-a-both.after.now ≡ c.args.b.now = ap (λ (x : Bor (List ℕ)). x.now) w.after-is in
           let long : length c.if-a-both.after.now
-            ≡ of_two c.args.lengths (length c.args.a.now) (length c.args.b.now) =
-            omega (arith, ap length is, all) in
+          ≡ of_two c.args.lengths (length c.args.a.now) (length c.args.b.now) =
+          omega (arith, ap length is, all) in
           c.after.ensures.state code start
           (λ i from lt. joint-second c.args.a.now c.args.b.now i (omega arith)
-            ∙ ap (λ (l : List ℕ). slice_index l i) (sym is))
+          ∙ ap (λ (l : List ℕ). slice_index l i) (sym is))
           ∙ ap (state_on m code) long
     ]

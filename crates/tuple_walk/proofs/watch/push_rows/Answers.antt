@@ -6,4 +6,4 @@ pub returns-in-Err-clause-refused : goal.returns-in-Err-clause-refused
 returns-in-Err-clause-refused c =
     c.truncate.ensures ∙ ap (λ n. take n c.push_row.new.parts) c.len-held.ensures
     ∙ take-restored c.args.parts.now _ c.loop-variable.parts c.push_row.new.parts
-      c.loop-variable.invariant c.in-Err.ensures.refused
+    c.loop-variable.invariant c.in-Err.ensures.refused

@@ -1,5 +1,4 @@
-use Rattle.std.proofs.Common.{◌≡◌, ◌-◌, ◌+◌, ◌<◌, ℕ, length, take, drop, get_or, ap, ◌∙◌, arith}
-use Rattle.std.proofs.lemmas.List.{get_or-take, get_or-drop, length-take, length-drop}
+use Rattle.std.proofs.Common.{◌+◌, get_or, ap, ◌∙◌, arith}
 use Rattle.fin_monitor.specs.Machines.{codes}
 use Rattle.fin_monitor.specs.Seen.{machine_of}
 use Rattle.tuple_walk.specs.Seen.{watched}
@@ -13,22 +12,28 @@ returns-clause-column c = λ traces holds.
     is-column w c.args.self.now.right traces holds c.args.k c.args.variable c.letters-letters.result
     c.requires.trace c.requires.variable c.letters-letters.ensures.letters _
     (sliced-length c.as_slice.result.now c.args.self.now.parts c.as_slice.ensures c.place-from.result
-      c.letters-letters.result c.place-from.ensures.within)
+    c.letters-letters.result c.place-from.ensures.within)
     (λ i lt. sliced c.as_slice.result.now c.args.self.now.parts c.as_slice.ensures
-      c.place-from.result c.letters-letters.result i lt
-      ∙ ap (λ p. get_or c.args.self.now.parts (p + i) 0) c.place-from.ensures.place)
+    c.place-from.result c.letters-letters.result i lt
+    ∙ ap (λ p. get_or c.args.self.now.parts (p + i) 0) c.place-from.ensures.place)
 
 pub returns-clause-some : goal.returns-clause-some
 returns-clause-some c =
-    omega (arith, c.letters-letters.ensures.some,
-    sliced-length c.as_slice.result.now c.args.self.now.parts c.as_slice.ensures c.place-from.result
-      c.letters-letters.result c.place-from.ensures.within)
+    omega (
+      arith,
+      c.letters-letters.ensures.some,
+      sliced-length c.as_slice.result.now c.args.self.now.parts c.as_slice.ensures c.place-from.result
+          c.letters-letters.result c.place-from.ensures.within,
+    )
 
 pub returns-clause-short : goal.returns-clause-short
 returns-clause-short c =
-    omega (arith, c.letters-letters.ensures.short,
-    sliced-length c.as_slice.result.now c.args.self.now.parts c.as_slice.ensures c.place-from.result
-      c.letters-letters.result c.place-from.ensures.within)
+    omega (
+      arith,
+      c.letters-letters.ensures.short,
+      sliced-length c.as_slice.result.now c.args.self.now.parts c.as_slice.ensures c.place-from.result
+          c.letters-letters.result c.place-from.ensures.within,
+    )
 
 pub returns-clause-inside : goal.returns-clause-inside
 returns-clause-inside c =

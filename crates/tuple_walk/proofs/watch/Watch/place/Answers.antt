@@ -9,13 +9,21 @@ overflow_add-result c =
     let w = watched c.args.self.now in
     let is = c.args.self.now.right in
     let few = cut-within w is c.args.self.now.monitor.right.few (count_of w) (omega arith) in
-    omega (arith, c.rows_before.ensures, is.whole, few.1,
-    column-within w is c.args.k c.args.variable c.args.letters c.requires.trace c.requires.variable
-      c.requires.letters)
+    omega (
+      arith,
+      c.rows_before.ensures,
+      is.whole,
+      few.1,
+      column-within w is c.args.k c.args.variable c.args.letters c.requires.trace c.requires.variable
+          c.requires.letters,
+    )
 
 pub returns-clause-within : goal.returns-clause-within
 returns-clause-within c =
     let w = watched c.args.self.now in
-    omega (arith, c.rows_before.ensures,
-    column-within w c.args.self.now.right c.args.k c.args.variable c.args.letters c.requires.trace
-      c.requires.variable c.requires.letters)
+    omega (
+      arith,
+      c.rows_before.ensures,
+      column-within w c.args.self.now.right c.args.k c.args.variable c.args.letters c.requires.trace
+          c.requires.variable c.requires.letters,
+    )

@@ -11,7 +11,7 @@ overflow_mul-result c =
     let within = cut-within w c.args.self.now.right c.args.self.now.monitor.right.few c.args.k c.requires in
     let start = get_or_from_slice_get c.args.self.now.starts c.args.k c.at.result.now 0 c.at.ensures in
     let product : c.vars.result * c.at.result.now
-      ≡ w.machine.variables * start_of w c.args.k =
-      ap (λ n. n * c.at.result.now) c.vars.ensures.vars
-      ∙ ap (λ s. w.machine.variables * s) (sym start) in
+    ≡ w.machine.variables * start_of w c.args.k =
+    ap (λ n. n * c.at.result.now) c.vars.ensures.vars
+    ∙ ap (λ s. w.machine.variables * s) (sym start) in
     omega (arith, within.1)

@@ -1,4 +1,4 @@
-use Rattle.std.proofs.Common.{◌≡◌, ◌*◌, ℕ, List, take, ap, ◌∙◌, arith}
+use Rattle.std.proofs.Common.{take, ap, ◌∙◌}
 use Rattle.tuple_walk.specs.Seen.{watched}
 use Rattle.tuple_walk.proofs.Holding.{truncate-is, truncate-holds}
 use Rattle.tuple_walk.proofs.watch.Watch.truncate.Goals as goal
