@@ -112,6 +112,13 @@ fresh-unviolated rule (f ∷ fs) [] a = absurd a
 fresh-unviolated rule (f ∷ fs) (w ∷ ws) (is, a) =
     (none-violate rule w.machine.variables w.machine.body is.some, fresh-unviolated rule fs ws a)
 
+pub fresh-push : (rule : Lengths) (fs : List Formula) (ws : List Watched) (f : Formula) (w : Watched) → AreFresh rule fs ws
+    → IsFresh rule f w → AreFresh rule (fs ++ f ∷ []) (ws ++ w ∷ [])
+fresh-push rule [] [] f w a is = (is, tt)
+fresh-push rule [] (v ∷ vs) f w a is = absurd a
+fresh-push rule (g ∷ gs) [] f w a is = absurd a
+fresh-push rule (g ∷ gs) (v ∷ vs) f w (here, a) is = (here, fresh-push rule gs vs f w a is)
+
 pub fresh-stands : (rule : Lengths) (fs : List Formula) (ws : List Watched) → AreFresh rule fs ws
     → StandsFor (record { rule = rule; watches = ws; arrived = 0; sessions = []; saves = []; clean = true }) empty_history
 fresh-stands rule fs ws a = record {

@@ -1,14 +1,14 @@
-use Rattle.std.proofs.Common.{◌≡◌, ◌<◌, ◌≤◌, ◌+◌, Some, length, map, set, slice_get, take, sym, ap, subst, ◌∙◌, add-one, arith, ℕ, List, suc}
+use Rattle.std.proofs.Common.{◌<◌, ◌≤◌, length, map, take, sym, ◌∙◌, add-one, arith, List}
 use Rattle.std.proofs.lemmas.List.{map-set, length-map}
 use Rattle.tuple_walk.specs.Seen.{watched}
 use Rattle.tuple_walk.specs.Watched.{Watched, count_of}
-use Rattle.rv_core.specs.Watching.{FirstTurn, Turns}
+use Rattle.rv_core.specs.Watching.{Turns}
 use Rattle.rv_core.proofs.Places.{each-at, front-at}
 use Rattle.rv_core.proofs.WatchLists.{first-length, first-there, first-step, seen-at}
 use Rattle.rv_core.proofs.watches.cut_first.Goals as goal
 
-pub truncate-requires-clause-within : goal.truncate-requires-clause-within
-truncate-requires-clause-within c =
+pub truncate-requires : goal.truncate-requires
+truncate-requires c =
     let R : Watched → Watched → Type 0 = Turns c.args.count (take c.args.count) in
     let old : List Watched = map watched c.args.watches.now.items in
     let new : List Watched = map watched c.loop-i.watches.items in

@@ -1,4 +1,4 @@
-use Rattle.std.proofs.Common.{◌≡◌, length, map, take}
+use Rattle.std.proofs.Common.{map, take}
 use Rattle.tuple_walk.specs.Seen.{watched}
 use Rattle.rv_core.specs.Watching.{FirstTurn, Turns}
 use Rattle.rv_core.proofs.watches.cut_first.Given as goal

@@ -1,10 +1,9 @@
-use Rattle.std.proofs.Common.{◌≡◌, ◌<◌, ◌≤◌, ◌+◌, ◌++◌, ◌∷◌, [], Some, length, map, set, slice_get, take, sym, ap, subst, ◌∙◌, add-one, arith, ℕ, List, suc, Result, OnErr}
+use Rattle.std.proofs.Common.{◌≡◌, ◌<◌, ◌+◌, ◌++◌, ◌∷◌, [], length, map, set, sym, ap, subst, ◌∙◌, add-one, arith, ℕ, List}
 use Rattle.std.proofs.lemmas.List.{map-set, length-map}
 use Rattle.std.proofs.Math.Seq.{map-set_same}
-use Rattle.hy_formula.specs.Quantifiers.{Each}
 use Rattle.tuple_walk.specs.Seen.{watched}
 use Rattle.tuple_walk.specs.Watched.{Watched, count_of}
-use Rattle.rv_core.specs.Watching.{FirstTurn, Turns, AllStay}
+use Rattle.rv_core.specs.Watching.{FirstTurn, Turns}
 use Rattle.rv_core.proofs.Places.{each-at}
 use Rattle.rv_core.proofs.WatchLists.{first-length, first-there, first-step, first-all, seen-at, gave-back, can-give-back, on-err, on-ok, at-each}
 use Rattle.rv_core.proofs.watches.push_to.Goals as goal

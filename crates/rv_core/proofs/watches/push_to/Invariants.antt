@@ -1,4 +1,4 @@
-use Rattle.std.proofs.Common.{◌≡◌, ◌+◌, ◌++◌, ◌∷◌, [], length, map, take}
+use Rattle.std.proofs.Common.{◌+◌, ◌++◌, ◌∷◌, [], map}
 use Rattle.tuple_walk.specs.Seen.{watched}
 use Rattle.rv_core.specs.Watching.{FirstTurn, Turns}
 use Rattle.rv_core.proofs.watches.push_to.Given as goal

@@ -1,19 +1,8 @@
-use Rattle.std.proofs.Common.{take, ◌≤◌, ◌++◌, ◌∷◌, [], reverse, ap, List, refl, Ok, ◌≡◌, ◌<◌, ◌+◌, ◌++◌, ◌∷◌, [], ℕ, Bool, List, Some, map, length, reverse, sym, ap, subst, ◌∙◌, arith}
-use Rattle.std.proofs.lemmas.List.{length-reverse}
-use Rattle.std.proofs.lemmas.Result.{err_from_is_err_and}
-use Rattle.hy_finite.specs.declared.event.Event.TheVariants as event
+use Rattle.std.proofs.Common.{take, ◌≤◌, ◌++◌, ◌∷◌, [], reverse, ap, List, ◌≡◌, ◌++◌, ◌∷◌, [], List, reverse, sym, ap, ◌∙◌, arith}
 use Rattle.hy_finite.specs.Traces.{Trace}
-use Rattle.rv_core.specs.declared.saved.Saved.{Saved}
-use Rattle.rv_core.specs.declared.reply.Reply.TheVariants.{Quiet}
-use Rattle.rv_core.specs.declared.rv_error.RvError.TheVariants as error
-use Rattle.rv_core.specs.Opened.{Open, letters_in}
-use Rattle.rv_core.specs.Held.{Held}
-use Rattle.rv_core.specs.Watching.{AllGain}
-use Rattle.rv_core.specs.Replies.{Answers}
 use Rattle.rv_core.specs.Seen.{watched_by, held}
-use Rattle.rv_core.proofs.WatchLists.{at-each}
-use Rattle.rv_core.proofs.Standing.{changed, with_saves, back_to, turned-counts, turned-long, within-more, within-pushed, within-popped}
-use Rattle.rv_core.proofs.Answering.{none-left, reverse-push, answered-back, no-back, whole-brings, end-brings, answered-arrival, answered-spent, stay-before, same-before, memory-answer, no-end, answered-save, many-saves, answered-back, no-back, reverse-push}
+use Rattle.rv_core.proofs.Standing.{turned-counts, turned-long, within-popped}
+use Rattle.rv_core.proofs.Answering.{none-left, reverse-push, answered-back, no-back, answered-back, no-back, reverse-push}
 use Rattle.std.proofs.lemmas.Option.{MatchOption-at_some}
 use Rattle.tuple_walk.specs.Watched.{count_of}
 use Rattle.rv_core.proofs.Places.{each-more}

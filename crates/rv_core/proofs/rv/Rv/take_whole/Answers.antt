@@ -1,19 +1,13 @@
-use Rattle.std.proofs.Common.{refl, Ok, ◌≡◌, ◌<◌, ◌+◌, ◌++◌, ◌∷◌, [], ℕ, Bool, List, Some, map, length, reverse, sym, ap, subst, ◌∙◌, arith}
-use Rattle.std.proofs.lemmas.List.{length-reverse}
+use Rattle.std.proofs.Common.{refl, Ok, ◌+◌, ◌++◌, ◌∷◌, [], Bool, List, reverse, subst, arith}
 use Rattle.std.proofs.lemmas.Result.{err_from_is_err_and}
 use Rattle.hy_finite.specs.declared.event.Event.TheVariants as event
 use Rattle.hy_finite.specs.Traces.{Trace}
-use Rattle.rv_core.specs.declared.saved.Saved.{Saved}
-use Rattle.rv_core.specs.declared.reply.Reply.TheVariants.{Quiet}
-use Rattle.rv_core.specs.declared.rv_error.RvError.TheVariants as error
-use Rattle.rv_core.specs.Opened.{Open, letters_in}
-use Rattle.rv_core.specs.Held.{Held}
 use Rattle.rv_core.specs.Watching.{AllGain}
 use Rattle.rv_core.specs.Replies.{Answers}
 use Rattle.rv_core.specs.Seen.{watched_by, held}
 use Rattle.rv_core.proofs.WatchLists.{at-each}
-use Rattle.rv_core.proofs.Standing.{changed, with_saves, back_to, turned-counts, turned-long, within-more, within-pushed, within-popped}
-use Rattle.rv_core.proofs.Answering.{by-none, whole-brings, end-brings, answered-arrival, answered-spent, stay-before, same-before, memory-answer, no-end, answered-save, many-saves, answered-back, no-back, reverse-push}
+use Rattle.rv_core.proofs.Standing.{changed, turned-counts, turned-long, within-more}
+use Rattle.rv_core.proofs.Answering.{by-none, whole-brings, answered-arrival, answered-spent, stay-before}
 use Rattle.rv_core.proofs.rv.Rv.take_whole.Goals as goal
 
 pub invariant_of-self : goal.invariant_of-self

@@ -1,10 +1,10 @@
-use Rattle.std.proofs.Common.{◌≡◌, ◌<◌, ◌≤◌, ◌+◌, ◌⊎◌, inl, inr, Some, ℕ, List, length, map, slice_get, sym, ap, subst, ◌∙◌, arith}
+use Rattle.std.proofs.Common.{◌≡◌, ◌<◌, inl, inr, Some, ℕ, length, map, slice_get, sym, subst, ◌∙◌, arith}
 use Rattle.std.proofs.lemmas.Bool.{cases_eq}
 use Rattle.std.proofs.lemmas.List.{length-map}
 use Rattle.std.proofs.lemmas.Option.{slice_get_within, same_Some}
 use Rattle.tuple_walk.specs.Searches.{StaysClean}
 use Rattle.tuple_walk.specs.Seen.{watched}
-use Rattle.tuple_walk.specs.Watched.{Watched, count_of}
+use Rattle.tuple_walk.specs.Watched.{count_of}
 use Rattle.rv_core.proofs.Places.{each-at, each-from}
 use Rattle.rv_core.proofs.WatchLists.{seen-at}
 use Rattle.rv_core.proofs.watches.Watches.first_violation.Goals as goal
@@ -12,8 +12,8 @@ use Rattle.rv_core.proofs.watches.Watches.first_violation.Goals as goal
 pub loop-i-init : goal.loop-i-init
 loop-i-init g c = record { before = λ j w lt at. absurd (omega arith); grown = omega arith }
 
-pub find-requires-clause-some : goal.find-requires-clause-some
-find-requires-clause-some g c =
+pub find-requires : goal.find-requires
+find-requires g c =
     let lt : c.loop-i.i < length c.args.self.now.items.items = omega (arith, c.len-i-end.ensures) in
     let at = seen-at c.args.self.now.items.items c.loop-i.i c.index.result.now lt c.index.ensures in
     each-at (λ w. 0 < count_of w) (map watched c.args.self.now.items.items) c.loop-i.i (watched c.index.result.now) c.requires.some at

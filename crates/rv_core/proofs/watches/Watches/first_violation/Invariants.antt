@@ -1,4 +1,4 @@
-use Rattle.std.proofs.Common.{◌≡◌, ◌≤◌, ◌<◌, ℕ, map, slice_get, Some}
+use Rattle.std.proofs.Common.{◌≡◌, ◌≤◌, ◌<◌, ℕ, slice_get, Some}
 use Rattle.tuple_walk.specs.Watched.{Watched}
 use Rattle.tuple_walk.specs.Searches.{StaysClean}
 use Rattle.rv_core.specs.Seen.{watched_by}

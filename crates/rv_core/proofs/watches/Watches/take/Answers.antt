@@ -1,7 +1,5 @@
-use Rattle.std.proofs.Common.{◌++◌, ◌∷◌, [], ◌+◌, List, map, arith}
-use Rattle.std.proofs.lemmas.List.{length-map}
+use Rattle.std.proofs.Common.{◌++◌, ◌∷◌, [], ◌+◌, map, arith}
 use Rattle.std.proofs.lemmas.Slice.Zip.{AllZip-long}
-use Rattle.hy_finite.specs.Traces.{Trace}
 use Rattle.tuple_walk.specs.Seen.{watched}
 use Rattle.rv_core.specs.Watching.{Turns}
 use Rattle.rv_core.proofs.WatchLists.{all-some}

@@ -1,4 +1,4 @@
-use Rattle.std.proofs.Common.{◌≡◌, ℕ, List, length, map, take, sym, subst, arith, ◌∙◌}
+use Rattle.std.proofs.Common.{◌≡◌, ℕ, List, length, map, take, subst, arith}
 use Rattle.std.proofs.lemmas.List.{length-map}
 use Rattle.tuple_walk.specs.Seen.{watched}
 use Rattle.tuple_walk.specs.Watched.{Watched}
