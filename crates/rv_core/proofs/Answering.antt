@@ -1,5 +1,5 @@
 -- The answer to each event is right for each history that the monitor stands for.
-use Rattle.std.proofs.Common.{◌≡◌, ℕ, ◌+◌, ◌<◌, ◌≤◌, Bool, true, false, List, [], ◌∷◌, ◌++◌, length, reverse, take, Option, Some, None, Result, Ok, Err, IfSome, IfNone, is_some, not, nat_eq, zero, suc, refl, sym, ap, ◌∙◌, subst, arith}
+use Rattle.std.proofs.Common.{◌≡◌, ℕ, ◌+◌, ◌<◌, ◌≤◌, Bool, true, false, List, [], ◌∷◌, ◌++◌, length, reverse, take, Option, Some, None, Ok, Err, IfSome, IfNone, is_some, not, nat_eq, refl, sym, ap, ◌∙◌, subst, arith}
 use Rattle.std.proofs.lemmas.Bool.{eqb-true}
 use Rattle.std.proofs.lemmas.List.{reverse-append}
 use Rattle.hy_base.specs.declared.limit.Kind.TheVariants as kind
@@ -16,9 +16,9 @@ use Rattle.rv_core.specs.declared.rv_error.RvError.{RvError}
 use Rattle.rv_core.specs.declared.rv_error.RvError.TheVariants as error
 use Rattle.rv_core.specs.declared.saved.Saved.{Saved}
 use Rattle.rv_core.specs.declared.watches.Found.{Found}
-use Rattle.rv_core.specs.Histories.{Session, Present, History, too_long, too_many_sessions, too_many_saves, no_session, no_save, letters_of, extended, closed, with_trace, refused, goes, step, arrives, back_step}
+use Rattle.rv_core.specs.Histories.{Session, History, too_long, too_many_sessions, too_many_saves, no_session, no_save, extended, closed, with_trace, goes, step, arrives, back_step}
 use Rattle.rv_core.specs.Opened.{Open, letters_in, Extends, longer, opened, IsNotTaken, Closes}
-use Rattle.rv_core.specs.Held.{Held, specs_of, AreSessions, StandsFor}
+use Rattle.rv_core.specs.Held.{Held, AreSessions, StandsFor}
 use Rattle.rv_core.specs.Watching.{AllGain, AllStay, AllCut, FirstFound}
 use Rattle.rv_core.specs.Replies.{takes_memory, IsAnswer, quiet, arrived, violated, refused_by, spent, Answers, IsAsBefore, IsReplyTo}
 use Rattle.rv_core.proofs.SessionLists.{sessions-extended, sessions-closed}

@@ -1,6 +1,5 @@
 -- Formulas one after another, and their watches before all events.
-use Rattle.std.proofs.Common.{◌≡◌, ◌⊎◌, ℕ, zero, suc, ◌+◌, ◌<◌, ◌≤◌, List, [], ◌∷◌, ◌++◌, length, map, Option, Some, None, inl, inr, true, refl, sym, ap, ◌∙◌, subst, arith}
-use Rattle.std.specs.List.{AllZip}
+use Rattle.std.proofs.Common.{◌≡◌, ℕ, ◌≤◌, List, [], ◌∷◌, ◌++◌, map, Option, Some, None, inl, inr, true, refl, arith}
 use Rattle.hy_base.specs.declared.limit.Kind.{Kind}
 use Rattle.hy_base.specs.declared.limit.Kind.TheVariants as kind
 use Rattle.hy_formula.proofs.Tuples.{contains-none}
@@ -8,14 +7,13 @@ use Rattle.hy_formula.specs.declared.formula.Formula.{Formula}
 use Rattle.hy_formula.specs.Quantifiers.{Each}
 use Rattle.hy_formula.specs.Trees.{Tree, tree_of}
 use Rattle.hy_finite.specs.declared.lengths.Lengths.{Lengths}
-use Rattle.hy_finite.specs.Traces.{Trace, Violates}
+use Rattle.hy_finite.specs.Traces.{Violates}
 use Rattle.fin_monitor.specs.declared.monitor_error.MonitorError.TheVariants as error
 use Rattle.fin_monitor.specs.Limits.{HasLargeClosure, HasSmallClosure, HasManyAtoms, HasFewAtoms, HasLargeTable, IsTaken, IsRefusal}
-use Rattle.tuple_walk.specs.Watched.{Watched, count_of, Holds}
-use Rattle.rv_core.specs.Endings.{Spec, IsClean}
+use Rattle.tuple_walk.specs.Watched.{Watched}
 use Rattle.rv_core.specs.Histories.{empty_history}
-use Rattle.rv_core.specs.Held.{Held, spec_of, AllCount, AllHold, StandsFor}
-use Rattle.rv_core.specs.Built.{spec_of_formula, SomeBody, EachBody, IsTooLarge, IsCause, earlier, IsFresh, AreFresh}
+use Rattle.rv_core.specs.Held.{spec_of, AllCount, AllHold, StandsFor}
+use Rattle.rv_core.specs.Built.{spec_of_formula, SomeBody, EachBody, IsCause, earlier, IsFresh, AreFresh}
 use Rattle.rv_core.proofs.Places.{each-push, each-more}
 use Rattle.rv_core.proofs.Standing.{Ruled, each-clean}
 

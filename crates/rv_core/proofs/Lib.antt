@@ -1,5 +1,6 @@
 mod Answering
 mod Building
+mod Calling
 mod Ending
 mod Places
 mod SessionLists

@@ -1,9 +1,8 @@
 -- What a monitor stands for after each change of what it holds.
-use Rattle.std.proofs.Common.{◌≡◌, ℕ, zero, suc, ◌+◌, ◌<◌, ◌≤◌, Bool, true, false, List, [], ◌∷◌, ◌++◌, length, reverse, take, map, Result, Ok, Err, OnOk, OnErr, slice_get, slice_index_or, Option, Some, None, refl, sym, ap, ◌∙◌, subst, arith}
-use Rattle.std.specs.List.{AllZip, All}
+use Rattle.std.proofs.Common.{◌≡◌, ℕ, zero, suc, ◌+◌, ◌<◌, Bool, true, List, [], ◌∷◌, ◌++◌, length, reverse, take, map, Result, Ok, Err, OnOk, OnErr, slice_get, Some, refl, sym, ap, ◌∙◌, subst, arith}
 use Rattle.std.proofs.lemmas.List.{length-append, length-map, reverse-append, length-take-le, take-append-le}
 use Rattle.std.proofs.lemmas.List.Elements.{All-weaker}
-use Rattle.std.proofs.lemmas.Option.{slice_get_within, slice_get-get_or}
+use Rattle.std.proofs.lemmas.Option.{slice_get_within}
 use Rattle.std.proofs.lemmas.Slice.Zip.{AllZip-long}
 use Rattle.std.proofs.Math.Seq.{take-length}
 use Rattle.hy_formula.specs.Quantifiers.{Each}
@@ -12,15 +11,15 @@ use Rattle.hy_finite.specs.Traces.{Trace, Violates, ViolatesBy, picked}
 use Rattle.tuple_walk.specs.declared.watch.Watch.{Watch}
 use Rattle.tuple_walk.specs.Seen.{watched}
 use Rattle.tuple_walk.specs.Watched.{Watched, count_of, Holds}
-use Rattle.tuple_walk.specs.Searches.{IsViolation, StaysClean}
+use Rattle.tuple_walk.specs.Searches.{StaysClean}
 use Rattle.rv_core.specs.declared.saved.Saved.{Saved}
 use Rattle.rv_core.specs.Histories.{Session, Present, History, with_trace, with_sessions}
-use Rattle.rv_core.specs.Endings.{Spec, spec_at, ViolatesSpec, IsClean, FirstViolated, IsQuiet}
+use Rattle.rv_core.specs.Endings.{Spec, spec_at, ViolatesSpec, IsClean, IsQuiet}
 use Rattle.rv_core.specs.Opened.{Open}
-use Rattle.rv_core.specs.Held.{Held, spec_of, specs_of, AllHold, AreSessions, IsSave, AreSaves, StandsFor, AllCount, AreWithin}
+use Rattle.rv_core.specs.Held.{Held, spec_of, specs_of, AllHold, AreSessions, AreSaves, StandsFor, AllCount, AreWithin}
 use Rattle.rv_core.specs.Watching.{Turns, AllTurn, AllGain, AllStay, AllCut, FirstFound}
-use Rattle.rv_core.specs.Replies.{IsViolatedBy, IsFound}
-use Rattle.rv_core.proofs.Places.{each-at, each-from, each-more}
+use Rattle.rv_core.specs.Replies.{IsFound}
+use Rattle.rv_core.proofs.Places.{each-at}
 
 abbrev pub Ruled : Lengths → List Watched → Type 0
 Ruled rule ws = Each (λ (w : Watched). w.lengths ≡ rule) ws

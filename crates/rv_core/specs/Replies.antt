@@ -94,10 +94,13 @@ pub data Runs : ℕ → Held → List Event → Stop → Type 0 where
   at_error : (k : ℕ) (m next : Held) (e : Event) (es : List Event) (error : RvError)
       → Answers m next e (Err error) → Runs k m (e ∷ es) (error_at k error)
 
--- The calls end as the events do, unless memory ran out.
+-- The calls end as the events do: with what the monitor stands for, at the same event and for the same cause, or at
+-- the same event with a violation.
 abbrev pub EndsAs : Lengths → List Spec → Ending → Stop → Type 0
 EndsAs rule specs (clean h) (through m) = StandsFor m h
 EndsAs rule specs (refusal k r) (error_at n e) = (n ≡ k) × (e ≡ error_of r)
 EndsAs rule specs (violation k s h) (violation_at n spec trace tuple) =
     (n ≡ k) × (spec ≡ s) × IsFound rule specs h.present.arrived spec trace tuple
-EndsAs rule specs ending stop = (n : ℕ) × (stop ≡ error_at n error.Memory)
+EndsAs rule specs (clean h) _ = ⊥
+EndsAs rule specs (refusal k r) _ = ⊥
+EndsAs rule specs (violation k s h) _ = ⊥

@@ -1,7 +1,6 @@
 -- What becomes of watches where a trace arrives, and of those that go back.
-use Rattle.std.specs.Prelude.{◌≡◌, ℕ, zero, suc, ◌+◌, ◌<◌, List, [], ◌∷◌, ◌++◌, length, take, slice_get, Some}
+use Rattle.std.specs.Prelude.{◌≡◌, ℕ, zero, suc, ◌+◌, ◌<◌, List, [], ◌∷◌, ◌++◌, take, slice_get, Some}
 use Rattle.std.specs.List.{AllZip}
-use Rattle.hy_formula.specs.Quantifiers.{Each}
 use Rattle.hy_finite.specs.Traces.{Trace}
 use Rattle.tuple_walk.specs.Watched.{Watched, count_of, Holds}
 use Rattle.tuple_walk.specs.Searches.{IsViolation, StaysClean}
