@@ -13,7 +13,7 @@ use Rattle.rv_core.specs.Endings.{Spec, spec_at, ViolatesSpec, IsClean, FirstVio
 use Rattle.rv_core.proofs.Stepping.{step-whole, step-letter, step-end, step-save, step-back}
 
 module _ (rule : Lengths) (specs : List Spec) where
-  first-one : (list : List Trace) (s r : ℕ) → FirstViolated rule specs list s → FirstViolated rule specs list r → s ≡ r
+  pub first-one : (list : List Trace) (s r : ℕ) → FirstViolated rule specs list s → FirstViolated rule specs list r → s ≡ r
   first-one list s r p q =
       elim (cases_lt s r) [
         | inl lt ↦ absurd (q.before s lt p.violated)

@@ -1,2 +1,9 @@
+mod Answering
+mod Building
+mod Calling
 mod Ending
+mod Places
+mod SessionLists
+mod Standing
 mod Stepping
+mod WatchLists

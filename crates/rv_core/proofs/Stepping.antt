@@ -1,9 +1,10 @@
 -- What an event leads to where it is not refused.
-use Rattle.std.proofs.Common.{◌≡◌, ℕ, Bool, true, false, cond, nat_lt, List, [], ◌∷◌, length, Option, Some, None, refl}
+use Rattle.std.proofs.Common.{◌≡◌, ℕ, ◌<◌, ◌≤◌, Bool, true, false, cond, nat_lt, List, [], ◌∷◌, length, Option, Some, None, refl, ap, ◌∙◌}
+use Rattle.std.proofs.lemmas.Bool.{lt-ltb, le-ltb}
 use Rattle.hy_bits.specs.Letter.{Letter}
 use Rattle.hy_finite.specs.Traces.{Trace, most_letters}
 use Rattle.hy_finite.specs.declared.event.Event.TheVariants as event
-use Rattle.rv_core.specs.Histories.{Present, History, most_sessions, most_saves, letters_of, extended, closed, with_sessions, with_trace, refused, goes, too_long, too_many_sessions, too_many_saves, step, letter_step, end_step, back_step}
+use Rattle.rv_core.specs.Histories.{Present, History, most_sessions, most_saves, letters_of, extended, closed, with_sessions, with_trace, refused, goes, too_long, too_many_sessions, too_many_saves, no_session, step, letter_step, end_step, back_step}
 
 pub step-whole : (h : History) (t : Trace) (next : History) → step h (event.Whole t) ≡ goes next
     → next ≡ with_trace h t h.present.sessions
@@ -56,3 +57,51 @@ step-back h next e = popped h.saves refl e
         → (p : Present) × (ps : List Present) × (h.saves ≡ p ∷ ps) × (next ≡ record { present = p; saves = ps })
     popped [] known e = absurd (cc)
     popped (p ∷ ps) known e = (p, ps, known, cc)
+
+-- ---- when an event is refused, and when not
+
+pub goes-longer : (h : History) (n : ℕ) (a : Letter) (word : List Letter) → letters_of n h.present.sessions ≡ Some word
+    → length word < 1024 → step h (event.Letter n a) ≡ goes (with_sessions h (extended n a h.present.sessions))
+goes-longer h n a word known short =
+    let fits : nat_lt (length word) most_letters ≡ true = lt-ltb (length word) most_letters short in
+    ap (letter_step h n a) known
+    ∙ ap (λ b. cond b (goes (with_sessions h (extended n a h.present.sessions))) (refused too_long)) fits
+
+pub goes-opened : (h : History) (n : ℕ) (a : Letter) → letters_of n h.present.sessions ≡ None
+    → length h.present.sessions < 1024 → step h (event.Letter n a) ≡ goes (with_sessions h (extended n a h.present.sessions))
+goes-opened h n a known few =
+    let fits : nat_lt (length h.present.sessions) most_sessions ≡ true = lt-ltb (length h.present.sessions) most_sessions few in
+    ap (letter_step h n a) known
+    ∙ ap (λ b. cond b (goes (with_sessions h (extended n a h.present.sessions))) (refused too_many_sessions)) fits
+
+pub refused-long : (h : History) (n : ℕ) (a : Letter) (word : List Letter) → letters_of n h.present.sessions ≡ Some word
+    → 1024 ≤ length word → step h (event.Letter n a) ≡ refused too_long
+refused-long h n a word known long =
+    let full : nat_lt (length word) most_letters ≡ false = le-ltb (length word) most_letters long in
+    ap (letter_step h n a) known
+    ∙ ap (λ b. cond b (goes (with_sessions h (extended n a h.present.sessions))) (refused too_long)) full
+
+pub refused-many : (h : History) (n : ℕ) (a : Letter) → letters_of n h.present.sessions ≡ None
+    → 1024 ≤ length h.present.sessions → step h (event.Letter n a) ≡ refused too_many_sessions
+refused-many h n a known many =
+    let full : nat_lt (length h.present.sessions) most_sessions ≡ false = le-ltb (length h.present.sessions) most_sessions many in
+    ap (letter_step h n a) known
+    ∙ ap (λ b. cond b (goes (with_sessions h (extended n a h.present.sessions))) (refused too_many_sessions)) full
+
+pub goes-end : (h : History) (n : ℕ) (word : Trace) → letters_of n h.present.sessions ≡ Some word
+    → step h (event.End n) ≡ goes (with_trace h word (closed n h.present.sessions))
+goes-end h n word known = ap (end_step h n) known
+
+pub refused-end : (h : History) (n : ℕ) → letters_of n h.present.sessions ≡ None → step h (event.End n) ≡ refused no_session
+refused-end h n known = ap (end_step h n) known
+
+pub goes-save : (h : History) → length h.saves < 64
+    → step h event.Save ≡ goes (record { present = h.present; saves = h.present ∷ h.saves })
+goes-save h few =
+    let fits : nat_lt (length h.saves) most_saves ≡ true = lt-ltb (length h.saves) most_saves few in
+    ap (λ b. cond b (goes (record { present = h.present; saves = h.present ∷ h.saves })) (refused too_many_saves)) fits
+
+pub refused-save : (h : History) → 64 ≤ length h.saves → step h event.Save ≡ refused too_many_saves
+refused-save h many =
+    let full : nat_lt (length h.saves) most_saves ≡ false = le-ltb (length h.saves) most_saves many in
+    ap (λ b. cond b (goes (record { present = h.present; saves = h.present ∷ h.saves })) (refused too_many_saves)) full

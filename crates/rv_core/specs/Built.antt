@@ -1,5 +1,7 @@
 -- Which specs are monitored: universal formulas, none of them too large.
-use Rattle.std.specs.Prelude.{◌≡◌, ℕ, ◌<◌, ◌≤◌, List, length, map, slice_get, Some}
+use Rattle.std.specs.Prelude.{◌≡◌, ◌⊎◌, ℕ, ◌<◌, ◌≤◌, List, [], ◌∷◌, length, slice_get, Option, Some, None}
+use Rattle.std.specs.List.{AllZip}
+use Rattle.hy_base.specs.declared.limit.Kind.{Kind}
 use Rattle.hy_base.specs.declared.limit.Kind.TheVariants as kind
 use Rattle.hy_formula.specs.declared.classes.Class.{Class}
 use Rattle.hy_formula.specs.declared.classes.Class.TheVariants as class
@@ -8,9 +10,12 @@ use Rattle.hy_formula.specs.Classes.{class_of}
 use Rattle.hy_formula.specs.Quantifiers.{Each}
 use Rattle.hy_formula.specs.Trees.{Tree, tree_of}
 use Rattle.fin_monitor.specs.Limits.{HasLargeClosure, HasSmallClosure, HasManyAtoms, HasFewAtoms, HasLargeTable, IsTaken}
+use Rattle.hy_finite.specs.declared.lengths.Lengths.{Lengths}
+use Rattle.tuple_walk.specs.Watched.{Watched, count_of, Holds}
 use Rattle.rv_core.specs.declared.rv_error.RvNewError.{RvNewError}
 use Rattle.rv_core.specs.declared.rv_error.RvNewError.TheVariants.{Prefix, Limit, Memory}
 use Rattle.rv_core.specs.Endings.{Spec}
+use Rattle.rv_core.specs.Held.{spec_of}
 
 abbrev pub spec_of_formula : Formula → Spec
 spec_of_formula f = record { variables = length f.prefix; body = tree_of f.body }
@@ -23,11 +28,9 @@ abbrev pub HasFewQuantifiers : Formula → Type 0
 HasFewQuantifiers f = length f.prefix ≤ 4
 
 -- It holds of the body of some formula.
-pub record SomeBody (P : Tree → Type 0) (formulas : List Formula) : Type 0 where
-  pub number : ℕ
-  pub formula : Formula
-  pub there : slice_get formulas number ≡ Some formula
-  pub holds : P (tree_of formula.body)
+abbrev pub SomeBody : (Tree → Type 0) → List Formula → Type 0
+SomeBody P [] = ⊥
+SomeBody P (f ∷ fs) = P (tree_of f.body) ⊎ SomeBody P fs
 
 -- It holds of each body.
 abbrev pub EachBody : (Tree → Type 0) → List Formula → Type 0
@@ -41,12 +44,44 @@ pub record FirstOther (formulas : List Formula) (k : ℕ) (c : Class) : Type 0 w
   pub other : ¬ IsUniversal formula
   pub before : (j : ℕ) (f : Formula) → j < k → slice_get formulas j ≡ Some f → IsUniversal f
 
--- why formulas are not monitored: each cause over all of them before the next
-pub data IsNewRefusal (formulas : List Formula) : RvNewError → Type 0 where
-  other : (k : ℕ) (c : Class) → FirstOther formulas k c → IsNewRefusal formulas (Prefix k c)
-  closure : Each IsUniversal formulas → SomeBody HasLargeClosure formulas → IsNewRefusal formulas (Limit kind.Closure)
-  atoms : Each IsUniversal formulas → EachBody HasSmallClosure formulas → SomeBody HasManyAtoms formulas
-      → IsNewRefusal formulas (Limit kind.Atoms)
-  table : Each IsUniversal formulas → EachBody HasSmallClosure formulas → EachBody HasFewAtoms formulas
-      → SomeBody HasLargeTable formulas → IsNewRefusal formulas (Limit kind.Table)
-  spent : IsNewRefusal formulas Memory
+-- Each formula is universal.
+abbrev pub AreUniversal : List Formula → Type 0
+AreUniversal formulas = (j : ℕ) (f : Formula) → slice_get formulas j ≡ Some f → IsUniversal f
+
+-- why formulas have no monitors: each cause over all of them before the next
+abbrev pub IsTooLarge : List Formula → Kind → Type 0
+IsTooLarge formulas kind.Closure = SomeBody HasLargeClosure formulas
+IsTooLarge formulas kind.Atoms = EachBody HasSmallClosure formulas × SomeBody HasManyAtoms formulas
+IsTooLarge formulas kind.Table =
+    EachBody HasSmallClosure formulas × EachBody HasFewAtoms formulas × SomeBody HasLargeTable formulas
+IsTooLarge formulas _ = ⊥
+
+-- why formulas are not monitored
+abbrev pub IsNewRefusal : List Formula → RvNewError → Type 0
+IsNewRefusal formulas (Prefix k c) = FirstOther formulas k c
+IsNewRefusal formulas (Limit k) = AreUniversal formulas × IsTooLarge formulas k
+IsNewRefusal formulas Memory = Unit {0}
+
+-- what is known of formulas some of which may be too large
+abbrev pub IsCause : List Formula → Option Kind → Type 0
+IsCause formulas None = EachBody IsTaken formulas
+IsCause formulas (Some k) = IsTooLarge formulas k
+
+-- Of two kinds that are refused, the one that is answered.
+abbrev pub earlier : Option Kind → Kind → Kind
+earlier r kind.Closure = kind.Closure
+earlier (Some kind.Closure) k = kind.Closure
+earlier r kind.Atoms = kind.Atoms
+earlier (Some kind.Atoms) k = kind.Atoms
+earlier r k = k
+
+-- A watch of a formula, with no trace.
+pub record IsFresh (lengths : Lengths) (f : Formula) (w : Watched) : Type 0 where
+  pub spec : spec_of w ≡ spec_of_formula f
+  pub some : 1 ≤ w.machine.variables
+  pub rule : w.lengths ≡ lengths
+  pub none : Holds w []
+  pub count : count_of w ≡ 0
+
+abbrev pub AreFresh : Lengths → List Formula → List Watched → Type 0
+AreFresh rule formulas watches = AllZip (IsFresh rule) formulas watches

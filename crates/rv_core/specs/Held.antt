@@ -1,22 +1,14 @@
 -- What a monitor holds, and the histories that it stands for.
-use Rattle.std.specs.Prelude.{◌≡◌, ℕ, ◌≤◌, Bool, true, nat_eq, List, [], ◌∷◌, length, map, take, Option}
-use Rattle.std.specs.Map.{lookup}
-use Rattle.hy_bits.specs.Letter.{Letter}
+use Rattle.std.specs.Prelude.{◌≡◌, ℕ, ◌≤◌, Bool, true, List, [], ◌∷◌, length, map, take}
+use Rattle.std.specs.Coded.{×_prop, Unit-prop, le_prop, Coded-set, coded_ℕ}
 use Rattle.hy_formula.specs.Quantifiers.{Each}
 use Rattle.hy_finite.specs.declared.lengths.Lengths.{Lengths}
 use Rattle.hy_finite.specs.Traces.{Trace}
 use Rattle.tuple_walk.specs.Watched.{Watched, count_of, Holds}
+use Rattle.rv_core.specs.declared.saved.Saved.{Saved}
+use Rattle.rv_core.specs.Opened.{Open, letters_in}
 use Rattle.rv_core.specs.Histories.{Session, Present, History, letters_of}
 use Rattle.rv_core.specs.Endings.{Spec, IsQuiet}
-
--- open sessions, each by its number and its letters, in any order
-abbrev pub Sessions : Type 0
-Sessions = List (ℕ × List Letter)
-
--- a save: how many traces had arrived, and the sessions that were open
-pub record Saved : Type 0 where
-  pub arrived : ℕ
-  pub sessions : Sessions
 
 pub record Held : Type 0 where
   pub rule : Lengths
@@ -24,7 +16,7 @@ pub record Held : Type 0 where
   pub watches : List Watched
   -- how many traces have arrived
   pub arrived : ℕ
-  pub sessions : Sessions
+  pub sessions : Open
   -- the last save first
   pub saves : List Saved
   -- no violation was found
@@ -37,9 +29,9 @@ spec_of w = record { variables = w.machine.variables; body = w.machine.body }
 abbrev pub specs_of : Held → List Spec
 specs_of m = map spec_of m.watches
 
--- the letters of a session, where it is open
-abbrev pub letters_in : ℕ → Sessions → Option (List Letter)
-letters_in n sessions = lookup (nat_eq n) sessions
+-- Each watch has so many traces.
+abbrev pub AllCount : ℕ → List Watched → Type 0
+AllCount n watches = Each (λ w. count_of w ≡ n) watches
 
 -- The watches hold these traces.
 abbrev pub AllHold : List Watched → List Trace → Type 0
@@ -51,7 +43,7 @@ AreApart [] = Unit {0}
 AreApart (s ∷ ss) = Each (λ (t : Session). ¬ (s.number ≡ t.number)) ss × AreApart ss
 
 -- The open sessions are these, in some order.
-pub record AreSessions (sessions : Sessions) (ss : List Session) : Type 0 where
+pub record AreSessions (sessions : Open) (ss : List Session) : Type 0 where
   pub letters : (n : ℕ) → letters_in n sessions ≡ letters_of n ss
   pub count : length sessions ≡ length ss
   pub apart : AreApart ss
@@ -73,6 +65,7 @@ AreSaves arrived (s ∷ ss) (p ∷ ps) = IsSave arrived s p × AreSaves p.arrive
 -- arrived traces violates a spec.
 pub record StandsFor (m : Held) (h : History) : Type 0 where
   pub clean : m.clean ≡ true
+  pub rules : Each (λ (w : Watched). w.lengths ≡ m.rule) m.watches
   pub count : m.arrived ≡ length h.present.arrived
   pub traces : AllHold m.watches h.present.arrived
   pub sessions : AreSessions m.sessions h.present.sessions
@@ -84,8 +77,10 @@ abbrev pub AreWithin : ℕ → List Saved → Type 0
 AreWithin n [] = Unit {0}
 AreWithin n (s ∷ ss) = (s.arrived ≤ n) × AreWithin s.arrived ss
 
--- What a monitor holds fits together.
-pub record IsSound (m : Held) : Type 0 where
-  pub rules : Each (λ (w : Watched). w.lengths ≡ m.rule) m.watches
-  pub counts : Each (λ w. count_of w ≡ m.arrived) m.watches
-  pub saves : AreWithin m.arrived m.saves
+pub AllCount-prop : (n : ℕ) (ws : List Watched) → IsProp (AllCount n ws)
+AllCount-prop n [] = Unit-prop
+AllCount-prop n (w ∷ ws) = ×_prop (Coded-set coded_ℕ (count_of w) n) (AllCount-prop n ws)
+
+pub AreWithin-prop : (n : ℕ) (ss : List Saved) → IsProp (AreWithin n ss)
+AreWithin-prop n [] = Unit-prop
+AreWithin-prop n (s ∷ ss) = ×_prop le_prop (AreWithin-prop s.arrived ss)

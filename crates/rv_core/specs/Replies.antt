@@ -1,5 +1,5 @@
 -- What a monitor answers to an event, and to events one after another.
-use Rattle.std.specs.Prelude.{◌≡◌, ℕ, suc, ◌<◌, Bool, true, false, List, [], ◌∷◌, length, All, Result, Ok, Err}
+use Rattle.std.specs.Prelude.{◌≡◌, ℕ, suc, ◌<◌, Bool, true, false, List, [], ◌∷◌, length, All, Option, Some, None, Result, Ok, Err}
 use Rattle.hy_base.specs.declared.limit.Kind.TheVariants as kind
 use Rattle.hy_finite.specs.declared.event.Event.{Event}
 use Rattle.hy_finite.specs.declared.event.Event.TheVariants as event
@@ -7,6 +7,7 @@ use Rattle.hy_finite.specs.declared.lengths.Lengths.{Lengths}
 use Rattle.hy_finite.specs.Traces.{Trace, ViolatesBy, picked}
 use Rattle.rv_core.specs.declared.reply.Reply.{Reply}
 use Rattle.rv_core.specs.declared.reply.Reply.TheVariants.{Quiet, Arrived, Violation}
+use Rattle.rv_core.specs.declared.watches.Found.{Found}
 use Rattle.rv_core.specs.declared.rv_error.RvError.{RvError}
 use Rattle.rv_core.specs.declared.rv_error.RvError.TheVariants as error
 use Rattle.rv_core.specs.Histories.{History, Refusal, no_session, no_save, too_long, too_many_sessions, too_many_saves, refused, goes, step, arrives}
@@ -60,6 +61,19 @@ pub record Answers (old new : Held) (e : Event) (result : Result Reply RvError) 
   pub specs : specs_of new ≡ specs_of old
   pub right : (h : History) → StandsFor old h → IsAnswer old new e h result
 
+-- What is seen is as before, and the monitor stands for what it stood for.
+pub record IsAsBefore (old new : Held) : Type 0 where
+  pub arrived : new.arrived ≡ old.arrived
+  pub sessions : new.sessions ≡ old.sessions
+  pub saves : new.saves ≡ old.saves
+  pub clean : new.clean ≡ old.clean
+  pub stands : (h : History) → StandsFor old h → StandsFor new h
+
+-- The answer where the trace with this number arrived, and what was found.
+abbrev pub IsReplyTo : ℕ → Option Found → Reply → Type 0
+IsReplyTo trace None reply = reply ≡ Arrived trace
+IsReplyTo trace (Some found) reply = reply ≡ Violation found.spec trace found.tuple
+
 -- how a run of calls ends: behind its last event, or at an event, by its number, that was answered by an error or a
 -- violation
 pub data Stop : Type 0 where
@@ -80,10 +94,13 @@ pub data Runs : ℕ → Held → List Event → Stop → Type 0 where
   at_error : (k : ℕ) (m next : Held) (e : Event) (es : List Event) (error : RvError)
       → Answers m next e (Err error) → Runs k m (e ∷ es) (error_at k error)
 
--- The calls end as the events do, unless memory ran out.
+-- The calls end as the events do: with what the monitor stands for, at the same event and for the same cause, or at
+-- the same event with a violation.
 abbrev pub EndsAs : Lengths → List Spec → Ending → Stop → Type 0
 EndsAs rule specs (clean h) (through m) = StandsFor m h
 EndsAs rule specs (refusal k r) (error_at n e) = (n ≡ k) × (e ≡ error_of r)
 EndsAs rule specs (violation k s h) (violation_at n spec trace tuple) =
     (n ≡ k) × (spec ≡ s) × IsFound rule specs h.present.arrived spec trace tuple
-EndsAs rule specs ending stop = (n : ℕ) × (stop ≡ error_at n error.Memory)
+EndsAs rule specs (clean h) _ = ⊥
+EndsAs rule specs (refusal k r) _ = ⊥
+EndsAs rule specs (violation k s h) _ = ⊥

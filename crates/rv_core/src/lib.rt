@@ -1,4 +1,18 @@
-//! The monitor of runs: traces and sessions, saves and returns, and the first violation.
+//! The monitor of runs: traces that arrive whole or letter by letter in sessions, saves and returns,
+//! and the first violation of a universal formula.
 #![tactic(auto)]
 
+mod build;
+mod events;
 pub mod laws;
+mod reply;
+mod rv;
+mod rv_error;
+mod saved;
+mod sessions;
+mod watches;
+
+pub use reply::Reply;
+pub use rv::Rv;
+pub use rv_error::{RvError, RvNewError};
+pub use tuple_walk::Tuple;

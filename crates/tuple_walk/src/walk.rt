@@ -1,13 +1,13 @@
 //! The walk over the tuples that the newest trace makes with those that have arrived.
 
-ghost use Rattle.std.specs.Prelude.{◌≡◌, ◌+◌, ◌<◌, ◌≤◌, ◌++◌, ◌∷◌, [], length, All, IsTrue, ◌↔◌, IfSome, IfNone, List as Sequence};
+ghost use Rattle.std.specs.Prelude.{◌≡◌, ◌+◌, ◌<◌, ◌≤◌, ◌++◌, ◌∷◌, [], length, take, All, IsTrue, ◌↔◌, IfSome, IfNone, List as Sequence};
 ghost use Rattle.hy_finite.specs.Traces.{Trace, Meets};
 ghost use Rattle.fin_monitor.specs.Seen.{machine_of};
 ghost use Rattle.tuple_walk.specs.Choices.{chosen_of};
 ghost use Rattle.tuple_walk.specs.Searches.{IsSearch, IsViolation, StaysClean};
 ghost use Rattle.tuple_walk.specs.Seen.{watched};
 ghost use Rattle.tuple_walk.specs.States.{AreCodes, AreCodesOf, IsColumn};
-ghost use Rattle.tuple_walk.specs.Watched.{count_of};
+ghost use Rattle.tuple_walk.specs.Watched.{Holds, count_of, trace_at};
 
 use crate::chosen::Chosen;
 use crate::join::join;
@@ -37,9 +37,9 @@ impl Watch {
         }
         for k in 0..self.count() {
             let chosen = Chosen::none().with(k, newest);
-            let found = self.complete(chosen, self.column(k, 0), steps);
-            if found.is_some() {
-                return found;
+            match self.complete(chosen, self.column(k, 0), steps) {
+                Some(tuple) => return Some(tuple),
+                None => {}
             }
         }
         None
@@ -92,14 +92,40 @@ impl Watch {
         let newest = self.count() - 1;
         let mut joined = [0; MOST_LETTERS];
         for k in 0..self.count() {
-            let column = self.column(k, chosen.count());
-            let positions = join(self.lengths, codes, column, &mut joined);
-            let found = self.complete(chosen.with(k, newest), &joined[..positions], steps);
-            if found.is_some() {
-                return found;
+            let positions = self.join_with(codes, k, chosen.count(), &mut joined);
+            let longer = chosen.with(k, newest);
+            match self.complete(longer, &joined[..positions], steps) {
+                Some(tuple) => return Some(tuple),
+                None => {}
             }
         }
         None
+    }
+
+    /// Puts the codes of a tuple with trace `k` behind it first into `joined`, and says how many they
+    /// are. `codes` are those of the tuple.
+    fn join_with(
+        &self,
+        codes: &[u16],
+        k: u32,
+        variable: usize,
+        joined: &mut [u16; MOST_LETTERS],
+    ) -> usize
+        requires trace { k < count_of (watched self.now) }
+        requires variable { variable < (machine_of self.now.monitor).variables }
+        requires codes { AreCodesOf (machine_of self.now.monitor) codes.now }
+        requires long { 1 ≤ length codes.now }
+        requires short { length codes.now ≤ 1024 }
+        ensures codes { (traces : Sequence Trace) → Holds (watched self.now) traces
+            → (tuple : Sequence Trace) → 1 ≤ length tuple → variable ≡ length tuple
+            → AreCodes (machine_of self.now.monitor) self.now.lengths tuple codes.now
+            → AreCodes (machine_of self.now.monitor) self.now.lengths
+            (tuple ++ trace_at traces k ∷ []) (take result joined.new) }
+        ensures inside { AreCodesOf (machine_of self.now.monitor) (take result joined.new) }
+        ensures long { 1 ≤ result }
+        ensures short { result ≤ 1024 }
+    {
+        join(self.lengths, codes, self.column(k, variable), joined)
     }
 
     /// As `complete`, where one variable is left.
@@ -123,27 +149,28 @@ impl Watch {
         let newest = self.count() - 1;
         let from = if chosen.has_newest() { 0 } else { newest };
         for k in from..self.count() {
-            if self.violates(codes, self.column(k, chosen.count()), steps) {
+            if !self.satisfies(codes, self.column(k, chosen.count()), steps) {
                 return Some(chosen.with(k, newest).tuple(self.alloc));
             }
         }
         None
     }
 
-    /// Whether a tuple violates the formula, where these are the codes of all its traces but the last
+    /// Whether a tuple satisfies the formula, where these are the codes of all its traces but the last
     /// and the parts of the last.
-    fn violates<L: Ledger>(&self, codes: &[u16], column: &[u16], steps: &mut Steps<L>) -> bool
+    fn satisfies<L: Ledger>(&self, codes: &[u16], column: &[u16], steps: &mut Steps<L>) -> bool
         requires codes { AreCodesOf (machine_of self.now.monitor) codes.now }
         requires column { AreCodesOf (machine_of self.now.monitor) column.now }
-        ensures violates { (tuple : Sequence Trace) (t : Trace) → 0 < length tuple
-            → 0 < length codes.now → 0 < length column.now
+        requires some_codes { 1 ≤ length codes.now }
+        requires some_column { 1 ≤ length column.now }
+        ensures satisfies { (tuple : Sequence Trace) (t : Trace) → 1 ≤ length tuple
             → AreCodes (machine_of self.now.monitor) self.now.lengths tuple codes.now
             → IsColumn (machine_of self.now.monitor) (length tuple) t column.now
             → IsTrue result
-            ↔ (¬ Meets self.now.lengths (machine_of self.now.monitor).body (tuple ++ t ∷ [])) }
+            ↔ Meets self.now.lengths (machine_of self.now.monitor).body (tuple ++ t ∷ []) }
         ensures counted { steps.old ≤ steps.new }
     {
         let q = after_both(&self.monitor, self.lengths, codes, column, steps);
-        !self.monitor.accepts(q)
+        self.monitor.accepts(q)
     }
 }

@@ -33,7 +33,7 @@ pub struct Watch {
 impl Watch {
     ghost use Rattle.std.specs.Prelude.{List as Sequence};
     ghost use Rattle.hy_finite.specs.Traces.{Trace};
-    ghost use Rattle.tuple_walk.specs.Watched.{Holds, count_of, trace_at};
+    ghost use Rattle.tuple_walk.specs.Watched.{Holds, count_of, start_of, trace_at};
     ghost use Rattle.tuple_walk.specs.States.{IsColumn, AreCodesOf};
     ghost use Rattle.fin_monitor.specs.Machines.{codes};
     ghost use Rattle.tuple_walk.specs.Seen.{watched};
@@ -79,13 +79,15 @@ impl Watch {
     {
         let last = self.starts.len() - 1;
         let end = *self.starts.at(last) + trace.len();
+        let held = self.parts.len();
         push_rows(&self.monitor, trace, &mut self.parts)?;
-        let pushed = self.starts.push(end);
-        if pushed.is_err() {
-            let held = self.monitor.vars() as usize * *self.starts.at(last);
-            self.parts.truncate(held);
+        match self.starts.push(end) {
+            Ok(()) => Ok(()),
+            Err(refused) => {
+                self.parts.truncate(held);
+                Err(refused)
+            }
         }
-        pushed
     }
 
     /// Keeps the first `count` traces. Takes no memory.
@@ -97,7 +99,7 @@ impl Watch {
             → Holds (watched self.new) (take count traces) }
         ensures count { count_of (watched self.new) ≡ count }
     {
-        let held = self.monitor.vars() as usize * *self.starts.at(count as usize);
+        let held = self.rows_before(count);
         self.starts.truncate(count as usize + 1);
         self.parts.truncate(held);
     }
@@ -112,10 +114,41 @@ impl Watch {
         ensures short { length result.now ≤ 1024 }
         ensures inside { AreCodesOf (machine_of self.now.monitor) result.now }
     {
-        let start = *self.starts.at(k as usize);
-        let letters = *self.starts.at(k as usize + 1) - start;
-        let from = self.monitor.vars() as usize * start + variable * letters;
+        let letters = self.letters(k);
+        let from = self.place(k, variable, letters);
         &self.parts.as_slice()[from..from + letters]
+    }
+
+    /// How many letters trace `k` has.
+    fn letters(&self, k: u32) -> usize
+        requires { k < count_of (watched self.now) }
+        ensures letters { start_of (watched self.now) (k + 1) ≡ start_of (watched self.now) k + result }
+        ensures some { 1 ≤ result }
+        ensures short { result ≤ 1024 }
+    {
+        *self.starts.at(k as usize + 1) - *self.starts.at(k as usize)
+    }
+
+    /// Where the parts of trace `k` for a variable begin, where the trace has this many letters.
+    fn place(&self, k: u32, variable: usize, letters: usize) -> usize
+        requires trace { k < count_of (watched self.now) }
+        requires variable { variable < (machine_of self.now.monitor).variables }
+        requires letters { start_of (watched self.now) (k + 1)
+            ≡ start_of (watched self.now) k + letters }
+        ensures place { result
+            ≡ (machine_of self.now.monitor).variables * start_of (watched self.now) k
+            + variable * letters }
+        ensures within { result + letters ≤ length self.now.parts }
+    {
+        self.rows_before(k) + variable * letters
+    }
+
+    /// How many parts the traces before trace `k` have.
+    fn rows_before(&self, k: u32) -> usize
+        requires { k ≤ count_of (watched self.now) }
+        ensures { result ≡ (machine_of self.now.monitor).variables * start_of (watched self.now) k }
+    {
+        self.monitor.vars() as usize * *self.starts.at(k as usize)
     }
 }
 
@@ -128,10 +161,12 @@ fn push_rows(monitor: &Monitor, trace: &[LetterMask], parts: &mut List<u16>) -> 
 {
     let held = parts.len();
     for variable in 0..monitor.vars() {
-        let pushed = push_row(monitor, variable, trace, parts);
-        if pushed.is_err() {
-            parts.truncate(held);
-            return pushed;
+        match push_row(monitor, variable, trace, parts) {
+            Ok(()) => {}
+            Err(refused) => {
+                parts.truncate(held);
+                return Err(refused);
+            }
         }
     }
     Ok(())

@@ -1,0 +1,191 @@
+-- The answer to each event is right for each history that the monitor stands for.
+use Rattle.std.proofs.Common.{◌≡◌, ℕ, ◌+◌, ◌<◌, ◌≤◌, Bool, true, false, List, [], ◌∷◌, ◌++◌, length, reverse, take, Option, Some, None, Ok, Err, IfSome, IfNone, is_some, not, nat_eq, refl, sym, ap, ◌∙◌, subst, arith}
+use Rattle.std.proofs.lemmas.Bool.{eqb-true}
+use Rattle.std.proofs.lemmas.List.{reverse-append}
+use Rattle.hy_base.specs.declared.limit.Kind.TheVariants as kind
+use Rattle.hy_bits.specs.Letter.{Letter}
+use Rattle.hy_formula.specs.Quantifiers.{Each}
+use Rattle.hy_finite.specs.declared.event.Event.{Event}
+use Rattle.hy_finite.specs.declared.event.Event.TheVariants as event
+use Rattle.hy_finite.specs.Traces.{Trace}
+use Rattle.tuple_walk.specs.Watched.{Watched}
+use Rattle.tuple_walk.specs.Searches.{StaysClean}
+use Rattle.rv_core.specs.declared.reply.Reply.{Reply}
+use Rattle.rv_core.specs.declared.reply.Reply.TheVariants.{Quiet, Arrived, Violation}
+use Rattle.rv_core.specs.declared.rv_error.RvError.{RvError}
+use Rattle.rv_core.specs.declared.rv_error.RvError.TheVariants as error
+use Rattle.rv_core.specs.declared.saved.Saved.{Saved}
+use Rattle.rv_core.specs.declared.watches.Found.{Found}
+use Rattle.rv_core.specs.Histories.{Session, History, too_long, too_many_sessions, too_many_saves, no_session, no_save, extended, closed, with_trace, goes, step, arrives, back_step}
+use Rattle.rv_core.specs.Opened.{Open, letters_in, Extends, longer, opened, IsNotTaken, Closes}
+use Rattle.rv_core.specs.Held.{Held, AreSessions, StandsFor}
+use Rattle.rv_core.specs.Watching.{AllGain, AllStay, AllCut, FirstFound}
+use Rattle.rv_core.specs.Replies.{takes_memory, IsAnswer, quiet, arrived, violated, refused_by, spent, Answers, IsAsBefore, IsReplyTo}
+use Rattle.rv_core.proofs.SessionLists.{sessions-extended, sessions-closed}
+use Rattle.rv_core.proofs.Stepping.{goes-longer, goes-opened, refused-long, refused-many, goes-end, refused-end, goes-save, refused-save}
+use Rattle.rv_core.proofs.Standing.{changed, with_saves, back_to, arrival-stands, arrival-found, stay-stands, letter-stands, save-stands, back-stands, none-saved, saves-long, turned-specs}
+
+-- ---- a letter
+
+pub answered-letter : (m : Held) (n : ℕ) (a : Letter) (os : Open) → Extends n a m.sessions os
+    → Answers m (changed m m.watches m.arrived os m.clean) (event.Letter n a) (Ok Quiet)
+answered-letter m n a os x = record { rule = refl; specs = refl; right = λ h s. by x h s }
+  where
+    by : Extends n a m.sessions os → (h : History) → StandsFor m h
+        → IsAnswer m (changed m m.watches m.arrived os m.clean) (event.Letter n a) h (Ok Quiet)
+    by (longer word known short puts same) h s =
+        quiet (record { present = record { arrived = h.present.arrived; sessions = extended n a h.present.sessions }; saves = h.saves })
+        (goes-longer h n a word (sym (s.sessions.letters n) ∙ known) short) refl
+        (letter-stands m os h (extended n a h.present.sessions) s (sessions-extended n a m.sessions os h.present.sessions s.sessions x))
+    by (opened known few puts more) h s =
+        quiet (record { present = record { arrived = h.present.arrived; sessions = extended n a h.present.sessions }; saves = h.saves })
+        (goes-opened h n a (sym (s.sessions.letters n) ∙ known) (omega (arith, s.sessions.count))) refl
+        (letter-stands m os h (extended n a h.present.sessions) s (sessions-extended n a m.sessions os h.present.sessions s.sessions x))
+
+pub refused-letter : (m : Held) (n : ℕ) (a : Letter) (e : RvError) → IsNotTaken n m.sessions e
+    → Answers m m (event.Letter n a) (Err e)
+refused-letter m n a e no_letter = record { rule = refl; specs = refl; right = λ h s. by e no_letter h s }
+  where
+    by : (e : RvError) → IsNotTaken n m.sessions e → (h : History) → StandsFor m h → IsAnswer m m (event.Letter n a) h (Err e)
+    by (error.Limit kind.Length) (word, known, long) h s =
+        refused_by too_long (refused-long h n a word (sym (s.sessions.letters n) ∙ known) long) s
+    by (error.Limit kind.Sessions) (known, many) h s =
+        refused_by too_many_sessions (refused-many h n a (sym (s.sessions.letters n) ∙ known) (omega (arith, s.sessions.count))) s
+    by (error.Limit _) x h s = absurd x
+    by error.Memory x h s = spent refl s
+    by error.NoLetter x h s = absurd x
+    by error.NoSave x h s = absurd x
+
+-- ---- a trace arrives
+
+-- The event brings the trace, and leaves these open sessions.
+abbrev pub Brings : Held → Event → Trace → Open → Type 0
+Brings m e t os =
+    (h : History) → StandsFor m h
+    → (ss : List Session) × (step h e ≡ goes (with_trace h t ss)) × AreSessions os ss
+
+pub whole-brings : (m : Held) (t : Trace) → Brings m (event.Whole t) t m.sessions
+whole-brings m t h s = (h.present.sessions, refl, s.sessions)
+
+pub end-brings : (m : Held) (n : ℕ) (word : Trace) (os : Open) → letters_in n m.sessions ≡ Some word → Closes n m.sessions os
+    → Brings m (event.End n) word os
+end-brings m n word os known closes h s =
+    (closed n h.present.sessions, goes-end h n word (sym (s.sessions.letters n) ∙ known),
+    sessions-closed n word m.sessions os h.present.sessions s.sessions known closes)
+
+module _ (m : Held) (e : Event) (t : Trace) (os : Open) (brings : Brings m e t os) (is : arrives e ≡ true) (ws : List Watched)
+    (gain : AllGain m.arrived t m.watches ws) where
+  answered-clean : Each StaysClean ws → Answers m (changed m ws (m.arrived + 1) os true) e (Ok (Arrived m.arrived))
+  answered-clean stay = record {
+    rule = refl;
+    specs = turned-specs (m.arrived + 1) (λ traces. traces ++ t ∷ []) m.watches ws gain;
+    right = λ h s.
+        let (ss, goes-on, sessions) = brings h s in
+        let P : ℕ → Type 0 = λ n. IsAnswer m (changed m ws (m.arrived + 1) os true) e h (Ok (Arrived n)) in
+        subst P (sym s.count) (arrived (with_trace h t ss) goes-on is (arrival-stands m ws os h t ss s gain stay sessions));
+  }
+
+  answered-violated : (k : ℕ) (tuple : List ℕ) → FirstFound ws k tuple
+      → Answers m (changed m ws (m.arrived + 1) os false) e (Ok (Violation k m.arrived tuple))
+  answered-violated k tuple found = record {
+    rule = refl;
+    specs = turned-specs (m.arrived + 1) (λ traces. traces ++ t ∷ []) m.watches ws gain;
+    right = λ h s.
+        let (ss, goes-on, sessions) = brings h s in
+        violated (with_trace h t ss) k m.arrived tuple goes-on is (arrival-found m ws h t k tuple s gain found) refl;
+  }
+
+  pub answered-arrival : (found : Option Found) (reply : Reply) → IsReplyTo m.arrived found reply → IfNone found (Each StaysClean ws)
+      → IfSome found (λ f. FirstFound ws f.spec f.tuple)
+      → Answers m (changed m ws (m.arrived + 1) os (not (is_some found))) e (Ok reply)
+  answered-arrival None reply r clean first =
+      let P : Reply → Type 0 = λ q. Answers m (changed m ws (m.arrived + 1) os true) e (Ok q) in
+      subst P (sym r) (answered-clean clean)
+  answered-arrival (Some f) reply r clean first =
+      let P : Reply → Type 0 = λ q. Answers m (changed m ws (m.arrived + 1) os false) e (Ok q) in
+      subst P (sym r) (answered-violated f.spec f.tuple first)
+
+pub answered-spent : (m : Held) (ws : List Watched) (e : Event) → takes_memory e ≡ true → AllStay m.arrived m.watches ws
+    → Answers m (changed m ws m.arrived m.sessions m.clean) e (Err error.Memory)
+answered-spent m ws e takes stay = record {
+  rule = refl;
+  specs = turned-specs m.arrived (λ traces. traces) m.watches ws stay;
+  right = λ h s. spent takes (stay-stands m ws h s stay);
+}
+
+pub stay-before : (m : Held) (ws : List Watched) → AllStay m.arrived m.watches ws
+    → IsAsBefore m (changed m ws m.arrived m.sessions m.clean)
+stay-before m ws stay = record {
+  arrived = refl;
+  sessions = refl;
+  saves = refl;
+  clean = refl;
+  stands = λ h s. stay-stands m ws h s stay;
+}
+
+pub same-before : (m : Held) → IsAsBefore m m
+same-before m = record { arrived = refl; sessions = refl; saves = refl; clean = refl; stands = λ h s. s }
+
+pub memory-answer : (m : Held) (e : Event) → takes_memory e ≡ true → Answers m m e (Err error.Memory)
+memory-answer m e takes = record { rule = refl; specs = refl; right = λ h s. spent takes s }
+
+pub no-end : (m : Held) (n : ℕ) → letters_in n m.sessions ≡ None → Answers m m (event.End n) (Err error.NoLetter)
+no-end m n none = record {
+  rule = refl;
+  specs = refl;
+  right = λ h s. refused_by no_session (refused-end h n (sym (s.sessions.letters n) ∙ none)) s;
+}
+
+-- ---- a save and a back
+
+pub answered-save : (m : Held) → length m.saves < 64
+    → Answers m (with_saves m (record { arrived = m.arrived; sessions = m.sessions } ∷ m.saves)) event.Save (Ok Quiet)
+answered-save m few = record {
+  rule = refl;
+  specs = refl;
+  right = λ h s.
+      let long = saves-long h.present.arrived m.saves h.saves s.saves in
+      quiet (record { present = h.present; saves = h.present ∷ h.saves }) (goes-save h (omega (arith, long))) refl (save-stands m h s);
+}
+
+pub many-saves : (m : Held) → 64 ≤ length m.saves → Answers m m event.Save (Err (error.Limit kind.Saves))
+many-saves m many = record {
+  rule = refl;
+  specs = refl;
+  right = λ h s.
+      let long = saves-long h.present.arrived m.saves h.saves s.saves in
+      refused_by too_many_saves (refused-save h (omega (arith, long))) s;
+}
+
+pub answered-back : (m : Held) (ws : List Watched) (x : Saved) (xs : List Saved) → m.saves ≡ x ∷ xs → AllCut x.arrived m.watches ws
+    → Answers m (back_to m ws x xs) event.Back (Ok Quiet)
+answered-back m ws x xs e cut = record {
+  rule = refl;
+  specs = turned-specs x.arrived (λ traces. take x.arrived traces) m.watches ws cut;
+  right = λ h s.
+      let (p, ps, known, stands) = back-stands m ws x xs h s e cut in
+      quiet (record { present = p; saves = ps }) (ap back_step known) refl stands;
+}
+
+pub no-back : (m : Held) → m.saves ≡ [] → Answers m m event.Back (Err error.NoSave)
+no-back m none = record {
+  rule = refl;
+  specs = refl;
+  right = λ h s. refused_by no_save (ap back_step (none-saved m h s none)) s;
+}
+
+-- ---- saves, the last one first
+
+pub reverse-push : (saves : List Saved) (x : Saved) → reverse (saves ++ x ∷ []) ≡ x ∷ reverse saves
+reverse-push saves x = reverse-append saves (x ∷ [])
+
+pub none-left : (saves : List Saved) → nat_eq (length saves) 0 ≡ true → reverse saves ≡ []
+none-left saves e = ap reverse (by saves (eqb-true (length saves) 0 e))
+  where
+    by : (xs : List Saved) → length xs ≡ 0 → xs ≡ []
+    by [] f = refl
+    by (x ∷ xs) f = absurd (omega arith)
+
+pub by-none : (some none : Bool) → some ≡ not none → not some ≡ none
+by-none some true e = ap not e
+by-none some false e = ap not e

@@ -1,0 +1,158 @@
+//! What a monitor does at an event.
+
+ghost use Rattle.std.specs.Prelude.{◌≡◌, ◌<◌, ◌≤◌, ◌^◌, OnErr, IsTrue, length};
+ghost use Rattle.hy_finite.specs.declared.event.Event.TheVariants as occurs;
+ghost use Rattle.rv_core.specs.Replies.{IsReplyTo};
+
+use crate::reply::Reply;
+use crate::rv::Rv;
+use crate::rv_error::RvError;
+use crate::saved::Saved;
+use crate::watches::Found;
+use hy_base::{Kind, Steps};
+use hy_bits::LetterMask;
+use hy_finite::{Event, Trace};
+use std::alloc::Global;
+use std::sync::ledger::Ledger;
+
+/// The most saves.
+const MOST_SAVES: usize = 64;
+
+impl Rv {
+    ghost use Rattle.rv_core.specs.Replies.{Answers, IsAsBefore};
+    ghost use Rattle.rv_core.specs.Seen.{held};
+
+    /// Takes the next event of a run.
+    ///
+    /// A whole trace arrives. A letter opens its session or goes last in it. An end closes its session,
+    /// and its letters are a trace that arrives. A save puts aside the traces that have arrived and the
+    /// open sessions, and a back brings those that were put aside last. Where a trace arrives, `find`
+    /// of `Watch` is called for each spec up to the first that is violated.
+    ///
+    /// `NoLetter` where the session that ends is not open, `NoSave` where there is nothing put aside;
+    /// `Limit` where a session has 1,024 letters already, 1,024 sessions are open, or 64 saves are put
+    /// aside. Where it is refused, for memory too, all is as before. A back takes no memory. After a
+    /// violation the monitor takes no more events.
+    ///
+    /// A letter, an end and a back take constant time but for growth and `find`; a save takes time and
+    /// memory linear in the letters of the open sessions.
+    pub fn event<L: Ledger>(
+        &mut self,
+        alloc: Global,
+        event: &Event,
+        steps: &mut Steps<L>,
+    ) -> Result<Reply, RvError>
+        requires clean { IsTrue (held self.old).clean }
+        requires few { (held self.old).arrived < 2 ^ 31 }
+        ensures answers { Answers (held self.old) (held self.new) event.now result }
+        ensures refused { OnErr result (IsAsBefore (held self.old) (held self.new)) }
+        ensures counted { steps.old ≤ steps.new }
+    {
+        match event {
+            Event::Whole(trace) => self.take_whole(trace, steps),
+            Event::Letter { session, letter } => self.take_letter(alloc, *session, *letter),
+            Event::End { session } => self.take_end(*session, steps),
+            Event::Save => self.take_save(alloc),
+            Event::Back => self.take_back(),
+        }
+    }
+
+    /// A trace arrives.
+    fn take_whole<L: Ledger>(
+        &mut self,
+        trace: &Trace,
+        steps: &mut Steps<L>,
+    ) -> Result<Reply, RvError>
+        requires clean { IsTrue (held self.old).clean }
+        requires few { (held self.old).arrived < 2 ^ 31 }
+        ensures answers { Answers (held self.old) (held self.new) (occurs.Whole trace.now) result }
+        ensures refused { OnErr result (IsAsBefore (held self.old) (held self.new)) }
+        ensures counted { steps.old ≤ steps.new }
+    {
+        let number = self.traces;
+        let _long = trace.len();
+        let found = self.watches.take(trace.as_slice(), number, steps)?;
+        self.traces = number + 1;
+        self.clean = found.is_none();
+        Ok(reply_of(number, found))
+    }
+
+    /// A letter more of a session.
+    fn take_letter(
+        &mut self,
+        alloc: Global,
+        session: u32,
+        letter: LetterMask,
+    ) -> Result<Reply, RvError>
+        requires clean { IsTrue (held self.old).clean }
+        ensures answers { Answers (held self.old) (held self.new) (occurs.Letter session letter) result }
+        ensures refused { OnErr result (IsAsBefore (held self.old) (held self.new)) }
+    {
+        self.sessions.extend(alloc, session, letter)?;
+        Ok(Reply::Quiet)
+    }
+
+    /// A session ends, and arrives as a trace.
+    fn take_end<L: Ledger>(
+        &mut self,
+        session: u32,
+        steps: &mut Steps<L>,
+    ) -> Result<Reply, RvError>
+        requires clean { IsTrue (held self.old).clean }
+        requires few { (held self.old).arrived < 2 ^ 31 }
+        ensures answers { Answers (held self.old) (held self.new) (occurs.End session) result }
+        ensures refused { OnErr result (IsAsBefore (held self.old) (held self.new)) }
+        ensures counted { steps.old ≤ steps.new }
+    {
+        let Some(letters) = self.sessions.letters(session) else {
+            return Err(RvError::NoLetter);
+        };
+        let number = self.traces;
+        let found = self.watches.take(letters.as_slice(), number, steps)?;
+        self.sessions.close(session);
+        self.traces = number + 1;
+        self.clean = found.is_none();
+        Ok(reply_of(number, found))
+    }
+
+    /// The present is put aside.
+    fn take_save(&mut self, alloc: Global) -> Result<Reply, RvError>
+        requires clean { IsTrue (held self.old).clean }
+        ensures answers { Answers (held self.old) (held self.new) occurs.Save result }
+        ensures refused { OnErr result (IsAsBefore (held self.old) (held self.new)) }
+    {
+        if self.saves.len() >= MOST_SAVES {
+            return Err(RvError::Limit(Kind::Saves));
+        }
+        let sessions = self.sessions.copy(alloc)?;
+        let arrived = self.traces;
+        self.saves.push(Saved { arrived, sessions })?;
+        Ok(Reply::Quiet)
+    }
+
+    /// What was put aside last comes back.
+    fn take_back(&mut self) -> Result<Reply, RvError>
+        requires clean { IsTrue (held self.old).clean }
+        ensures answers { Answers (held self.old) (held self.new) occurs.Back result }
+        ensures refused { OnErr result (IsAsBefore (held self.old) (held self.new)) }
+    {
+        if self.saves.is_empty() {
+            return Err(RvError::NoSave);
+        }
+        let Saved { arrived, sessions } = self.saves.pop().unwrap();
+        self.watches.truncate(arrived);
+        self.traces = arrived;
+        self.sessions = sessions;
+        Ok(Reply::Quiet)
+    }
+}
+
+/// What is answered where the trace with this number arrived.
+fn reply_of(trace: u32, found: Option<Found>) -> Reply
+    ensures { IsReplyTo trace found result }
+{
+    match found {
+        None => Reply::Arrived { trace },
+        Some(Found { spec, tuple }) => Reply::Violation { spec, trace, tuple },
+    }
+}

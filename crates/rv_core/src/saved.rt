@@ -1,0 +1,14 @@
+//! What is put aside.
+
+use crate::sessions::Sessions;
+use hy_base::List;
+
+/// How many traces had arrived, and the sessions that were open.
+#[derive(Drop)]
+pub(crate) struct Saved {
+    pub(crate) arrived: u32,
+    pub(crate) sessions: Sessions,
+}
+
+/// Saves, the last one last.
+pub(crate) type SavedList = List<Saved>;
