@@ -1,5 +1,5 @@
 -- Formulas that were read keep to their limits, and what is said of them as formulas is said of what they mean.
-use Rattle.std.proofs.Common.{◌≡◌, ◌≢◌, ℕ, zero, suc, ◌<◌, ◌≤◌, Bool, true, false, List, [], ◌∷◌, length, map, Some, None, Option, slice_get, nat_lt, if◌then◌else◌, refl, ap, sym, ◌∙◌, subst, arith, max}
+use Rattle.std.proofs.Common.{◌≡◌, ◌≢◌, ℕ, zero, suc, ◌<◌, ◌≤◌, Bool, true, false, List, [], ◌∷◌, length, map, Some, None, Option, slice_get, nat_lt, if◌then◌else◌, All, inl, inr, refl, ap, sym, ◌∙◌, subst, arith}
 use Rattle.std.proofs.lemmas.Bool.Decides.{nat_tests}
 use Rattle.std.proofs.lemmas.List.{length-map}
 use Rattle.hy_base.specs.Limits.{most as most_of}
@@ -19,10 +19,8 @@ use Rattle.hy_read.specs.Builds.{plain_formula, plain_formulas}
 use Rattle.hy_read.specs.Grammar.{Read}
 use Rattle.hy_read.specs.Results.{Count, specs, quantifiers, parens, heights, names, in_order, largest, most, count_of, first_past, Result, fault, unbound, past, taken, Reads}
 use Rattle.fin_monitor.specs.Limits.{HasLargeClosure, HasSmallClosure, HasManyAtoms, HasFewAtoms, HasLargeTable}
-use Rattle.rv_core.specs.declared.rv_error.RvNewError.{RvNewError}
-use Rattle.rv_core.specs.declared.rv_error.RvNewError.TheVariants as errors
-use Rattle.rv_core.specs.Built.{HasFewQuantifiers, IsUniversal, SomeBody, EachBody, FirstOther, IsNewRefusal, other, closure, atoms, table, spec_of_formula}
-use Rattle.rv_core.specs.Built as refusals
+use Rattle.rv_core.specs.Built.{HasFewQuantifiers, IsUniversal, SomeBody, EachBody, FirstOther, IsTooLarge, spec_of_formula}
+use Rattle.rv_core.specs.Built.{AreUniversal as AllUniversal}
 use Rattle.hy_answer.specs.declared.answer.Answer.TheVariants as answers
 use Rattle.hy_top.specs.Classes.{is_universal, FirstUntaken}
 use Rattle.hy_top.specs.Monitoring.{AreUniversal, SomePlain, EachPlain, IsOutcome, untaken, large_closure, many_atoms, large_table, specs_of}
@@ -68,9 +66,10 @@ module _ (many : Bool) (limit : ℕ) (old : List (List ℕ)) (bytes : List ℕ) 
   read-few answer = as-read answer.result (tokens_of answer.spans) answer.reads answer.spans answer.is
 
 pub few-quantifiers : (formulas : List Formula) → Each (λ (f : Plain). length f.prefix ≤ 4) (plain_formulas formulas)
-    → Each HasFewQuantifiers formulas
-few-quantifiers [] few = tt
-few-quantifiers (f ∷ formulas) (few, later) = (few, few-quantifiers formulas later)
+    → All HasFewQuantifiers formulas
+few-quantifiers [] few i d lt = absurd (omega (arith, lt))
+few-quantifiers (f ∷ formulas) (few, later) zero d lt = few
+few-quantifiers (f ∷ formulas) (few, later) (suc i) d lt = few-quantifiers formulas later i d (omega (arith, lt))
 
 -- ---- classes
 
@@ -86,9 +85,9 @@ other-class classes.Forall apart = absurd (apart refl)
 other-class classes.ExistsForall apart = refl
 other-class classes.Other apart = refl
 
-pub are-universal : (formulas : List Formula) → Each IsUniversal formulas → AreUniversal (plain_formulas formulas)
+pub are-universal : (formulas : List Formula) → AllUniversal formulas → AreUniversal (plain_formulas formulas)
 are-universal [] all = tt
-are-universal (f ∷ formulas) (is, all) = (ap is_universal is, are-universal formulas all)
+are-universal (f ∷ formulas) all = (ap is_universal (all 0 f refl), are-universal formulas (λ j g there. all (suc j) g there))
 
 -- The first formula that is not universal is the first whose class is not taken.
 pub first-untaken : (formulas : List Formula) (k : ℕ) (c : Class) → FirstOther formulas k c
@@ -113,17 +112,12 @@ first-untaken (f ∷ formulas) (suc k) c first =
 -- ---- bodies
 
 pub some-plain : (Q : Tree → Type 0) (formulas : List Formula) → SomeBody Q formulas → SomePlain Q (plain_formulas formulas)
-some-plain Q formulas some = found formulas some.number some.formula some.there some.holds
-  where
-  found : (fs : List Formula) (k : ℕ) (f : Formula) → slice_get fs k ≡ Some f → Q (tree_of f.body) → SomePlain Q (plain_formulas fs)
-  found [] k f there holds = absurd (let none : None ≡ Some f = there in cc)
-  found (x ∷ fs) zero f there holds =
-      let same : x ≡ f = cc in
-      let P : Formula → Type 0 = λ g. Q (tree_of g.body) in
-      (plain_formula x, contains-here (plain_formula x) (plain_formulas fs), subst P (sym same) holds)
-  found (x ∷ fs) (suc k) f there holds =
-      let (g, in_rest, is) = found fs k f there holds in
-      (g, contains-later (plain_formula x) g (plain_formulas fs) in_rest, is)
+some-plain Q [] some = absurd some
+some-plain Q (f ∷ formulas) (inl here) =
+    (plain_formula f, contains-here (plain_formula f) (plain_formulas formulas), here)
+some-plain Q (f ∷ formulas) (inr later) =
+    let (g, in_rest, is) = some-plain Q formulas later in
+    (g, contains-later (plain_formula f) g (plain_formulas formulas) in_rest, is)
 
 pub each-plain : (Q : Tree → Type 0) (formulas : List Formula) → EachBody Q formulas → EachPlain Q (plain_formulas formulas)
 each-plain Q [] each = tt
@@ -131,36 +125,20 @@ each-plain Q (f ∷ formulas) (is, each) = (is, each-plain Q formulas each)
 
 -- ---- why formulas are not monitored
 
-pub prefix-outcome : (formulas : List Formula) (known : List (List ℕ)) (bytes : List ℕ) (error : RvNewError) (k : ℕ) (c : Class)
-    → error ≡ errors.Prefix k c → IsNewRefusal formulas error → IsOutcome (plain_formulas formulas) known bytes (answers.Prefix 0 c)
-prefix-outcome formulas known bytes _ k c e (other place found first) =
-    let same : c ≡ found = cc in
-    let P : Class → Type 0 = λ x. IsOutcome (plain_formulas formulas) known bytes (answers.Prefix 0 x) in
-    subst P (sym same) (untaken place found (first-untaken formulas place found first))
-prefix-outcome formulas known bytes _ k c e (closure universal some) = absurd (cc)
-prefix-outcome formulas known bytes _ k c e (atoms universal small some) = absurd (cc)
-prefix-outcome formulas known bytes _ k c e (table universal small few some) = absurd (cc)
-prefix-outcome formulas known bytes _ k c e refusals.spent = absurd (cc)
+pub prefix-outcome : (formulas : List Formula) (known : List (List ℕ)) (bytes : List ℕ) (k : ℕ) (c : Class)
+    → FirstOther formulas k c → IsOutcome (plain_formulas formulas) known bytes (answers.Prefix 0 c)
+prefix-outcome formulas known bytes k c first = untaken k c (first-untaken formulas k c first)
 
-pub limit-outcome : (formulas : List Formula) (known : List (List ℕ)) (bytes : List ℕ) (error : RvNewError) (kind : Kind)
-    → error ≡ errors.Limit kind → IsNewRefusal formulas error → IsOutcome (plain_formulas formulas) known bytes (answers.Limit kind (most_of kind))
-limit-outcome formulas known bytes _ kind e (other place found first) = absurd (cc)
-limit-outcome formulas known bytes _ kind e (closure universal some) =
-    let same : kind ≡ kinds.Closure = cc in
-    let P : Kind → Type 0 = λ k. IsOutcome (plain_formulas formulas) known bytes (answers.Limit k (most_of k)) in
-    subst P (sym same) (large_closure (are-universal formulas universal) (some-plain HasLargeClosure formulas some))
-limit-outcome formulas known bytes _ kind e (atoms universal small some) =
-    let same : kind ≡ kinds.Atoms = cc in
-    let P : Kind → Type 0 = λ k. IsOutcome (plain_formulas formulas) known bytes (answers.Limit k (most_of k)) in
-    subst P (sym same)
-    (many_atoms (are-universal formulas universal) (each-plain HasSmallClosure formulas small) (some-plain HasManyAtoms formulas some))
-limit-outcome formulas known bytes _ kind e (table universal small few some) =
-    let same : kind ≡ kinds.Table = cc in
-    let P : Kind → Type 0 = λ k. IsOutcome (plain_formulas formulas) known bytes (answers.Limit k (most_of k)) in
-    subst P (sym same)
-    (large_table (are-universal formulas universal) (each-plain HasSmallClosure formulas small) (each-plain HasFewAtoms formulas few)
-    (some-plain HasLargeTable formulas some))
-limit-outcome formulas known bytes _ kind e refusals.spent = absurd (cc)
+pub limit-outcome : (formulas : List Formula) (known : List (List ℕ)) (bytes : List ℕ) (kind : Kind)
+    → AllUniversal formulas → IsTooLarge formulas kind → IsOutcome (plain_formulas formulas) known bytes (answers.Limit kind (most_of kind))
+limit-outcome formulas known bytes kinds.Closure universal some =
+    large_closure (are-universal formulas universal) (some-plain HasLargeClosure formulas some)
+limit-outcome formulas known bytes kinds.Atoms universal (small, some) =
+    many_atoms (are-universal formulas universal) (each-plain HasSmallClosure formulas small) (some-plain HasManyAtoms formulas some)
+limit-outcome formulas known bytes kinds.Table universal (small, few, some) =
+    large_table (are-universal formulas universal) (each-plain HasSmallClosure formulas small) (each-plain HasFewAtoms formulas few)
+    (some-plain HasLargeTable formulas some)
+limit-outcome formulas known bytes _ universal none = absurd none
 
 -- ---- what they come to
 

@@ -1,6 +1,6 @@
 //! `rvhyper`: from its files to its answers.
 
-ghost use Rattle.std.specs.Prelude.{◌≡◌, ◌≤◌, ◌<◌, ◌^◌, ℕ, List, [], length};
+ghost use Rattle.std.specs.Prelude.{◌≡◌, ◌≤◌, ◌<◌, ◌^◌, ℕ, All, List, [], length};
 ghost use Rattle.hy_base.specs.Shelf.{KeepsShelf};
 ghost use Rattle.hy_base.specs.declared.reading.TheConstants.{BYTES_LIMIT};
 ghost use Rattle.hy_formula.specs.Quantifiers.{Each};
@@ -53,7 +53,7 @@ pub fn monitor<S: Shelf>(
 
 /// What formulas come to on the events of lines, each of which is a text.
 fn judge(alloc: Global, specs: &SpecList, bytes: &[u8], names: &NameTable) -> Answer
-    requires quantifiers { Each HasFewQuantifiers specs.now }
+    requires quantifiers { All HasFewQuantifiers specs.now }
     requires countable { length specs.now < 2 ^ 32 }
     requires few { length bytes.now ≤ BYTES_LIMIT }
     requires texts { Each IsText (lines_of bytes.now) }
