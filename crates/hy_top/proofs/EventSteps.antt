@@ -29,7 +29,8 @@ use Rattle.rv_core.specs.declared.reply.Reply.TheVariants.{Quiet, Arrived, Viola
 use Rattle.rv_core.specs.declared.rv_error.RvError.{RvError}
 use Rattle.rv_core.specs.declared.rv_error.RvError.TheVariants as errors
 use Rattle.rv_core.specs.Endings.{Spec, IsClean}
-use Rattle.rv_core.specs.Held.{Held, Saved, AreSaves, StandsFor, specs_of}
+use Rattle.rv_core.specs.declared.saved.Saved.{Saved}
+use Rattle.rv_core.specs.Held.{Held, AreSaves, StandsFor, specs_of}
 use Rattle.rv_core.specs.Histories.{Present, History, empty_history, Session, Refusal, no_session, no_save, too_long, too_many_sessions, too_many_saves, Step, refused, goes, step, arrives, letters_of, letter_step, end_step, save_step, back_step, with_sessions, with_trace, extended, closed, most_sessions, most_saves}
 use Rattle.rv_core.specs.Replies.{error_of, IsFound, IsAnswer, quiet, arrived, violated, refused_by, spent, Answers}
 use Rattle.hy_answer.specs.declared.answer.Answer.{Answer}
@@ -37,6 +38,10 @@ use Rattle.hy_answer.specs.declared.answer.Answer.TheVariants as answers
 use Rattle.hy_top.specs.Monitoring.{is_long, step_of, refusal_answer, IsViolation, clean_answer, Comes, ComesTo}
 use Rattle.hy_top.specs.Watching.{OrMemory, IsLongAnswer, IsEventAnswer, GoesOn, Stops, LinesCome, IsThrough}
 use Rattle.hy_top.proofs.EventLines.{texts-say, next-texts, reached-text}
+
+pub or-memory : {P Q : Type 0} {a : Answer} → (P → Q) → OrMemory a P → OrMemory a Q
+or-memory f (inl e) = inl e
+or-memory f (inr p) = inr (f p)
 
 -- ---- one event
 
@@ -64,7 +69,7 @@ refusal-answered too_many_sessions line a is = is
 refusal-answered too_many_saves line a is = is
 
 module _ (old new : Held) (placed : Placed) (rule : old.rule ≡ Min) (same : specs_of new ≡ specs_of old) (rules : new.rule ≡ old.rule) (h : History) where
-  goes-quiet : (r : Result Reply RvError) → r ≡ Ok Quiet → IsAnswer old new placed.event h r → GoesOn (specs_of old) h placed new
+  pub goes-quiet : (r : Result Reply RvError) → r ≡ Ok Quiet → IsAnswer old new placed.event h r → GoesOn (specs_of old) h placed new
   goes-quiet _ e (quiet next steps silent stands) =
       record { next = next; steps = steps; stands = stands; clean = λ loud. absurd (let both : true ≡ false = sym loud ∙ silent in cc) }
   goes-quiet _ e (arrived next steps loud stands) = absurd (cc)
@@ -72,7 +77,7 @@ module _ (old new : Held) (placed : Placed) (rule : old.rule ≡ Min) (same : sp
   goes-quiet _ e (refused_by r steps stands) = absurd (cc)
   goes-quiet _ e (spent takes stands) = absurd (cc)
 
-  goes-arrived : (r : Result Reply RvError) (trace : ℕ) → r ≡ Ok (Arrived trace) → IsAnswer old new placed.event h r → GoesOn (specs_of old) h placed new
+  pub goes-arrived : (r : Result Reply RvError) (trace : ℕ) → r ≡ Ok (Arrived trace) → IsAnswer old new placed.event h r → GoesOn (specs_of old) h placed new
   goes-arrived _ trace e (quiet next steps silent stands) = absurd (cc)
   goes-arrived _ trace e (arrived next steps loud stands) =
       let P : List Spec → Type 0 = λ specs. IsClean Min specs next.present.arrived in
@@ -82,7 +87,7 @@ module _ (old new : Held) (placed : Placed) (rule : old.rule ≡ Min) (same : sp
   goes-arrived _ trace e (refused_by r steps stands) = absurd (cc)
   goes-arrived _ trace e (spent takes stands) = absurd (cc)
 
-  violation-stops : (r : Result Reply RvError) (s trace : ℕ) (tuple : List ℕ) → r ≡ Ok (Violation s trace tuple)
+  pub violation-stops : (r : Result Reply RvError) (s trace : ℕ) (tuple : List ℕ) → r ≡ Ok (Violation s trace tuple)
       → IsAnswer old new placed.event h r → Stops (specs_of old) h placed (answers.Violation s trace tuple)
   violation-stops _ s trace tuple e (quiet next steps silent stands) = absurd (cc)
   violation-stops _ s trace tuple e (arrived next steps loud stands) = absurd (cc)

@@ -18,12 +18,15 @@ use Rattle.hy_read.specs.Tokens.{Token}
 use Rattle.hy_read.specs.Builds.{plain_formula, plain_formulas}
 use Rattle.hy_read.specs.Grammar.{Read}
 use Rattle.hy_read.specs.Results.{Count, specs, quantifiers, parens, heights, names, in_order, largest, most, count_of, first_past, Result, fault, unbound, past, taken, Reads}
-use Rattle.fin_monitor.specs.Limits.{HasLargeClosure, HasSmallClosure, HasManyAtoms, HasFewAtoms, HasLargeTable}
+use Rattle.fin_monitor.specs.Limits.{HasLargeClosure, HasSmallClosure, HasManyAtoms, HasFewAtoms, HasLargeTable, IsTaken}
 use Rattle.rv_core.specs.Built.{HasFewQuantifiers, IsUniversal, SomeBody, EachBody, FirstOther, IsTooLarge, spec_of_formula}
 use Rattle.rv_core.specs.Built.{AreUniversal as AllUniversal}
+use Rattle.rv_core.specs.Endings.{Spec}
+use Rattle.hy_answer.specs.declared.answer.Answer.{Answer}
 use Rattle.hy_answer.specs.declared.answer.Answer.TheVariants as answers
 use Rattle.hy_top.specs.Classes.{is_universal, FirstUntaken}
-use Rattle.hy_top.specs.Monitoring.{AreUniversal, SomePlain, EachPlain, IsOutcome, untaken, large_closure, many_atoms, large_table, specs_of}
+use Rattle.hy_top.specs.Monitoring.{AreUniversal, SomePlain, EachPlain, IsOutcome, untaken, large_closure, many_atoms, large_table, done, spent, specs_of}
+use Rattle.hy_top.specs.Watching.{OrMemory, LinesCome}
 
 -- ---- how many quantifiers and formulas there are
 
@@ -142,6 +145,21 @@ limit-outcome formulas known bytes _ universal none = absurd none
 
 -- ---- what they come to
 
-pub specs-same : (formulas : List Formula) → map spec_of_formula formulas ≡ specs_of (plain_formulas formulas)
+specs-same : (formulas : List Formula) → map spec_of_formula formulas ≡ specs_of (plain_formulas formulas)
 specs-same [] = refl
 specs-same (f ∷ formulas) = ap (λ specs. spec_of_formula f ∷ specs) (specs-same formulas)
+
+module _ (formulas : List Formula) (known : List (List ℕ)) (bytes : List ℕ) (a : Answer) (universal : AllUniversal formulas) (small : EachBody IsTaken formulas) where
+  outcome-of : OrMemory a (LinesCome (map spec_of_formula formulas) known bytes a) → IsOutcome (plain_formulas formulas) known bytes a
+  outcome-of (inl e) = let P : Answer → Type 0 = λ b. IsOutcome (plain_formulas formulas) known bytes b in subst P (sym e) spent
+  outcome-of (inr come) =
+      let P : List Spec → Type 0 = λ specs. LinesCome specs known bytes a in
+      done a (are-universal formulas universal) (each-plain IsTaken formulas small) (subst P (specs-same formulas) come)
+
+pub monitored-outcome : (formulas read : List Formula) (known : List (List ℕ)) (bytes : List ℕ) (a : Answer) (specs : List Spec)
+    → read ≡ formulas → AllUniversal read → EachBody IsTaken read → specs ≡ map spec_of_formula read
+    → OrMemory a (LinesCome specs known bytes a) → IsOutcome (plain_formulas formulas) known bytes a
+monitored-outcome formulas read known bytes a monitored same universal small e come =
+    let P : List Spec → Type 0 = λ s. OrMemory a (LinesCome s known bytes a) in
+    let Q : List Formula → Type 0 = λ fs. IsOutcome (plain_formulas fs) known bytes a in
+    subst Q same (outcome-of read known bytes a universal small (subst P e come))

@@ -23,8 +23,6 @@ use hy_formula::NameTable;
 use hy_read::SpecList;
 use rv_core::{Rv, RvNewError};
 use std::alloc::Global;
-use std::marker::Brand;
-use std::sync::ledger::Blank;
 
 /// Whether the traces of a file violate the formulas of another, whose names are added to the empty
 /// table.
@@ -60,7 +58,7 @@ fn judge(alloc: Global, specs: &SpecList, bytes: &[u8], names: &NameTable) -> An
     ensures { IsOutcome (plain_formulas specs.now) names.now bytes.now result }
 {
     match Rv::new(alloc, specs.as_slice(), Lengths::Min) {
-        Ok(mut rv) => watch::<Brand>(alloc, &mut rv, specs.len() as u32, bytes, names, Blank::new(1)),
+        Ok(mut rv) => watch(alloc, &mut rv, specs.len() as u32, bytes, names),
         Err(error) => new_answer(error),
     }
 }

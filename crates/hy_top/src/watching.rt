@@ -21,33 +21,48 @@ use hy_finite::{EventLines, LineError, Placed};
 use hy_formula::NameTable;
 use rv_core::{Reply, Rv, RvError};
 use std::alloc::Global;
+use std::marker::Brand;
 use std::sync::ledger::{Blank, Ledger};
 
 /// What the events of lines, each of which is a text, come to with a monitor of `specs` formulas to
 /// which nothing has come yet.
-pub fn watch<L: Ledger>(
-    alloc: Global,
-    rv: &mut Rv,
-    specs: u32,
-    bytes: &[u8],
-    names: &NameTable,
-    blank: Blank,
-) -> Answer
+pub fn watch(alloc: Global, rv: &mut Rv, specs: u32, bytes: &[u8], names: &NameTable) -> Answer
     requires stands { StandsFor (held rv.old) empty_history }
     requires rule { (held rv.old).rule ≡ Min }
     requires specs { specs ≡ length (specs_of (held rv.old)) }
     requires few { length bytes.now ≤ BYTES_LIMIT }
     requires texts { Each IsText (lines_of bytes.now) }
-    requires name { blank.name ≡ L.name }
-    requires parts { blank.parts ≡ L.parts }
-    requires some { 0 < blank.parts }
     ensures { OrMemory result (LinesCome (specs_of (held rv.old)) names.now bytes.now result) }
 {
-    let mut steps = Steps::<L>::new(blank);
-    match watch_lines(alloc, rv, bytes, names, &mut steps) {
+    match watch_on::<Brand>(alloc, rv, bytes, names, Blank::new(1)) {
         Ok(()) => clean_answer(alloc, rv, specs),
         Err(answer) => answer,
     }
+}
+
+/// Gives the monitor the events of lines, on a ledger of its own, on which the steps are counted.
+fn watch_on<L: Ledger>(
+    alloc: Global,
+    rv: &mut Rv,
+    bytes: &[u8],
+    names: &NameTable,
+    blank: Blank,
+) -> Result<(), Answer>
+    requires stands { StandsFor (held rv.old) empty_history }
+    requires rule { (held rv.old).rule ≡ Min }
+    requires few { length bytes.now ≤ BYTES_LIMIT }
+    requires texts { Each IsText (lines_of bytes.now) }
+    requires name { blank.name ≡ L.name }
+    requires parts { blank.parts ≡ L.parts }
+    requires some { 0 < blank.parts }
+    ensures specs { specs_of (held rv.new) ≡ specs_of (held rv.old) }
+    ensures through { OnOk result (IsThrough (specs_of (held rv.old)) names.now bytes.now
+        (held rv.new)) }
+    ensures ended { IfErr result (λ answer. OrMemory answer
+        (LinesCome (specs_of (held rv.old)) names.now bytes.now answer)) }
+{
+    let mut steps = Steps::<L>::new(blank);
+    watch_lines(alloc, rv, bytes, names, &mut steps)
 }
 
 /// Gives the monitor the events of lines, up to the first that is refused or violates a formula, and
@@ -119,7 +134,8 @@ fn take<L: Ledger>(
         → Stops (specs_of (held rv.old)) h placed.now answer)) }
 {
     match rv.event(alloc, &placed.event, steps) {
-        Ok(Reply::Quiet | Reply::Arrived { .. }) => Ok(()),
+        Ok(Reply::Quiet) => Ok(()),
+        Ok(Reply::Arrived { .. }) => Ok(()),
         Ok(Reply::Violation { spec, trace, tuple }) => Err(Answer::Violation { spec, trace, tuple }),
         Err(error) => Err(event_answer(error, placed.line)),
     }

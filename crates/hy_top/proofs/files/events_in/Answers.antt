@@ -1,4 +1,4 @@
-use Rattle.std.proofs.Common.{◌≡◌, ap, subst, ◌∙◌, Ok, Err, Result}
+use Rattle.std.proofs.Common.{[], subst, Err}
 use Rattle.hy_text.specs.declared.line_error.LineError.{LineError}
 use Rattle.hy_finite.specs.EventAnswers.{IsCheckAnswer}
 use Rattle.hy_top.specs.Steps.{unread, spent}
@@ -10,7 +10,7 @@ returns-in-Err-clause-ended g c names = rw c.fault_answer.ensures (unread c.in-E
 
 pub returns-in-Ok-check_events-clause-taken : goal.returns-in-Ok-check_events-clause-taken
 returns-in-Ok-check_events-clause-taken g c =
-    events-taken g.S.Shelf _ _ _ 4 _ 1 _ _ c.in-Ok.ensures.read c.as_slice.ensures c.in-Ok-check_events.ensures
+    events-taken g.S.Shelf _ _ _ 4 [] 1 _ _ c.in-Ok.ensures.read c.as_slice.ensures c.in-Ok-check_events.ensures
 
 pub returns-in-Err-Syntax-clause-ended : goal.returns-in-Err-Syntax-clause-ended
 returns-in-Err-Syntax-clause-ended g c names =

@@ -1,0 +1,9 @@
+use Rattle.std.proofs.Common.{◌∙◌, ap, map}
+use Rattle.rv_core.specs.Built.{spec_of_formula}
+use Rattle.hy_top.proofs.FirstSpecs.{monitored-outcome}
+use Rattle.hy_top.proofs.rvhyper.judge.Goals as goal
+
+pub returns-in-Ok : goal.returns-in-Ok
+returns-in-Ok c =
+    monitored-outcome c.args.specs.now c.as_slice.result.now c.args.names.now c.args.bytes.now _ _ c.as_slice.ensures c.in-Ok.ensures.universal
+    c.in-Ok.ensures.taken c.in-Ok.ensures.specs c.watch.ensures

@@ -1,0 +1,63 @@
+use Rattle.std.proofs.Common.{◌∙◌, ap, inl, inr, subst, sym, Ok, Err, Some, None, Option, arith}
+use Rattle.std.proofs.lemmas.Result.{err_from_is_err_and}
+use Rattle.hy_finite.specs.declared.event.Placed.{Placed}
+use Rattle.hy_finite.specs.NextEvents.{IsNextAnswer}
+use Rattle.hy_finite.specs.Remaining.{remaining}
+use Rattle.hy_finite.proofs.Collecting.{next-fewer}
+use Rattle.rv_core.specs.Held.{specs_of}
+use Rattle.rv_core.specs.Seen.{held}
+use Rattle.hy_top.proofs.EventSteps.{passed-none, passed-more, passed-stops, passed-long, passed-all, few-arrived, or-memory}
+use Rattle.hy_top.proofs.watching.watch_lines.Goals as goal
+
+pub take-requires-clause-few : goal.take-requires-clause-few
+take-requires-clause-few g c =
+    few-arrived (specs_of (held c.args.rv.now)) c.args.names.now c.args.bytes.now (remaining c.loop-placed.lines) (remaining c.next_event.new.lines) (held c.loop-placed.rv)
+    c.loop-placed.invariant c.requires.few
+
+pub loop-placed-smaller : goal.loop-placed-smaller
+loop-placed-smaller g c =
+    let old = remaining c.loop-placed.lines in
+    let new = remaining c.next_event.new.lines in
+    let P : Option Placed → Type 0 = λ o. IsNextAnswer c.args.names.now old new (Ok o) in
+    next-fewer c.args.names.now old new c.in-Some.placed (subst P c.in-Some.is c.in_ok-placed.ensures.next)
+
+pub loop-placed-preserved : goal.loop-placed-preserved
+loop-placed-preserved g c =
+    let old = remaining c.loop-placed.lines in
+    let new = remaining c.next_event.new.lines in
+    let P : Option Placed → Type 0 = λ o. IsNextAnswer c.args.names.now old new (Ok o) in
+    let before = c.loop-placed.invariant in
+    passed-more (specs_of (held c.args.rv.now)) c.args.names.now c.args.bytes.now old new (held c.loop-placed.rv) before c.in-Some.placed (held c.take.new.rv)
+    (subst P c.in-Some.is c.in_ok-placed.ensures.next) c.take.ensures.specs c.take.ensures.rule
+    (c.in_ok-take.ensures.went before.history before.stands)
+
+pub returns-clause-through : goal.returns-clause-through
+returns-clause-through g c =
+    let old = remaining c.loop-placed.lines in
+    let new = remaining c.next_event.new.lines in
+    let P : Option Placed → Type 0 = λ o. IsNextAnswer c.args.names.now old new (Ok o) in
+    passed-all (specs_of (held c.args.rv.now)) c.args.names.now c.args.bytes.now old new (held c.loop-placed.rv) c.loop-placed.invariant
+    (subst P c.in_default.is c.in_ok-placed.ensures.next)
+
+pub returns-in_err-placed-clause-ended : goal.returns-in_err-placed-clause-ended
+returns-in_err-placed-clause-ended g c =
+    let old = remaining c.loop-placed.lines in
+    let new = remaining c.next_event.new.lines in
+    let p = err_from_is_err_and c.from_residual.result c.from_residual.ensures.1 in
+    rw (p.1, p.2)
+    (or-memory
+    (passed-long (specs_of (held c.args.rv.now)) c.args.names.now c.args.bytes.now old new (held c.loop-placed.rv) c.loop-placed.invariant _)
+    c.in_err-placed.ensures.ended)
+
+pub returns-in_err-take-clause-ended : goal.returns-in_err-take-clause-ended
+returns-in_err-take-clause-ended g c =
+    let old = remaining c.loop-placed.lines in
+    let new = remaining c.next_event.new.lines in
+    let P : Option Placed → Type 0 = λ o. IsNextAnswer c.args.names.now old new (Ok o) in
+    let before = c.loop-placed.invariant in
+    let p = err_from_is_err_and c.from_residual-in_err-take.result c.from_residual-in_err-take.ensures.1 in
+    rw (p.1, p.2)
+    (or-memory
+    (λ stops. passed-stops (specs_of (held c.args.rv.now)) c.args.names.now c.args.bytes.now old new (held c.loop-placed.rv) before c.in-Some.placed _
+    (subst P c.in-Some.is c.in_ok-placed.ensures.next) (stops before.history before.stands))
+    c.in_err-take.ensures.ended)
