@@ -45,15 +45,14 @@ fn of(name: usize) -> LetterMask
     LetterMask::empty().with(name)
 }
 
-/// Lets the traces arrive, and tries that the last one brings this tuple, and those before it none;
-/// where the tuple is empty, the last one brings none either.
+/// Lets the traces arrive, and tries that the last one brings this tuple, and those before it none.
 fn arrive<L: Ledger, R: Abort>(
     rt: &R,
-    mut watch: Watch,
+    watch: &mut Watch,
     traces: &[&[LetterMask]],
     tuple: &[u32],
     steps: &mut Steps<L>,
-) -> Result<Watch, Fail> {
+) -> Result<(), Fail> {
     for (k, trace) in traces.iter().enumerate() {
         assert!(rt; !trace.is_empty() && trace.len() <= 1024 && watch.count() < 1000);
         watch.push(trace)?;
@@ -63,83 +62,67 @@ fn arrive<L: Ledger, R: Abort>(
             None => assert!(rt; expected.is_empty()),
         }
     }
-    Ok(watch)
+    Ok(())
 }
 
-/// A watch of the body.
-fn watch(alloc: Global, body: Body, vars: u8, lengths: Lengths) -> Result<Watch, Fail>
+/// Lets the traces arrive at a watch of the body, with the tuple that the last one brings; and after a
+/// cut to none the last one alone, which brings none.
+fn tried<L: Ledger, R: AllocGlobal + Abort>(
+    rt: &R,
+    body: Body,
+    vars: u8,
+    lengths: Lengths,
+    traces: &[&[LetterMask]],
+    tuple: &[u32],
+    steps: &mut Steps<L>,
+) -> Result<(), Fail>
     requires some { 1 ≤ vars }
     requires few { vars ≤ 4 }
     requires bound { IsTrue (vars_below vars (tree_of body)) }
 {
-    Ok(Watch::new(alloc, Monitor::build(alloc, &body, vars)?, lengths)?)
-}
-
-fn places<L: Ledger, R: AllocGlobal + Abort>(rt: &R, blank: Blank) -> Result<(), Fail>
-    requires name { blank.name ≡ L.name }
-    requires parts { blank.parts ≡ L.parts }
-    requires some { 0 < blank.parts }
-{
     let alloc = rt.alloc();
-    let mut steps = Steps::<L>::new(blank);
-    let one = watch(alloc, not_all(alloc, 1)?, 1, Lengths::Min)?;
-    let traces: [&[LetterMask]; 2] = [&[of(1), of(0)], &[of(0)]];
-    arrive(rt, one, &traces, &[1], &mut steps)?;
-    let two = watch(alloc, not_all(alloc, 2)?, 2, Lengths::Min)?;
-    let traces: [&[LetterMask]; 2] = [&[of(1)], &[of(0)]];
-    arrive(rt, two, &traces, &[1, 0], &mut steps)?;
-    let three = watch(alloc, not_all(alloc, 3)?, 3, Lengths::Min)?;
-    let traces: [&[LetterMask]; 3] = [&[of(0)], &[of(2)], &[of(1)]];
-    arrive(rt, three, &traces, &[0, 2, 1], &mut steps)?;
+    let mut watch = Watch::new(alloc, Monitor::build(alloc, &body, vars)?, lengths)?;
+    arrive(rt, &mut watch, traces, tuple, steps)?;
+    watch.truncate(0);
+    assert_eq!(rt; watch.count(), 0);
+    if let [.., _before, last] = traces {
+        arrive(rt, &mut watch, &[*last], &[], steps)?;
+    }
     Ok(())
 }
 
-/// The newest trace at the only place, the first and one between others.
-#[test]
-fn newest_at_each_place(rt: HostRuntime) -> Result<(), Fail> {
-    places::<Brand, HostRuntime>(&rt, Blank::new(1))
-}
-
-fn again<L: Ledger, R: AllocGlobal + Abort>(rt: &R, blank: Blank) -> Result<(), Fail>
-    requires name { blank.name ≡ L.name }
-    requires parts { blank.parts ≡ L.parts }
-    requires some { 0 < blank.parts }
-{
+/// The newest trace at the only place, at the first one, between others, and at two places.
+fn places<L: Ledger, R: AllocGlobal + Abort>(rt: &R, steps: &mut Steps<L>) -> Result<(), Fail> {
     let alloc = rt.alloc();
-    let mut steps = Steps::<L>::new(blank);
-    let four = watch(alloc, not_all(alloc, 4)?, 4, Lengths::Pad)?;
-    let traces: [&[LetterMask]; 3] = [&[of(3)], &[of(2), of(2)], &[of(1).with(0), of(1)]];
-    let mut four = arrive(rt, four, &traces, &[2, 2, 1, 0], &mut steps)?;
-    four.truncate(0);
-    let traces: [&[LetterMask]; 1] = [&[of(0).with(1).with(2).with(3)]];
-    arrive(rt, four, &traces, &[0, 0, 0, 0], &mut steps)?;
-    Ok(())
-}
-
-/// The newest trace at several places, and after a cut at all of them.
-#[test]
-fn one_trace_again(rt: HostRuntime) -> Result<(), Fail> {
-    again::<Brand, HostRuntime>(&rt, Blank::new(1))
-}
-
-fn rules<L: Ledger, R: AllocGlobal + Abort>(rt: &R, blank: Blank) -> Result<(), Fail>
-    requires name { blank.name ≡ L.name }
-    requires parts { blank.parts ≡ L.parts }
-    requires some { 0 < blank.parts }
-{
-    let alloc = rt.alloc();
-    let mut steps = Steps::<L>::new(blank);
-    let none = LetterMask::empty();
-    let least = watch(alloc, alike(alloc)?, 2, Lengths::Min)?;
-    let traces: [&[LetterMask]; 3] = [&[of(0)], &[of(0), none], &[of(0), of(0)]];
-    arrive(rt, least, &traces, &[1, 2], &mut steps)?;
-    let greatest = watch(alloc, alike(alloc)?, 2, Lengths::Pad)?;
-    arrive(rt, greatest, &traces, &[0, 2], &mut steps)?;
-    Ok(())
+    let (a, b, c, d) = (of(0), of(1), of(2), of(3));
+    tried(rt, not_all(alloc, 1)?, 1, Lengths::Min, &[&[a, b]], &[0], steps)?;
+    tried(rt, not_all(alloc, 2)?, 2, Lengths::Min, &[&[b], &[a]], &[1, 0], steps)?;
+    tried(rt, not_all(alloc, 3)?, 3, Lengths::Min, &[&[a], &[c], &[b]], &[0, 2, 1], steps)?;
+    let twice: [&[LetterMask]; 3] = [&[d], &[c, c], &[b.with(0), b]];
+    tried(rt, not_all(alloc, 4)?, 4, Lengths::Pad, &twice, &[2, 2, 1, 0], steps)
 }
 
 /// A tuple is judged on the least of its lengths or the greatest.
+fn rules<L: Ledger, R: AllocGlobal + Abort>(rt: &R, steps: &mut Steps<L>) -> Result<(), Fail> {
+    let alloc = rt.alloc();
+    let a = of(0);
+    let none = LetterMask::empty();
+    let traces: [&[LetterMask]; 3] = [&[a], &[a, none], &[a, a]];
+    tried(rt, alike(alloc)?, 2, Lengths::Min, &traces, &[1, 2], steps)?;
+    tried(rt, alike(alloc)?, 2, Lengths::Pad, &traces, &[0, 2], steps)
+}
+
+fn all<L: Ledger, R: AllocGlobal + Abort>(rt: &R, blank: Blank) -> Result<(), Fail>
+    requires name { blank.name ≡ L.name }
+    requires parts { blank.parts ≡ L.parts }
+    requires some { 0 < blank.parts }
+{
+    let mut steps = Steps::<L>::new(blank);
+    places(rt, &mut steps)?;
+    rules(rt, &mut steps)
+}
+
 #[test]
-fn both_rules(rt: HostRuntime) -> Result<(), Fail> {
-    rules::<Brand, HostRuntime>(&rt, Blank::new(1))
+fn tuples(rt: HostRuntime) -> Result<(), Fail> {
+    all::<Brand, HostRuntime>(&rt, Blank::new(1))
 }
