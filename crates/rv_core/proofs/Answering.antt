@@ -69,9 +69,11 @@ whole-brings m t h s = (h.present.sessions, refl, s.sessions)
 
 pub end-brings : (m : Held) (n : ℕ) (word : Trace) (os : Open) → letters_in n m.sessions ≡ Some word → Closes n m.sessions os
     → Brings m (event.End n) word os
-end-brings m n word os known closes h s =
-    (closed n h.present.sessions, goes-end h n word (sym (s.sessions.letters n) ∙ known),
-    sessions-closed n word m.sessions os h.present.sessions s.sessions known closes)
+end-brings m n word os known closes h s = (
+  closed n h.present.sessions,
+  goes-end h n word (sym (s.sessions.letters n) ∙ known),
+  sessions-closed n word m.sessions os h.present.sessions s.sessions known closes,
+)
 
 module _ (m : Held) (e : Event) (t : Trace) (os : Open) (brings : Brings m e t os) (is : arrives e ≡ true) (ws : List Watched)
     (gain : AllGain m.arrived t m.watches ws) where

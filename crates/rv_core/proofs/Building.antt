@@ -59,9 +59,11 @@ cause-refused fs f (Some kind.Atoms) kind.Atoms (smalls, manys) (small, many) =
 cause-refused fs f (Some kind.Table) kind.Atoms (smalls, fews, larges) (small, many) =
     (each-last HasSmallClosure fs f smalls small, some-last HasManyAtoms fs f many)
 cause-refused fs f (Some _) kind.Atoms c (small, many) = absurd c
-cause-refused fs f None kind.Table c (small, few, large) =
-    (each-last HasSmallClosure fs f (small-closures fs c) small, each-last HasFewAtoms fs f (few-atoms fs c) few,
-    some-last HasLargeTable fs f large)
+cause-refused fs f None kind.Table c (small, few, large) = (
+  each-last HasSmallClosure fs f (small-closures fs c) small,
+  each-last HasFewAtoms fs f (few-atoms fs c) few,
+  some-last HasLargeTable fs f large,
+)
 cause-refused fs f (Some kind.Closure) kind.Table c (small, few, large) = some-more HasLargeClosure fs f c
 cause-refused fs f (Some kind.Atoms) kind.Table (smalls, manys) (small, few, large) =
     (each-last HasSmallClosure fs f smalls small, some-more HasManyAtoms fs f manys)

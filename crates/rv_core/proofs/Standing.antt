@@ -139,12 +139,14 @@ pub saves-more : (arrived : List Trace) (t : Trace) (saves : List Saved) (ps : L
 saves-more arrived t [] [] s = tt
 saves-more arrived t [] (p ∷ ps) s = absurd s
 saves-more arrived t (x ∷ xs) [] s = absurd s
-saves-more arrived t (x ∷ xs) (p ∷ ps) (is, later) =
-    (record {
-      within = let long = length-append arrived (t ∷ []) in omega (arith, long, is.within);
-      front = is.front ∙ sym (take-append-le x.arrived arrived (t ∷ []) is.within);
-      sessions = is.sessions;
-    }, later)
+saves-more arrived t (x ∷ xs) (p ∷ ps) (is, later) = (
+  record {
+    within = let long = length-append arrived (t ∷ []) in omega (arith, long, is.within);
+    front = is.front ∙ sym (take-append-le x.arrived arrived (t ∷ []) is.within);
+    sessions = is.sessions;
+  },
+  later,
+)
 
 -- ---- the monitor
 
@@ -266,16 +268,20 @@ back-stands m ws x xs h s e cut =
         let specs = turned-specs x.arrived first m.watches ws cut in
         let Holds : List Trace → Type 0 = λ traces. AllHold ws traces in
         let Now : List Spec → Type 0 = λ q. IsClean m.rule q p.arrived in
-        let Saved : List Spec → Type 0 = λ q. Each (λ (p : Present). IsClean m.rule q p.arrived) ps in
-        (p, ps, refl, record {
-          clean = s.clean;
-          rules = turned-rules x.arrived first m.rule m.watches ws cut s.rules;
-          count = sym (ap length is.front ∙ length-take-le x.arrived h.present.arrived is.within);
-          traces = subst Holds (sym is.front) (turned-holds x.arrived first m.watches ws h.present.arrived cut s.traces);
-          sessions = is.sessions;
-          saves = later;
-          quiet = record { now = subst Now (sym specs) here; saved = subst Saved (sym specs) q };
-        })
+        let Saved : List Spec → Type 0 = λ q. Each (λ (p : Present). IsClean m.rule q p.arrived) ps in (
+          p,
+          ps,
+          refl,
+          record {
+            clean = s.clean;
+            rules = turned-rules x.arrived first m.rule m.watches ws cut s.rules;
+            count = sym (ap length is.front ∙ length-take-le x.arrived h.present.arrived is.within);
+            traces = subst Holds (sym is.front) (turned-holds x.arrived first m.watches ws h.present.arrived cut s.traces);
+            sessions = is.sessions;
+            saves = later;
+            quiet = record { now = subst Now (sym specs) here; saved = subst Saved (sym specs) q };
+          },
+        )
 
 -- no save, no pair
 pub none-saved : (m : Held) (h : History) → StandsFor m h → m.saves ≡ [] → h.saves ≡ []

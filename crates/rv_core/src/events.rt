@@ -93,11 +93,7 @@ impl Rv {
     }
 
     /// A session ends, and arrives as a trace.
-    fn take_end<L: Ledger>(
-        &mut self,
-        session: u32,
-        steps: &mut Steps<L>,
-    ) -> Result<Reply, RvError>
+    fn take_end<L: Ledger>(&mut self, session: u32, steps: &mut Steps<L>) -> Result<Reply, RvError>
         requires clean { IsTrue (held self.old).clean }
         requires few { (held self.old).arrived < 2 ^ 31 }
         ensures answers { Answers (held self.old) (held self.new) (occurs.End session) result }

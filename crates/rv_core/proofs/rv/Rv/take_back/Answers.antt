@@ -16,7 +16,7 @@ returns-then-is_empty-clause-answers c =
 pub truncate-requires : goal.truncate-requires
 truncate-requires c =
     let popped : c.args.self.now.saves ≡ c.pop.new.self ++ c.unwrap-arrived.result ∷ [] =
-        MatchOption-at_some _ (λ x. c.args.self.now.saves ≡ c.pop.new.self ++ x ∷ []) c.unwrap-arrived.result c.unwrap-arrived.ensures c.pop.ensures.taken in
+    MatchOption-at_some _ (λ x. c.args.self.now.saves ≡ c.pop.new.self ++ x ∷ []) c.unwrap-arrived.result c.unwrap-arrived.ensures c.pop.ensures.taken in
     let within = within-popped c.args.self.now.traces c.args.self.now.saves c.pop.new.self c.unwrap-arrived.result popped c.args.self.now.within in
     each-more (λ w. count_of w ≡ c.args.self.now.traces) (λ w. c.unwrap-arrived.result.arrived ≤ count_of w) (watched_by c.args.self.now.watches)
     (λ w e. omega (arith, within.0)) c.args.self.now.counts
@@ -24,7 +24,7 @@ truncate-requires c =
 pub invariant_of-self : goal.invariant_of-self
 invariant_of-self c =
     let popped : c.args.self.now.saves ≡ c.pop.new.self ++ c.unwrap-arrived.result ∷ [] =
-        MatchOption-at_some _ (λ x. c.args.self.now.saves ≡ c.pop.new.self ++ x ∷ []) c.unwrap-arrived.result c.unwrap-arrived.ensures c.pop.ensures.taken in
+    MatchOption-at_some _ (λ x. c.args.self.now.saves ≡ c.pop.new.self ++ x ∷ []) c.unwrap-arrived.result c.unwrap-arrived.ensures c.pop.ensures.taken in
     let within = within-popped c.args.self.now.traces c.args.self.now.saves c.pop.new.self c.unwrap-arrived.result popped c.args.self.now.within in
     let n = c.unwrap-arrived.result.arrived in
     let first = λ (traces : List Trace). take n traces in
@@ -39,6 +39,6 @@ invariant_of-self c =
 pub returns-clause-answers : goal.returns-clause-answers
 returns-clause-answers c =
     let popped : c.args.self.now.saves ≡ c.pop.new.self ++ c.unwrap-arrived.result ∷ [] =
-        MatchOption-at_some _ (λ x. c.args.self.now.saves ≡ c.pop.new.self ++ x ∷ []) c.unwrap-arrived.result c.unwrap-arrived.ensures c.pop.ensures.taken in
+    MatchOption-at_some _ (λ x. c.args.self.now.saves ≡ c.pop.new.self ++ x ∷ []) c.unwrap-arrived.result c.unwrap-arrived.ensures c.pop.ensures.taken in
     answered-back (held c.args.self.now) (watched_by c.truncate.new.self) c.unwrap-arrived.result (reverse c.pop.new.self)
     (ap reverse popped ∙ reverse-push c.pop.new.self c.unwrap-arrived.result) c.truncate.ensures

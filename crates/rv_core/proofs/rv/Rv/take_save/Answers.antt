@@ -46,7 +46,7 @@ returns-clause-answers c =
     let y : Saved = record { arrived = c.args.self.now.traces; sessions = c.args.self.now.sessions } in
     let same : x ≡ y = ap (λ (os : Open). record { arrived = c.args.self.now.traces; sessions = os }) c.in_ok-sessions.ensures in
     let back : reverse c.push.new.self ≡ y ∷ reverse c.args.self.now.saves =
-        ap reverse c.in_ok-push.ensures.added ∙ reverse-push c.args.self.now.saves x ∙ ap (λ s. s ∷ reverse c.args.self.now.saves) same in
+    ap reverse c.in_ok-push.ensures.added ∙ reverse-push c.args.self.now.saves x ∙ ap (λ s. s ∷ reverse c.args.self.now.saves) same in
     let P : List Saved → Type 0 = λ saves. Answers m (with_saves m saves) event.Save (Ok Quiet) in
     let long = length-reverse c.args.self.now.saves in
     subst P (sym back) (answered-save m (omega (arith, long, c.len.ensures, c.if-len-ge-MOST_SAVES.false)))

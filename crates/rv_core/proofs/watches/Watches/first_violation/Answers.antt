@@ -52,8 +52,8 @@ pub returns-clause-clean : goal.returns-clause-clean
 returns-clause-clean g c =
     let list = map watched c.args.self.now.items.items in
     each-from StaysClean list (λ j w at.
-        let within = slice_get_within list j w at in
-        c.loop-i.invariant.before j w (omega (arith, within, length-map c.args.self.now.items.items watched, c.len-i-end.ensures)) at)
+    let within = slice_get_within list j w at in
+    c.loop-i.invariant.before j w (omega (arith, within, length-map c.args.self.now.items.items watched, c.len-i-end.ensures)) at)
 
 pub returns-clause-steps : goal.returns-clause-steps
 returns-clause-steps g c = c.loop-i.invariant.grown
