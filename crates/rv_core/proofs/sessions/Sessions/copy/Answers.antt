@@ -12,7 +12,8 @@ insert-requires c =
     let at : slice_get c.self.inside.map.entries c.loop-i.i ≡ Some (number, c.unwrap.result.1.now) =
     sym c.get_index.ensures.entry ∙ ap (option_map deref_pair) c.unwrap.ensures in
     ap (lookup (nat_eq number)) c.loop-i.invariant
-    ∙ absent-before c.self.inside.map.entries c.loop-i.i number c.unwrap.result.1.now c.len-i-end.ensures.unique at
+    ∙ absent-before c.self.inside.map.entries c.loop-i.i number c.unwrap.result.1.now
+    c.len-i-end.ensures.unique at
 
 pub loop-i-preserved : goal.loop-i-preserved
 loop-i-preserved c =
