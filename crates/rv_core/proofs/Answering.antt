@@ -34,23 +34,38 @@ answered-letter m n a os x = record { rule = refl; specs = refl; right = λ h s.
     by : Extends n a m.sessions os → (h : History) → StandsFor m h
         → IsAnswer m (changed m m.watches m.arrived os m.clean) (event.Letter n a) h (Ok Quiet)
     by (longer word known short puts same) h s =
-        quiet (record { present = record { arrived = h.present.arrived; sessions = extended n a h.present.sessions }; saves = h.saves })
+        quiet (record {
+          present =
+              record { arrived = h.present.arrived; sessions = extended n a h.present.sessions };
+          saves = h.saves;
+        })
         (goes-longer h n a word (sym (s.sessions.letters n) ∙ known) short) refl
-        (letter-stands m os h (extended n a h.present.sessions) s (sessions-extended n a m.sessions os h.present.sessions s.sessions x))
+        (letter-stands m os h (extended n a h.present.sessions) s
+        (sessions-extended n a m.sessions os h.present.sessions s.sessions x))
     by (opened known few puts more) h s =
-        quiet (record { present = record { arrived = h.present.arrived; sessions = extended n a h.present.sessions }; saves = h.saves })
-        (goes-opened h n a (sym (s.sessions.letters n) ∙ known) (omega (arith, s.sessions.count))) refl
-        (letter-stands m os h (extended n a h.present.sessions) s (sessions-extended n a m.sessions os h.present.sessions s.sessions x))
+        quiet (record {
+          present =
+              record { arrived = h.present.arrived; sessions = extended n a h.present.sessions };
+          saves = h.saves;
+        })
+        (goes-opened h n a (sym (s.sessions.letters n) ∙ known) (omega (arith, s.sessions.count)))
+        refl
+        (letter-stands m os h (extended n a h.present.sessions) s
+        (sessions-extended n a m.sessions os h.present.sessions s.sessions x))
 
 pub refused-letter : (m : Held) (n : ℕ) (a : Letter) (e : RvError) → IsNotTaken n m.sessions e
     → Answers m m (event.Letter n a) (Err e)
-refused-letter m n a e no_letter = record { rule = refl; specs = refl; right = λ h s. by e no_letter h s }
+refused-letter m n a e no_letter =
+    record { rule = refl; specs = refl; right = λ h s. by e no_letter h s }
   where
-    by : (e : RvError) → IsNotTaken n m.sessions e → (h : History) → StandsFor m h → IsAnswer m m (event.Letter n a) h (Err e)
+    by : (e : RvError) → IsNotTaken n m.sessions e → (h : History) → StandsFor m h
+        → IsAnswer m m (event.Letter n a) h (Err e)
     by (error.Limit kind.Length) (word, known, long) h s =
         refused_by too_long (refused-long h n a word (sym (s.sessions.letters n) ∙ known) long) s
     by (error.Limit kind.Sessions) (known, many) h s =
-        refused_by too_many_sessions (refused-many h n a (sym (s.sessions.letters n) ∙ known) (omega (arith, s.sessions.count))) s
+        refused_by too_many_sessions
+        (refused-many h n a (sym (s.sessions.letters n) ∙ known)
+        (omega (arith, s.sessions.count))) s
     by (error.Limit _) x h s = absurd x
     by error.Memory x h s = spent refl s
     by error.NoLetter x h s = absurd x
@@ -67,22 +82,30 @@ Brings m e t os =
 pub whole-brings : (m : Held) (t : Trace) → Brings m (event.Whole t) t m.sessions
 whole-brings m t h s = (h.present.sessions, refl, s.sessions)
 
-pub end-brings : (m : Held) (n : ℕ) (word : Trace) (os : Open) → letters_in n m.sessions ≡ Some word → Closes n m.sessions os
+pub end-brings : (m : Held) (n : ℕ) (word : Trace) (os : Open) → letters_in n m.sessions ≡ Some word
+    → Closes n m.sessions os
     → Brings m (event.End n) word os
-end-brings m n word os known closes h s =
-    (closed n h.present.sessions, goes-end h n word (sym (s.sessions.letters n) ∙ known),
-    sessions-closed n word m.sessions os h.present.sessions s.sessions known closes)
+end-brings m n word os known closes h s = (
+  closed n h.present.sessions,
+  goes-end h n word (sym (s.sessions.letters n) ∙ known),
+  sessions-closed n word m.sessions os h.present.sessions s.sessions known closes,
+)
 
-module _ (m : Held) (e : Event) (t : Trace) (os : Open) (brings : Brings m e t os) (is : arrives e ≡ true) (ws : List Watched)
+module _ (m : Held) (e : Event) (t : Trace) (os : Open) (brings : Brings m e t os)
+    (is : arrives e ≡ true) (ws : List Watched)
     (gain : AllGain m.arrived t m.watches ws) where
-  answered-clean : Each StaysClean ws → Answers m (changed m ws (m.arrived + 1) os true) e (Ok (Arrived m.arrived))
+  answered-clean : Each StaysClean ws
+      → Answers m (changed m ws (m.arrived + 1) os true) e (Ok (Arrived m.arrived))
   answered-clean stay = record {
     rule = refl;
     specs = turned-specs (m.arrived + 1) (λ traces. traces ++ t ∷ []) m.watches ws gain;
     right = λ h s.
         let (ss, goes-on, sessions) = brings h s in
-        let P : ℕ → Type 0 = λ n. IsAnswer m (changed m ws (m.arrived + 1) os true) e h (Ok (Arrived n)) in
-        subst P (sym s.count) (arrived (with_trace h t ss) goes-on is (arrival-stands m ws os h t ss s gain stay sessions));
+        let P : ℕ → Type 0 =
+        λ n. IsAnswer m (changed m ws (m.arrived + 1) os true) e h (Ok (Arrived n)) in
+        subst P (sym s.count)
+        (arrived (with_trace h t ss) goes-on is
+        (arrival-stands m ws os h t ss s gain stay sessions));
   }
 
   answered-violated : (k : ℕ) (tuple : List ℕ) → FirstFound ws k tuple
@@ -92,10 +115,12 @@ module _ (m : Held) (e : Event) (t : Trace) (os : Open) (brings : Brings m e t o
     specs = turned-specs (m.arrived + 1) (λ traces. traces ++ t ∷ []) m.watches ws gain;
     right = λ h s.
         let (ss, goes-on, sessions) = brings h s in
-        violated (with_trace h t ss) k m.arrived tuple goes-on is (arrival-found m ws h t k tuple s gain found) refl;
+        violated (with_trace h t ss) k m.arrived tuple goes-on is
+        (arrival-found m ws h t k tuple s gain found) refl;
   }
 
-  pub answered-arrival : (found : Option Found) (reply : Reply) → IsReplyTo m.arrived found reply → IfNone found (Each StaysClean ws)
+  pub answered-arrival : (found : Option Found) (reply : Reply) → IsReplyTo m.arrived found reply
+      → IfNone found (Each StaysClean ws)
       → IfSome found (λ f. FirstFound ws f.spec f.tuple)
       → Answers m (changed m ws (m.arrived + 1) os (not (is_some found))) e (Ok reply)
   answered-arrival None reply r clean first =
@@ -105,7 +130,8 @@ module _ (m : Held) (e : Event) (t : Trace) (os : Open) (brings : Brings m e t o
       let P : Reply → Type 0 = λ q. Answers m (changed m ws (m.arrived + 1) os false) e (Ok q) in
       subst P (sym r) (answered-violated f.spec f.tuple first)
 
-pub answered-spent : (m : Held) (ws : List Watched) (e : Event) → takes_memory e ≡ true → AllStay m.arrived m.watches ws
+pub answered-spent : (m : Held) (ws : List Watched) (e : Event) → takes_memory e ≡ true
+    → AllStay m.arrived m.watches ws
     → Answers m (changed m ws m.arrived m.sessions m.clean) e (Err error.Memory)
 answered-spent m ws e takes stay = record {
   rule = refl;
@@ -124,12 +150,15 @@ stay-before m ws stay = record {
 }
 
 pub same-before : (m : Held) → IsAsBefore m m
-same-before m = record { arrived = refl; sessions = refl; saves = refl; clean = refl; stands = λ h s. s }
+same-before m =
+    record { arrived = refl; sessions = refl; saves = refl; clean = refl; stands = λ h s. s }
 
-pub memory-answer : (m : Held) (e : Event) → takes_memory e ≡ true → Answers m m e (Err error.Memory)
+pub memory-answer : (m : Held) (e : Event) → takes_memory e ≡ true
+    → Answers m m e (Err error.Memory)
 memory-answer m e takes = record { rule = refl; specs = refl; right = λ h s. spent takes s }
 
-pub no-end : (m : Held) (n : ℕ) → letters_in n m.sessions ≡ None → Answers m m (event.End n) (Err error.NoLetter)
+pub no-end : (m : Held) (n : ℕ) → letters_in n m.sessions ≡ None
+    → Answers m m (event.End n) (Err error.NoLetter)
 no-end m n none = record {
   rule = refl;
   specs = refl;
@@ -139,16 +168,19 @@ no-end m n none = record {
 -- ---- a save and a back
 
 pub answered-save : (m : Held) → length m.saves < 64
-    → Answers m (with_saves m (record { arrived = m.arrived; sessions = m.sessions } ∷ m.saves)) event.Save (Ok Quiet)
+    → Answers m (with_saves m (record { arrived = m.arrived; sessions = m.sessions } ∷ m.saves))
+    event.Save (Ok Quiet)
 answered-save m few = record {
   rule = refl;
   specs = refl;
   right = λ h s.
       let long = saves-long h.present.arrived m.saves h.saves s.saves in
-      quiet (record { present = h.present; saves = h.present ∷ h.saves }) (goes-save h (omega (arith, long))) refl (save-stands m h s);
+      quiet (record { present = h.present; saves = h.present ∷ h.saves })
+      (goes-save h (omega (arith, long))) refl (save-stands m h s);
 }
 
-pub many-saves : (m : Held) → 64 ≤ length m.saves → Answers m m event.Save (Err (error.Limit kind.Saves))
+pub many-saves : (m : Held) → 64 ≤ length m.saves
+    → Answers m m event.Save (Err (error.Limit kind.Saves))
 many-saves m many = record {
   rule = refl;
   specs = refl;
@@ -157,7 +189,8 @@ many-saves m many = record {
       refused_by too_many_saves (refused-save h (omega (arith, long))) s;
 }
 
-pub answered-back : (m : Held) (ws : List Watched) (x : Saved) (xs : List Saved) → m.saves ≡ x ∷ xs → AllCut x.arrived m.watches ws
+pub answered-back : (m : Held) (ws : List Watched) (x : Saved) (xs : List Saved) → m.saves ≡ x ∷ xs
+    → AllCut x.arrived m.watches ws
     → Answers m (back_to m ws x xs) event.Back (Ok Quiet)
 answered-back m ws x xs e cut = record {
   rule = refl;

@@ -3,7 +3,8 @@ use Rattle.std.proofs.Common.{◌≡◌, ℕ, zero, suc, ◌+◌, ◌<◌, List,
 use Rattle.hy_formula.specs.Quantifiers.{Each}
 
 -- the elements up to a place and the one there
-pub take-next : {A : Type 0} (xs : List A) (i : ℕ) (x : A) → slice_get xs i ≡ Some x → take (i + 1) xs ≡ take i xs ++ x ∷ []
+pub take-next : {A : Type 0} (xs : List A) (i : ℕ) (x : A) → slice_get xs i ≡ Some x
+    → take (i + 1) xs ≡ take i xs ++ x ∷ []
 take-next {A} xs i x at = rw add-one (by xs i at)
   where
     by : (ys : List A) (j : ℕ) → slice_get ys j ≡ Some x → take (suc j) ys ≡ take j ys ++ x ∷ []
@@ -30,11 +31,13 @@ module _ {A : Type 0} (P : A → Type 0) where
   each-push [] x all p = (p, tt)
   each-push (y ∷ ys) x (q, all) p = (q, each-push ys x all p)
 
-pub each-more : {A : Type 0} (P Q : A → Type 0) (xs : List A) → ((x : A) → P x → Q x) → Each P xs → Each Q xs
+pub each-more : {A : Type 0} (P Q : A → Type 0) (xs : List A) → ((x : A) → P x → Q x) → Each P xs
+    → Each Q xs
 each-more P Q [] f all = tt
 each-more P Q (x ∷ xs) f (p, all) = (f x p, each-more P Q xs f all)
 
-pub front-at : {A : Type 0} (n : ℕ) (xs : List A) (i : ℕ) (x : A) → i < n → slice_get xs i ≡ Some x → slice_get (take n xs) i ≡ Some x
+pub front-at : {A : Type 0} (n : ℕ) (xs : List A) (i : ℕ) (x : A) → i < n → slice_get xs i ≡ Some x
+    → slice_get (take n xs) i ≡ Some x
 front-at zero xs i x lt at = absurd (omega arith)
 front-at (suc n) [] i x lt at = absurd (cc)
 front-at (suc n) (y ∷ ys) zero x lt at = at

@@ -10,16 +10,21 @@ pub step-whole : (h : History) (t : Trace) (next : History) → step h (event.Wh
     → next ≡ with_trace h t h.present.sessions
 step-whole h t next e = cc
 
-pub step-letter : (h : History) (n : ℕ) (a : Letter) (next : History) → step h (event.Letter n a) ≡ goes next
+pub step-letter : (h : History) (n : ℕ) (a : Letter) (next : History)
+    → step h (event.Letter n a) ≡ goes next
     → next ≡ with_sessions h (extended n a h.present.sessions)
 step-letter h n a next e = opened (letters_of n h.present.sessions) e
   where
-    short : (b : Bool) → cond b (goes (with_sessions h (extended n a h.present.sessions))) (refused too_long) ≡ goes next
+    short : (b : Bool)
+        → cond b (goes (with_sessions h (extended n a h.present.sessions)))
+        (refused too_long) ≡ goes next
         → next ≡ with_sessions h (extended n a h.present.sessions)
     short true e = cc
     short false e = absurd (cc)
 
-    few : (b : Bool) → cond b (goes (with_sessions h (extended n a h.present.sessions))) (refused too_many_sessions) ≡ goes next
+    few : (b : Bool)
+        → cond b (goes (with_sessions h (extended n a h.present.sessions)))
+        (refused too_many_sessions) ≡ goes next
         → next ≡ with_sessions h (extended n a h.present.sessions)
     few true e = cc
     few false e = absurd (cc)
@@ -34,7 +39,8 @@ pub step-end : (h : History) (n : ℕ) (next : History) → step h (event.End n)
     (next ≡ with_trace h word (closed n h.present.sessions))
 step-end h n next e = opened (letters_of n h.present.sessions) refl e
   where
-    opened : (o : Option (List Letter)) → letters_of n h.present.sessions ≡ o → end_step h n o ≡ goes next
+    opened : (o : Option (List Letter)) → letters_of n h.present.sessions ≡ o
+        → end_step h n o ≡ goes next
         → (word : Trace) × (letters_of n h.present.sessions ≡ Some word) ×
         (next ≡ with_trace h word (closed n h.present.sessions))
     opened (Some word) known e = (word, known, cc)
@@ -44,64 +50,82 @@ pub step-save : (h next : History) → step h event.Save ≡ goes next
     → next ≡ record { present = h.present; saves = h.present ∷ h.saves }
 step-save h next e = few (nat_lt (length h.saves) most_saves) e
   where
-    few : (b : Bool) → cond b (goes (record { present = h.present; saves = h.present ∷ h.saves })) (refused too_many_saves) ≡ goes next
+    few : (b : Bool)
+        → cond b (goes (record { present = h.present; saves = h.present ∷ h.saves }))
+        (refused too_many_saves) ≡ goes next
         → next ≡ record { present = h.present; saves = h.present ∷ h.saves }
     few true e = cc
     few false e = absurd (cc)
 
 pub step-back : (h next : History) → step h event.Back ≡ goes next
-    → (p : Present) × (ps : List Present) × (h.saves ≡ p ∷ ps) × (next ≡ record { present = p; saves = ps })
+    → (p : Present) × (ps : List Present) × (h.saves ≡ p ∷ ps)
+    × (next ≡ record { present = p; saves = ps })
 step-back h next e = popped h.saves refl e
   where
     popped : (saves : List Present) → h.saves ≡ saves → back_step saves ≡ goes next
-        → (p : Present) × (ps : List Present) × (h.saves ≡ p ∷ ps) × (next ≡ record { present = p; saves = ps })
+        → (p : Present) × (ps : List Present) × (h.saves ≡ p ∷ ps)
+        × (next ≡ record { present = p; saves = ps })
     popped [] known e = absurd (cc)
     popped (p ∷ ps) known e = (p, ps, known, cc)
 
 -- ---- when an event is refused, and when not
 
-pub goes-longer : (h : History) (n : ℕ) (a : Letter) (word : List Letter) → letters_of n h.present.sessions ≡ Some word
-    → length word < 1024 → step h (event.Letter n a) ≡ goes (with_sessions h (extended n a h.present.sessions))
+pub goes-longer : (h : History) (n : ℕ) (a : Letter) (word : List Letter)
+    → letters_of n h.present.sessions ≡ Some word
+    → length word < 1024
+    → step h (event.Letter n a) ≡ goes (with_sessions h (extended n a h.present.sessions))
 goes-longer h n a word known short =
     let fits : nat_lt (length word) most_letters ≡ true = lt-ltb (length word) most_letters short in
     ap (letter_step h n a) known
-    ∙ ap (λ b. cond b (goes (with_sessions h (extended n a h.present.sessions))) (refused too_long)) fits
+    ∙ ap (λ b. cond b (goes (with_sessions h (extended n a h.present.sessions))) (refused too_long))
+    fits
 
 pub goes-opened : (h : History) (n : ℕ) (a : Letter) → letters_of n h.present.sessions ≡ None
-    → length h.present.sessions < 1024 → step h (event.Letter n a) ≡ goes (with_sessions h (extended n a h.present.sessions))
+    → length h.present.sessions < 1024
+    → step h (event.Letter n a) ≡ goes (with_sessions h (extended n a h.present.sessions))
 goes-opened h n a known few =
-    let fits : nat_lt (length h.present.sessions) most_sessions ≡ true = lt-ltb (length h.present.sessions) most_sessions few in
+    let fits : nat_lt (length h.present.sessions) most_sessions ≡ true =
+    lt-ltb (length h.present.sessions) most_sessions few in
     ap (letter_step h n a) known
-    ∙ ap (λ b. cond b (goes (with_sessions h (extended n a h.present.sessions))) (refused too_many_sessions)) fits
+    ∙ ap (λ b. cond b (goes (with_sessions h (extended n a h.present.sessions)))
+    (refused too_many_sessions)) fits
 
-pub refused-long : (h : History) (n : ℕ) (a : Letter) (word : List Letter) → letters_of n h.present.sessions ≡ Some word
+pub refused-long : (h : History) (n : ℕ) (a : Letter) (word : List Letter)
+    → letters_of n h.present.sessions ≡ Some word
     → 1024 ≤ length word → step h (event.Letter n a) ≡ refused too_long
 refused-long h n a word known long =
     let full : nat_lt (length word) most_letters ≡ false = le-ltb (length word) most_letters long in
     ap (letter_step h n a) known
-    ∙ ap (λ b. cond b (goes (with_sessions h (extended n a h.present.sessions))) (refused too_long)) full
+    ∙ ap (λ b. cond b (goes (with_sessions h (extended n a h.present.sessions))) (refused too_long))
+    full
 
 pub refused-many : (h : History) (n : ℕ) (a : Letter) → letters_of n h.present.sessions ≡ None
     → 1024 ≤ length h.present.sessions → step h (event.Letter n a) ≡ refused too_many_sessions
 refused-many h n a known many =
-    let full : nat_lt (length h.present.sessions) most_sessions ≡ false = le-ltb (length h.present.sessions) most_sessions many in
+    let full : nat_lt (length h.present.sessions) most_sessions ≡ false =
+    le-ltb (length h.present.sessions) most_sessions many in
     ap (letter_step h n a) known
-    ∙ ap (λ b. cond b (goes (with_sessions h (extended n a h.present.sessions))) (refused too_many_sessions)) full
+    ∙ ap (λ b. cond b (goes (with_sessions h (extended n a h.present.sessions)))
+    (refused too_many_sessions)) full
 
 pub goes-end : (h : History) (n : ℕ) (word : Trace) → letters_of n h.present.sessions ≡ Some word
     → step h (event.End n) ≡ goes (with_trace h word (closed n h.present.sessions))
 goes-end h n word known = ap (end_step h n) known
 
-pub refused-end : (h : History) (n : ℕ) → letters_of n h.present.sessions ≡ None → step h (event.End n) ≡ refused no_session
+pub refused-end : (h : History) (n : ℕ) → letters_of n h.present.sessions ≡ None
+    → step h (event.End n) ≡ refused no_session
 refused-end h n known = ap (end_step h n) known
 
 pub goes-save : (h : History) → length h.saves < 64
     → step h event.Save ≡ goes (record { present = h.present; saves = h.present ∷ h.saves })
 goes-save h few =
     let fits : nat_lt (length h.saves) most_saves ≡ true = lt-ltb (length h.saves) most_saves few in
-    ap (λ b. cond b (goes (record { present = h.present; saves = h.present ∷ h.saves })) (refused too_many_saves)) fits
+    ap (λ b. cond b (goes (record { present = h.present; saves = h.present ∷ h.saves }))
+    (refused too_many_saves)) fits
 
 pub refused-save : (h : History) → 64 ≤ length h.saves → step h event.Save ≡ refused too_many_saves
 refused-save h many =
-    let full : nat_lt (length h.saves) most_saves ≡ false = le-ltb (length h.saves) most_saves many in
-    ap (λ b. cond b (goes (record { present = h.present; saves = h.present ∷ h.saves })) (refused too_many_saves)) full
+    let full : nat_lt (length h.saves) most_saves ≡ false =
+    le-ltb (length h.saves) most_saves many in
+    ap (λ b. cond b (goes (record { present = h.present; saves = h.present ∷ h.saves }))
+    (refused too_many_saves)) full

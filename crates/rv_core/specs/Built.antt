@@ -53,7 +53,8 @@ abbrev pub IsTooLarge : List Formula → Kind → Type 0
 IsTooLarge formulas kind.Closure = SomeBody HasLargeClosure formulas
 IsTooLarge formulas kind.Atoms = EachBody HasSmallClosure formulas × SomeBody HasManyAtoms formulas
 IsTooLarge formulas kind.Table =
-    EachBody HasSmallClosure formulas × EachBody HasFewAtoms formulas × SomeBody HasLargeTable formulas
+    EachBody HasSmallClosure formulas × EachBody HasFewAtoms formulas
+    × SomeBody HasLargeTable formulas
 IsTooLarge formulas _ = ⊥
 
 -- why formulas are not monitored

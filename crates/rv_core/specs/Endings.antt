@@ -25,7 +25,8 @@ abbrev pub IsClean : Lengths → List Spec → List Trace → Type 0
 IsClean rule specs list = (s : ℕ) → s < length specs → ¬ ViolatesSpec rule list (spec_at specs s)
 
 -- The spec is the first one that the list violates.
-pub record FirstViolated (rule : Lengths) (specs : List Spec) (list : List Trace) (s : ℕ) : Type 0 where
+pub record FirstViolated (rule : Lengths) (specs : List Spec) (list : List Trace)
+    (s : ℕ) : Type 0 where
   pub there : s < length specs
   pub violated : ViolatesSpec rule list (spec_at specs s)
   pub before : (r : ℕ) → r < s → ¬ ViolatesSpec rule list (spec_at specs r)
@@ -49,7 +50,8 @@ Comes rule specs k true (goes h) Rest ending =
 abbrev pub Ends : Lengths → List Spec → ℕ → History → List Event → Ending → Type 0
 Ends rule specs k h [] ending = ending ≡ clean h
 Ends rule specs k h (e ∷ es) ending =
-    Comes rule specs k (arrives e) (step h e) (λ next. Ends rule specs (suc k) next es ending) ending
+    Comes rule specs k (arrives e) (step h e)
+    (λ next. Ends rule specs (suc k) next es ending) ending
 
 -- Each back has its save among the events, of which n are before them, and each save its back.
 abbrev pub Matched : ℕ → List Event → Type 0

@@ -65,14 +65,20 @@ with_sessions h ss =
 
 abbrev pub with_trace : History → Trace → List Session → History
 with_trace h t ss =
-    record { present = record { arrived = h.present.arrived ++ t ∷ []; sessions = ss }; saves = h.saves }
+    record {
+      present = record { arrived = h.present.arrived ++ t ∷ []; sessions = ss };
+      saves =
+          h.saves;
+    }
 
 abbrev pub letter_step : History → ℕ → Letter → Option (List Letter) → Step
 letter_step h n a (Some word) =
-    if nat_lt (length word) most_letters then goes (with_sessions h (extended n a h.present.sessions))
+    if nat_lt (length word) most_letters then goes
+    (with_sessions h (extended n a h.present.sessions))
     else refused too_long
 letter_step h n a None =
-    if nat_lt (length h.present.sessions) most_sessions then goes (with_sessions h (extended n a h.present.sessions))
+    if nat_lt (length h.present.sessions) most_sessions then goes
+    (with_sessions h (extended n a h.present.sessions))
     else refused too_many_sessions
 
 abbrev pub end_step : History → ℕ → Option (List Letter) → Step
@@ -81,7 +87,8 @@ end_step h n None = refused no_session
 
 abbrev pub save_step : History → Step
 save_step h =
-    if nat_lt (length h.saves) most_saves then goes (record { present = h.present; saves = h.present ∷ h.saves })
+    if nat_lt (length h.saves) most_saves then goes
+    (record { present = h.present; saves = h.present ∷ h.saves })
     else refused too_many_saves
 
 abbrev pub back_step : List Present → Step

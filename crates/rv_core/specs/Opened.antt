@@ -22,7 +22,8 @@ pub record AreOpen (sessions : Open) : Type 0 where
 
 -- Session n has these letters, or is not open, and the others are as before.
 abbrev pub Puts : ℕ → Option (List Letter) → Open → Open → Type 0
-Puts n letters old new = (m : ℕ) → letters_in m new ≡ (if nat_eq n m then letters else letters_in m old)
+Puts n letters old new = (m : ℕ)
+    → letters_in m new ≡ (if nat_eq n m then letters else letters_in m old)
 
 -- The letter goes last in its session, which is opened where it was not open.
 pub data Extends (n : ℕ) (a : Letter) (old new : Open) : Type 0 where

@@ -30,14 +30,16 @@ takes_memory (event.End n) = true
 takes_memory event.Save = true
 
 -- The list violates the spec by these of its traces, one for each variable, by their numbers.
-pub record IsViolatedBy (rule : Lengths) (spec : Spec) (list : List Trace) (tuple : List ℕ) : Type 0 where
+pub record IsViolatedBy (rule : Lengths) (spec : Spec) (list : List Trace)
+    (tuple : List ℕ) : Type 0 where
   pub long : length tuple ≡ spec.variables
   pub inside : All (λ k. k < length list) tuple
   pub violates : ViolatesBy rule spec.variables spec.body list (picked list tuple)
 
 -- What is answered where a trace arrives by which the list violates a spec: the first such spec, the number of the
 -- trace, and a tuple.
-pub record IsFound (rule : Lengths) (specs : List Spec) (list : List Trace) (s trace : ℕ) (tuple : List ℕ) : Type 0 where
+pub record IsFound (rule : Lengths) (specs : List Spec) (list : List Trace) (s trace : ℕ)
+    (tuple : List ℕ) : Type 0 where
   pub first : FirstViolated rule specs list s
   pub last : suc trace ≡ length list
   pub by_tuple : IsViolatedBy rule (spec_at specs s) list tuple
@@ -48,10 +50,12 @@ pub data IsAnswer (old new : Held) (e : Event) (h : History) : Result Reply RvEr
       → IsAnswer old new e h (Ok Quiet)
   arrived : (next : History) → step h e ≡ goes next → arrives e ≡ true → StandsFor new next
       → IsAnswer old new e h (Ok (Arrived (length h.present.arrived)))
-  violated : (next : History) (s trace : ℕ) (tuple : List ℕ) → step h e ≡ goes next → arrives e ≡ true
+  violated : (next : History) (s trace : ℕ) (tuple : List ℕ) → step h e ≡ goes next
+      → arrives e ≡ true
       → IsFound old.rule (specs_of old) next.present.arrived s trace tuple → new.clean ≡ false
       → IsAnswer old new e h (Ok (Violation s trace tuple))
-  refused_by : (r : Refusal) → step h e ≡ refused r → StandsFor new h → IsAnswer old new e h (Err (error_of r))
+  refused_by : (r : Refusal) → step h e ≡ refused r → StandsFor new h
+      → IsAnswer old new e h (Err (error_of r))
   spent : takes_memory e ≡ true → StandsFor new h → IsAnswer old new e h (Err error.Memory)
 
 -- What a call of `event` says: the specs and the rule stay, and its answer is right for each history that the monitor
@@ -85,12 +89,15 @@ pub data Stop : Type 0 where
 -- answered by an error or a violation.
 pub data Runs : ℕ → Held → List Event → Stop → Type 0 where
   at_end : (k : ℕ) (m : Held) → Runs k m [] (through m)
-  on_quiet : (k : ℕ) (m next : Held) (e : Event) (es : List Event) (stop : Stop) → Answers m next e (Ok Quiet)
+  on_quiet : (k : ℕ) (m next : Held) (e : Event) (es : List Event) (stop : Stop)
+      → Answers m next e (Ok Quiet)
       → Runs (suc k) next es stop → Runs k m (e ∷ es) stop
   on_arrival : (k : ℕ) (m next : Held) (e : Event) (es : List Event) (stop : Stop) (trace : ℕ)
       → Answers m next e (Ok (Arrived trace)) → Runs (suc k) next es stop → Runs k m (e ∷ es) stop
-  at_violation : (k : ℕ) (m next : Held) (e : Event) (es : List Event) (s trace : ℕ) (tuple : List ℕ)
-      → Answers m next e (Ok (Violation s trace tuple)) → Runs k m (e ∷ es) (violation_at k s trace tuple)
+  at_violation : (k : ℕ) (m next : Held) (e : Event) (es : List Event) (s trace : ℕ)
+      (tuple : List ℕ)
+      → Answers m next e (Ok (Violation s trace tuple))
+      → Runs k m (e ∷ es) (violation_at k s trace tuple)
   at_error : (k : ℕ) (m next : Held) (e : Event) (es : List Event) (error : RvError)
       → Answers m next e (Err error) → Runs k m (e ∷ es) (error_at k error)
 

@@ -11,4 +11,12 @@ watched_by w = map watched w.items.items
 
 abbrev pub held : Rv → Held
 held rv =
-    record { rule = rv.rule; watches = watched_by rv.watches; arrived = rv.traces; sessions = rv.sessions; saves = reverse rv.saves; clean = rv.clean }
+    record {
+      rule = rv.rule;
+      watches = watched_by rv.watches;
+      arrived = rv.traces;
+      sessions =
+          rv.sessions;
+      saves = reverse rv.saves;
+      clean = rv.clean;
+    }

@@ -34,8 +34,8 @@ impl Rv {
     /// aside. Where it is refused, for memory too, all is as before. A back takes no memory. After a
     /// violation the monitor takes no more events.
     ///
-    /// A letter, an end and a back take constant time but for growth and `find`; a save takes time and
-    /// memory linear in the letters of the open sessions.
+    /// A letter and an end take constant time but for growth and `find`, a back time linear in the open
+    /// sessions, a save time and memory linear in their letters.
     pub fn event<L: Ledger>(
         &mut self,
         alloc: Global,
@@ -85,7 +85,8 @@ impl Rv {
         letter: LetterMask,
     ) -> Result<Reply, RvError>
         requires clean { IsTrue (held self.old).clean }
-        ensures answers { Answers (held self.old) (held self.new) (occurs.Letter session letter) result }
+        ensures answers { Answers (held self.old) (held self.new) (occurs.Letter session letter)
+            result }
         ensures refused { OnErr result (IsAsBefore (held self.old) (held self.new)) }
     {
         self.sessions.extend(alloc, session, letter)?;
@@ -93,11 +94,7 @@ impl Rv {
     }
 
     /// A session ends, and arrives as a trace.
-    fn take_end<L: Ledger>(
-        &mut self,
-        session: u32,
-        steps: &mut Steps<L>,
-    ) -> Result<Reply, RvError>
+    fn take_end<L: Ledger>(&mut self, session: u32, steps: &mut Steps<L>) -> Result<Reply, RvError>
         requires clean { IsTrue (held self.old).clean }
         requires few { (held self.old).arrived < 2 ^ 31 }
         ensures answers { Answers (held self.old) (held self.new) (occurs.End session) result }

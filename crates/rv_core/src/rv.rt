@@ -19,7 +19,7 @@ pub struct Rv {
     pub(crate) sessions: Sessions,
     pub(crate) saves: SavedList,
     pub(crate) clean: bool,
-    ghost counts: { AllCount traces (map watched watches.items.items) } by { AllCount-prop traces (map watched watches.items.items) },
+    ghost counts: { AllCount traces (map watched watches.items.items) } by { AllCount-prop traces _ },
     ghost within: { AreWithin traces (reverse saves) } by { AreWithin-prop traces (reverse saves) },
     ghost countable: { length watches.items.items < 2 ^ 32 },
 }

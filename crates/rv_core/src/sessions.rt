@@ -1,7 +1,8 @@
 //! Sessions that are open.
 
-ghost use Rattle.std.specs.Prelude.{◌≡◌, ◌≤◌, [], length, IfOk, IfErr, IfSome, OnOk, OnErr, IsSome};
+ghost use Rattle.std.specs.Prelude.{◌≡◌, ◌<◌, ◌≤◌, ◌++◌, ◌∷◌, [], length, None, Some, IfOk, IfErr, IfSome, OnOk, OnErr, IsSome};
 ghost use Rattle.std.specs.Option.{option_copied};
+ghost use Rattle.rv_core.specs.Opened.{IsNotLonger, letters_in, Extends, IsNotTaken, Puts};
 
 use crate::rv_error::RvError;
 use hy_base::{Kind, List, M};
@@ -102,11 +103,6 @@ impl Sessions {
     }
 }
 
-ghost use Rattle.std.specs.Prelude.{◌+◌, ◌<◌, ◌++◌, ◌∷◌, None, Some};
-ghost use Rattle.indexmap.specs.IndexMap.{IsUnchanged, get};
-ghost use Rattle.std.specs.Prelude.{nat_eq};
-ghost use Rattle.rv_core.specs.Opened.{IsNotLonger, letters_in, Extends, IsNotTaken, Puts};
-
 /// Puts a letter last. `Limit` where there are 1,024 letters already. Refused it changes nothing.
 fn add_letter(letters: &mut Letters, letter: LetterMask) -> Result<(), RvError>
     ensures added { OnOk result (letters.new ≡ letters.old ++ letter ∷ []) }
@@ -146,8 +142,10 @@ fn open_session(
 /// Puts a new session last.
 fn insert(sessions: &mut IndexMap<u32, Letters>, number: u32, letters: Letters) -> M<()>
     requires { letters_in number sessions.old.entries ≡ None }
-    ensures added { OnOk result (sessions.new.entries ≡ sessions.old.entries ++ (number, letters) ∷ []) }
-    ensures put { OnOk result (Puts number (Some letters) sessions.old.entries sessions.new.entries) }
+    ensures added { OnOk result
+        (sessions.new.entries ≡ sessions.old.entries ++ (number, letters) ∷ []) }
+    ensures put { OnOk result
+        (Puts number (Some letters) sessions.old.entries sessions.new.entries) }
     ensures unchanged { OnErr result (sessions.new.entries ≡ sessions.old.entries) }
 {
     sessions.insert(number, letters)?;

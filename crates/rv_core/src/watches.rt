@@ -41,7 +41,8 @@ impl Watches {
 
     /// Adds a watch last. Refused for memory it changes nothing.
     pub(crate) fn push(&mut self, watch: Watch) -> M<()>
-        ensures added { OnOk result (watched_by self.new ≡ watched_by self.old ++ watched watch ∷ []) }
+        ensures added { OnOk result
+            (watched_by self.new ≡ watched_by self.old ++ watched watch ∷ []) }
         ensures refused { OnErr result (watched_by self.new ≡ watched_by self.old) }
     {
         self.items.push(watch)?;
@@ -61,8 +62,10 @@ impl Watches {
         requires counted { AllCount count (watched_by self.old) }
         requires few { count < 2 ^ 31 }
         requires countable { length (watched_by self.old) < 2 ^ 32 }
-        ensures gained { OnOk result (AllGain count trace.now (watched_by self.old) (watched_by self.new)) }
-        ensures clean { IfOk result (λ found. IfNone found (Each StaysClean (watched_by self.new))) }
+        ensures gained { OnOk result
+            (AllGain count trace.now (watched_by self.old) (watched_by self.new)) }
+        ensures clean { IfOk result (λ found. IfNone found
+            (Each StaysClean (watched_by self.new))) }
         ensures violated { IfOk result (λ found. IfSome found
             (λ f. FirstFound (watched_by self.new) f.spec f.tuple)) }
         ensures refused { OnErr result (AllStay count (watched_by self.old) (watched_by self.new)) }
@@ -105,8 +108,10 @@ fn push_to(watches: &mut Vec<Watch>, trace: &[LetterMask], count: u32) -> M<()>
     requires short { length trace.now ≤ 1024 }
     requires counted { AllCount count (map watched watches.old.items) }
     requires few { count < 2 ^ 31 }
-    ensures gained { OnOk result (AllGain count trace.now (map watched watches.old.items) (map watched watches.new.items)) }
-    ensures refused { OnErr result (AllStay count (map watched watches.old.items) (map watched watches.new.items)) }
+    ensures gained { OnOk result (AllGain count trace.now (map watched watches.old.items)
+        (map watched watches.new.items)) }
+    ensures refused { OnErr result (AllStay count (map watched watches.old.items)
+        (map watched watches.new.items)) }
 {
     for i in 0..watches.len() {
         let pushed = watches[i].push(trace);
@@ -122,7 +127,8 @@ fn push_to(watches: &mut Vec<Watch>, trace: &[LetterMask], count: u32) -> M<()>
 fn cut_first(watches: &mut Vec<Watch>, n: usize, count: u32)
     requires within { n ≤ length watches.old.items }
     requires counted { Each (λ w. count ≤ count_of w) (take n (map watched watches.old.items)) }
-    ensures { FirstTurn n (Turns count (take count)) (map watched watches.old.items) (map watched watches.new.items) }
+    ensures { FirstTurn n (Turns count (take count)) (map watched watches.old.items)
+        (map watched watches.new.items) }
 {
     for i in 0..n {
         watches[i].truncate(count);

@@ -9,7 +9,9 @@ returns-in_default c =
       universal = tt;
       refused = record {
         formula = c.index-formulas-i.result;
-        there = slice_get_read list (length list) c.loop-i.i c.index-formulas-i.result refl c.loop-i-test.true c.index-formulas-i.is;
+        there = slice_get_read list
+            (length list) c.loop-i.i c.index-formulas-i.result refl c.loop-i-test.true
+            c.index-formulas-i.is;
         class = sym c.class.ensures;
         other = λ universal. c.in_default.not-Forall (c.class.ensures ∙ universal);
         before = λ j f below at. c.loop-i.invariant j f below at;

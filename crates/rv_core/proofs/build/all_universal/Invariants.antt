@@ -5,4 +5,5 @@ use Rattle.rv_core.proofs.build.all_universal.Given as goal
 
 -- the formulas before are universal
 abbrev pub invariant-loop-i : goal.invariant-loop-i
-invariant-loop-i l = (j : ℕ) (f : Formula) → j < l.i → slice_get l.formulas j ≡ Some f → IsUniversal f
+invariant-loop-i l = (j : ℕ) (f : Formula) → j < l.i → slice_get l.formulas j ≡ Some f
+    → IsUniversal f

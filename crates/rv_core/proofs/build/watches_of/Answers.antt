@@ -20,30 +20,40 @@ loop-formula-preserved c =
     let k = c.loop-formula.formula-index in
     let f : Formula = c.formula-item.result in
     let next : take (k + 1) list ≡ take k list ++ f ∷ [] =
-        take-next list k f (slice_get_read list (length list) k f refl c.loop-formula-test.true c.formula-item.is) in
+    take-next list k f
+    (slice_get_read list (length list) k f refl c.loop-formula-test.true c.formula-item.is) in
     let P : List Formula → Type 0 = λ fs. IsCause fs c.match-watch_of.refused in
-    let Q : List Formula → Type 0 = λ fs. c.match-watch_of.refused ≡ None → AreFresh c.args.rule fs (watched_by c.match-watch_of.watches) in
+    let Q : List Formula → Type 0 = λ fs. c.match-watch_of.refused ≡ None
+    → AreFresh c.args.rule fs (watched_by c.match-watch_of.watches) in
     elim c.match-watch_of.branch [
       | in-Ok+in_ok-push-in-Ok w ↦
           let R : Option Kind → Type 0 = λ r. IsCause (take k list ++ f ∷ []) r in
-          let ws : watched_by c.match-watch_of.watches ≡ watched_by c.loop-formula.watches ++ watched w.in-Ok.watch ∷ [] =
-              ap watched_by w.watches-is ∙ w.in_ok-push-in-Ok.ensures.added in
+          let ws : watched_by c.match-watch_of.watches ≡ watched_by c.loop-formula.watches
+          ++ watched w.in-Ok.watch ∷ [] =
+          ap watched_by w.watches-is ∙ w.in_ok-push-in-Ok.ensures.added in
           let S : List Watched → Type 0 = λ q. AreFresh c.args.rule (take k list ++ f ∷ []) q in
           record {
             cause = subst P (sym next) (subst R (sym w.refused-is)
-                (cause-taken (take k list) f c.loop-formula.refused c.loop-formula.invariant.cause w.in-Ok.ensures.taken));
+                (cause-taken (take k list) f c.loop-formula.refused c.loop-formula.invariant.cause
+                w.in-Ok.ensures.taken));
             fresh = subst Q (sym next) (λ none. subst S (sym ws)
-                (fresh-push c.args.rule (take k list) (watched_by c.loop-formula.watches) f (watched w.in-Ok.watch)
+                (fresh-push c.args.rule (take k list) (watched_by c.loop-formula.watches) f
+                (watched w.in-Ok.watch)
                 (c.loop-formula.invariant.fresh (sym w.refused-is ∙ none)) w.in-Ok.ensures.fresh));
           }
       | in-Err-Limit w ↦
           let R : Option Kind → Type 0 = λ r. IsCause (take k list ++ f ∷ []) r in
           let B : MonitorError → Type 0 = IsRefusal (tree_of f.body) in
-          let now : c.match-watch_of.refused ≡ Some (earlier c.loop-formula.refused w.in-Err-Limit.kind) =
-              w.refused-is ∙ ap Some w.first_kind.ensures in
+          let now : c.match-watch_of.refused ≡ Some
+          (earlier c.loop-formula.refused w.in-Err-Limit.kind) =
+          w.refused-is ∙ ap Some w.first_kind.ensures in
           record {
             cause = subst P (sym next) (subst R (sym now)
-                (cause-refused (take k list) f c.loop-formula.refused w.in-Err-Limit.kind c.loop-formula.invariant.cause (subst B w.in-Err-Limit.field-0-is w.in-Err-Limit.ensures.refused)));
-            fresh = λ none. absurd (none-some (earlier c.loop-formula.refused w.in-Err-Limit.kind) (sym none ∙ now));
+                (cause-refused
+                (take k list) f c.loop-formula.refused w.in-Err-Limit.kind
+                c.loop-formula.invariant.cause
+                (subst B w.in-Err-Limit.field-0-is w.in-Err-Limit.ensures.refused)));
+            fresh = λ none. absurd
+                (none-some (earlier c.loop-formula.refused w.in-Err-Limit.kind) (sym none ∙ now));
           }
     ]

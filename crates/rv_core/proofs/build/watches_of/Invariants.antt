@@ -7,5 +7,6 @@ use Rattle.rv_core.proofs.build.watches_of.Given as goal
 abbrev pub invariant-loop-formula : goal.invariant-loop-formula
 invariant-loop-formula l = record {
   cause : IsCause (take l.formula-index l.formulas) l.refused;
-  fresh : l.refused ≡ None → AreFresh l.rule (take l.formula-index l.formulas) (watched_by l.watches);
+  fresh : l.refused ≡ None
+      → AreFresh l.rule (take l.formula-index l.formulas) (watched_by l.watches);
 }

@@ -14,10 +14,17 @@ truncate-requires c =
     let new : List Watched = map watched c.loop-i.watches.items in
     let long = first-length R c.loop-i.i old new c.loop-i.invariant in
     let lt : c.loop-i.i < length c.loop-i.watches.items =
-        omega (arith, long, length-map c.args.watches.now.items watched, length-map c.loop-i.watches.items watched) in
+    omega (
+      arith,
+      long,
+      length-map c.args.watches.now.items watched,
+      length-map c.loop-i.watches.items watched,
+    ) in
     let at = sym (first-there R c.loop-i.i old new c.loop-i.invariant)
-        ∙ seen-at c.loop-i.watches.items c.loop-i.i c.index_mut.result.now lt c.index_mut.ensures.value in
-    each-at (λ w. c.args.count ≤ count_of w) (take c.args.n old) c.loop-i.i (watched c.index_mut.result.now) c.requires.counted
+    ∙ seen-at c.loop-i.watches.items c.loop-i.i c.index_mut.result.now lt c.index_mut.ensures.value
+    in
+    each-at (λ w. c.args.count ≤ count_of w) (take c.args.n old) c.loop-i.i
+    (watched c.index_mut.result.now) c.requires.counted
     (front-at c.args.n old c.loop-i.i (watched c.index_mut.result.now) c.loop-i-test.true at)
 
 pub loop-i-preserved : goal.loop-i-preserved
@@ -27,14 +34,22 @@ loop-i-preserved c =
     let new : List Watched = map watched c.loop-i.watches.items in
     let long = first-length R c.loop-i.i old new c.loop-i.invariant in
     let lt : c.loop-i.i < length c.loop-i.watches.items =
-        omega (arith, long, length-map c.args.watches.now.items watched, length-map c.loop-i.watches.items watched) in
+    omega (
+      arith,
+      long,
+      length-map c.args.watches.now.items watched,
+      length-map c.loop-i.watches.items watched,
+    ) in
     let at = sym (first-there R c.loop-i.i old new c.loop-i.invariant)
-        ∙ seen-at c.loop-i.watches.items c.loop-i.i c.index_mut.result.now lt c.index_mut.ensures.value in
-    let step = first-step R c.loop-i.i old new (watched c.index_mut.result.now) (watched c.truncate.new.self) c.loop-i.invariant at
-        (record {
-          machine = c.truncate.ensures.machine;
-          lengths = c.truncate.ensures.lengths;
-          count = c.truncate.ensures.count;
-          holds = c.truncate.ensures.kept;
-        }) in
+    ∙ seen-at c.loop-i.watches.items c.loop-i.i c.index_mut.result.now lt c.index_mut.ensures.value
+    in
+    let step =
+    first-step R c.loop-i.i old new (watched c.index_mut.result.now)
+    (watched c.truncate.new.self) c.loop-i.invariant at
+    (record {
+      machine = c.truncate.ensures.machine;
+      lengths = c.truncate.ensures.lengths;
+      count = c.truncate.ensures.count;
+      holds = c.truncate.ensures.kept;
+    }) in
     rw (add-one, map-set) step

@@ -19,18 +19,46 @@ invariant_of-result c =
       counts = fresh-counts c.args.rule c.args.formulas.now ws c.in_ok-watches.ensures.fresh;
       within = subst P (sym c.new-2.ensures) tt;
       countable =
-          let long = AllZip-long (IsFresh c.args.rule) c.args.formulas.now ws c.in_ok-watches.ensures.fresh in
-          omega (arith, long, length-map c.in_ok-watches.watches.items.items watched, c.requires.countable);
+          let long =
+          AllZip-long (IsFresh c.args.rule) c.args.formulas.now ws c.in_ok-watches.ensures.fresh
+          in
+          omega (
+            arith,
+            long,
+            length-map c.in_ok-watches.watches.items.items watched,
+            c.requires.countable,
+          );
     }
 
 pub returns-clause-stands : goal.returns-clause-stands
 returns-clause-stands c =
     let ws = watched_by c.in_ok-watches.watches in
-    let P : Open → Type 0 = λ os. StandsFor (record { rule = c.args.rule; watches = ws; arrived = 0; sessions = os; saves = reverse c.new-2.result; clean = true }) empty_history in
-    let Q : List Saved → Type 0 = λ saves. StandsFor (record { rule = c.args.rule; watches = ws; arrived = 0; sessions = []; saves = reverse saves; clean = true }) empty_history in
+    let P : Open → Type 0 =
+    λ os. StandsFor
+    (record {
+      rule = c.args.rule;
+      watches = ws;
+      arrived = 0;
+      sessions = os;
+      saves =
+          reverse c.new-2.result;
+      clean = true;
+    }) empty_history in
+    let Q : List Saved → Type 0 =
+    λ saves. StandsFor
+    (record {
+      rule = c.args.rule;
+      watches = ws;
+      arrived = 0;
+      sessions = [];
+      saves =
+          reverse saves;
+      clean = true;
+    }) empty_history in
     subst P (sym c.new.ensures) (subst Q (sym c.new-2.ensures)
     (fresh-stands c.args.rule c.args.formulas.now ws c.in_ok-watches.ensures.fresh))
 
 pub returns-clause-specs : goal.returns-clause-specs
 returns-clause-specs c =
-    fresh-specs c.args.rule c.args.formulas.now (watched_by c.in_ok-watches.watches) c.in_ok-watches.ensures.fresh
+    fresh-specs c.args.rule c.args.formulas.now
+    (watched_by c.in_ok-watches.watches) c.in_ok-watches.ensures.fresh

@@ -12,10 +12,14 @@ pub returns-in_err-extend-clause-answers : goal.returns-in_err-extend-clause-ans
 returns-in_err-extend-clause-answers c =
     let m = held c.args.self.now in
     let p = err_from_is_err_and c.from_residual.result c.from_residual.ensures.1 in
-    let P : Open → Type 0 = λ os. Answers m (changed m m.watches m.arrived os m.clean) (event.Letter c.args.session c.args.letter) c.from_residual.result in
+    let P : Open → Type 0 =
+    λ os. Answers m (changed m m.watches m.arrived os m.clean)
+    (event.Letter c.args.session c.args.letter) c.from_residual.result in
     subst P (sym c.in_err-extend.ensures.unchanged)
-    (rw (p.1, p.2) (refused-letter m c.args.session c.args.letter _ c.in_err-extend.ensures.refused))
+    (rw (p.1, p.2)
+    (refused-letter m c.args.session c.args.letter _ c.in_err-extend.ensures.refused))
 
 pub returns-clause-answers : goal.returns-clause-answers
 returns-clause-answers c =
-    answered-letter (held c.args.self.now) c.args.session c.args.letter c.extend.new.self c.in_ok-extend.ensures.extended
+    answered-letter (held c.args.self.now) c.args.session c.args.letter c.extend.new.self
+    c.in_ok-extend.ensures.extended

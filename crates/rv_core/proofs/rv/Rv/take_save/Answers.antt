@@ -15,7 +15,8 @@ pub returns-then-len-ge-MOST_SAVES-clause-answers :
     goal.returns-then-len-ge-MOST_SAVES-clause-answers
 returns-then-len-ge-MOST_SAVES-clause-answers c =
     let long = length-reverse c.args.self.now.saves in
-    many-saves (held c.args.self.now) (omega (arith, long, c.len.ensures, c.if-len-ge-MOST_SAVES.true))
+    many-saves (held c.args.self.now)
+    (omega (arith, long, c.len.ensures, c.if-len-ge-MOST_SAVES.true))
 
 pub returns-in_err-sessions-clause-answers : goal.returns-in_err-sessions-clause-answers
 returns-in_err-sessions-clause-answers c =
@@ -27,7 +28,8 @@ invariant_of-self c = record {
   counts = c.args.self.now.counts;
   within =
       within-pushed c.push.result c.args.self.now.traces c.args.self.now.saves c.push.new.self
-      (record { arrived = c.args.self.now.traces; sessions = c.in_ok-sessions.sessions }) refl c.push.ensures.added
+      (record { arrived = c.args.self.now.traces; sessions = c.in_ok-sessions.sessions }) refl
+      c.push.ensures.added
       c.push.ensures.refused c.args.self.now.within;
   countable = c.args.self.now.countable;
 }
@@ -35,18 +37,27 @@ invariant_of-self c = record {
 pub returns-in_err-push-clause-answers : goal.returns-in_err-push-clause-answers
 returns-in_err-push-clause-answers c =
     let m = held c.args.self.now in
-    let p = err_from_is_err_and c.from_residual-in_err-push.result c.from_residual-in_err-push.ensures.1 in
-    let P : List Saved → Type 0 = λ saves. Answers m (with_saves m (reverse saves)) event.Save c.from_residual-in_err-push.result in
+    let p = err_from_is_err_and c.from_residual-in_err-push.result
+    c.from_residual-in_err-push.ensures.1 in
+    let P : List Saved → Type 0 =
+    λ saves. Answers m
+    (with_saves m (reverse saves)) event.Save c.from_residual-in_err-push.result in
     subst P (sym c.in_err-push.ensures.refused) (rw (p.1, p.2) (memory-answer m event.Save refl))
 
 pub returns-clause-answers : goal.returns-clause-answers
 returns-clause-answers c =
     let m = held c.args.self.now in
-    let x : Saved = record { arrived = c.args.self.now.traces; sessions = c.in_ok-sessions.sessions } in
-    let y : Saved = record { arrived = c.args.self.now.traces; sessions = c.args.self.now.sessions } in
-    let same : x ≡ y = ap (λ (os : Open). record { arrived = c.args.self.now.traces; sessions = os }) c.in_ok-sessions.ensures in
+    let x : Saved =
+    record { arrived = c.args.self.now.traces; sessions = c.in_ok-sessions.sessions } in
+    let y : Saved =
+    record { arrived = c.args.self.now.traces; sessions = c.args.self.now.sessions } in
+    let same : x ≡ y =
+    ap (λ (os : Open). record { arrived = c.args.self.now.traces; sessions = os })
+    c.in_ok-sessions.ensures in
     let back : reverse c.push.new.self ≡ y ∷ reverse c.args.self.now.saves =
-        ap reverse c.in_ok-push.ensures.added ∙ reverse-push c.args.self.now.saves x ∙ ap (λ s. s ∷ reverse c.args.self.now.saves) same in
+    ap reverse c.in_ok-push.ensures.added ∙ reverse-push c.args.self.now.saves x
+    ∙ ap (λ s. s ∷ reverse c.args.self.now.saves) same in
     let P : List Saved → Type 0 = λ saves. Answers m (with_saves m saves) event.Save (Ok Quiet) in
     let long = length-reverse c.args.self.now.saves in
-    subst P (sym back) (answered-save m (omega (arith, long, c.len.ensures, c.if-len-ge-MOST_SAVES.false)))
+    subst P (sym back)
+    (answered-save m (omega (arith, long, c.len.ensures, c.if-len-ge-MOST_SAVES.false)))

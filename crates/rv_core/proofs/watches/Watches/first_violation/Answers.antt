@@ -16,7 +16,8 @@ pub find-requires : goal.find-requires
 find-requires g c =
     let lt : c.loop-i.i < length c.args.self.now.items.items = omega (arith, c.len-i-end.ensures) in
     let at = seen-at c.args.self.now.items.items c.loop-i.i c.index.result.now lt c.index.ensures in
-    each-at (λ w. 0 < count_of w) (map watched c.args.self.now.items.items) c.loop-i.i (watched c.index.result.now) c.requires.some at
+    each-at (λ w. 0 < count_of w) (map watched c.args.self.now.items.items) c.loop-i.i
+    (watched c.index.result.now) c.requires.some at
 
 pub returns-in-Some-clause-violated : goal.returns-in-Some-clause-violated
 returns-in-Some-clause-violated g c =
@@ -40,8 +41,10 @@ loop-i-preserved g c =
       before = λ j w below there.
           elim (cases_eq j c.loop-i.i) [
             | inl e ↦
-                let P : ℕ → Type 0 = λ k. slice_get (map watched c.args.self.now.items.items) k ≡ Some w in
-                let same : watched c.index.result.now ≡ w = same_Some _ _ (sym at ∙ subst P e there) in
+                let P : ℕ → Type 0 =
+                λ k. slice_get (map watched c.args.self.now.items.items) k ≡ Some w in
+                let same : watched c.index.result.now ≡ w =
+                same_Some _ _ (sym at ∙ subst P e there) in
                 subst StaysClean same (c.in_default.ensures.clean)
             | inr differ ↦ c.loop-i.invariant.before j w (omega arith) there
           ];
@@ -52,8 +55,10 @@ pub returns-clause-clean : goal.returns-clause-clean
 returns-clause-clean g c =
     let list = map watched c.args.self.now.items.items in
     each-from StaysClean list (λ j w at.
-        let within = slice_get_within list j w at in
-        c.loop-i.invariant.before j w (omega (arith, within, length-map c.args.self.now.items.items watched, c.len-i-end.ensures)) at)
+    let within = slice_get_within list j w at in
+    c.loop-i.invariant.before j w
+    (omega (arith, within, length-map c.args.self.now.items.items watched, c.len-i-end.ensures))
+    at)
 
 pub returns-clause-steps : goal.returns-clause-steps
 returns-clause-steps g c = c.loop-i.invariant.grown

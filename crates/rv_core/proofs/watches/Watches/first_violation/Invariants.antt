@@ -7,6 +7,7 @@ use Rattle.rv_core.proofs.watches.Watches.first_violation.Given as goal
 -- the watches before find nothing
 abbrev pub invariant-loop-i : goal.invariant-loop-i
 invariant-loop-i g l = record {
-  before : (j : ℕ) (w : Watched) → j < l.i → slice_get (watched_by l.self) j ≡ Some w → StaysClean w;
+  before : (j : ℕ) (w : Watched) → j < l.i → slice_get (watched_by l.self) j ≡ Some w
+      → StaysClean w;
   grown : l.fn.steps ≤ l.steps;
 }

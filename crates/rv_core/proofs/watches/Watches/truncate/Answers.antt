@@ -12,5 +12,6 @@ returns c =
     let old : List Watched = map watched c.args.self.now.items.items in
     let new : List Watched = map watched c.cut_first.new.watches.items in
     let P : ℕ → Type 0 = λ n. FirstTurn n R old new in
-    let all : c.len-all.result ≡ length old = omega (arith, c.len-all.ensures, length-map c.args.self.now.items.items watched) in
+    let all : c.len-all.result ≡ length old =
+    omega (arith, c.len-all.ensures, length-map c.args.self.now.items.items watched) in
     first-all R old new (subst P all c.cut_first.ensures)
