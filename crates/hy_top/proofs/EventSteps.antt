@@ -123,21 +123,21 @@ error-ends old new placed errors.Memory a said rule is = inl is
 error-ends old new placed errors.NoLetter a said rule is =
     inr (λ h stands. not-memory (error-stops old new placed rule said.specs said.rule h _ errors.NoLetter a refl is (said.right h stands)))
   where
-  not-memory : {P : Type 0} → OrMemory a P → P
-  not-memory (inl e) = absurd (let both : answers.Memory ≡ answers.Session placed.line = sym e ∙ is in cc)
-  not-memory (inr p) = p
+    not-memory : {P : Type 0} → OrMemory a P → P
+    not-memory (inl e) = absurd (let both : answers.Memory ≡ answers.Session placed.line = sym e ∙ is in cc)
+    not-memory (inr p) = p
 error-ends old new placed errors.NoSave a said rule is =
     inr (λ h stands. not-memory (error-stops old new placed rule said.specs said.rule h _ errors.NoSave a refl is (said.right h stands)))
   where
-  not-memory : {P : Type 0} → OrMemory a P → P
-  not-memory (inl e) = absurd (let both : answers.Memory ≡ answers.Session placed.line = sym e ∙ is in cc)
-  not-memory (inr p) = p
+    not-memory : {P : Type 0} → OrMemory a P → P
+    not-memory (inl e) = absurd (let both : answers.Memory ≡ answers.Session placed.line = sym e ∙ is in cc)
+    not-memory (inr p) = p
 error-ends old new placed (errors.Limit kind) a said rule is =
     inr (λ h stands. not-memory (error-stops old new placed rule said.specs said.rule h _ (errors.Limit kind) a refl is (said.right h stands)))
   where
-  not-memory : {P : Type 0} → OrMemory a P → P
-  not-memory (inl e) = absurd (let both : answers.Memory ≡ answers.Limit kind (most kind) = sym e ∙ is in cc)
-  not-memory (inr p) = p
+    not-memory : {P : Type 0} → OrMemory a P → P
+    not-memory (inl e) = absurd (let both : answers.Memory ≡ answers.Limit kind (most kind) = sym e ∙ is in cc)
+    not-memory (inr p) = p
 
 -- ---- how many traces there are
 
@@ -154,36 +154,36 @@ one-more m h (event.Whole t) next stands e =
     rw same (omega (arith, length-append h.present.arrived (t ∷ [])))
 one-more m h (event.Letter n a) next stands e = by-letters (letters_of n h.present.sessions) e
   where
-  by-test : (b : Bool) (r : Refusal) → (if b then goes (with_sessions h (extended n a h.present.sessions)) else refused r) ≡ goes next
-      → length next.present.arrived ≤ suc (length h.present.arrived)
-  by-test true r f = let same : next ≡ with_sessions h (extended n a h.present.sessions) = cc in rw same (omega arith)
-  by-test false r f = absurd (cc)
+    by-test : (b : Bool) (r : Refusal) → (if b then goes (with_sessions h (extended n a h.present.sessions)) else refused r) ≡ goes next
+        → length next.present.arrived ≤ suc (length h.present.arrived)
+    by-test true r f = let same : next ≡ with_sessions h (extended n a h.present.sessions) = cc in rw same (omega arith)
+    by-test false r f = absurd (cc)
 
-  by-letters : (o : Option (List Letter)) → letter_step h n a o ≡ goes next → length next.present.arrived ≤ suc (length h.present.arrived)
-  by-letters (Some letters) f = by-test (nat_lt (length letters) most_letters) too_long f
-  by-letters None f = by-test (nat_lt (length h.present.sessions) most_sessions) too_many_sessions f
+    by-letters : (o : Option (List Letter)) → letter_step h n a o ≡ goes next → length next.present.arrived ≤ suc (length h.present.arrived)
+    by-letters (Some letters) f = by-test (nat_lt (length letters) most_letters) too_long f
+    by-letters None f = by-test (nat_lt (length h.present.sessions) most_sessions) too_many_sessions f
 one-more m h (event.End n) next stands e = by-letters (letters_of n h.present.sessions) e
   where
-  by-letters : (o : Option (List Letter)) → end_step h n o ≡ goes next → length next.present.arrived ≤ suc (length h.present.arrived)
-  by-letters (Some letters) f =
-      let same : next ≡ with_trace h letters (closed n h.present.sessions) = cc in
-      rw same (omega (arith, length-append h.present.arrived (letters ∷ [])))
-  by-letters None f = absurd (cc)
+    by-letters : (o : Option (List Letter)) → end_step h n o ≡ goes next → length next.present.arrived ≤ suc (length h.present.arrived)
+    by-letters (Some letters) f =
+        let same : next ≡ with_trace h letters (closed n h.present.sessions) = cc in
+        rw same (omega (arith, length-append h.present.arrived (letters ∷ [])))
+    by-letters None f = absurd (cc)
 one-more m h event.Save next stands e = by-test (nat_lt (length h.saves) most_saves) e
   where
-  by-test : (b : Bool) → (if b then goes (record { present = h.present; saves = h.present ∷ h.saves }) else refused too_many_saves) ≡ goes next
-      → length next.present.arrived ≤ suc (length h.present.arrived)
-  by-test true f = let same : next ≡ record { present = h.present; saves = h.present ∷ h.saves } = cc in rw same (omega arith)
-  by-test false f = absurd (cc)
+    by-test : (b : Bool) → (if b then goes (record { present = h.present; saves = h.present ∷ h.saves }) else refused too_many_saves) ≡ goes next
+        → length next.present.arrived ≤ suc (length h.present.arrived)
+    by-test true f = let same : next ≡ record { present = h.present; saves = h.present ∷ h.saves } = cc in rw same (omega arith)
+    by-test false f = absurd (cc)
 one-more m h event.Back next stands e = by-saves h.saves stands.saves e
   where
-  by-saves : (ps : List Present) → AreSaves h.present.arrived m.saves ps → back_step ps ≡ goes next
-      → length next.present.arrived ≤ suc (length h.present.arrived)
-  by-saves [] are f = absurd (cc)
-  by-saves (p ∷ ps) are f =
-      let same : next ≡ record { present = p; saves = ps } = cc in
-      let le = shorter-save h.present.arrived m.saves p ps are in
-      rw same (omega (arith, le))
+    by-saves : (ps : List Present) → AreSaves h.present.arrived m.saves ps → back_step ps ≡ goes next
+        → length next.present.arrived ≤ suc (length h.present.arrived)
+    by-saves [] are f = absurd (cc)
+    by-saves (p ∷ ps) are f =
+        let same : next ≡ record { present = p; saves = ps } = cc in
+        let le = shorter-save h.present.arrived m.saves p ps are in
+        rw same (omega (arith, le))
 
 -- ---- one line after another
 
@@ -276,9 +276,11 @@ module _ (specs : List Spec) (names : List (List ℕ)) (bytes : List ℕ) (old n
       (rw is_past e)
 
   pub passed-all : Each SaysNothing old.lines → IsThrough specs names bytes m
-  passed-all silent =
-      (before.history, before.stands,
-      before.back [] (clean_answer (length specs) before.history) (silent-says names old.first old.lines silent) refl)
+  passed-all silent = (
+    before.history,
+    before.stands,
+    before.back [] (clean_answer (length specs) before.history) (silent-says names old.first old.lines silent) refl,
+  )
 
   pub few-arrived : length bytes ≤ 67108864 → m.arrived < 2 ^ 31
   few-arrived short =

@@ -35,10 +35,10 @@ module _ (limit count : Count → ℕ) where
       → (count c ≤ limit c) × (first_past limit count cs ≡ None)
   not-past c cs e = by-test (nat_lt (limit c) (count c)) refl e
     where
-    by-test : (b : Bool) → nat_lt (limit c) (count c) ≡ b → (if b then Some c else first_past limit count cs) ≡ None
-        → (count c ≤ limit c) × (first_past limit count cs ≡ None)
-    by-test true t none = absurd (cc)
-    by-test false t none = (grind (arith, nat_tests), none)
+      by-test : (b : Bool) → nat_lt (limit c) (count c) ≡ b → (if b then Some c else first_past limit count cs) ≡ None
+          → (count c ≤ limit c) × (first_past limit count cs ≡ None)
+      by-test true t none = absurd (cc)
+      by-test false t none = (grind (arith, nat_tests), none)
 
   none-past : first_past limit count in_order ≡ None → (count specs ≤ limit specs) × (count quantifiers ≤ limit quantifiers)
   none-past e =
@@ -102,15 +102,16 @@ first-untaken (f ∷ formulas) zero c first =
     let Q : Formula → Type 0 = λ g. ¬ IsUniversal g in
     let is = subst P (sym same) first.class in
     (is, other-class c (λ e. subst Q (sym same) first.other (is ∙ e)))
-first-untaken (f ∷ formulas) (suc k) c first =
-    (ap is_universal (first.before 0 f (omega arith) refl),
-    first-untaken formulas k c (record {
-      formula = first.formula;
-      there = first.there;
-      class = first.class;
-      other = first.other;
-      before = λ j g lt there. first.before (suc j) g (omega (arith, lt)) there;
-    }))
+first-untaken (f ∷ formulas) (suc k) c first = (
+  ap is_universal (first.before 0 f (omega arith) refl),
+  first-untaken formulas k c (record {
+    formula = first.formula;
+    there = first.there;
+    class = first.class;
+    other = first.other;
+    before = λ j g lt there. first.before (suc j) g (omega (arith, lt)) there;
+  }),
+)
 
 -- ---- bodies
 

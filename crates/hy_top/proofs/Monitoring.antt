@@ -99,15 +99,15 @@ module _ {S : Type 0} (g : Ghosts S) (old mid new : S) (specs file : List ℕ) (
         (here
         (record { formulas = formulas; names = names; first = specs_first; bytes = bytes; came = refl; verdict = verdict })))
       where
-      taken-closures : (fs : List Plain) → EachPlain IsTaken fs → EachPlain HasSmallClosure fs
-      taken-closures [] all = tt
-      taken-closures (f ∷ fs) (t, all) = (t.closure, taken-closures fs all)
+        taken-closures : (fs : List Plain) → EachPlain IsTaken fs → EachPlain HasSmallClosure fs
+        taken-closures [] all = tt
+        taken-closures (f ∷ fs) (t, all) = (t.closure, taken-closures fs all)
 
-      taken-atoms : (fs : List Plain) → EachPlain IsTaken fs → EachPlain HasFewAtoms fs
-      taken-atoms [] all = tt
-      taken-atoms (f ∷ fs) (t, all) = (t.atoms, taken-atoms fs all)
+        taken-atoms : (fs : List Plain) → EachPlain IsTaken fs → EachPlain HasFewAtoms fs
+        taken-atoms [] all = tt
+        taken-atoms (f ∷ fs) (t, all) = (t.atoms, taken-atoms fs all)
 
-      taken-tables : (fs : List Plain) → EachPlain IsTaken fs → EachPlain HasSmallTable fs
-      taken-tables [] all = tt
-      taken-tables (f ∷ fs) (t, all) = (t.table, taken-tables fs all)
+        taken-tables : (fs : List Plain) → EachPlain IsTaken fs → EachPlain HasSmallTable fs
+        taken-tables [] all = tt
+        taken-tables (f ∷ fs) (t, all) = (t.table, taken-tables fs all)
     outcome_follows _ spent = runs_short g (monitor specs file) old new given (formulas ++ []) names read_all

@@ -136,7 +136,11 @@ fn take<L: Ledger>(
     match rv.event(alloc, &placed.event, steps) {
         Ok(Reply::Quiet) => Ok(()),
         Ok(Reply::Arrived { .. }) => Ok(()),
-        Ok(Reply::Violation { spec, trace, tuple }) => Err(Answer::Violation { spec, trace, tuple }),
+        Ok(Reply::Violation { spec, trace, tuple }) => Err(Answer::Violation {
+            spec,
+            trace,
+            tuple,
+        }),
         Err(error) => Err(event_answer(error, placed.line)),
     }
 }

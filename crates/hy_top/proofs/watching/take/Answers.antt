@@ -22,9 +22,9 @@ pub returns-in-Ok-Violation-clause-ended : goal.returns-in-Ok-Violation-clause-e
 returns-in-Ok-Violation-clause-ended g c =
     inr
     (λ h stands.
-        let said = c.event.ensures.answers in
-        violation-stops (held c.args.rv.now) (held c.event.new.self) c.args.placed.now c.requires.rule said.specs said.rule h _ _ _ _
-        (c.in-Ok-Violation.is ∙ ap Ok c.in-Ok-Violation.field-0-is) (said.right h stands))
+    let said = c.event.ensures.answers in
+    violation-stops (held c.args.rv.now) (held c.event.new.self) c.args.placed.now c.requires.rule said.specs said.rule h _ _ _ _
+    (c.in-Ok-Violation.is ∙ ap Ok c.in-Ok-Violation.field-0-is) (said.right h stands))
 
 pub returns-in-Err-clause-ended : goal.returns-in-Err-clause-ended
 returns-in-Err-clause-ended g c =
