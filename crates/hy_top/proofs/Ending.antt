@@ -1,16 +1,15 @@
 -- A run that ends at a file whose text is refused.
-use Rattle.std.proofs.Common.{◌≡◌, ◌⊎◌, ℕ, Bool, true, false, List, [], ◌∷◌, Ok, Err, inl, inr, refl, sym, ap, subst, ◌∙◌}
+use Rattle.std.proofs.Common.{◌≡◌, ◌⊎◌, ℕ, Bool, true, false, List, Ok, Err, inl, inr, refl, sym, subst, ◌∙◌}
 use Rattle.hy_base.specs.Shelf.{ReadsFile}
 use Rattle.hy_base.specs.declared.shelf.Shelf.{Ghosts}
 use Rattle.hy_formula.specs.Quantifiers.{Each}
-use Rattle.hy_finite.specs.EventFiles.{FirstFault, SomeTooLong}
-use Rattle.hy_finite.specs.EventLines.{IsText, IsGood}
-use Rattle.hy_finite.proofs.Collecting.{good-text}
+use Rattle.hy_finite.specs.EventAnswers.{IsRefusal as IsEventRefusal}
+use Rattle.hy_finite.specs.EventLines.{IsGood}
 use Rattle.hy_text.specs.Lines.{lines_of}
 use Rattle.hy_text.specs.declared.line_error.LineError.{LineError}
 use Rattle.hy_text.specs.declared.line_error.LineError.TheVariants as faults
 use Rattle.hy_lasso.specs.LassoFiles.{IsLassosAnswer}
-use Rattle.hy_read.specs.Answers.{Answer as Found, Answers, Plain, faulty, free, over, read_as}
+use Rattle.hy_read.specs.Answers.{Answer as Found, Answers, Plain, faulty, free, over}
 use Rattle.hy_read.specs.Contract.{IsAnswer}
 use Rattle.hy_read.specs.Results.{most}
 use Rattle.hy_read.specs.declared.error.ReadError.{ReadError}
@@ -64,19 +63,8 @@ module _ {S : Type 0} (g : Ghosts S) (old new : S) (name : List ℕ) (quantifier
   lassos-ends faults.Limit is = absurd is
   lassos-ends faults.Memory is = spent bytes came
 
-  pub events-end : (line : ℕ) → FirstFault 1 (lines_of read) line → Ends g old new name quantifiers names k events (answers.Line k line)
-  events-end line fault = refused-ends events _ (line, fault, refl)
+  pub events-end : (fault : LineError) → IsEventRefusal read fault → Ends g old new name quantifiers names k events (line_answer k fault)
+  events-end fault is = refused-ends events _ (fault, is, refl)
 
-  good-lines : (lines : List (List ℕ)) → Each IsGood lines → Each IsText lines
-  good-lines [] each = tt
-  good-lines (line ∷ lines) (good, each) = (good-text line good, good-lines lines each)
-
-  -- Where all lines are good, or texts of which one is too long, they are texts.
   pub events-taken : Each IsGood (lines_of read) → TakesEvents g old new name bytes
-  events-taken each =
-      let P : List ℕ → Type 0 = λ b. Each IsText (lines_of b) in
-      record { read = came; lines = subst P same (good-lines (lines_of read) each) }
-
-  pub events-long : Each IsText (lines_of read) × SomeTooLong (lines_of read) → TakesEvents g old new name bytes
-  events-long (texts, some) =
-      let P : List ℕ → Type 0 = λ b. Each IsText (lines_of b) in record { read = came; lines = subst P same texts }
+  events-taken each = let P : List ℕ → Type 0 = λ b. Each IsGood (lines_of b) in record { read = came; lines = subst P same each }

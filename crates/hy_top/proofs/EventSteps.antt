@@ -1,29 +1,26 @@
 -- The events of lines, given to a monitor one after another.
-use Rattle.std.proofs.Common.{◌≡◌, ℕ, suc, ◌+◌, ◌<◌, ◌≤◌, ◌^◌, Bool, true, false, nat_lt, if◌then◌else◌, List, [], ◌∷◌, ◌++◌, length, map, take, Option, Some, None, Ok, Err, Result, inl, inr, refl, sym, ap, subst, ◌∙◌, arith}
-use Rattle.std.proofs.lemmas.Bool.Decides.{nat_tests}
-use Rattle.std.proofs.lemmas.List.{length-map, length-append, length-take}
+use Rattle.std.proofs.Common.{◌≡◌, ℕ, suc, ◌+◌, ◌<◌, ◌≤◌, ◌^◌, Bool, true, false, nat_lt, if◌then◌else◌, List, [], ◌∷◌, length, Option, Some, None, Ok, Err, Result, inl, inr, refl, sym, subst, ◌∙◌, arith}
+use Rattle.std.proofs.lemmas.List.{length-append, length-take}
 use Rattle.std.proofs.lemmas.List.Splits.{length-slice_split}
 use Rattle.std.proofs.lemmas.List.Sums.{count_by-le-length}
 use Rattle.hy_base.specs.Limits.{most}
-use Rattle.hy_base.specs.declared.limit.Kind.TheVariants as kinds
 use Rattle.hy_bits.specs.Letter.{Letter}
 use Rattle.hy_formula.specs.Quantifiers.{Each}
 use Rattle.hy_text.specs.Bytes.{is_line_feed}
 use Rattle.hy_text.specs.Lines.{lines_of}
-use Rattle.hy_text.specs.declared.line_error.LineError.TheVariants as faults
-use Rattle.hy_text.specs.Sets.{letter_of}
 use Rattle.hy_finite.specs.declared.event.Event.{Event}
 use Rattle.hy_finite.specs.declared.event.Event.TheVariants as event
 use Rattle.hy_finite.specs.declared.event.Placed.{Placed}
 use Rattle.hy_finite.specs.declared.lengths.Lengths.{Lengths}
 use Rattle.hy_finite.specs.declared.lengths.Lengths.TheVariants.{Min}
-use Rattle.hy_finite.specs.EventLines.{Said, word, letter, finish, save, back, IsShort, IsText, SaysNothing}
-use Rattle.hy_finite.specs.EventFiles.{event_of, SayEvents}
+use Rattle.hy_finite.specs.EventLines.{IsGood, SaysNothing}
+use Rattle.hy_finite.specs.EventFiles.{SayEvents}
 use Rattle.hy_finite.specs.LinesLeft.{LinesLeft}
 use Rattle.hy_finite.specs.Remaining.{all_lines}
 use Rattle.hy_finite.specs.NextEvents.{IsNextAnswer}
 use Rattle.hy_finite.specs.Traces.{Trace, most_letters}
-use Rattle.hy_finite.proofs.Collecting.{next-more, next-fewer, silent-says, reached-says}
+use Rattle.hy_finite.proofs.Collecting.{next-more, next-fewer, next-good, silent-says}
+use Rattle.hy_finite.proofs.OneAnswer.{good-say}
 use Rattle.rv_core.specs.declared.reply.Reply.{Reply}
 use Rattle.rv_core.specs.declared.reply.Reply.TheVariants.{Quiet, Arrived, Violation}
 use Rattle.rv_core.specs.declared.rv_error.RvError.{RvError}
@@ -31,13 +28,12 @@ use Rattle.rv_core.specs.declared.rv_error.RvError.TheVariants as errors
 use Rattle.rv_core.specs.Endings.{Spec, IsClean}
 use Rattle.rv_core.specs.declared.saved.Saved.{Saved}
 use Rattle.rv_core.specs.Held.{Held, AreSaves, StandsFor, specs_of}
-use Rattle.rv_core.specs.Histories.{Present, History, empty_history, Session, Refusal, no_session, no_save, too_long, too_many_sessions, too_many_saves, Step, refused, goes, step, arrives, letters_of, letter_step, end_step, save_step, back_step, with_sessions, with_trace, extended, closed, most_sessions, most_saves}
+use Rattle.rv_core.specs.Histories.{Present, History, empty_history, Refusal, no_session, no_save, too_long, too_many_sessions, too_many_saves, Step, refused, goes, step, arrives, letters_of, letter_step, end_step, back_step, with_sessions, with_trace, extended, closed, most_sessions, most_saves}
 use Rattle.rv_core.specs.Replies.{error_of, IsFound, IsAnswer, quiet, arrived, violated, refused_by, spent, Answers}
 use Rattle.hy_answer.specs.declared.answer.Answer.{Answer}
 use Rattle.hy_answer.specs.declared.answer.Answer.TheVariants as answers
-use Rattle.hy_top.specs.Monitoring.{is_long, step_of, refusal_answer, IsViolation, clean_answer, Comes, ComesTo}
-use Rattle.hy_top.specs.Watching.{OrMemory, IsLongAnswer, IsEventAnswer, GoesOn, Stops, LinesCome, IsThrough}
-use Rattle.hy_top.proofs.EventLines.{texts-say, next-texts, reached-text}
+use Rattle.hy_top.specs.Monitoring.{refusal_answer, clean_answer, Comes, ComesTo}
+use Rattle.hy_top.specs.Watching.{OrMemory, IsEventAnswer, GoesOn, Stops, LinesCome, IsThrough}
 
 pub or-memory : {P Q : Type 0} {a : Answer} → (P → Q) → OrMemory a P → OrMemory a Q
 or-memory f (inl e) = inl e
@@ -194,13 +190,13 @@ pub record Passed (specs : List Spec) (names : List (List ℕ)) (bytes : List �
   pub specs_are : specs_of m ≡ specs
   pub rule : m.rule ≡ Min
   pub few : length history.present.arrived + length left.lines ≤ length (lines_of bytes)
-  pub texts : Each IsText left.lines
+  pub good : Each IsGood left.lines
   pub back : (more : List Placed) (a : Answer) → SayEvents names left.first left.lines more → ComesTo specs history more a
       → LinesCome specs names bytes a
 
 pub passed-none : (names : List (List ℕ)) (bytes : List ℕ) (left : LinesLeft) (m : Held) → left ≡ all_lines bytes
-    → StandsFor m empty_history → m.rule ≡ Min → Each IsText (lines_of bytes) → Passed (specs_of m) names bytes left m
-passed-none names bytes left m e stands rule texts =
+    → StandsFor m empty_history → m.rule ≡ Min → Each IsGood (lines_of bytes) → Passed (specs_of m) names bytes left m
+passed-none names bytes left m e stands rule good =
     let P : LinesLeft → Type 0 = λ l. Passed (specs_of m) names bytes l m in
     subst P (sym e)
     (record {
@@ -209,28 +205,11 @@ passed-none names bytes left m e stands rule texts =
       specs_are = refl;
       rule = rule;
       few = omega arith;
-      texts = texts;
+      good = good;
       back = λ more a say comes. (more, say, comes);
     })
 
-short-event : (names : List (List ℕ)) (said : Said) → IsShort said → is_long (event_of names said) ≡ false
-short-event names (word sets) short =
-    let long : length (map (letter_of names) sets) ≡ length sets = length-map sets (letter_of names) in
-    let few : length sets ≤ most_letters = short in
-    rw long (grind (arith, nat_tests))
-short-event names (letter n set) short = refl
-short-event names (finish n) short = refl
-short-event names save short = refl
-short-event names back short = refl
-
 module _ (specs : List Spec) (names : List (List ℕ)) (bytes : List ℕ) (old new : LinesLeft) (m : Held) (before : Passed specs names bytes old m) where
-  -- what a placed event does
-  steps-as : (placed : Placed) → IsNextAnswer names old new (Ok (Some placed)) → (h : History) → step_of h placed.event ≡ step h placed.event
-  steps-as placed (line, said, reached, next, says, short, e) h =
-      let P : Event → Type 0 = λ x. is_long x ≡ false in
-      let not_long : is_long placed.event ≡ false = subst P (sym e) (short-event names said short) in
-      rw not_long refl
-
   pub passed-more : (placed : Placed) (m' : Held) → IsNextAnswer names old new (Ok (Some placed)) → specs_of m' ≡ specs_of m
       → m'.rule ≡ m.rule → GoesOn (specs_of m) before.history placed m' → Passed specs names bytes new m'
   passed-more placed m' found same rules goes_on =
@@ -245,11 +224,11 @@ module _ (specs : List Spec) (names : List (List ℕ)) (bytes : List ℕ) (old n
         specs_are = same ∙ before.specs_are;
         rule = rules ∙ before.rule;
         few = omega (arith, more_traces, fewer, few);
-        texts = next-texts names old new placed found before.texts;
+        good = next-good names old new placed found before.good;
         back = λ more a say comes.
             before.back (placed ∷ more) a (next-more names old new placed more found say)
-            (goes-comes specs placed.line (arrives placed.event) (step_of h placed.event) goes_on.next
-            (λ next. ComesTo specs next more a) a (steps-as placed found h ∙ goes_on.steps)
+            (goes-comes specs placed.line (arrives placed.event) (step h placed.event) goes_on.next
+            (λ next. ComesTo specs next more a) a goes_on.steps
             (λ loud. subst Q before.specs_are (goes_on.clean loud)) comes);
       }
 
@@ -257,23 +236,11 @@ module _ (specs : List Spec) (names : List (List ℕ)) (bytes : List ℕ) (old n
       → Stops (specs_of m) before.history placed a → LinesCome specs names bytes a
   passed-stops placed a found stops =
       let h = before.history in
-      let (more, say) = texts-say names new.first new.lines (next-texts names old new placed found before.texts) in
+      let (more, say) = good-say names new.first new.lines (next-good names old new placed found before.good) in
       let P : List Spec → Type 0 = λ s. Comes s placed.line (arrives placed.event) (step h placed.event) (λ next. ⊥) a in
-      let Q : Step → Type 0 = λ st. Comes specs placed.line (arrives placed.event) st (λ next. ⊥) a in
-      let stops_so = subst Q (sym (steps-as placed found h)) (subst P before.specs_are stops) in
       before.back (placed ∷ more) a (next-more names old new placed more found say)
-      (stops-comes specs placed.line (arrives placed.event) (step_of h placed.event) (λ next. ComesTo specs next more a) a stops_so)
-
-  pub passed-long : (a : Answer) → IsLongAnswer names old new a → LinesCome specs names bytes a
-  passed-long a (e, (kept, (k, line, rest, reached, long))) =
-      let placed : Placed = record { line = k; event = event_of names (word long.sets) } in
-      let (more, say) = texts-say names (suc k) rest (reached-text old.first old.lines k line rest reached before.texts).1 in
-      let count : length (map (letter_of names) long.sets) ≡ length long.sets = length-map long.sets (letter_of names) in
-      let many = long.long in
-      let is_past : nat_lt most_letters (length (map (letter_of names) long.sets)) ≡ true = rw count (grind (arith, nat_tests)) in
-      before.back (placed ∷ more) a
-      (reached-says names old.first old.lines k line rest (word long.sets) more reached long.says say)
-      (rw is_past e)
+      (stops-comes specs placed.line (arrives placed.event) (step h placed.event) (λ next. ComesTo specs next more a) a
+      (subst P before.specs_are stops))
 
   pub passed-all : Each SaysNothing old.lines → IsThrough specs names bytes m
   passed-all silent = (

@@ -1,5 +1,5 @@
 -- Formulas that were read keep to their limits, and what is said of them as formulas is said of what they mean.
-use Rattle.std.proofs.Common.{◌≡◌, ◌≢◌, ℕ, zero, suc, ◌<◌, ◌≤◌, Bool, true, false, List, [], ◌∷◌, length, map, Some, None, Option, slice_get, nat_lt, if◌then◌else◌, All, inl, inr, refl, ap, sym, ◌∙◌, subst, arith}
+use Rattle.std.proofs.Common.{◌≡◌, ℕ, zero, suc, ◌≤◌, Bool, true, false, List, [], ◌∷◌, length, map, Some, None, nat_lt, if◌then◌else◌, All, inl, inr, refl, ap, sym, ◌∙◌, subst, arith}
 use Rattle.std.proofs.lemmas.Bool.Decides.{nat_tests}
 use Rattle.std.proofs.lemmas.List.{length-map}
 use Rattle.hy_base.specs.Limits.{most as most_of}
@@ -10,7 +10,7 @@ use Rattle.hy_formula.specs.Classes.{class_of}
 use Rattle.hy_formula.specs.declared.classes.Class.{Class}
 use Rattle.hy_formula.specs.declared.classes.Class.TheVariants as classes
 use Rattle.hy_formula.specs.Quantifiers.{Each}
-use Rattle.hy_formula.specs.Trees.{Tree, tree_of}
+use Rattle.hy_formula.specs.Trees.{Tree}
 use Rattle.hy_formula.proofs.Tuples.{contains-here, contains-later}
 use Rattle.hy_read.specs.Answers.{Plain, Answers, read_as, plain_of, tokens_of, located}
 use Rattle.hy_read.specs.Scanning.{Span}

@@ -1,5 +1,5 @@
 -- What is said of the formulas of a command behind its files, stage by stage.
-use Rattle.std.proofs.Common.{◌≡◌, ◌≢◌, ℕ, zero, suc, ◌<◌, ◌≤◌, Bool, true, false, List, [], ◌∷◌, length, inl, inr, refl, sym, ap, subst, ◌∙◌, arith}
+use Rattle.std.proofs.Common.{◌≡◌, ℕ, zero, suc, ◌≤◌, Bool, true, List, [], ◌∷◌, length, inl, inr, refl, sym, ap, subst, ◌∙◌, arith}
 use Rattle.std.specs.List.{Contains}
 use Rattle.std.proofs.lemmas.List.Elements.{All-contains}
 use Rattle.hy_formula.specs.Classes.{class_of}
@@ -9,12 +9,11 @@ use Rattle.hy_formula.specs.declared.classes.Class.{Class}
 use Rattle.hy_read.specs.Answers.{Plain}
 use Rattle.ea_reduce.specs.Plans.{PlainPlan, PlainJob}
 use Rattle.ea_reduce.specs.Refused.{HasFewMaps, HasManyMaps, most_maps}
-use Rattle.ea_core.specs.Undecided.{HasFewMembers, HasManyMembers, IsCounted}
-use Rattle.hy_answer.specs.declared.answer.Answer.{Answer}
+use Rattle.ea_core.specs.Undecided.{HasFewMembers}
 use Rattle.hy_words.specs.Commands.{Command, files_of}
-use Rattle.hy_top.specs.Classes.{takes, file_of, FirstUntaken, AreTaken, RefusesClass}
-use Rattle.hy_top.specs.Deciding.{plans_of, HasManyInstances, HasLargeClosure}
-use Rattle.hy_top.specs.Files.{Given, HasTexts, HasFormulas}
+use Rattle.hy_top.specs.Classes.{takes, FirstUntaken, AreTaken}
+use Rattle.hy_top.specs.Deciding.{plans_of, HasLargeClosure}
+use Rattle.hy_top.specs.Files.{Given, HasFormulas}
 use Rattle.hy_top.specs.Stages.{class, count, instances, Passed}
 use Rattle.hy_top.proofs.Progress.{texts_once}
 

@@ -1,5 +1,5 @@
 -- What a judgement of lassos comes to is the answer of the run.
-use Rattle.std.proofs.Common.{◌≡◌, ◌⊎◌, ℕ, List, [], ◌∷◌, ◌++◌, Ok, Err, inl, inr, refl, sym, subst, ◌∙◌}
+use Rattle.std.proofs.Common.{◌≡◌, ◌⊎◌, ℕ, List, [], ◌∷◌, Ok, inl, inr, refl, sym, subst, ◌∙◌}
 use Rattle.hy_base.specs.declared.limit.Limit.{Limit as Past}
 use Rattle.hy_base.specs.declared.shelf.Shelf.{Ghosts}
 use Rattle.hy_bits.specs.Letter.{Letter}
@@ -15,12 +15,12 @@ use Rattle.hy_read.specs.Answers.{Plain}
 use Rattle.hy_answer.specs.declared.answer.Answer.{Answer}
 use Rattle.hy_answer.specs.declared.answer.Answer.TheVariants as answers
 use Rattle.hy_answer.specs.Outputs.{out_text}
-use Rattle.hy_words.specs.Commands.{Command, judge, files_of}
+use Rattle.hy_words.specs.Commands.{Command, judge}
 use Rattle.hy_top.specs.Contents.{one_formula, lassos}
 use Rattle.hy_top.specs.Files.{Given, HasFormulas}
-use Rattle.hy_top.specs.Judging.{HasLassos, IsTooJoint, Judges, holds, fails, IsJudgement, satisfies, violates, too_joint, spent}
+use Rattle.hy_top.specs.Judging.{HasLassos, Judges, holds, fails, IsJudgement, satisfies, violates, too_joint, spent}
 use Rattle.hy_top.specs.Runs.{Follows, extras_of}
-use Rattle.hy_top.specs.Stages.{Passed, count, joint, atoms, table, work, First, here, later, stages_of_formulas}
+use Rattle.hy_top.specs.Stages.{Passed, count, joint, atoms, table, work, First, here, later}
 use Rattle.hy_top.specs.Steps.{Takes, Ends, TakesLassos}
 use Rattle.hy_top.proofs.Bodies.{closure_passed, atoms_passed, table_passed}
 use Rattle.hy_top.proofs.Formulas.{class_passed, instances_passed}

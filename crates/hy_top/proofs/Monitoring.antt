@@ -1,22 +1,17 @@
 -- What formulas come to on the events of a file is the answer of the run.
-use Rattle.std.proofs.Common.{◌≡◌, ℕ, true, List, [], ◌∷◌, ◌++◌, length, Ok, inl, inr, refl, sym, subst, append-nil, ◌<◌, ◌≤◌, ◌⊎◌}
-use Rattle.std.specs.List.{Contains}
+use Rattle.std.proofs.Common.{ℕ, List, [], ◌∷◌, ◌++◌, Ok, inr, refl, subst, append-nil}
 use Rattle.hy_base.specs.declared.shelf.Shelf.{Ghosts}
-use Rattle.hy_formula.specs.Classes.{class_of}
-use Rattle.hy_formula.specs.declared.classes.Class.{Class}
-use Rattle.hy_formula.specs.Quantifiers.{Each}
 use Rattle.hy_formula.specs.Trees.{Tree}
 use Rattle.fin_monitor.specs.Limits.{HasLargeClosure, HasSmallClosure, HasManyAtoms, HasFewAtoms, HasLargeTable, HasSmallTable, IsTaken}
 use Rattle.hy_read.specs.Answers.{Plain}
 use Rattle.hy_answer.specs.declared.answer.Answer.{Answer}
 use Rattle.hy_answer.specs.Outputs.{out_text}
-use Rattle.hy_words.specs.Commands.{Command, monitor, files_of}
-use Rattle.hy_top.specs.Classes.{takes}
+use Rattle.hy_words.specs.Commands.{monitor}
 use Rattle.hy_top.specs.Contents.{specifications, events}
 use Rattle.hy_top.specs.Files.{Given, HasTexts, HasFormulas}
-use Rattle.hy_top.specs.Monitoring.{AreUniversal, SomePlain, EachPlain, SomeBody, IsVerdict, IsOutcome, untaken, large_closure, many_atoms, large_table, done, spent}
+use Rattle.hy_top.specs.Monitoring.{AreUniversal, SomePlain, EachPlain, SomeBody, IsOutcome, untaken, large_closure, many_atoms, large_table, done, spent}
 use Rattle.hy_top.specs.Runs.{Follows, extras_of}
-use Rattle.hy_top.specs.Stages.{First, here, later, class, count, instances, closure, joint, atoms, table, work, Passed, stages_of_formulas}
+use Rattle.hy_top.specs.Stages.{First, here, later, count, closure, joint, atoms, table, work, stages_of_formulas}
 use Rattle.hy_top.specs.Steps.{Takes, TakesEvents, Ends}
 use Rattle.hy_top.proofs.Bodies.{closure_passed, atoms_passed, table_passed}
 use Rattle.hy_top.proofs.Formulas.{class_passed, instances_passed}

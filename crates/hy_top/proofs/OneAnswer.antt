@@ -1,5 +1,5 @@
 -- The first stage that is met gives one answer.
-use Rattle.std.proofs.Common.{◌≡◌, ℕ, suc, ◌<◌, ◌⊎◌, Bool, true, false, List, [], ◌∷◌, inl, inr, sym, ap, subst, ◌∙◌, arith}
+use Rattle.std.proofs.Common.{◌≡◌, ℕ, ◌⊎◌, Bool, true, false, List, [], ◌∷◌, inl, inr, sym, ap, subst, ◌∙◌, arith}
 use Rattle.std.proofs.lemmas.Bool.{cases_lt}
 use Rattle.hy_bits.specs.Letter.{Letter}
 use Rattle.hy_formula.specs.Lassos.{Lasso}
@@ -8,7 +8,7 @@ use Rattle.hy_finite.specs.declared.event.Placed.{Placed}
 use Rattle.hy_finite.specs.declared.lengths.Lengths.TheVariants.{Min}
 use Rattle.hy_finite.specs.Traces.{Trace}
 use Rattle.rv_core.specs.Endings.{Spec, IsClean, FirstViolated}
-use Rattle.rv_core.specs.Histories.{History, empty_history, Step, refused, goes, arrives}
+use Rattle.rv_core.specs.Histories.{History, empty_history, Step, refused, goes, step, arrives}
 use Rattle.hy_lasso.specs.Words.{Satisfies as Meant}
 use Rattle.hy_read.specs.Answers.{Plain}
 use Rattle.ea_core.specs.Decided.{Implies, TellsApart}
@@ -21,8 +21,8 @@ use Rattle.hy_top.specs.Classes.{takes, file_of, RefusesClass, FirstUntaken}
 use Rattle.hy_top.specs.Contents.{content_of, most_quantifiers, IsRefused}
 use Rattle.hy_top.specs.Deciding.{plan_of, plan_against, Determines, DecidesBy, DecidesOne, DecidesTwo, ComparesTwo, sat, unsat, implied, not_implied, beyond, equivalent, first_alone, second_alone, many_branches}
 use Rattle.hy_top.specs.Files.{Given, RefusesText}
-use Rattle.hy_top.specs.Judging.{HasLassos, Judges, holds, fails}
-use Rattle.hy_top.specs.Monitoring.{specs_of, step_of, IsViolation, Comes, IsVerdict, Monitors}
+use Rattle.hy_top.specs.Judging.{Judges, holds, fails}
+use Rattle.hy_top.specs.Monitoring.{specs_of, IsViolation, Comes, IsVerdict, Monitors}
 use Rattle.hy_top.specs.Monitoring.{ComesTo as ComesToAnswer}
 use Rattle.hy_top.specs.Stages.{Stage, opening, reading, size, text, class, count, work, Met, First, here, later, ComesTo, Agree, same, other_tuple, other_model, other_proof, other_implied, other_proofs, other_witness, other_side}
 use Rattle.hy_top.proofs.Formulas.{of_formulas, untaken_once}
@@ -77,7 +77,7 @@ events-agree : (specs : List Spec) (events : List Placed) (h : History) (a b : A
     → ComesToAnswer specs h events b → Agree a b
 events-agree specs [] h a b one two = agree (one ∙ sym two)
 events-agree specs (placed ∷ events) h a b one two =
-    step-agrees specs placed.line (arrives placed.event) (step_of h placed.event) (λ next x. ComesToAnswer specs next events x)
+    step-agrees specs placed.line (arrives placed.event) (step h placed.event) (λ next x. ComesToAnswer specs next events x)
     (λ next x y. events-agree specs events next x y) a b one two
 
 verdicts-agree : (formulas : List Plain) (names : List (List ℕ)) (bytes : List ℕ) (a b : Answer) → IsVerdict formulas names bytes a

@@ -1,5 +1,5 @@
 -- How a run goes on from file to file, and how it ends.
-use Rattle.std.proofs.Common.{◌≡◌, ℕ, zero, suc, ◌+◌, ◌-◌, ◌<◌, ◌≤◌, List, [], ◌∷◌, ◌++◌, length, Some, Ok, Err, slice_get, refl, sym, ap, subst, ◌∙◌, arith, zero-add, suc-add, add-one, append_assoc, append-nil, length-append}
+use Rattle.std.proofs.Common.{◌≡◌, ℕ, zero, suc, ◌+◌, ◌-◌, ◌<◌, List, [], ◌∷◌, ◌++◌, length, Some, Ok, Err, slice_get, refl, sym, ap, subst, ◌∙◌, arith, zero-add, suc-add, add-one, append_assoc, append-nil, length-append}
 use Rattle.std.proofs.lemmas.Option.{slice_get_within}
 use Rattle.hy_base.specs.Shelf.{Read, ReadsFile, ReadsFiles}
 use Rattle.hy_base.specs.declared.reading.FileError.{FileError}
@@ -12,7 +12,7 @@ use Rattle.hy_answer.specs.Outputs.{out_text}
 use Rattle.hy_answer.specs.Refusals.{fault_answer}
 use Rattle.hy_words.specs.Commands.{Command, files_of}
 use Rattle.hy_top.specs.Contents.{content_of, most_quantifiers, IsText, IsRefused}
-use Rattle.hy_top.specs.Files.{Given, Came, HasText, HasTexts, HasAll, RefusesText}
+use Rattle.hy_top.specs.Files.{Given, HasText, HasTexts, HasAll}
 use Rattle.hy_top.specs.Runs.{Reads, Follows, decided, short, IsTextDue, extras_of}
 use Rattle.hy_top.specs.Stages.{Stage, opening, reading, size, text, work, Passed, AllPassed, First, here, IsRight, stages_of, stages_of_file, stages_of_files, stages_of_formulas}
 use Rattle.hy_top.specs.Steps.{Takes, Ends, unread, spent, refused}

@@ -1,5 +1,5 @@
 -- What was read of the files stays read, and names them in their order.
-use Rattle.std.proofs.Common.{◌≡◌, ℕ, zero, suc, ◌<◌, ◌≤◌, List, [], ◌∷◌, ◌++◌, length, Some, None, Ok, Err, slice_get, refl, sym, subst, ◌∙◌}
+use Rattle.std.proofs.Common.{◌≡◌, ℕ, zero, suc, List, [], ◌∷◌, ◌++◌, length, Some, None, Ok, slice_get, refl, sym, subst, ◌∙◌}
 use Rattle.hy_base.specs.Shelf.{Read, ReadsFile, ReadsFiles}
 use Rattle.hy_base.specs.declared.shelf.Shelf.{Ghosts}
 use Rattle.hy_top.specs.Files.{Given, Came}

@@ -1,10 +1,12 @@
 -- Answers that print nothing.
 use Rattle.std.proofs.Common.{◌≡◌, ℕ, List, [], refl, sym, subst}
+use Rattle.hy_text.specs.declared.line_error.LineError.{LineError}
+use Rattle.hy_text.specs.declared.line_error.LineError.TheVariants as faults
 use Rattle.hy_read.specs.Answers.{Answer as Found, faulty, free, over, read_as}
 use Rattle.hy_answer.specs.declared.answer.Answer.{Answer}
 use Rattle.hy_answer.specs.declared.answer.Extras.{Extras}
 use Rattle.hy_answer.specs.Outputs.{out_text}
-use Rattle.hy_answer.specs.Refusals.{Refuses}
+use Rattle.hy_answer.specs.Refusals.{Refuses, line_answer}
 use Rattle.hy_top.specs.Contents.{Content, specifications, one_formula, events, lassos, IsRefused}
 
 -- Nothing is printed for the answer.
@@ -20,9 +22,14 @@ found-silent k (free byte) a e = silent-as e (λ extras names. refl)
 found-silent k (over count limit) a e = silent-as e (λ extras names. refl)
 found-silent k (read_as formulas names) a e = absurd e
 
+line-silent : (k : ℕ) (fault : LineError) → IsSilent (line_answer k fault)
+line-silent k (faults.Syntax line) = λ extras names. refl
+line-silent k faults.Limit = λ extras names. refl
+line-silent k faults.Memory = λ extras names. refl
+
 pub refused-silent : (quantifiers : ℕ) (old : List (List ℕ)) (k : ℕ) (bytes : List ℕ) (content : Content) (a : Answer)
     → IsRefused quantifiers old k bytes content a → IsSilent a
 refused-silent quantifiers old k bytes specifications a (found, answers, refuses) = found-silent k found a refuses
 refused-silent quantifiers old k bytes one_formula a (found, answers, refuses) = found-silent k found a refuses
-refused-silent quantifiers old k bytes events a (line, fault, e) = silent-as e (λ extras names. refl)
+refused-silent quantifiers old k bytes events a (fault, refused, e) = silent-as e (line-silent k fault)
 refused-silent quantifiers old k bytes lassos a (line, refused, e) = silent-as e (λ extras names. refl)

@@ -1,19 +1,19 @@
 -- The bytes of a file are one text, or are refused by one answer, and never both.
-use Rattle.std.proofs.Common.{◌≡◌, ℕ, Bool, List, Ok, Err, inl, inr, sym, ap, subst, ◌∙◌, true, false}
-use Rattle.hy_bits.specs.Letter.{Letter}
-use Rattle.hy_formula.specs.Lassos.{Lasso}
+use Rattle.std.proofs.Common.{◌≡◌, ℕ, Bool, List, [], ◌∷◌, Ok, Err, inl, inr, refl, sym, ap, subst, ◌∙◌, true, false}
+use Rattle.hy_formula.specs.Quantifiers.{Each}
 use Rattle.hy_text.specs.Lines.{lines_of}
 use Rattle.hy_text.proofs.FirstFaults.{one_fault, texts_no_fault}
 use Rattle.hy_finite.specs.EventLines as event_line
-use Rattle.hy_finite.proofs.Collecting.{good-not_faulty}
+use Rattle.hy_finite.specs.EventAnswers.{IsRefusal as IsRefusedEvents}
+use Rattle.hy_finite.specs.EventFiles.{SomeTooLong}
+use Rattle.hy_finite.proofs.Collecting.{good-text, good-not_faulty, good-not_long}
+use Rattle.hy_text.specs.declared.line_error.LineError.{LineError}
 use Rattle.hy_text.specs.declared.line_error.LineError.TheVariants as faults
-use Rattle.hy_lasso.specs.LassoFiles.{IsLassosAnswer}
 use Rattle.hy_lasso.proofs.OneAnswer.{one_answer}
 use Rattle.hy_read.specs.Answers.{Answer as Found, Answers, Plain, faulty, free, over, read_as}
 use Rattle.hy_read.proofs.Spanning.{answer-once}
 use Rattle.hy_answer.specs.declared.answer.Answer.{Answer}
-use Rattle.hy_answer.specs.Refusals.{Refuses}
-use Rattle.hy_answer.specs.declared.answer.Answer.TheVariants.{Line}
+use Rattle.hy_answer.specs.Refusals.{Refuses, line_answer}
 use Rattle.hy_top.specs.Contents.{Content, specifications, one_formula, events, lassos, IsText, IsRefused}
 
 -- ---- formula texts
@@ -42,6 +42,35 @@ module _ (many : Bool) (quantifiers : ℕ) (old : List (List ℕ)) (bytes : List
       let P : Found → Type 0 = λ x. Refuses k x b in
       refuses_once k found a b e (subst P (sym (answer-once many quantifiers old bytes found other one two)) f)
 
+-- ---- event files
+
+good-lines : (lines : List (List ℕ)) → Each event_line.IsGood lines → Each event_line.IsText lines
+good-lines [] each = tt
+good-lines (line ∷ lines) (good, each) = (good-text line good, good-lines lines each)
+
+none-long : (lines : List (List ℕ)) → Each event_line.IsGood lines → ¬ SomeTooLong lines
+none-long [] each some = some
+none-long (line ∷ lines) (good, each) (inl long) = good-not_long line good long
+none-long (line ∷ lines) (good, each) (inr later) = none-long lines each later
+
+good-not_refused : (bytes : List ℕ) (fault : LineError) → Each event_line.IsGood (lines_of bytes) → ¬ IsRefusedEvents bytes fault
+good-not_refused bytes (faults.Syntax k) good refused =
+    texts_no_fault event_line.IsText event_line.IsFaulty good-not_faulty 1 (lines_of bytes) k (good-lines (lines_of bytes) good) refused
+good-not_refused bytes faults.Limit good refused = none-long (lines_of bytes) good refused.1
+good-not_refused bytes faults.Memory good refused = refused
+
+one-refusal : (bytes : List ℕ) (a b : LineError) → IsRefusedEvents bytes a → IsRefusedEvents bytes b → a ≡ b
+one-refusal bytes (faults.Syntax j) (faults.Syntax k) one two =
+    ap faults.Syntax (one_fault event_line.IsText event_line.IsFaulty good-not_faulty 1 (lines_of bytes) j k one two)
+one-refusal bytes (faults.Syntax j) faults.Limit one two =
+    absurd (texts_no_fault event_line.IsText event_line.IsFaulty good-not_faulty 1 (lines_of bytes) j two.0 one)
+one-refusal bytes faults.Limit (faults.Syntax k) one two =
+    absurd (texts_no_fault event_line.IsText event_line.IsFaulty good-not_faulty 1 (lines_of bytes) k one.0 two)
+one-refusal bytes faults.Limit faults.Limit one two = refl
+one-refusal bytes (faults.Syntax j) faults.Memory one two = absurd two
+one-refusal bytes faults.Limit faults.Memory one two = absurd two
+one-refusal bytes faults.Memory b one two = absurd one
+
 -- ---- texts of each content
 
 pub text_once : (quantifiers : ℕ) (old : List (List ℕ)) (bytes : List ℕ) (content : Content) (formulas others : List Plain) (new later : List (List ℕ))
@@ -59,8 +88,8 @@ text_not_refused quantifiers old k bytes specifications formulas new a is (found
     taken_not_refused true quantifiers old bytes k formulas new found a is answers refuses
 text_not_refused quantifiers old k bytes one_formula formulas new a is (found, answers, refuses) =
     taken_not_refused false quantifiers old bytes k formulas new found a is answers refuses
-text_not_refused quantifiers old k bytes events formulas new a (texts, _, _) (line, fault, e) =
-    texts_no_fault event_line.IsText event_line.IsFaulty good-not_faulty 1 (lines_of bytes) line texts fault
+text_not_refused quantifiers old k bytes events formulas new a (good, _, _) (fault, refused, e) =
+    good-not_refused bytes fault good refused
 text_not_refused quantifiers old k bytes lassos formulas new a ((list, read), _, _) (line, refused, e) =
     let same = one_answer old bytes (Ok list) (Err (faults.Syntax line)) (λ e. cc) (λ e. cc) read refused in cc
 
@@ -70,8 +99,7 @@ refused_once quantifiers old k bytes specifications a b (found, one, e) (other, 
     refusal_once true quantifiers old bytes k found other a b one two e f
 refused_once quantifiers old k bytes one_formula a b (found, one, e) (other, two, f) =
     refusal_once false quantifiers old bytes k found other a b one two e f
-refused_once quantifiers old k bytes events a b (line, one, e) (other, two, f) =
-    let same = one_fault event_line.IsText event_line.IsFaulty good-not_faulty 1 (lines_of bytes) line other one two in
-    e ∙ ap (λ l. Line k l) same ∙ sym f
+refused_once quantifiers old k bytes events a b (fault, one, e) (other, two, f) =
+    e ∙ ap (line_answer k) (one-refusal bytes fault other one two) ∙ sym f
 refused_once quantifiers old k bytes lassos a b (line, one, e) (other, two, f) =
     let same = one_answer old bytes (Err (faults.Syntax line)) (Err (faults.Syntax other)) (λ e. cc) (λ e. cc) one two in cc

@@ -4,14 +4,15 @@ use Rattle.hy_bits.specs.Letter.{Letter}
 use Rattle.hy_formula.specs.Lassos.{Lasso}
 use Rattle.hy_formula.specs.Quantifiers.{Each}
 use Rattle.hy_text.specs.Lines.{lines_of}
+use Rattle.hy_text.specs.declared.line_error.LineError.{LineError}
 use Rattle.hy_text.specs.declared.line_error.LineError.TheVariants as faults
 use Rattle.hy_finite.specs.EventLines as event_line
-use Rattle.hy_finite.specs.EventFiles.{FirstFault}
+use Rattle.hy_finite.specs.EventAnswers.{IsRefusal}
 use Rattle.hy_lasso.specs.LassoFiles.{IsLassosAnswer}
-use Rattle.hy_read.specs.Answers.{Answer as Found, Answers, Plain, faulty, free, over, read_as}
+use Rattle.hy_read.specs.Answers.{Answer as Found, Answers, Plain, read_as}
 use Rattle.hy_answer.specs.declared.answer.Answer.{Answer}
 use Rattle.hy_answer.specs.declared.answer.Answer.TheVariants.{Line}
-use Rattle.hy_answer.specs.Refusals.{Refuses}
+use Rattle.hy_answer.specs.Refusals.{Refuses, line_answer}
 use Rattle.hy_words.specs.Commands.{Command, monitor, judge, decide, imply, compare}
 
 pub data Content : Type 0 where
@@ -47,7 +48,7 @@ abbrev pub IsText : ℕ → List (List ℕ) → List ℕ → Content → List Pl
 IsText quantifiers old bytes specifications formulas new = Answers true quantifiers old bytes (read_as formulas new)
 IsText quantifiers old bytes one_formula formulas new = Answers false quantifiers old bytes (read_as formulas new)
 IsText quantifiers old bytes events formulas new =
-    Each event_line.IsText (lines_of bytes) × (formulas ≡ []) × (new ≡ old)
+    Each event_line.IsGood (lines_of bytes) × (formulas ≡ []) × (new ≡ old)
 IsText quantifiers old bytes lassos formulas new =
     ((list : List (Lasso Letter)) × IsLassosAnswer old bytes (Ok list)) × (formulas ≡ []) × (new ≡ old)
 
@@ -58,6 +59,6 @@ IsRefused quantifiers old k bytes specifications answer =
 IsRefused quantifiers old k bytes one_formula answer =
     (found : Found) × Answers false quantifiers old bytes found × Refuses k found answer
 IsRefused quantifiers old k bytes events answer =
-    (line : ℕ) × FirstFault 1 (lines_of bytes) line × (answer ≡ Line k line)
+    (fault : LineError) × IsRefusal bytes fault × (answer ≡ line_answer k fault)
 IsRefused quantifiers old k bytes lassos answer =
     (line : ℕ) × IsLassosAnswer old bytes (Err (faults.Syntax line)) × (answer ≡ Line k line)

@@ -1,6 +1,6 @@
 -- What is answered for a formula that is decided, and for two formulas of which one is to imply the other, or that are
 -- to be equivalent.
-use Rattle.std.specs.Prelude.{◌≡◌, ◌⊎◌, ℕ, cond, List, [], ◌∷◌}
+use Rattle.std.specs.Prelude.{◌⊎◌, ℕ, cond, List, [], ◌∷◌}
 use Rattle.std.specs.List.{Contains}
 use Rattle.hy_base.specs.Limits.{most}
 use Rattle.hy_base.specs.declared.limit.Kind.TheVariants.{Instances, Closure}
@@ -20,7 +20,7 @@ use Rattle.ea_core.specs.Decided.{Decides, DecidesImplication, DecidesEquivalenc
 use Rattle.ea_core.specs.Undecided.{HasManyMembers, IsCounted, IsWithin, AreWithin, HasFewBranches, HasManyBranches}
 use Rattle.hy_answer.specs.declared.answer.Answer.{Answer}
 use Rattle.hy_answer.specs.declared.answer.Answer.TheVariants.{Sat, Unsat, Implied, NotImplied, Equivalent, NotEquivalent, States, Prefix, Limit, Memory}
-use Rattle.hy_words.specs.Commands.{Command, monitor, judge, decide, imply, compare}
+use Rattle.hy_words.specs.Commands.{Command, decide, imply, compare}
 use Rattle.hy_top.specs.Classes.{takes, file_of, FirstUntaken, AreTaken}
 use Rattle.hy_top.specs.Files.{Given, HasFormulas}
 

@@ -1,5 +1,5 @@
 -- What `rvhyper` answers: how the formulas are counted, and what comes of the events of a file, one after another.
-use Rattle.std.specs.Prelude.{◌≡◌, ◌⊎◌, ℕ, Bool, true, false, nat_lt, if◌then◌else◌, List, [], ◌∷◌, length, map, replicate, Ok}
+use Rattle.std.specs.Prelude.{◌≡◌, ◌⊎◌, ℕ, Bool, true, false, List, [], ◌∷◌, length, map, replicate, Ok}
 use Rattle.std.specs.List.{Contains}
 use Rattle.hy_base.specs.Limits.{most}
 use Rattle.hy_base.specs.declared.limit.Kind.TheVariants.{Closure, Atoms, Table, Length, Sessions, Saves}
@@ -7,12 +7,10 @@ use Rattle.hy_formula.specs.Classes.{class_of}
 use Rattle.hy_formula.specs.declared.classes.Class.{Class}
 use Rattle.hy_formula.specs.Quantifiers.{Each}
 use Rattle.hy_formula.specs.Trees.{Tree}
-use Rattle.hy_finite.specs.declared.event.Event.{Event}
-use Rattle.hy_finite.specs.declared.event.Event.TheVariants.{Whole}
 use Rattle.hy_finite.specs.declared.event.Placed.{Placed}
 use Rattle.hy_finite.specs.declared.lengths.Lengths.TheVariants.{Min}
 use Rattle.hy_finite.specs.EventFiles.{IsEventFile}
-use Rattle.hy_finite.specs.Traces.{Trace, most_letters}
+use Rattle.hy_finite.specs.Traces.{Trace}
 use Rattle.hy_read.specs.Answers.{Plain}
 use Rattle.fin_monitor.specs.Limits.{HasLargeClosure, HasSmallClosure, HasManyAtoms, HasFewAtoms, HasLargeTable, IsTaken}
 use Rattle.rv_core.specs.Endings.{Spec, IsClean}
@@ -60,15 +58,6 @@ specs_of formulas = map spec_of formulas
 
 -- ---- the events
 
--- whether the event is a trace of too many letters
-abbrev pub is_long : Event → Bool
-is_long (Whole t) = nat_lt most_letters (length t)
-is_long _ = false
-
--- what the event of a line does
-abbrev pub step_of : History → Event → Step
-step_of h event = if is_long event then refused too_long else step h event
-
 -- the answer for the refused event of a line
 abbrev pub refusal_answer : ℕ → Refusal → Answer
 refusal_answer line no_session = Session line
@@ -103,7 +92,7 @@ Comes specs line true (goes h) Rest answer =
 abbrev pub ComesTo : List Spec → History → List Placed → Answer → Type 0
 ComesTo specs h [] answer = answer ≡ clean_answer (length specs) h
 ComesTo specs h (placed ∷ events) answer =
-    Comes specs placed.line (arrives placed.event) (step_of h placed.event)
+    Comes specs placed.line (arrives placed.event) (step h placed.event)
     (λ next. ComesTo specs next events answer) answer
 
 -- The lines of a file say events that come to this answer.

@@ -1,5 +1,5 @@
 -- What a run answers, what it has read then, and what it writes.
-use Rattle.std.specs.Prelude.{◌≡◌, ℕ, ◌<◌, ◌⊎◌, Bool, true, false, List, [], length}
+use Rattle.std.specs.Prelude.{◌≡◌, ℕ, ◌<◌, ◌⊎◌, false, List, [], length}
 use Rattle.hy_base.specs.Shelf.{ReadsFiles}
 use Rattle.hy_base.specs.Sink.{GivesWhole, FailsToGive}
 use Rattle.hy_base.specs.declared.shelf.Shelf.{Ghosts}

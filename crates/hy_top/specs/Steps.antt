@@ -1,11 +1,11 @@
 -- What a step of a run says that reads one file and takes its text.
-use Rattle.std.specs.Prelude.{◌≡◌, ℕ, List, Ok, Err}
+use Rattle.std.specs.Prelude.{ℕ, List, Ok, Err}
 use Rattle.hy_base.specs.Shelf.{ReadsFile}
 use Rattle.hy_base.specs.declared.reading.FileError.{FileError}
 use Rattle.hy_base.specs.declared.shelf.Shelf.{Ghosts}
 use Rattle.hy_bits.specs.Letter.{Letter}
 use Rattle.hy_formula.specs.Lassos.{Lasso}
-use Rattle.hy_finite.specs.EventLines as event_line
+use Rattle.hy_finite.specs.EventLines.{IsGood}
 use Rattle.hy_formula.specs.Quantifiers.{Each}
 use Rattle.hy_text.specs.Lines.{lines_of}
 use Rattle.hy_lasso.specs.LassoFiles.{IsLassosAnswer}
@@ -27,10 +27,10 @@ pub record TakesLassos {S : Type 0} (g : Ghosts S) (old new : S) (name : List �
   pub read : ReadsFile g old new name (Ok bytes)
   pub is : IsLassosAnswer names bytes (Ok list)
 
--- The file was read, these are its bytes, and each of its lines is a text.
+-- The file was read, these are its bytes, and each of its lines is a text, and no trace that is too long.
 pub record TakesEvents {S : Type 0} (g : Ghosts S) (old new : S) (name : List ℕ) (bytes : List ℕ) : Type 0 where
   pub read : ReadsFile g old new name (Ok bytes)
-  pub lines : Each event_line.IsText (lines_of bytes)
+  pub lines : Each IsGood (lines_of bytes)
 
 -- The run ends at file k, which is to be of this content, with this answer: it was not read, memory ran out, or its
 -- text is refused.

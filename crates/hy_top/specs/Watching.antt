@@ -1,15 +1,11 @@
 -- What comes of one line after another of a file of events, given to a monitor.
-use Rattle.std.specs.Prelude.{◌≡◌, ◌⊎◌, ℕ, true, List, length, Err}
+use Rattle.std.specs.Prelude.{◌≡◌, ◌⊎◌, ℕ, true, List, length}
 use Rattle.hy_base.specs.Limits.{most}
-use Rattle.hy_base.specs.declared.limit.Kind.TheVariants.{Length}
 use Rattle.hy_finite.specs.declared.event.Placed.{Placed}
 use Rattle.hy_finite.specs.declared.lengths.Lengths.TheVariants.{Min}
 use Rattle.hy_finite.specs.EventFiles.{IsEventFile}
-use Rattle.hy_finite.specs.LinesLeft.{LinesLeft}
-use Rattle.hy_finite.specs.NextEvents.{IsNextAnswer}
-use Rattle.hy_text.specs.declared.line_error.LineError.TheVariants as faults
 use Rattle.rv_core.specs.Endings.{Spec, IsClean}
-use Rattle.rv_core.specs.Held.{Held, StandsFor, specs_of}
+use Rattle.rv_core.specs.Held.{Held, StandsFor}
 use Rattle.rv_core.specs.Histories.{History, empty_history, goes, step, arrives}
 use Rattle.rv_core.specs.declared.rv_error.RvError.{RvError}
 use Rattle.rv_core.specs.declared.rv_error.RvError.TheVariants as errors
@@ -20,10 +16,6 @@ use Rattle.hy_top.specs.Monitoring.{Comes, ComesTo, clean_answer}
 -- Memory ran out, or the fact holds.
 abbrev pub OrMemory : Answer → Type 0 → Type 0
 OrMemory answer P = (answer ≡ Memory) ⊎ P
-
--- The next line that says something is a trace that is too long, and so is answered.
-abbrev pub IsLongAnswer : List (List ℕ) → LinesLeft → LinesLeft → Answer → Type 0
-IsLongAnswer names old new answer = (answer ≡ Limit Length (most Length)) × IsNextAnswer names old new (Err faults.Limit)
 
 -- The answer for a line whose event was answered by this error.
 abbrev pub IsEventAnswer : RvError → ℕ → Answer → Type 0

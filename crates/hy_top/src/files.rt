@@ -9,7 +9,7 @@ ghost use Rattle.hy_top.specs.Steps.{Takes, TakesEvents, TakesLassos, Ends};
 
 use hy_answer::{Answer, fault_answer, line_answer, text_answer};
 use hy_base::{Shelf, Text, read_all};
-use hy_finite::{LineError, check_events};
+use hy_finite::check_events;
 use hy_formula::{Formula, NameTable};
 use hy_lasso::{LassoList, read_lassos};
 use hy_read::{SpecList, read_formula, read_specs};
@@ -70,8 +70,8 @@ pub fn specs_in<S: Shelf>(
     }
 }
 
-/// The bytes of the second file of the command, each of whose lines is a text; or the answer with
-/// which the run ends there.
+/// The bytes of the second file of the command, each of whose lines is a text that is taken; or the
+/// answer with which the run ends there.
 pub fn events_in<S: Shelf>(alloc: Global, shelf: &mut S, name: &str) -> Result<Text, Answer>
     ensures keeps { KeepsShelf S.Shelf shelf.old shelf.new }
     ensures taken { IfOk result (λ bytes. TakesEvents S.Shelf shelf.old shelf.new name.now bytes) }
@@ -85,9 +85,7 @@ pub fn events_in<S: Shelf>(alloc: Global, shelf: &mut S, name: &str) -> Result<T
     };
     match check_events(alloc, bytes.as_slice()) {
         Ok(()) => Ok(bytes),
-        Err(LineError::Limit) => Ok(bytes),
-        Err(LineError::Syntax { line }) => Err(Answer::Line { file: 1, line }),
-        Err(LineError::Memory) => Err(Answer::Memory),
+        Err(error) => Err(line_answer(error, 1)),
     }
 }
 

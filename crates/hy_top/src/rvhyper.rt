@@ -6,7 +6,7 @@ ghost use Rattle.hy_base.specs.declared.reading.TheConstants.{BYTES_LIMIT};
 ghost use Rattle.hy_formula.specs.Quantifiers.{Each};
 ghost use Rattle.hy_formula.specs.declared.formula.Formula.{Formula};
 ghost use Rattle.hy_text.specs.Lines.{lines_of};
-ghost use Rattle.hy_finite.specs.EventLines.{IsText};
+ghost use Rattle.hy_finite.specs.EventLines.{IsGood};
 ghost use Rattle.hy_read.specs.Builds.{plain_formulas};
 ghost use Rattle.rv_core.specs.Built.{HasFewQuantifiers, IsNewRefusal};
 ghost use Rattle.hy_answer.specs.Outputs.{out_text};
@@ -49,12 +49,12 @@ pub fn monitor<S: Shelf>(
     }
 }
 
-/// What formulas come to on the events of lines, each of which is a text.
+/// What formulas come to on the events of lines that are taken.
 fn judge(alloc: Global, specs: &SpecList, bytes: &[u8], names: &NameTable) -> Answer
     requires quantifiers { All HasFewQuantifiers specs.now }
     requires countable { length specs.now < 2 ^ 32 }
     requires few { length bytes.now ≤ BYTES_LIMIT }
-    requires texts { Each IsText (lines_of bytes.now) }
+    requires good { Each IsGood (lines_of bytes.now) }
     ensures { IsOutcome (plain_formulas specs.now) names.now bytes.now result }
 {
     match Rv::new(alloc, specs.as_slice(), Lengths::Min) {

@@ -5,33 +5,33 @@ ghost use Rattle.hy_base.specs.declared.reading.TheConstants.{BYTES_LIMIT};
 ghost use Rattle.hy_formula.specs.Quantifiers.{Each};
 ghost use Rattle.hy_text.specs.Lines.{lines_of};
 ghost use Rattle.hy_finite.specs.declared.lengths.Lengths.TheVariants.{Min};
-ghost use Rattle.hy_finite.specs.EventLines.{IsText};
+ghost use Rattle.hy_finite.specs.EventLines.{IsGood};
 ghost use Rattle.hy_finite.specs.NextEvents.{IsNextAnswer};
 ghost use Rattle.hy_finite.specs.Remaining.{remaining};
 ghost use Rattle.rv_core.specs.Held.{StandsFor, specs_of};
 ghost use Rattle.rv_core.specs.Seen.{held};
 ghost use Rattle.rv_core.specs.Histories.{History, empty_history};
 ghost use Rattle.hy_answer.specs.declared.answer.Answer.TheVariants.{NoViolation};
-ghost use Rattle.hy_top.specs.Watching.{OrMemory, IsLongAnswer, IsEventAnswer, GoesOn, Stops, LinesCome, IsThrough};
+ghost use Rattle.hy_top.specs.Watching.{OrMemory, IsEventAnswer, GoesOn, Stops, LinesCome, IsThrough};
 
 use hy_answer::Answer;
-use hy_base::{Kind, M, Memory, NumList, Steps};
+use hy_base::{M, Memory, NumList, Steps};
 use hy_bits::Letters;
-use hy_finite::{EventLines, LineError, Placed};
+use hy_finite::{EventLines, Placed};
 use hy_formula::NameTable;
 use rv_core::{Reply, Rv, RvError};
 use std::alloc::Global;
 use std::marker::Brand;
 use std::sync::ledger::{Blank, Ledger};
 
-/// What the events of lines, each of which is a text, come to with a monitor of `specs` formulas to
+/// What the events of lines that are taken come to with a monitor of `specs` formulas to
 /// which nothing has come yet.
 pub fn watch(alloc: Global, rv: &mut Rv, specs: u32, bytes: &[u8], names: &NameTable) -> Answer
     requires stands { StandsFor (held rv.old) empty_history }
     requires rule { (held rv.old).rule ≡ Min }
     requires specs { specs ≡ length (specs_of (held rv.old)) }
     requires few { length bytes.now ≤ BYTES_LIMIT }
-    requires texts { Each IsText (lines_of bytes.now) }
+    requires good { Each IsGood (lines_of bytes.now) }
     ensures { OrMemory result (LinesCome (specs_of (held rv.old)) names.now bytes.now result) }
 {
     match watch_on::<Brand>(alloc, rv, bytes, names, Blank::new(1)) {
@@ -51,7 +51,7 @@ fn watch_on<L: Ledger>(
     requires stands { StandsFor (held rv.old) empty_history }
     requires rule { (held rv.old).rule ≡ Min }
     requires few { length bytes.now ≤ BYTES_LIMIT }
-    requires texts { Each IsText (lines_of bytes.now) }
+    requires good { Each IsGood (lines_of bytes.now) }
     requires name { blank.name ≡ L.name }
     requires parts { blank.parts ≡ L.parts }
     requires some { 0 < blank.parts }
@@ -77,7 +77,7 @@ fn watch_lines<L: Ledger>(
     requires stands { StandsFor (held rv.old) empty_history }
     requires rule { (held rv.old).rule ≡ Min }
     requires few { length bytes.now ≤ BYTES_LIMIT }
-    requires texts { Each IsText (lines_of bytes.now) }
+    requires good { Each IsGood (lines_of bytes.now) }
     ensures specs { specs_of (held rv.new) ≡ specs_of (held rv.old) }
     ensures through { OnOk result (IsThrough (specs_of (held rv.old)) names.now bytes.now (held rv.new)) }
     ensures ended { IfErr result (λ answer. OrMemory answer
@@ -92,27 +92,20 @@ fn watch_lines<L: Ledger>(
     Ok(())
 }
 
-/// The next event of lines, each of which is a text, in the memory of `letters`; or the answer where
-/// it is a trace that is too long.
+/// The next event of lines that are taken, in the memory of `letters`, so that nothing but memory may
+/// be wanting.
 fn next_event(
     lines: &mut EventLines,
     names: &NameTable,
     letters: Letters,
 ) -> Result<Option<Placed>, Answer>
-    requires { Each IsText (remaining lines.old).lines }
     ensures next { IfOk result (λ next. IsNextAnswer names.now (remaining lines.old)
         (remaining lines.new) (Ok next)) }
-    ensures ended { IfErr result (λ answer. OrMemory answer
-        (IsLongAnswer names.now (remaining lines.old) (remaining lines.new) answer)) }
+    ensures ended { IfErr result (λ answer. answer ≡ Answer.Memory) }
 {
     match lines.next(names, letters) {
         Ok(next) => Ok(next),
-        Err(LineError::Limit) => Err(Answer::Limit {
-            kind: Kind::Length,
-            limit: Kind::Length.most(),
-        }),
-        Err(LineError::Memory) => Err(Answer::Memory),
-        Err(LineError::Syntax { .. }) => unreachable!(),
+        Err(_) => Err(Answer::Memory),
     }
 }
 

@@ -1,8 +1,6 @@
-use Rattle.std.proofs.Common.{[], subst, Err}
-use Rattle.hy_text.specs.declared.line_error.LineError.{LineError}
-use Rattle.hy_finite.specs.EventAnswers.{IsCheckAnswer}
-use Rattle.hy_top.specs.Steps.{unread, spent}
-use Rattle.hy_top.proofs.Ending.{events-end, events-taken, events-long}
+use Rattle.std.proofs.Common.{[]}
+use Rattle.hy_top.specs.Steps.{unread}
+use Rattle.hy_top.proofs.Ending.{events-end, events-taken}
 use Rattle.hy_top.proofs.files.events_in.Goals as goal
 
 pub returns-in-Err-clause-ended : goal.returns-in-Err-clause-ended
@@ -12,8 +10,12 @@ pub returns-in-Ok-check_events-clause-taken : goal.returns-in-Ok-check_events-cl
 returns-in-Ok-check_events-clause-taken g c =
     events-taken g.S.Shelf _ _ _ 4 [] 1 _ _ c.in-Ok.ensures.read c.as_slice.ensures c.in-Ok-check_events.ensures
 
-pub returns-in-Err-Syntax-clause-ended : goal.returns-in-Err-Syntax-clause-ended
-returns-in-Err-Syntax-clause-ended g c names =
-    let P : LineError → Type 0 = λ e. IsCheckAnswer c.as_slice.result.now (Err e) in
-    events-end g.S.Shelf _ _ _ 4 names 1 _ _ c.in-Ok.ensures.read c.as_slice.ensures _
-    (subst P c.in-Err-Syntax.field-0-is c.in-Err-Syntax.ensures)
+pub returns-in-Err-check_events : goal.returns-in-Err-check_events
+returns-in-Err-check_events g c = record {
+  keeps = c.read_all.ensures.keeps;
+  taken = tt;
+  few = tt;
+  ended = λ names.
+      rw c.line_answer.ensures
+      (events-end g.S.Shelf _ _ _ 4 names 1 _ _ c.in-Ok.ensures.read c.as_slice.ensures _ c.in-Err-check_events.ensures);
+}

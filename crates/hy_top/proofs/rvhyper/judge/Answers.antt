@@ -1,5 +1,3 @@
-use Rattle.std.proofs.Common.{◌∙◌, ap, map}
-use Rattle.rv_core.specs.Built.{spec_of_formula}
 use Rattle.hy_top.proofs.FirstSpecs.{monitored-outcome}
 use Rattle.hy_top.proofs.rvhyper.judge.Goals as goal
 

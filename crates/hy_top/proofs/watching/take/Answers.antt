@@ -1,4 +1,4 @@
-use Rattle.std.proofs.Common.{◌∙◌, ap, inl, inr, subst, Ok, Err, Result}
+use Rattle.std.proofs.Common.{◌∙◌, ap, inr, subst, Ok, Result}
 use Rattle.rv_core.specs.declared.reply.Reply.{Reply}
 use Rattle.rv_core.specs.declared.rv_error.RvError.{RvError}
 use Rattle.rv_core.specs.Replies.{Answers}

@@ -1,4 +1,4 @@
-use Rattle.std.proofs.Common.{◌∙◌, ap, inl, inr, subst, sym, Ok, Err, Some, None, Option, arith}
+use Rattle.std.proofs.Common.{inl, subst, Ok, Option}
 use Rattle.std.proofs.lemmas.Result.{err_from_is_err_and}
 use Rattle.hy_finite.specs.declared.event.Placed.{Placed}
 use Rattle.hy_finite.specs.NextEvents.{IsNextAnswer}
@@ -6,7 +6,7 @@ use Rattle.hy_finite.specs.Remaining.{remaining}
 use Rattle.hy_finite.proofs.Collecting.{next-fewer}
 use Rattle.rv_core.specs.Held.{specs_of}
 use Rattle.rv_core.specs.Seen.{held}
-use Rattle.hy_top.proofs.EventSteps.{passed-none, passed-more, passed-stops, passed-long, passed-all, few-arrived, or-memory}
+use Rattle.hy_top.proofs.EventSteps.{passed-more, passed-stops, passed-all, few-arrived, or-memory}
 use Rattle.hy_top.proofs.watching.watch_lines.Goals as goal
 
 pub take-requires-clause-few : goal.take-requires-clause-few
@@ -41,13 +41,7 @@ returns-clause-through g c =
 
 pub returns-in_err-placed-clause-ended : goal.returns-in_err-placed-clause-ended
 returns-in_err-placed-clause-ended g c =
-    let old = remaining c.loop-placed.lines in
-    let new = remaining c.next_event.new.lines in
-    let p = err_from_is_err_and c.from_residual.result c.from_residual.ensures.1 in
-    rw (p.1, p.2)
-    (or-memory
-    (passed-long (specs_of (held c.args.rv.now)) c.args.names.now c.args.bytes.now old new (held c.loop-placed.rv) c.loop-placed.invariant _)
-    c.in_err-placed.ensures.ended)
+    let p = err_from_is_err_and c.from_residual.result c.from_residual.ensures.1 in rw (p.1, p.2) (inl c.in_err-placed.ensures.ended)
 
 pub returns-in_err-take-clause-ended : goal.returns-in_err-take-clause-ended
 returns-in_err-take-clause-ended g c =
