@@ -30,7 +30,7 @@ trace_at traces k = slice_index_or traces k []
 abbrev pub place_of : Watched → ℕ → ℕ → ℕ → ℕ → ℕ
 place_of w letters k variable i = w.machine.variables * start_of w k + variable * letters + i
 
--- What is held is what these traces bring, each of them with 1 to 1,024 letters.
+-- What is held is what these traces bring: of each letter its part of the code for each variable.
 pub record Holds (w : Watched) (traces : List Trace) : Type 0 where
   pub counted : count_of w ≡ length traces
   pub lengths : (k : ℕ) → k < length traces → start_of w (k + 1) ≡ start_of w k + length (trace_at traces k)
