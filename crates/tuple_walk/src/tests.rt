@@ -1,10 +1,7 @@
 //! Tuples that were worked out by hand, with ample memory.
 
-ghost use Rattle.std.specs.Prelude.{◌≡◌, ◌<◌, ◌≤◌, IfOk, IsTrue, length};
+ghost use Rattle.std.specs.Prelude.{◌≡◌, ◌<◌, ◌≤◌, IfOk, IsTrue};
 ghost use Rattle.hy_formula.specs.Trees.{tree_of, vars_below};
-ghost use Rattle.tuple_walk.specs.Seen.{watched};
-ghost use Rattle.tuple_walk.specs.Watched.{count_of};
-ghost use Rattle.fin_monitor.specs.Seen.{machine_of};
 
 use crate::Watch;
 use fin_monitor::Monitor;
@@ -41,16 +38,6 @@ fn alike(alloc: Global) -> Result<Body, Fail>
     Ok(Body::Globally(Box::new(alloc, same)?))
 }
 
-/// A watch of the body.
-fn watch(alloc: Global, body: &Body, vars: u8, lengths: Lengths) -> Result<Watch, Fail>
-    requires some { 1 ≤ vars }
-    requires few { vars ≤ 4 }
-    requires bound { IsTrue (vars_below vars (tree_of body.now)) }
-    ensures { IfOk result (λ w. count_of (watched w) ≡ 0) }
-{
-    Ok(Watch::new(alloc, Monitor::build(alloc, body, vars)?, lengths)?)
-}
-
 /// The letter of one name.
 fn of(name: usize) -> LetterMask
     requires { name < 64 }
@@ -58,85 +45,84 @@ fn of(name: usize) -> LetterMask
     LetterMask::empty().with(name)
 }
 
+/// Lets the traces arrive, and tries that the last one brings this tuple, and those before it none.
 fn arrive<L: Ledger, R: Abort>(
     rt: &R,
     watch: &mut Watch,
-    trace: &[LetterMask],
+    traces: &[&[LetterMask]],
     tuple: &[u32],
     steps: &mut Steps<L>,
 ) -> Result<(), Fail> {
-    assert!(rt; !trace.is_empty() && trace.len() <= 1024 && watch.count() < 1000);
-    watch.push(trace)?;
-    match watch.find(steps) {
-        Some(found) => assert_eq!(rt; found.as_slice(), tuple),
-        None => assert!(rt; tuple.is_empty()),
+    for (k, trace) in traces.iter().enumerate() {
+        assert!(rt; !trace.is_empty() && trace.len() <= 1024 && watch.count() < 1000);
+        watch.push(trace)?;
+        let expected = if k + 1 == traces.len() { tuple } else { &[] };
+        match watch.find(steps) {
+            Some(found) => assert_eq!(rt; found.as_slice(), expected),
+            None => assert!(rt; expected.is_empty()),
+        }
     }
     Ok(())
 }
 
-fn places<L: Ledger, R: AllocGlobal + Abort>(rt: &R, blank: Blank) -> Result<(), Fail>
-    requires name { blank.name ≡ L.name }
-    requires parts { blank.parts ≡ L.parts }
-    requires some { 0 < blank.parts }
+/// Lets the traces arrive at a watch of the body, with the tuple that the last one brings; and after a
+/// cut to none the last one alone, which brings none.
+fn tried<L: Ledger, R: AllocGlobal + Abort>(
+    rt: &R,
+    body: Body,
+    vars: u8,
+    lengths: Lengths,
+    traces: &[&[LetterMask]],
+    tuple: &[u32],
+    steps: &mut Steps<L>,
+) -> Result<(), Fail>
+    requires some { 1 ≤ vars }
+    requires few { vars ≤ 4 }
+    requires bound { IsTrue (vars_below vars (tree_of body)) }
 {
     let alloc = rt.alloc();
-    let mut steps = Steps::<L>::new(blank);
-    let mut one = watch(alloc, &not_all(alloc, 1)?, 1, Lengths::Min)?;
-    arrive(rt, &mut one, &[of(1), of(0)], &[], &mut steps)?;
-    arrive(rt, &mut one, &[of(0)], &[1], &mut steps)?;
-    let mut two = watch(alloc, &not_all(alloc, 2)?, 2, Lengths::Min)?;
-    arrive(rt, &mut two, &[of(1)], &[], &mut steps)?;
-    arrive(rt, &mut two, &[of(2)], &[], &mut steps)?;
-    arrive(rt, &mut two, &[of(0)], &[2, 0], &mut steps)?;
-    two.truncate(0);
-    arrive(rt, &mut two, &[of(0).with(1)], &[0, 0], &mut steps)?;
-    let mut three = watch(alloc, &not_all(alloc, 3)?, 3, Lengths::Min)?;
-    arrive(rt, &mut three, &[of(0)], &[], &mut steps)?;
-    arrive(rt, &mut three, &[of(2)], &[], &mut steps)?;
-    arrive(rt, &mut three, &[of(1)], &[0, 2, 1], &mut steps)?;
-    let mut four = watch(alloc, &not_all(alloc, 4)?, 4, Lengths::Pad)?;
-    arrive(rt, &mut four, &[of(3)], &[], &mut steps)?;
-    arrive(rt, &mut four, &[of(2), of(2)], &[], &mut steps)?;
-    arrive(rt, &mut four, &[of(1), of(1)], &[], &mut steps)?;
-    arrive(rt, &mut four, &[of(0)], &[3, 2, 1, 0], &mut steps)?;
+    let mut watch = Watch::new(alloc, Monitor::build(alloc, &body, vars)?, lengths)?;
+    arrive(rt, &mut watch, traces, tuple, steps)?;
+    watch.truncate(0);
+    assert_eq!(rt; watch.count(), 0);
+    if let [.., _before, last] = traces {
+        arrive(rt, &mut watch, &[*last], &[], steps)?;
+    }
     Ok(())
 }
 
-/// Each place that the newest trace may have, alone and beside others.
-#[test]
-fn newest_at_each_place(rt: HostRuntime) -> Result<(), Fail> {
-    places::<Brand, HostRuntime>(&rt, Blank::new(1))
-}
-
-fn rules<L: Ledger, R: AllocGlobal + Abort>(rt: &R, blank: Blank) -> Result<(), Fail>
-    requires name { blank.name ≡ L.name }
-    requires parts { blank.parts ≡ L.parts }
-    requires some { 0 < blank.parts }
-{
+/// The newest trace at the only place, at the first one, between others, and at two places.
+fn places<L: Ledger, R: AllocGlobal + Abort>(rt: &R, steps: &mut Steps<L>) -> Result<(), Fail> {
     let alloc = rt.alloc();
-    let mut steps = Steps::<L>::new(blank);
-    let none = LetterMask::empty();
-    let mut least = watch(alloc, &alike(alloc)?, 2, Lengths::Min)?;
-    arrive(rt, &mut least, &[of(0), of(0)], &[], &mut steps)?;
-    arrive(rt, &mut least, &[of(0), of(0), none], &[], &mut steps)?;
-    arrive(rt, &mut least, &[of(0), of(0), of(0)], &[1, 2], &mut steps)?;
-    least.truncate(1);
-    arrive(rt, &mut least, &[of(0), of(0), of(0)], &[], &mut steps)?;
-    let mut greatest = watch(alloc, &alike(alloc)?, 2, Lengths::Pad)?;
-    arrive(rt, &mut greatest, &[of(0), of(0)], &[], &mut steps)?;
-    arrive(rt, &mut greatest, &[of(0), of(0), none], &[], &mut steps)?;
-    arrive(
-        rt,
-        &mut greatest,
-        &[of(0), of(0), of(0)],
-        &[0, 2],
-        &mut steps,
-    )?;
-    Ok(())
+    let (a, b, c, d) = (of(0), of(1), of(2), of(3));
+    tried(rt, not_all(alloc, 1)?, 1, Lengths::Min, &[&[a, b]], &[0], steps)?;
+    tried(rt, not_all(alloc, 2)?, 2, Lengths::Min, &[&[b], &[a]], &[1, 0], steps)?;
+    tried(rt, not_all(alloc, 3)?, 3, Lengths::Min, &[&[a], &[c], &[b]], &[0, 2, 1], steps)?;
+    let twice: [&[LetterMask]; 3] = [&[d], &[c, c], &[b.with(0), b]];
+    tried(rt, not_all(alloc, 4)?, 4, Lengths::Pad, &twice, &[2, 2, 1, 0], steps)
 }
 
 /// A tuple is judged on the least of its lengths or the greatest.
+fn rules<L: Ledger, R: AllocGlobal + Abort>(rt: &R, steps: &mut Steps<L>) -> Result<(), Fail> {
+    let alloc = rt.alloc();
+    let a = of(0);
+    let none = LetterMask::empty();
+    let traces: [&[LetterMask]; 3] = [&[a], &[a, none], &[a, a]];
+    tried(rt, alike(alloc)?, 2, Lengths::Min, &traces, &[1, 2], steps)?;
+    tried(rt, alike(alloc)?, 2, Lengths::Pad, &traces, &[0, 2], steps)
+}
+
+fn all<L: Ledger, R: AllocGlobal + Abort>(rt: &R, blank: Blank) -> Result<(), Fail>
+    requires name { blank.name ≡ L.name }
+    requires parts { blank.parts ≡ L.parts }
+    requires some { 0 < blank.parts }
+{
+    let mut steps = Steps::<L>::new(blank);
+    places(rt, &mut steps)?;
+    rules(rt, &mut steps)
+}
+
 #[test]
-fn both_rules(rt: HostRuntime) -> Result<(), Fail> {
-    rules::<Brand, HostRuntime>(&rt, Blank::new(1))
+fn tuples(rt: HostRuntime) -> Result<(), Fail> {
+    all::<Brand, HostRuntime>(&rt, Blank::new(1))
 }
