@@ -95,11 +95,43 @@ fn tried<L: Ledger, R: AllocGlobal + Abort>(
 fn places<L: Ledger, R: AllocGlobal + Abort>(rt: &R, steps: &mut Steps<L>) -> Result<(), Fail> {
     let alloc = rt.alloc();
     let (a, b, c, d) = (of(0), of(1), of(2), of(3));
-    tried(rt, not_all(alloc, 1)?, 1, Lengths::Min, &[&[a, b]], &[0], steps)?;
-    tried(rt, not_all(alloc, 2)?, 2, Lengths::Min, &[&[b], &[a]], &[1, 0], steps)?;
-    tried(rt, not_all(alloc, 3)?, 3, Lengths::Min, &[&[a], &[c], &[b]], &[0, 2, 1], steps)?;
+    tried(
+        rt,
+        not_all(alloc, 1)?,
+        1,
+        Lengths::Min,
+        &[&[a, b]],
+        &[0],
+        steps,
+    )?;
+    tried(
+        rt,
+        not_all(alloc, 2)?,
+        2,
+        Lengths::Min,
+        &[&[b], &[a]],
+        &[1, 0],
+        steps,
+    )?;
+    tried(
+        rt,
+        not_all(alloc, 3)?,
+        3,
+        Lengths::Min,
+        &[&[a], &[c], &[b]],
+        &[0, 2, 1],
+        steps,
+    )?;
     let twice: [&[LetterMask]; 3] = [&[d], &[c, c], &[b.with(0), b]];
-    tried(rt, not_all(alloc, 4)?, 4, Lengths::Pad, &twice, &[2, 2, 1, 0], steps)
+    tried(
+        rt,
+        not_all(alloc, 4)?,
+        4,
+        Lengths::Pad,
+        &twice,
+        &[2, 2, 1, 0],
+        steps,
+    )
 }
 
 /// A tuple is judged on the least of its lengths or the greatest.
