@@ -94,7 +94,12 @@ module _ (w : Watched) (is : IsWatch w) where
       omega arith in
       let whole : n * start_of w (k + 1) ≡ n * start_of w k + n * letters =
       ap (λ s. n * s) long ∙ omega arith in
-      omega (arith, is.whole, mul-le-mul_left n (rising (k + 1) (count_of w) (omega arith) (omega arith)))
+      omega (
+        arith,
+        is.whole,
+        mul-le-mul_left n (rising (k + 1) (count_of w) (omega arith)
+            (omega arith)),
+      )
 
   pub parts-lt : AreCodesOf w.machine w.parts
   parts-lt p =
@@ -116,7 +121,12 @@ module _ (w : Watched) (is : IsWatch w) where
       → IsColumn w.machine variable (trace_at traces k) column
   is-column traces holds k variable letters lt within long column length_is at =
       let t = trace_at traces k in
-      let same : letters ≡ length t = omega (arith, long, holds.lengths k (omega (arith, holds.counted))) in
+      let same : letters ≡ length t = omega (
+        arith,
+        long,
+        holds.lengths k (omega
+            (arith, holds.counted)),
+      ) in
       record {
         long = length_is ∙ same;
         right = λ i. elim (cases_lt i letters) [
@@ -142,7 +152,8 @@ module _ (w : Watched) (is : IsWatch w) where
     old-start : (k : ℕ) → k ≤ count_of w → start_of pushed k ≡ start_of w k
     unfolding pushed
     old-start k le =
-        get_or-append w.starts ((start_of w (count_of w) + length t) ∷ []) 0 k (omega (arith, is.one))
+        get_or-append w.starts ((start_of w (count_of w) + length t) ∷ []) 0 k (omega
+        (arith, is.one))
 
     new-start : (k : ℕ) → k ≡ count_of w → start_of pushed (k + 1) ≡ start_of pushed k + length t
     unfolding pushed
@@ -163,8 +174,20 @@ module _ (w : Watched) (is : IsWatch w) where
     step k lt =
         elim (cases_lt k (count_of w)) [
           | inl old ↦ (
-            omega (arith, old-start k (omega arith), old-start (k + 1) (omega arith), is.longer k old),
-            omega (arith, old-start k (omega arith), old-start (k + 1) (omega arith), is.short k old),
+            omega (
+              arith,
+              old-start k (omega arith),
+              old-start (k + 1)
+                  (omega arith),
+              is.longer k old,
+            ),
+            omega (
+              arith,
+              old-start k (omega arith),
+              old-start (k + 1)
+                  (omega arith),
+              is.short k old,
+            ),
           )
           | inr new ↦
               let last : k ≡ count_of w = omega (arith, pushed-count) in (

@@ -31,7 +31,8 @@ all-more : (P : ℕ → Type 0) (k : ℕ) (pick : List ℕ) → P k → All P pi
 all-more P k pick first all zero d lt = first
 all-more P k pick first all (suc i) d lt = all i d (omega arith)
 
-pub all-behind : (P : ℕ → Type 0) (pick : List ℕ) (k : ℕ) → All P pick → P k → All P (pick ++ k ∷ [])
+pub all-behind : (P : ℕ → Type 0) (pick : List ℕ) (k : ℕ) → All P pick → P k
+    → All P (pick ++ k ∷ [])
 all-behind P pick k all last =
     All-append P pick (k ∷ []) all (all-more P k [] last (λ i d lt. absurd (omega arith)))
 
@@ -100,7 +101,8 @@ module _ (w : Watched) where
       elim (below-or-newest (length older) pick (λ i d lt. omega (arith, all i d lt))) [
         | inl has ↦
             let last : length older ≡ newest_of w = omega (arith, holds.counted) in
-            no_meets (subst (Meets w.lengths w.machine.body) same (meets all_traces holds pick (record {
+            no_meets (subst (Meets w.lengths w.machine.body) same (meets all_traces holds pick
+            (record {
               long = omega (arith, length-picked all_traces pick, ap length same, is.count);
               inside = λ i d lt. omega (arith, all i d lt, holds.counted);
               newest = inr (subst (Contains pick) last has);
@@ -158,14 +160,16 @@ module _ (w : Watched) where
                 | inr none ↦ absurd (contains-none (newest_of w) none)
               ]
             ] in
-            subst (λ k. Meets w.lengths w.machine.body (trace_at traces k ∷ [])) e (meets traces holds)
+            subst (λ k. Meets w.lengths w.machine.body (trace_at traces k ∷ [])) e
+            (meets traces holds)
 
     pub alone-found : ((traces : List Trace) → Holds w traces
         → ¬ Meets w.lengths w.machine.body (trace_at traces newest ∷ []))
         → IsViolation w (newest ∷ [])
     alone-found unmet =
         violation-of (newest ∷ []) (sym one)
-        (all-more (λ k. k < count_of w) newest [] (omega arith) (λ i d lt. absurd (omega arith))) unmet
+        (all-more (λ k. k < count_of w) newest [] (omega arith) (λ i d lt. absurd
+        (omega arith))) unmet
 
   -- ---- one variable more
 
@@ -180,7 +184,8 @@ module _ (w : Watched) where
       column-behind : (traces : List Trace) → Holds w traces
           → IsColumn w.machine (length (picked traces chosen)) (trace_at traces k) column
       column-behind traces holds =
-          let e : variable ≡ length (picked traces chosen) = at ∙ sym (length-picked traces chosen) in
+          let e : variable ≡ length (picked traces chosen) = at
+          ∙ sym (length-picked traces chosen) in
           subst (λ v. IsColumn w.machine v (trace_at traces k) column) e (are traces holds)
 
       -- what is told of the tuple with trace k
@@ -214,7 +219,8 @@ module _ (w : Watched) where
     -- ---- the last variable
 
     pub last-some : (k : ℕ) (tuple : List ℕ) → tuple ≡ chosen ++ k ∷ []
-        → length chosen + 1 ≡ w.machine.variables → All (λ j. j < count_of w) chosen → k < count_of w
+        → length chosen + 1 ≡ w.machine.variables → All (λ j. j < count_of w) chosen
+        → k < count_of w
         → ((traces : List Trace) → Holds w traces → HaveCodes traces
         → ¬ Meets w.lengths w.machine.body (picked traces (chosen ++ k ∷ [])))
         → IsSearch w chosen has_newest codes (Some tuple)
@@ -309,7 +315,8 @@ module _ (w : Watched) where
 
   module _ (k : ℕ) (longer : List ℕ) (has : Bool) (column : List ℕ) (longer_is : longer ≡ k ∷ [])
       (has_is : has ≡ nat_eq k (newest_of w))
-      (are : (traces : List Trace) → Holds w traces → IsColumn w.machine 0 (trace_at traces k) column)
+      (are : (traces : List Trace) → Holds w traces
+      → IsColumn w.machine 0 (trace_at traces k) column)
     where
       pub first-meets : IsSearch w longer has column None → (traces : List Trace) → Holds w traces
           → (more : List ℕ) → Completes w (k ∷ []) (nat_eq k (newest_of w)) more
@@ -317,7 +324,8 @@ module _ (w : Watched) where
       first-meets search traces holds =
           subst (λ (b : Bool). IsSearch w (k ∷ []) b column None) has_is
           (subst (λ (l : List ℕ). IsSearch w l has column None) longer_is search)
-          traces holds (first-codes w.machine w.lengths (trace_at traces k) column (are traces holds))
+          traces holds (first-codes w.machine w.lengths (trace_at traces k) column
+          (are traces holds))
 
       pub first-found : (tuple : List ℕ) → IsSearch w longer has column (Some tuple)
           → IsViolation w tuple

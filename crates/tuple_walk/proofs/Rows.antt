@@ -22,7 +22,8 @@ length-rows m (suc n) t =
 
 -- where the part of a letter stands
 pub rows-at : (m : Machine) (n : ℕ) (t : Trace) (variable i : ℕ) → variable < n → i < length t
-    → get_or (rows_of m n t) (variable * length t + i) 0 ≡ part_of m.atoms variable (get_or t i empty)
+    → get_or (rows_of m n t) (variable * length t + i) 0
+    ≡ part_of m.atoms variable (get_or t i empty)
 rows-at m zero t variable i within there = absurd (omega arith)
 rows-at m (suc n) t variable i within there =
     elim (cases_lt variable n) [

@@ -40,27 +40,35 @@ no-name tuple name variable i past =
 
 words-append : (tuple : List Trace) (t : Trace) (name variable i : ℕ)
     → trace_words (tuple ++ t ∷ []) name variable i
-    ≡ (trace_words tuple name variable i || (nat_eq variable (length tuple) && contains (get_or t i empty) name))
+    ≡ (trace_words tuple name variable i || (nat_eq variable (length tuple) && contains
+    (get_or t i empty) name))
 words-append tuple t name variable i =
     elim (cases_lt variable (length tuple)) [
       | inl before ↦
-          let other : nat_eq variable (length tuple) ≡ false = ne_eqb variable (length tuple) (omega arith) in
-          ap (λ (u : Trace). contains (get_or u i empty) name) (get_or-append tuple (t ∷ []) [] variable before)
-          ∙ sym (ap (λ b. trace_words tuple name variable i || (b && contains (get_or t i empty) name)) other
+          let other : nat_eq variable (length tuple) ≡ false =
+          ne_eqb variable (length tuple) (omega arith) in
+          ap (λ (u : Trace). contains (get_or u i empty) name) (get_or-append tuple
+          (t ∷ []) [] variable before)
+          ∙ sym (ap (λ b. trace_words tuple name variable i || (b && contains
+          (get_or t i empty) name)) other
           ∙ or-false (trace_words tuple name variable i))
       | inr from ↦ elim (cases_lt (length tuple) variable) [
         | inl past ↦
-            let other : nat_eq variable (length tuple) ≡ false = ne_eqb variable (length tuple) (omega arith) in
+            let other : nat_eq variable (length tuple) ≡ false =
+            ne_eqb variable (length tuple) (omega arith) in
             no-name (tuple ++ t ∷ []) name variable i (omega (arith, length-append tuple (t ∷ [])))
-            ∙ sym (ap (λ b. trace_words tuple name variable i || (b && contains (get_or t i empty) name)) other
+            ∙ sym (ap (λ b. trace_words tuple name variable i || (b && contains
+            (get_or t i empty) name)) other
             ∙ or-false (trace_words tuple name variable i)
             ∙ no-name tuple name variable i from)
         | inr to ↦
             let is : variable ≡ length tuple = omega arith in
             let same : nat_eq variable (length tuple) ≡ true = eq-eqb variable (length tuple) is in
             ap (λ v. trace_words (tuple ++ t ∷ []) name v i) is
-            ∙ ap (λ (u : Trace). contains (get_or u i empty) name) (get_or-append_seam tuple t [] [])
-            ∙ sym (ap (λ b. b || (nat_eq variable (length tuple) && contains (get_or t i empty) name)) (no-name tuple name variable i from)
+            ∙ ap (λ (u : Trace). contains (get_or u i empty) name)
+            (get_or-append_seam tuple t [] [])
+            ∙ sym (ap (λ b. b || (nat_eq variable (length tuple) && contains
+            (get_or t i empty) name)) (no-name tuple name variable i from)
             ∙ ap (λ b. b && contains (get_or t i empty) name) same)
       ]
     ]
@@ -119,7 +127,8 @@ module _ (m : Machine) (rule : Lengths) where
   }
     where
       word : (i name variable : ℕ)
-          → (nat_eq variable 0 && contains (get_or t i empty) name) ≡ trace_words (t ∷ []) name variable i
+          → (nat_eq variable 0 && contains (get_or t i empty) name)
+          ≡ trace_words (t ∷ []) name variable i
       word i name zero = refl
       word i name (suc variable) =
           ap (λ b. b && contains (get_or t i empty) name) (ne_eqb (suc variable) 0 (omega arith))

@@ -22,7 +22,8 @@ abbrev pub newest_of : Watched → ℕ
 newest_of w = count_of w - 1
 
 -- The numbers make a tuple with the newest trace of those that are chosen.
-pub record Completes (w : Watched) (chosen : List ℕ) (has_newest : Bool) (more : List ℕ) : Type 0 where
+pub record Completes (w : Watched) (chosen : List ℕ) (has_newest : Bool)
+    (more : List ℕ) : Type 0 where
   pub long : length chosen + length more ≡ w.machine.variables
   pub inside : All (λ k. k < count_of w) more
   pub newest : IsTrue has_newest ⊎ Contains more (newest_of w)
@@ -31,9 +32,11 @@ pub record Completes (w : Watched) (chosen : List ℕ) (has_newest : Bool) (more
 abbrev pub IsSearch : Watched → List ℕ → Bool → List ℕ → Option (List ℕ) → Type 0
 IsSearch w chosen has_newest codes (Some tuple) =
     (length tuple ≡ w.machine.variables) × All (λ k. k < count_of w) tuple
-    × ((traces : List Trace) → Holds w traces → AreCodes w.machine w.lengths (picked traces chosen) codes
+    × ((traces : List Trace) → Holds w traces
+    → AreCodes w.machine w.lengths (picked traces chosen) codes
     → ¬ Meets w.lengths w.machine.body (picked traces tuple))
 IsSearch w chosen has_newest codes None =
-    (traces : List Trace) → Holds w traces → AreCodes w.machine w.lengths (picked traces chosen) codes
+    (traces : List Trace) → Holds w traces
+    → AreCodes w.machine w.lengths (picked traces chosen) codes
     → (more : List ℕ) → Completes w chosen has_newest more
     → Meets w.lengths w.machine.body (picked traces (chosen ++ more))

@@ -17,13 +17,15 @@ state_on m code (suc i) = next_state m (state_on m code i) (code i)
 abbrev pub joint_code : List ℕ → List ℕ → ℕ → ℕ
 joint_code a b i = bit_or (slice_index a i) (slice_index b i)
 
--- up to where codes of a list tell of the tuple: under the greatest length of past its end too, where it says 0
+-- up to where the codes of a list tell of the tuple: under the greatest length past its end too,
+-- where it says 0
 abbrev pub Tells : Lengths → List ℕ → ℕ → Type 0
 Tells Min codes i = i < length codes
 Tells Pad codes i = Unit {0}
 
 -- the codes of the joint letters of a tuple, one for each position that it is judged on
-pub record AreCodes (m : Machine) (rule : Lengths) (tuple : List Trace) (codes : List ℕ) : Type 0 where
+pub record AreCodes (m : Machine) (rule : Lengths) (tuple : List Trace)
+    (codes : List ℕ) : Type 0 where
   pub long : length codes ≡ judged rule tuple
   pub right : (i : ℕ) → Tells rule codes i → slice_index codes i ≡ code_at m (trace_words tuple) i
 

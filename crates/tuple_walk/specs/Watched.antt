@@ -1,5 +1,5 @@
--- What a watch holds of the traces that have arrived: of each letter no more than its part of the code of a joint
--- letter, for each variable.
+-- What a watch holds of the traces that have arrived: of each letter no more than its part of the
+-- code of a joint letter, for each variable.
 use Rattle.std.specs.Prelude.{◌≡◌, ℕ, zero, suc, ◌+◌, ◌*◌, ◌-◌, ◌<◌, ◌≤◌, List, [], ◌++◌, length, map, slice_index, slice_index_or}
 use Rattle.std.specs.FinSet.{empty}
 use Rattle.hy_finite.specs.declared.lengths.Lengths.{Lengths}
@@ -26,14 +26,15 @@ start_of w k = slice_index w.starts k
 abbrev pub trace_at : List Trace → ℕ → Trace
 trace_at traces k = slice_index_or traces k []
 
--- where the part of letter i of trace k stands for a variable, where the trace has this many letters
+-- where the part of letter i of trace k stands for a variable, if the trace has this many letters
 abbrev pub place_of : Watched → ℕ → ℕ → ℕ → ℕ → ℕ
 place_of w letters k variable i = w.machine.variables * start_of w k + variable * letters + i
 
 -- What is held is what these traces bring: of each letter its part of the code for each variable.
 pub record Holds (w : Watched) (traces : List Trace) : Type 0 where
   pub counted : count_of w ≡ length traces
-  pub lengths : (k : ℕ) → k < length traces → start_of w (k + 1) ≡ start_of w k + length (trace_at traces k)
+  pub lengths : (k : ℕ) → k < length traces
+      → start_of w (k + 1) ≡ start_of w k + length (trace_at traces k)
   pub parts : (k variable i : ℕ) → k < length traces → variable < w.machine.variables
       → i < length (trace_at traces k)
       → slice_index w.parts (place_of w (length (trace_at traces k)) k variable i)

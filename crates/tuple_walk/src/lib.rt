@@ -1,4 +1,4 @@
-//! The tuples of traces that a new trace makes with those that have arrived, each run through a monitor.
+//! The tuples that a new trace makes with those that have arrived, each run through a monitor.
 #![tactic(auto)]
 
 mod chosen;

@@ -65,8 +65,8 @@ fn arrive<L: Ledger, R: Abort>(
     Ok(())
 }
 
-/// Lets the traces arrive at a watch of the body, with the tuple that the last one brings; and after a
-/// cut to none the last one alone, which brings none.
+/// Lets the traces arrive at a watch of the body, with the tuple that the last one brings; and
+/// after a cut to none the last one alone, which brings none.
 fn tried<L: Ledger, R: AllocGlobal + Abort>(
     rt: &R,
     body: Body,

@@ -82,8 +82,8 @@ impl Watch {
         requires codes { AreCodesOf (machine_of self.now.monitor) codes.now }
         requires long { 1 ≤ length codes.now }
         requires short { length codes.now ≤ 1024 }
-        ensures searched { IsSearch (watched self.now) (chosen_of chosen) chosen.has_newest codes.now
-            result }
+        ensures searched { IsSearch (watched self.now) (chosen_of chosen) chosen.has_newest
+            codes.now result }
         ensures counted { steps.old ≤ steps.new }
     {
         if chosen.count() + 1 == self.monitor.vars() as usize {
@@ -102,8 +102,8 @@ impl Watch {
         None
     }
 
-    /// Puts the codes of a tuple with trace `k` behind it first into `joined`, and says how many they
-    /// are. `codes` are those of the tuple.
+    /// Puts the codes of a tuple with trace `k` behind it first into `joined`, and says how many
+    /// they are. `codes` are those of the tuple.
     fn join_with(
         &self,
         codes: &[u16],
@@ -142,8 +142,8 @@ impl Watch {
         requires codes { AreCodesOf (machine_of self.now.monitor) codes.now }
         requires long { 1 ≤ length codes.now }
         requires short { length codes.now ≤ 1024 }
-        ensures searched { IsSearch (watched self.now) (chosen_of chosen) chosen.has_newest codes.now
-            result }
+        ensures searched { IsSearch (watched self.now) (chosen_of chosen) chosen.has_newest
+            codes.now result }
         ensures counted { steps.old ≤ steps.new }
     {
         let newest = self.count() - 1;
@@ -156,8 +156,8 @@ impl Watch {
         None
     }
 
-    /// Whether a tuple satisfies the formula, where these are the codes of all its traces but the last
-    /// and the parts of the last.
+    /// Whether a tuple satisfies the formula, where these are the codes of all its traces but the
+    /// last and the parts of the last.
     fn satisfies<L: Ledger>(&self, codes: &[u16], column: &[u16], steps: &mut Steps<L>) -> bool
         requires codes { AreCodesOf (machine_of self.now.monitor) codes.now }
         requires column { AreCodesOf (machine_of self.now.monitor) column.now }

@@ -18,7 +18,8 @@ pub struct Watch {
     pub(crate) alloc: Global,
     pub(crate) monitor: Monitor,
     pub(crate) lengths: Lengths,
-    /// Trace behind trace, for each one variable by variable, the parts of the codes of its letters.
+    /// Trace behind trace, for each one variable by variable, the parts of the codes of its
+    /// letters.
     parts: List<u16>,
     /// How many letters the traces before each trace have, and at the end how many all have.
     starts: List<usize>,
@@ -74,7 +75,8 @@ impl Watch {
         ensures lengths { (watched self.new).lengths ≡ (watched self.old).lengths }
         ensures pushed { OnOk result ((traces : Sequence Trace) → Holds (watched self.old) traces
             → Holds (watched self.new) (traces ++ trace.now ∷ [])) }
-        ensures count { OnOk result (count_of (watched self.new) ≡ count_of (watched self.old) + 1) }
+        ensures count { OnOk result (
+            count_of (watched self.new) ≡ count_of (watched self.old) + 1) }
         ensures refused { OnErr result (watched self.new ≡ watched self.old) }
     {
         let last = self.starts.len() - 1;
@@ -122,7 +124,8 @@ impl Watch {
     /// How many letters trace `k` has.
     fn letters(&self, k: u32) -> usize
         requires { k < count_of (watched self.now) }
-        ensures letters { start_of (watched self.now) (k + 1) ≡ start_of (watched self.now) k + result }
+        ensures letters { start_of (watched self.now) (k + 1)
+            ≡ start_of (watched self.now) k + result }
         ensures some { 1 ≤ result }
         ensures short { result ≤ 1024 }
     {

@@ -7,7 +7,8 @@ pub loop-i-2-preserved : goal.loop-i-2-preserved
 loop-i-2-preserved c =
     elim c.if-a-both.branch [
       | then-a-both w ↦
-          let is : c.if-a-both.longer.now ≡ c.args.a.now = ap (λ (x : Bor (List ℕ)). x.now) w.longer-is in
+          let is : c.if-a-both.longer.now ≡ c.args.a.now =
+          ap (λ (x : Bor (List ℕ)). x.now) w.longer-is in
           below_more _ _
           (λ k h. let ne : k ≢ c.loop-i-2.i = omega arith in
           rw get_or-set_other (c.loop-i-2.invariant k h))
@@ -15,7 +16,8 @@ loop-i-2-preserved c =
           rw get_or-set_same (ap (λ (l : List ℕ). slice_index l c.loop-i-2.i) is
           ∙ sym (joint-first c.args.a.now c.args.b.now c.loop-i-2.i (omega arith))))
       | else-a-both w ↦
-          let is : c.if-a-both.longer.now ≡ c.args.b.now = ap (λ (x : Bor (List ℕ)). x.now) w.longer-is in
+          let is : c.if-a-both.longer.now ≡ c.args.b.now =
+          ap (λ (x : Bor (List ℕ)). x.now) w.longer-is in
           below_more _ _
           (λ k h. let ne : k ≢ c.loop-i-2.i = omega arith in
           rw get_or-set_other (c.loop-i-2.invariant k h))

@@ -33,7 +33,8 @@ returns-after-a-both-clause-state g c =
     ap (λ (rule : Lengths). of_two rule (length c.args.a.now) (length c.args.b.now)) c.in-Pad.is in
     elim c.if-a-both.branch [
       | then-a-both w ↦
-          let is : c.if-a-both.after.now ≡ c.args.a.now = ap (λ (x : Bor (List ℕ)). x.now) w.after-is in
+          let is : c.if-a-both.after.now ≡ c.args.a.now =
+          ap (λ (x : Bor (List ℕ)). x.now) w.after-is in
           let long : length c.if-a-both.after.now
           ≡ of_two c.args.lengths (length c.args.a.now) (length c.args.b.now) =
           omega (arith, ap length is, all) in
@@ -42,7 +43,8 @@ returns-after-a-both-clause-state g c =
           ∙ ap (λ (l : List ℕ). slice_index l i) (sym is))
           ∙ ap (state_on m code) long
       | else-a-both w ↦
-          let is : c.if-a-both.after.now ≡ c.args.b.now = ap (λ (x : Bor (List ℕ)). x.now) w.after-is in
+          let is : c.if-a-both.after.now ≡ c.args.b.now =
+          ap (λ (x : Bor (List ℕ)). x.now) w.after-is in
           let long : length c.if-a-both.after.now
           ≡ of_two c.args.lengths (length c.args.a.now) (length c.args.b.now) =
           omega (arith, ap length is, all) in

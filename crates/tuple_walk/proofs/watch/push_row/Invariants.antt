@@ -5,4 +5,5 @@ use Rattle.tuple_walk.proofs.watch.push_row.Given as goal
 
 abbrev pub invariant-loop-letter : goal.invariant-loop-letter
 invariant-loop-letter l =
-    l.parts ≡ l.fn.parts ++ map (part_of (machine_of l.monitor).atoms l.variable) (take l.letter-index l.trace)
+    l.parts ≡ l.fn.parts ++ map (part_of (machine_of l.monitor).atoms l.variable)
+    (take l.letter-index l.trace)

@@ -20,7 +20,8 @@ returns-clause-codes c = λ traces holds tuple some at have.
     length-take-le c.join.result c.join.new.joined (omega (arith, c.join.array_long)) in
     let column = subst (λ v. IsColumn m v (trace_at traces c.args.k) b) at
     (c.column.ensures.column traces holds) in
-    joined-codes m c.args.self.now.lengths tuple a (trace_at traces c.args.k) b some have column joined
+    joined-codes m c.args.self.now.lengths tuple a
+    (trace_at traces c.args.k) b some have column joined
     (long ∙ c.join.ensures.long)
     (λ i lt. get_or-take c.join.result c.join.new.joined i 0 (omega arith)
     ∙ c.join.ensures.right i (omega arith))
