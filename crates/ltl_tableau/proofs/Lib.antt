@@ -10,7 +10,17 @@ pub mod Sets
 pub mod Sounding
 pub mod TasksTogether
 pub mod Walking
+pub mod WaysLemmas
+pub mod Forcing
+pub mod Measuring
+pub mod OneSet
+pub mod Opposing
+pub mod Saying
+pub mod Settling
+pub mod Starting
+pub mod Stepping
 pub mod Collecting
+pub mod Cutting
 pub mod Exploring
 pub mod Drawing
 pub mod GraphWalking

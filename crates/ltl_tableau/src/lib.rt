@@ -6,6 +6,8 @@ mod collect;
 mod draw;
 mod explored;
 pub mod laws;
+mod links;
+mod settle;
 mod tableau;
 mod tableau_error;
 #[cfg(test)]

@@ -6,7 +6,7 @@ abbrev pub invariant-loop-last : goal.invariant-loop-last
 invariant-loop-last g l =
     record {
       lower : l.last ≤ l.below;
-      none : (k : ℕ) → l.last ≤ k → k < l.below → contains l.todo k ≡ false;
+      none : (k : ℕ) → l.last ≤ k → k < l.below → contains l.held k ≡ false;
     }
 
 abbrev pub decreases-loop-last : goal.decreases-loop-last
