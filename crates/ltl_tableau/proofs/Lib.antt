@@ -17,6 +17,7 @@ pub mod OneSet
 pub mod Opposing
 pub mod Saying
 pub mod Settling
+pub mod Skipping
 pub mod Starting
 pub mod Stepping
 pub mod Collecting

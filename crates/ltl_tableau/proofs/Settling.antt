@@ -8,7 +8,7 @@ use Rattle.ltl_tableau.specs.declared.settle.Draft.{Draft}
 use Rattle.ltl_tableau.specs.declared.collect.Side.{Side}
 use Rattle.ltl_tableau.specs.Branches.{Members, Has}
 use Rattle.ltl_tableau.specs.Ways.{ways, Within, Dies, AreDead, ForcesSome, IsSomeBelow, IsOneMore, with_some, first_forced, second_forced, some_if}
-use Rattle.ltl_tableau.specs.Drafts.{Settles, HasNone, Settled, Chosen, holding, side_work, side_ways}
+use Rattle.ltl_tableau.specs.Drafts.{Settles, HasNone, Settled, Chosen, holding, side_held, side_work, side_ways}
 use Rattle.ltl_tableau.proofs.Sets.{has-cases, has-new, has-old}
 use Rattle.ltl_tableau.proofs.WaysLemmas.{within-itself, within-through, within-more}
 use Rattle.ltl_tableau.proofs.Saying.{forcing-first, forcing-second, within-some, forces-more, forced-same, dead-more, dead-one}
@@ -132,22 +132,27 @@ enforced {w} nodes old mid new k first second d has lt le parts one two mid_is n
 
 -- ---- one way to choose
 
-pub chosen-none : {w : ℕ} (nodes : List Node) (draft mid : Draft w) (side : Side) → mid.work ≡ side_work draft.work side
-    → HasNone nodes mid → Chosen nodes draft side None
-chosen-none {w} nodes draft mid side is h =
+pub chosen-none : {w : ℕ} (nodes : List Node) (base : Members) (draft mid : Draft w) (side : Side) → mid.work ≡ side_work draft.work side
+    → HasNone nodes mid → Chosen nodes base draft side None
+chosen-none {w} nodes base draft mid side is h =
     let P : Work w → Type 0 = λ x. ways nodes x.below x.held x.next ≡ [] in
     record { same = sym (subst P is (h.none mid.work.next)); ready = tt }
 
-pub chosen-some : {w : ℕ} (nodes : List Node) (draft mid new : Draft w) (side : Side) → mid.work ≡ side_work draft.work side
-    → Settles nodes mid new → Chosen nodes draft side (Some new)
-chosen-some {w} nodes draft mid new side is s =
+pub chosen-some : {w : ℕ} (nodes : List Node) (base : Members) (draft mid new : Draft w) (side : Side)
+    → mid.work ≡ side_work draft.work side → Within base draft.work.held → Settles nodes mid new
+    → Chosen nodes base draft side (Some new)
+chosen-some {w} nodes base draft mid new side is inside s =
     let P : Work w → Type 0 = λ x. ways nodes x.below x.held x.next ≡ side_ways nodes draft.work side in
     let Q : ℕ → Type 0 = λ n. ways nodes n new.work.held new.work.next ≡ side_ways nodes draft.work side in
     let R : Members → Type 0 = λ l. ways nodes mid.work.below new.work.held l ≡ side_ways nodes draft.work side in
+    let S : Work w → Type 0 = λ x. Within x.held new.work.held in
     let below : mid.work.below ≡ draft.work.below = ap (λ (x : Work w). x.below) is in
+    let through : Within (side_held draft.work side) new.work.held = subst S is s.more in
+    let first : Within base (side_held draft.work side) =
+    within-more base (insert draft.work.held side.first) side.second (within-more base draft.work.held side.first inside) in
     record {
       same = subst Q (sym s.below) (subst R (sym s.next) (sym (s.same mid.work.next) ∙ subst P (sym is) refl));
-      ready = (omega (arith, s.below, below), s.dead);
+      ready = (omega (arith, s.below, below), s.dead, within-through base (side_held draft.work side) new.work.held first through);
     }
 
 pub if-ok : {A E : Type 0} (r : Result A E) (P Q : A → Type 0) → IfOk r P → ((x : A) → P x → Q x) → IfOk r Q

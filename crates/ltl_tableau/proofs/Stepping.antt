@@ -14,7 +14,7 @@ use Rattle.ltl_tableau.specs.Drafts.{ways_of, side_held, side_work, side_ways, S
 use Rattle.ltl_tableau.proofs.Sets.{has-new, has-old}
 use Rattle.ltl_tableau.proofs.Forcing.{both-same}
 use Rattle.ltl_tableau.proofs.Saying.{opposite-held, dead-more}
-use Rattle.ltl_tableau.proofs.WaysLemmas.{known, within-more, within-itself}
+use Rattle.ltl_tableau.proofs.WaysLemmas.{known, within-more, within-itself, within-through}
 
 -- the greatest member that is to do
 pub step-at : (nodes : List Node) (b f : ℕ) (held later : Members) (node : Node) → b ≡ suc f → Has held f → node_at nodes f ≡ node
@@ -48,20 +48,21 @@ pub step-choice : {w : ℕ} (nodes : List Node) (old mid new : Draft w) (first s
     → ways_of nodes old.work ≡ ways nodes (suc mid.work.below) mid.work.held mid.work.next
     → ways nodes (suc mid.work.below) mid.work.held mid.work.next ≡ side_ways nodes mid.work first ++ side_ways nodes mid.work second
     → SideBelow mid.work.below first → SideBelow mid.work.below second → AreDead nodes mid.work.held mid.dead
-    → Chooses nodes mid new first second step → IsStep nodes old new step
-step-choice nodes old mid new first second Ends lt same both p q d none = same ∙ both ∙ none
-step-choice nodes old mid new first second Goes lt same both p q d takes =
+    → Within old.work.held mid.work.held → Chooses nodes mid new first second step → IsStep nodes old new step
+step-choice nodes old mid new first second Ends lt same both p q d more none = same ∙ both ∙ none
+step-choice nodes old mid new first second Goes lt same both p q d more takes =
     record {
       below = omega (arith, takes.below);
       same = same ∙ both ∙ takes.same;
       dead = takes.dead;
+      more = within-through old.work.held mid.work.held new.work.held more takes.more;
     }
-step-choice {w} nodes old mid new first second (Splits one other) lt same both p q d (is, one_is, other_is) =
+step-choice {w} nodes old mid new first second (Splits one other) lt same both p q d more (is, one_is, other_is) =
     let P : Draft w → Type 0 = λ x. IsChoice nodes old x first second in
     let Q : Side → Type 0 = λ x. IsChoice nodes old new x second in
     let R : Side → Type 0 = λ x. IsChoice nodes old new one x in
     subst R (sym other_is) (subst Q (sym one_is) (subst P (sym is)
-    (record { below = lt; same = same; both = both; first_below = p; second_below = q; dead = d })))
+    (record { below = lt; same = same; both = both; first_below = p; second_below = q; dead = d; more = more })))
 
 -- ---- one way is dead
 
@@ -87,6 +88,7 @@ taken {w} nodes old new side first second d is dead e =
       below = ap (λ (x : Work w). x.below) is;
       same = subst P (sym is) e;
       dead = taken-dead nodes old new side d is dead;
+      more = let Q : Work w → Type 0 = λ x. Within old.work.held x.held in subst Q (sym is) (within-side old.work side);
     }
 
 pub takes-second : {w : ℕ} (nodes : List Node) (old new : Draft w) (first second : Side) → AreDead nodes old.work.held old.dead
@@ -135,6 +137,7 @@ and-goes {w} nodes old work f g h e has at d is =
       same = step-at nodes old.work.below f old.work.held old.work.next (and g h) e has at;
       dead = dead-more nodes old.work.held (insert (insert old.work.held g) h) old.dead
           (within-more old.work.held (insert old.work.held g) h (within-more old.work.held old.work.held g (within-itself old.work.held))) d;
+      more = within-more old.work.held (insert old.work.held g) h (within-more old.work.held old.work.held g (within-itself old.work.held));
     })
 
 abbrev pub side : ℕ → ℕ → Bool → Side

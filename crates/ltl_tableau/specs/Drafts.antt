@@ -56,15 +56,19 @@ abbrev pub some_ways : {w : ℕ} → List Node → Option (Draft w) → List Bra
 some_ways nodes None = []
 some_ways nodes (Some draft) = ways_of nodes draft.work
 
--- What is to do of the draft stands below a number, and no branch of it has a dead member.
-abbrev pub IsReady : {w : ℕ} → List Node → ℕ → Option (Draft w) → Type 0
-IsReady nodes n None = Unit {0}
-IsReady nodes n (Some draft) = (draft.work.below ≤ n) × AreDead nodes draft.work.held draft.dead
+abbrev pub held_by : {w : ℕ} → Option (Draft w) → Members
+held_by None = empty
+held_by (Some draft) = draft.work.held
+
+-- What is to do of the draft stands below a number, it holds the set, and no branch of it has a dead member.
+abbrev pub IsReady : {w : ℕ} → List Node → ℕ → Members → Option (Draft w) → Type 0
+IsReady nodes n base None = Unit {0}
+IsReady nodes n base (Some draft) = (draft.work.below ≤ n) × AreDead nodes draft.work.held draft.dead × Within base draft.work.held
 
 -- What becomes of the draft by this way to choose.
-pub record Chosen {w : ℕ} (nodes : List Node) (draft : Draft w) (side : Side) (new : Option (Draft w)) : Type 0 where
+pub record Chosen {w : ℕ} (nodes : List Node) (base : Members) (draft : Draft w) (side : Side) (new : Option (Draft w)) : Type 0 where
   pub same : some_ways nodes new ≡ side_ways nodes draft.work side
-  pub ready : IsReady nodes draft.work.below new
+  pub ready : IsReady nodes draft.work.below base new
 
 -- ---- steps
 
@@ -73,6 +77,7 @@ pub record Goes_on {w : ℕ} (nodes : List Node) (old new : Draft w) : Type 0 wh
   pub below : new.work.below < old.work.below
   pub same : ways_of nodes old.work ≡ ways_of nodes new.work
   pub dead : AreDead nodes new.work.held new.dead
+  pub more : Within old.work.held new.work.held
 
 -- The greatest member that is to do asks for a choice.
 pub record IsChoice {w : ℕ} (nodes : List Node) (old new : Draft w) (first second : Side) : Type 0 where
@@ -82,6 +87,7 @@ pub record IsChoice {w : ℕ} (nodes : List Node) (old new : Draft w) (first sec
   pub first_below : SideBelow new.work.below first
   pub second_below : SideBelow new.work.below second
   pub dead : AreDead nodes new.work.held new.dead
+  pub more : Within old.work.held new.work.held
 
 abbrev pub IsStep : {w : ℕ} → List Node → Draft w → Draft w → Step → Type 0
 IsStep nodes old new Ends = ways_of nodes old.work ≡ []
@@ -103,6 +109,7 @@ pub record Takes {w : ℕ} (nodes : List Node) (old new : Draft w) (first second
   pub below : new.work.below ≡ old.work.below
   pub same : side_ways nodes old.work first ++ side_ways nodes old.work second ≡ ways_of nodes new.work
   pub dead : AreDead nodes new.work.held new.dead
+  pub more : Within old.work.held new.work.held
 
 abbrev pub Chooses : {w : ℕ} → List Node → Draft w → Draft w → Side → Side → Step → Type 0
 Chooses nodes old new first second Ends = side_ways nodes old.work first ++ side_ways nodes old.work second ≡ []
@@ -111,5 +118,5 @@ Chooses nodes old new first second (Splits one other) = (new ≡ old) × (one �
 
 -- the draft of a set, from the beginning
 pub record Begins {w : ℕ} (nodes : List Node) (set : Members) (start : Option (Draft w)) : Type 0 where
-  pub ready : IsReady nodes (length nodes) start
+  pub ready : IsReady nodes (length nodes) (held_by start) start
   pub same : some_ways nodes start ≡ branches_below nodes (length nodes) set empty empty

@@ -1,6 +1,6 @@
 -- The branches of a set, where what is held now and what is to be held is one set, and what follows from it before
 -- any choice.
-use Rattle.std.specs.Prelude.{◌≡◌, ℕ, zero, suc, ◌<◌, Bool, true, false, not, ◌&&◌, ◌||◌, ◌⊎◌, cond, List, [], ◌∷◌, length, Option, Some, None, slice_index_or}
+use Rattle.std.specs.Prelude.{◌≡◌, ℕ, zero, suc, ◌<◌, ◌≤◌, Bool, true, false, not, ◌&&◌, ◌||◌, ◌⊎◌, cond, List, [], ◌∷◌, length, Option, Some, None, slice_index, slice_index_or, is_none}
 use Rattle.std.specs.FinSet.{insert, contains}
 use Rattle.ltl_closure.specs.Nodes.{Node, always, never, literal, and, or, next, weak_next, until, release, node_at}
 use Rattle.ltl_closure.specs.Numbered.{IsNumberOf}
@@ -62,6 +62,28 @@ pub record AreOpposites (nodes : List Node) (list : List (Option ℕ)) : Type 0 
   pub count : length list ≡ length nodes
   pub each : (k : ℕ) → k < length nodes → IsOpposite nodes (node_at nodes k) (opposite_at list k)
   pub within : (k : ℕ) → IsSomeBelow (length nodes) (opposite_at list k)
+
+-- ---- members that need no step
+
+-- Where the set is held the branches are the same without a step at member k.
+pub record IsPlain (nodes : List Node) (held : Members) (k : ℕ) : Type 0 where
+  pub same : (more later : Members) → Within held more → ways nodes (suc k) more later ≡ ways nodes k more later
+
+-- No member from m on and below b needs a step.
+pub record Skip (nodes : List Node) (held : Members) (b m : ℕ) : Type 0 where
+  pub lower : m ≤ b
+  pub plain : (k : ℕ) → m ≤ k → k < b → IsPlain nodes held k
+
+pub record AreSkips (nodes : List Node) (held : Members) (to : List ℕ) : Type 0 where
+  pub count : length to ≡ suc (length nodes)
+  pub each : (b : ℕ) → b ≤ length nodes → Skip nodes held b (slice_index to b)
+
+-- whether the node says nothing but what is held
+abbrev pub is_plain : Members → Option ℕ → Node → Bool
+is_plain held opposite always = true
+is_plain held opposite (literal b name variable) = is_none opposite
+is_plain held opposite (and g h) = contains held g && contains held h
+is_plain held opposite _ = false
 
 -- ---- what a node says, by the members that are held and those that are dead
 

@@ -5,13 +5,14 @@ ghost use Rattle.std.specs.Bool.{OnTrue};
 ghost use Rattle.std.specs.FinSet.{empty, contains};
 ghost use Rattle.ltl_closure.specs.Nodes.{Node as PlainNode};
 ghost use Rattle.ltl_tableau.specs.Branches.{branches, branches_below};
-ghost use Rattle.ltl_tableau.specs.Ways.{AreDead, AreOpposites, ways};
+ghost use Rattle.ltl_tableau.specs.Ways.{AreDead, AreOpposites, AreSkips, Within, ways};
 ghost use Rattle.ltl_tableau.specs.Collected.{Collects, HasDone};
-ghost use Rattle.ltl_tableau.specs.Drafts.{Begins, Chosen, Chooses, IsReady, IsStep, Runs, SideBelow, side_ways, side_work, some_ways};
+ghost use Rattle.ltl_tableau.specs.Drafts.{Begins, Chosen, Chooses, IsReady, IsStep, Runs, SideBelow, held_by, side_ways, side_work, some_ways};
 
 use crate::branch::{Branch, BranchList};
 use crate::links::Links;
 use crate::settle::{Draft, Work};
+use crate::skips::Skips;
 use hy_base::{List, M};
 use indexmap::IndexSet;
 use ltl_closure::{Closure, Node, Obl};
@@ -52,7 +53,8 @@ pub fn collect<const W: usize>(
     };
     let mut agenda = all_members(alloc, c)?;
     let start = begin(c, links, s, &mut agenda)?;
-    expand(c, links, start, most, &mut agenda, &mut found)?;
+    let skips = Skips::new(alloc, c, links, held_by(&start))?;
+    expand(c, links, &skips, start, most, &mut agenda, &mut found)?;
     let Found { branches, done: _ } = found;
     Ok(branches)
 }
@@ -75,6 +77,17 @@ fn begin<const W: usize>(
         Ok(Some(draft))
     } else {
         Ok(None)
+    }
+}
+
+/// What a draft holds, where there is one.
+fn held_by<const W: usize>(draft: &Option<Draft<W>>) -> Obl<W>
+    requires { W ≤ 16 }
+    ensures { result ≡ held_by draft.now }
+{
+    match draft {
+        Some(draft) => draft.work.held,
+        None => Obl::empty(),
     }
 }
 
@@ -157,6 +170,7 @@ pub struct Side {
 fn expand<const W: usize>(
     c: &Closure,
     links: &Links,
+    skips: &Skips<W>,
     start: Option<Draft<W>>,
     most: usize,
     agenda: &mut List<u16>,
@@ -165,7 +179,8 @@ fn expand<const W: usize>(
     requires width { W ≤ 16 }
     requires members { length c.now.nodes ≤ 64 * W }
     requires links { AreOpposites c.now.nodes links.now.opposites }
-    requires ready { IsReady c.now.nodes (length c.now.nodes) start }
+    requires skips { AreSkips c.now.nodes skips.now.held skips.now.to }
+    requires ready { IsReady c.now.nodes (length c.now.nodes) skips.now.held start }
     requires done { HasDone c.now.nodes most found.old.branches.keys found.old.done.keys }
     ensures collects { OnOk result (Collects most found.old.branches.keys
         (some_ways c.now.nodes start.entry) found.new.branches.keys) }
@@ -175,10 +190,12 @@ fn expand<const W: usize>(
     let Some(mut draft) = start else {
         return Ok(());
     };
-    match draft.run(c, links) {
+    match draft.run(c, links, skips) {
         Step::Ends => Ok(()),
         Step::Splits(first, second) => {
-            split(c, links, &draft, &first, &second, most, agenda, found)?;
+            split(
+                c, links, skips, &draft, &first, &second, most, agenda, found,
+            )?;
             Ok(())
         }
         Step::Goes => {
@@ -196,6 +213,7 @@ fn expand<const W: usize>(
 fn split<const W: usize>(
     c: &Closure,
     links: &Links,
+    skips: &Skips<W>,
     draft: &Draft<W>,
     first: &Side,
     second: &Side,
@@ -206,6 +224,8 @@ fn split<const W: usize>(
     requires width { W ≤ 16 }
     requires members { length c.now.nodes ≤ 64 * W }
     requires links { AreOpposites c.now.nodes links.now.opposites }
+    requires skips { AreSkips c.now.nodes skips.now.held skips.now.to }
+    requires base { Within skips.now.held draft.now.work.held }
     requires place { draft.now.work.below < length c.now.nodes }
     requires first_below { SideBelow draft.now.work.below first.now }
     requires second_below { SideBelow draft.now.work.below second.now }
@@ -223,15 +243,15 @@ fn split<const W: usize>(
     if found.done.contains(&draft.work) {
         return Ok(());
     }
-    let one = draft.chosen(c, links, first, agenda)?;
-    let other = draft.chosen(c, links, second, agenda)?;
+    let one = draft.chosen(c, links, skips, first, agenda)?;
+    let other = draft.chosen(c, links, skips, second, agenda)?;
     if !is_same(&one, &other) {
-        expand(c, links, one, most, agenda, found)?;
+        expand(c, links, skips, one, most, agenda, found)?;
     }
     if found.branches.len() > most {
         return Ok(());
     }
-    expand(c, links, other, most, agenda, found)?;
+    expand(c, links, skips, other, most, agenda, found)?;
     found.done.insert(draft.work)?;
     Ok(())
 }
@@ -254,17 +274,20 @@ impl<const W: usize> Draft<W> {
         &self,
         c: &Closure,
         links: &Links,
+        skips: &Skips<W>,
         side: &Side,
         agenda: &mut List<u16>,
     ) -> M<Option<Draft<W>>>
         requires width { W ≤ 16 }
         requires members { length c.now.nodes ≤ 64 * W }
         requires links { AreOpposites c.now.nodes links.now.opposites }
+        requires base { Within skips.now.held self.now.work.held }
         requires place { self.now.work.below < length c.now.nodes }
         requires side { SideBelow self.now.work.below side.now }
         requires dead { AreDead c.now.nodes self.now.work.held self.now.dead }
-        ensures { IfOk result (Chosen c.now.nodes self.now side.now) }
+        ensures { IfOk result (Chosen c.now.nodes skips.now.held self.now side.now) }
     {
+        let _base = &skips.held;
         self.note(c, links, side.first, agenda)?;
         self.note(c, links, side.second, agenda)?;
         let mut draft = self.taken(c, side);
@@ -293,22 +316,44 @@ impl<const W: usize> Draft<W> {
     }
 
     /// Does what is to do up to a choice, or to the end.
-    fn run(&mut self, c: &Closure, links: &Links) -> Step
+    fn run(&mut self, c: &Closure, links: &Links, skips: &Skips<W>) -> Step
         requires width { W ≤ 16 }
         requires members { length c.now.nodes ≤ 64 * W }
         requires links { AreOpposites c.now.nodes links.now.opposites }
+        requires skips { AreSkips c.now.nodes skips.now.held skips.now.to }
+        requires base { Within skips.now.held self.old.work.held }
         requires within { self.old.work.below ≤ length c.now.nodes }
         requires dead { AreDead c.now.nodes self.old.work.held self.old.dead }
         ensures { Runs c.now.nodes self.old self.new result }
     {
         while self.work.below > 0 {
-            match self.advance(c, links) {
+            match self.step(c, links, skips) {
                 Step::Ends => return Step::Ends,
                 Step::Splits(first, second) => return Step::Splits(first, second),
                 Step::Goes => {}
             }
         }
         Step::Goes
+    }
+
+    /// Passes over members that need no step, or does one step.
+    fn step(&mut self, c: &Closure, links: &Links, skips: &Skips<W>) -> Step
+        requires width { W ≤ 16 }
+        requires members { length c.now.nodes ≤ 64 * W }
+        requires links { AreOpposites c.now.nodes links.now.opposites }
+        requires skips { AreSkips c.now.nodes skips.now.held skips.now.to }
+        requires base { Within skips.now.held self.old.work.held }
+        requires some { 0 < self.old.work.below }
+        requires within { self.old.work.below ≤ length c.now.nodes }
+        requires dead { AreDead c.now.nodes self.old.work.held self.old.dead }
+        ensures { IsStep c.now.nodes self.old self.new result }
+    {
+        let below = skips.below(c, self.work.below);
+        if below < self.work.below {
+            self.work.below = below;
+            return Step::Goes;
+        }
+        self.advance(c, links)
     }
 
     /// Does the greatest member that is to do, or passes over the numbers above it.

@@ -8,6 +8,7 @@ mod explored;
 pub mod laws;
 mod links;
 mod settle;
+mod skips;
 mod tableau;
 mod tableau_error;
 #[cfg(test)]

@@ -5,6 +5,7 @@ use Rattle.ltl_tableau.specs.declared.settle.Work.{Work}
 use Rattle.ltl_tableau.specs.Ways.{ways, has_some}
 use Rattle.ltl_tableau.proofs.Collecting.{skipped}
 use Rattle.ltl_tableau.proofs.Stepping.{literal-ends, literal-goes, and-goes, side-below, step-choice, or-both, until-both, release-both}
+use Rattle.ltl_tableau.proofs.WaysLemmas.{within-itself}
 use Rattle.ltl_tableau.proofs.settle.Draft.advance.Goals as goal
 
 pub returns-then-not-has : goal.returns-then-not-has
@@ -20,6 +21,7 @@ returns-then-not-has g c =
                 ap (contains c.args.self.now.work.held) at ∙ sym c.has.ensures ∙ c.if-not-has.true
           ]);
       dead = c.requires.dead;
+      more = within-itself c.args.self.now.work.held;
     }
 
 pub returns-then-clashes : goal.returns-then-clashes
@@ -42,6 +44,7 @@ returns-else-clashes g c =
           c.in-Lit.atom.name c.in-Lit.atom.var _ (omega arith) has (sym c.in-Lit.ensures.node) (c.requires.links.each f (omega arith))
           (sym c.clashes.ensures ∙ c.if-clashes.false);
       dead = c.requires.dead;
+      more = within-itself c.args.self.now.work.held;
     }
 
 pub returns-in-And : goal.returns-in-And
@@ -64,7 +67,7 @@ returns-in-Or g c =
     c.of-in-Or.result c.choose.result (omega arith) (ap (λ n. ways c.args.c.now.nodes n work.held work.next) top)
     (or-both c.args.c.now.nodes work has c.in-Or.g c.in-Or.h c.of.result c.of-in-Or.result (sym c.in-Or.ensures.node) c.of.ensures c.of-in-Or.ensures)
     (side-below f _ _ _ _ c.of.ensures c.in-Or.ensures.operands.0 c.in-Or.ensures.operands.0)
-    (side-below f _ _ _ _ c.of-in-Or.ensures c.in-Or.ensures.operands.1 c.in-Or.ensures.operands.1) c.requires.dead c.choose.ensures
+    (side-below f _ _ _ _ c.of-in-Or.ensures c.in-Or.ensures.operands.1 c.in-Or.ensures.operands.1) c.requires.dead (within-itself c.args.self.now.work.held) c.choose.ensures
 
 pub returns-in-Until : goal.returns-in-Until
 returns-in-Until g c =
@@ -79,7 +82,7 @@ returns-in-Until g c =
     (until-both c.args.c.now.nodes work has c.in-Until.g c.in-Until.h c.of-in-Until.result c.of-in-Until-2.result (sym c.in-Until.ensures.node)
     c.of-in-Until.ensures c.of-in-Until-2.ensures)
     (side-below f _ _ _ _ c.of-in-Until.ensures c.in-Until.ensures.operands.1 c.in-Until.ensures.operands.1)
-    (side-below f _ _ _ _ c.of-in-Until-2.ensures c.in-Until.ensures.operands.0 c.in-Until.ensures.operands.0) c.requires.dead c.choose-in-Until.ensures
+    (side-below f _ _ _ _ c.of-in-Until-2.ensures c.in-Until.ensures.operands.0 c.in-Until.ensures.operands.0) c.requires.dead (within-itself c.args.self.now.work.held) c.choose-in-Until.ensures
 
 pub returns-in-Release : goal.returns-in-Release
 returns-in-Release g c =
@@ -94,5 +97,4 @@ returns-in-Release g c =
     (release-both c.args.c.now.nodes work has c.in-Release.g c.in-Release.h c.of-in-Release.result c.of-in-Release-2.result
     (sym c.in-Release.ensures.node) c.of-in-Release.ensures c.of-in-Release-2.ensures)
     (side-below f _ _ _ _ c.of-in-Release.ensures c.in-Release.ensures.operands.0 c.in-Release.ensures.operands.1)
-    (side-below f _ _ _ _ c.of-in-Release-2.ensures c.in-Release.ensures.operands.1 c.in-Release.ensures.operands.1) c.requires.dead
-    c.choose-in-Release.ensures
+    (side-below f _ _ _ _ c.of-in-Release-2.ensures c.in-Release.ensures.operands.1 c.in-Release.ensures.operands.1) c.requires.dead (within-itself c.args.self.now.work.held) c.choose-in-Release.ensures
