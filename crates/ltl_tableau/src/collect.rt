@@ -19,6 +19,12 @@ use ltl_closure::{Closure, Node, Obl};
 use std::alloc::Global;
 
 /// The branches of a set of members, each once, at its first place.
+///
+/// Members are taken from the greatest down, and each disjunction, until and release is a choice
+/// between two ways, of which those that come to nothing are mostly not begun. So there are about as
+/// many choices as branches; but there may be as many as two to the number of these members where
+/// choices come to the same, or to nothing, only by later choices. A choice takes time in what
+/// follows from it, and in the members that have to be done before the next.
 pub fn branches<const W: usize>(alloc: Global, c: &Closure, s: &Obl<W>) -> M<BranchList<W>>
     requires width { W ≤ 16 }
     requires members { length c.now.nodes ≤ 64 * W }
