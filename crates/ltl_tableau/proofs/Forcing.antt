@@ -1,12 +1,12 @@
 -- Members that are in each branch of a set.
-use Rattle.std.proofs.Common.{◌≡◌, ◌≢◌, ℕ, zero, suc, ◌<◌, ◌≤◌, ◌⊎◌, Bool, true, false, not, ◌&&◌, ◌||◌, cond, List, [], ◌∷◌, ◌++◌, length, Option, Some, None, inl, inr, refl, sym, ap, ◌∙◌, subst, arith}
+use Rattle.std.proofs.Common.{◌≡◌, ◌≢◌, ℕ, zero, suc, ◌<◌, ◌≤◌, Bool, true, false, not, cond, List, [], ◌++◌, length, inl, inr, refl, sym, ap, ◌∙◌, subst, arith}
 use Rattle.std.specs.FinSet.{insert, contains}
-use Rattle.std.proofs.lemmas.Bool.{cases_eq, cases_Bool}
-use Rattle.ltl_closure.specs.Nodes.{Node, always, never, literal, and, or, next, weak_next, until, release, node_at, PartsBelow}
+use Rattle.std.proofs.lemmas.Bool.{cases_eq}
+use Rattle.ltl_closure.specs.Nodes.{Node, always, never, literal, and, or, next, weak_next, until, release, node_at}
 use Rattle.ltl_tableau.specs.Branches.{Members, Has, Branch, is_literal, has_literal, expand}
 use Rattle.ltl_tableau.specs.Ways.{ways, Within, Dies, Forces}
 use Rattle.ltl_tableau.proofs.Sets.{has-new, has-old, has-cases, contains-other}
-use Rattle.ltl_tableau.proofs.Choosing.{literal-some, literal-there, not_true}
+use Rattle.ltl_tableau.proofs.Choosing.{literal-some, literal-there}
 use Rattle.ltl_tableau.proofs.Saturating.{literal-node, literal-itself}
 use Rattle.ltl_tableau.proofs.WaysLemmas.{known, swapped, swapped-two, within-itself, within-more, dies-literal}
 

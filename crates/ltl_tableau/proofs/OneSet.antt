@@ -1,5 +1,5 @@
 -- The branches of a set are those where what is held is one set.
-use Rattle.std.proofs.Common.{◌≡◌, ◌≢◌, ℕ, zero, suc, ◌<◌, ◌≤◌, ◌⊎◌, Bool, true, false, not, cond, List, [], ◌∷◌, ◌++◌, length, inl, inr, refl, sym, ap, ◌∙◌, subst, arith}
+use Rattle.std.proofs.Common.{◌≡◌, ℕ, zero, suc, ◌<◌, ◌≤◌, Bool, true, false, not, cond, List, [], ◌∷◌, length, inl, inr, refl, sym, ap, ◌∙◌, subst, arith}
 use Rattle.std.specs.Ordering.{nat_cmp}
 use Rattle.std.specs.FinSet.{empty, insert, contains, contains-empty}
 use Rattle.std.proofs.lemmas.Bool.{cases_eq, cases_lt}
@@ -7,7 +7,7 @@ use Rattle.ltl_closure.specs.Nodes.{Node, always, never, literal, and, or, next,
 use Rattle.ltl_tableau.specs.Branches.{Members, Has, Branch, is_literal, has_literal, expand, branches_below}
 use Rattle.ltl_tableau.specs.Ways.{ways}
 use Rattle.ltl_tableau.proofs.Sets.{has-new, has-old, has-cases, contains-other}
-use Rattle.ltl_tableau.proofs.Choosing.{literal-some, literal-there, not_true}
+use Rattle.ltl_tableau.proofs.Choosing.{literal-some, literal-there}
 use Rattle.ltl_tableau.proofs.Saturating.{literal-node, literal-itself}
 use Rattle.ltl_tableau.proofs.WaysLemmas.{same-sets, within-itself, dies-literal}
 use Rattle.ltl_tableau.proofs.Forcing.{both-same, cond-same, not-not}

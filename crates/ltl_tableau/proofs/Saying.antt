@@ -1,12 +1,12 @@
 -- What a node says by the members that are held and those that are dead.
-use Rattle.std.proofs.Common.{◌≡◌, ℕ, ◌<◌, ◌≤◌, Bool, true, false, not, ◌&&◌, ◌||◌, cond, List, [], length, Option, Some, None, inl, inr, refl, sym, ap, ◌∙◌, subst}
+use Rattle.std.proofs.Common.{◌≡◌, ℕ, ◌<◌, ◌≤◌, Bool, true, false, not, List, length, Option, Some, None, inl, inr, refl, sym, ◌∙◌, subst}
 use Rattle.std.specs.FinSet.{insert, contains}
 use Rattle.std.proofs.lemmas.Bool.{or_cases, and_parts}
 use Rattle.ltl_closure.specs.Nodes.{Node, always, never, literal, and, or, next, weak_next, until, release, node_at, PartsBelow}
-use Rattle.ltl_tableau.specs.Branches.{Members, Has, Branch, has_literal}
+use Rattle.ltl_tableau.specs.Branches.{Members, Has, has_literal}
 use Rattle.ltl_tableau.specs.Ways.{ways, Within, Dies, AreDead, Forces, ForcesSome, IsOpposite, has_some, with_some, fails, first_forced, second_forced, some_if}
 use Rattle.ltl_tableau.proofs.Saturating.{literal-known, literal-unknown}
-use Rattle.ltl_tableau.proofs.Sets.{has-new, has-old, has-cases}
+use Rattle.ltl_tableau.proofs.Sets.{has-cases}
 use Rattle.ltl_tableau.proofs.WaysLemmas.{within-more, within-itself, within-through, dies-more, dies-never, dies-literal, dies-and_left, dies-and_right, dies-or, dies-until, dies-release}
 use Rattle.ltl_tableau.proofs.Forcing.{and-first, and-second, or-first, or-second, until-first, until-second, release-second}
 

@@ -1,5 +1,5 @@
 -- Drafts of which more is found out.
-use Rattle.std.proofs.Common.{◌≡◌, ℕ, suc, ◌<◌, ◌≤◌, ◌⊎◌, Bool, true, false, not, List, [], length, Option, Some, None, inl, inr, refl, sym, ap, ◌∙◌, subst, arith}
+use Rattle.std.proofs.Common.{◌≡◌, ℕ, ◌<◌, ◌≤◌, Bool, true, false, not, List, [], length, Option, Some, None, inl, inr, refl, sym, ap, ◌∙◌, subst, arith}
 use Rattle.std.proofs.Common.{Result, Ok, Err, IfOk}
 use Rattle.std.specs.FinSet.{insert, contains}
 use Rattle.ltl_closure.specs.Nodes.{Node, and, or, until, release, node_at, PartsBelow}
@@ -9,9 +9,9 @@ use Rattle.ltl_tableau.specs.declared.collect.Side.{Side}
 use Rattle.ltl_tableau.specs.Branches.{Members, Has}
 use Rattle.ltl_tableau.specs.Ways.{ways, Within, Dies, AreDead, ForcesSome, IsSomeBelow, IsOneMore, with_some, first_forced, second_forced, some_if}
 use Rattle.ltl_tableau.specs.Drafts.{Settles, HasNone, Settled, Chosen, holding, side_held, side_work, side_ways}
-use Rattle.ltl_tableau.proofs.Sets.{has-cases, has-new, has-old}
+use Rattle.ltl_tableau.proofs.Sets.{has-cases}
 use Rattle.ltl_tableau.proofs.WaysLemmas.{within-itself, within-through, within-more}
-use Rattle.ltl_tableau.proofs.Saying.{forcing-first, forcing-second, within-some, forces-more, forced-same, dead-more, dead-one}
+use Rattle.ltl_tableau.proofs.Saying.{forcing-first, forcing-second, within-some, forces-more, forced-same, dead-more}
 
 pub settles-itself : {w : ℕ} (nodes : List Node) (draft : Draft w) → AreDead nodes draft.work.held draft.dead → Settles nodes draft draft
 settles-itself nodes draft d =

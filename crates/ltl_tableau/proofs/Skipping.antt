@@ -1,10 +1,10 @@
 -- Members that need no step.
-use Rattle.std.proofs.Common.{◌≡◌, ◌≢◌, ℕ, zero, suc, ◌+◌, ◌<◌, ◌≤◌, ◌⊎◌, Bool, true, false, not, ◌&&◌, cond, List, [], ◌∷◌, ◌++◌, length, Option, Some, None, inl, inr, refl, sym, ap, ◌∙◌, subst, arith, slice_index, length-append}
+use Rattle.std.proofs.Common.{◌≡◌, ℕ, zero, suc, ◌+◌, ◌<◌, ◌≤◌, Bool, true, false, not, cond, List, [], ◌∷◌, ◌++◌, length, Option, Some, None, inl, inr, refl, sym, ap, ◌∙◌, subst, arith, slice_index, length-append}
 use Rattle.std.specs.FinSet.{insert, contains}
-use Rattle.std.proofs.lemmas.Bool.{cases_eq, cases_lt, and_parts}
+use Rattle.std.proofs.lemmas.Bool.{cases_eq, and_parts}
 use Rattle.std.proofs.lemmas.List.{get_or_push, get_or_append_left}
 use Rattle.ltl_closure.specs.Nodes.{Node, always, never, literal, and, or, next, weak_next, until, release, node_at}
-use Rattle.ltl_tableau.specs.Branches.{Members, Has, Branch, has_literal, expand}
+use Rattle.ltl_tableau.specs.Branches.{Members, Branch, expand}
 use Rattle.ltl_tableau.specs.Ways.{ways, Within, IsOpposite, IsPlain, Skip, AreSkips, is_plain}
 use Rattle.ltl_tableau.proofs.Saturating.{literal-unknown}
 use Rattle.ltl_tableau.proofs.Sets.{has-old}

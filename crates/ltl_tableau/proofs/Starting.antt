@@ -1,9 +1,9 @@
 -- The branches of a set, from the beginning.
-use Rattle.std.proofs.Common.{◌≡◌, ℕ, ◌<◌, ◌≤◌, false, List, [], length, Option, Some, None, refl, sym, ap, ◌∙◌, subst, arith}
+use Rattle.std.proofs.Common.{◌≡◌, ℕ, ◌<◌, ◌≤◌, false, List, length, Option, Some, None, sym, ap, ◌∙◌, subst, arith}
 use Rattle.std.specs.FinSet.{empty, contains}
 use Rattle.ltl_closure.specs.Nodes.{Node, node_at, PartsBelow}
 use Rattle.ltl_tableau.specs.declared.settle.Draft.{Draft}
-use Rattle.ltl_tableau.specs.Branches.{Members, Branch, branches_below}
+use Rattle.ltl_tableau.specs.Branches.{Members, branches_below}
 use Rattle.ltl_tableau.specs.Ways.{ways, AreDead}
 use Rattle.ltl_tableau.specs.Drafts.{Settles, HasNone, Begins, IsReady}
 use Rattle.ltl_tableau.proofs.Sets.{has-none}

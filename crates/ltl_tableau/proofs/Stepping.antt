@@ -1,5 +1,5 @@
 -- What becomes of a draft by one step.
-use Rattle.std.proofs.Common.{◌≡◌, ℕ, suc, ◌<◌, ◌≤◌, Bool, true, false, ◌||◌, cond, List, [], ◌∷◌, ◌++◌, length, Option, Some, None, inl, inr, refl, sym, ap, ◌∙◌, subst, arith}
+use Rattle.std.proofs.Common.{◌≡◌, ℕ, suc, ◌<◌, Bool, true, false, ◌||◌, cond, List, [], ◌∷◌, ◌++◌, Option, inl, inr, refl, sym, ap, ◌∙◌, subst, arith}
 use Rattle.std.specs.FinSet.{insert, contains}
 use Rattle.std.proofs.lemmas.Bool.{or_cases}
 use Rattle.ltl_closure.specs.Nodes.{Node, literal, and, or, until, release, node_at}

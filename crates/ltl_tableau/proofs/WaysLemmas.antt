@@ -1,12 +1,12 @@
 -- The branches of a set, held as one: what rules them out, and what they all have.
-use Rattle.std.proofs.Common.{◌≡◌, ◌≢◌, ℕ, zero, suc, ◌<◌, ◌≤◌, ◌⊎◌, Bool, true, false, not, ◌&&◌, ◌||◌, cond, List, [], ◌∷◌, ◌++◌, length, Option, Some, None, inl, inr, refl, sym, ap, ◌∙◌, subst, arith}
+use Rattle.std.proofs.Common.{◌≡◌, ℕ, zero, suc, ◌<◌, Bool, true, false, not, cond, List, [], ◌++◌, length, inl, inr, refl, sym, ap, ◌∙◌, subst, arith}
 use Rattle.std.specs.Cmp.{nat_cmp_total}
 use Rattle.std.specs.FinSet.{insert, contains, same_set, nat_cmp-IsAntisymmetric}
-use Rattle.std.proofs.lemmas.Bool.{cases_eq, cases_Bool}
-use Rattle.ltl_closure.specs.Nodes.{Node, always, never, literal, and, or, next, weak_next, until, release, node_at, PartsBelow}
-use Rattle.ltl_tableau.specs.Branches.{Members, Has, Branch, is_literal, has_literal, expand}
-use Rattle.ltl_tableau.specs.Ways.{ways, Within, Dies, Forces}
-use Rattle.ltl_tableau.proofs.Sets.{has-new, has-old, has-cases, contains-other}
+use Rattle.std.proofs.lemmas.Bool.{cases_eq}
+use Rattle.ltl_closure.specs.Nodes.{Node, always, never, literal, and, or, next, weak_next, until, release, node_at}
+use Rattle.ltl_tableau.specs.Branches.{Members, Has, Branch, has_literal, expand}
+use Rattle.ltl_tableau.specs.Ways.{ways, Within, Dies}
+use Rattle.ltl_tableau.proofs.Sets.{has-new, has-old, has-cases}
 use Rattle.ltl_tableau.proofs.Choosing.{literal-some, literal-there}
 
 -- ---- sets

@@ -2,7 +2,7 @@
 -- any choice.
 use Rattle.std.specs.Prelude.{◌≡◌, ℕ, zero, suc, ◌<◌, ◌≤◌, Bool, true, false, not, ◌&&◌, ◌||◌, ◌⊎◌, cond, List, [], ◌∷◌, length, Option, Some, None, slice_index, slice_index_or, is_none}
 use Rattle.std.specs.FinSet.{insert, contains}
-use Rattle.ltl_closure.specs.Nodes.{Node, always, never, literal, and, or, next, weak_next, until, release, node_at}
+use Rattle.ltl_closure.specs.Nodes.{Node, always, never, literal, and, or, until, release, node_at}
 use Rattle.ltl_closure.specs.Numbered.{IsNumberOf}
 use Rattle.ltl_tableau.specs.Branches.{Members, Has, Branch, expand}
 

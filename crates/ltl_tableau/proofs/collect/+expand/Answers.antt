@@ -1,4 +1,4 @@
-use Rattle.std.proofs.Common.{◌≡◌, List, inl, inr, sym, ap, ◌∙◌, subst, arith, suc}
+use Rattle.std.proofs.Common.{List, inl, inr, sym, ap, ◌∙◌, subst, arith}
 use Rattle.std.proofs.lemmas.Bool.{OnTrue_at}
 use Rattle.ltl_tableau.specs.Branches.{Branch}
 use Rattle.ltl_tableau.specs.Collected.{Collects}

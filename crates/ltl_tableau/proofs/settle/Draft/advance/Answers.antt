@@ -1,8 +1,8 @@
-use Rattle.std.proofs.Common.{◌≡◌, ℕ, suc, ◌<◌, ◌-◌, true, false, length, inl, inr, refl, sym, ap, ◌∙◌, arith}
+use Rattle.std.proofs.Common.{◌≡◌, ℕ, suc, ◌-◌, true, inl, inr, sym, ap, ◌∙◌, arith}
 use Rattle.std.specs.FinSet.{insert, contains}
 use Rattle.std.proofs.lemmas.Bool.{cases_lt}
 use Rattle.ltl_tableau.specs.declared.settle.Work.{Work}
-use Rattle.ltl_tableau.specs.Ways.{ways, has_some}
+use Rattle.ltl_tableau.specs.Ways.{ways}
 use Rattle.ltl_tableau.proofs.Collecting.{skipped}
 use Rattle.ltl_tableau.proofs.Stepping.{literal-ends, literal-goes, and-goes, side-below, step-choice, or-both, until-both, release-both}
 use Rattle.ltl_tableau.proofs.WaysLemmas.{within-itself}

@@ -1,4 +1,4 @@
-use Rattle.std.proofs.Common.{sym, ◌∙◌, refl, arith, ℕ}
+use Rattle.std.proofs.Common.{sym, ◌∙◌, refl, arith}
 use Rattle.ltl_tableau.proofs.Saying.{failing}
 use Rattle.ltl_tableau.proofs.Settling.{ruled-out, if-ok}
 use Rattle.ltl_tableau.proofs.settle.Draft.review.Goals as goal

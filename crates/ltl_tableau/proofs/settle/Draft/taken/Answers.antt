@@ -1,4 +1,4 @@
-use Rattle.std.proofs.Common.{ap, ◌∙◌, arith}
+use Rattle.std.proofs.Common.{ap, arith}
 use Rattle.ltl_tableau.specs.declared.settle.Work.{Work}
 use Rattle.ltl_tableau.proofs.Stepping.{taken-dead}
 use Rattle.ltl_tableau.proofs.settle.Draft.taken.Goals as goal
