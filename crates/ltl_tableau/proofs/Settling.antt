@@ -5,7 +5,7 @@ use Rattle.std.specs.FinSet.{insert, contains}
 use Rattle.ltl_closure.specs.Nodes.{Node, and, or, until, release, node_at, PartsBelow}
 use Rattle.ltl_tableau.specs.declared.settle.Work.{Work}
 use Rattle.ltl_tableau.specs.declared.settle.Draft.{Draft}
-use Rattle.ltl_tableau.specs.declared.collect.Side.{Side}
+use Rattle.ltl_tableau.specs.declared.steps.Side.{Side}
 use Rattle.ltl_tableau.specs.Branches.{Members, Has}
 use Rattle.ltl_tableau.specs.Ways.{ways, Within, Dies, AreDead, ForcesSome, IsSomeBelow, IsOneMore, with_some, first_forced, second_forced, some_if}
 use Rattle.ltl_tableau.specs.Drafts.{Settles, HasNone, Settled, Chosen, holding, side_held, side_work, side_ways}

@@ -5,9 +5,9 @@ use Rattle.std.proofs.lemmas.Bool.{or_cases}
 use Rattle.ltl_closure.specs.Nodes.{Node, literal, and, or, until, release, node_at}
 use Rattle.ltl_tableau.specs.declared.settle.Work.{Work}
 use Rattle.ltl_tableau.specs.declared.settle.Draft.{Draft}
-use Rattle.ltl_tableau.specs.declared.collect.Side.{Side}
-use Rattle.ltl_tableau.specs.declared.collect.Step.{Step}
-use Rattle.ltl_tableau.specs.declared.collect.Step.TheVariants.{Ends, Goes, Splits}
+use Rattle.ltl_tableau.specs.declared.steps.Side.{Side}
+use Rattle.ltl_tableau.specs.declared.steps.Step.{Step}
+use Rattle.ltl_tableau.specs.declared.steps.Step.TheVariants.{Ends, Goes, Splits}
 use Rattle.ltl_tableau.specs.Branches.{Members, Has, Branch, expand}
 use Rattle.ltl_tableau.specs.Ways.{ways, Within, AreDead, IsOpposite, has_some}
 use Rattle.ltl_tableau.specs.Drafts.{ways_of, side_held, side_work, side_ways, SideBelow, Goes_on, IsChoice, IsStep, Takes, Chooses}

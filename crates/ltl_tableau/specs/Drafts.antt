@@ -4,9 +4,9 @@ use Rattle.std.specs.FinSet.{empty, insert}
 use Rattle.ltl_closure.specs.Nodes.{Node}
 use Rattle.ltl_tableau.specs.declared.settle.Work.{Work}
 use Rattle.ltl_tableau.specs.declared.settle.Draft.{Draft}
-use Rattle.ltl_tableau.specs.declared.collect.Side.{Side}
-use Rattle.ltl_tableau.specs.declared.collect.Step.{Step}
-use Rattle.ltl_tableau.specs.declared.collect.Step.TheVariants.{Ends, Goes, Splits}
+use Rattle.ltl_tableau.specs.declared.steps.Side.{Side}
+use Rattle.ltl_tableau.specs.declared.steps.Step.{Step}
+use Rattle.ltl_tableau.specs.declared.steps.Step.TheVariants.{Ends, Goes, Splits}
 use Rattle.ltl_tableau.specs.Branches.{Members, Branch, branches_below}
 use Rattle.ltl_tableau.specs.Ways.{ways, Within, AreDead}
 

@@ -9,6 +9,7 @@ pub mod laws;
 mod links;
 mod settle;
 mod skips;
+mod steps;
 mod tableau;
 mod tableau_error;
 #[cfg(test)]

@@ -1,6 +1,6 @@
 use Rattle.std.proofs.Common.{◌≡◌, ℕ, ◌<◌, ◌≤◌, false}
 use Rattle.std.specs.FinSet.{contains}
-use Rattle.ltl_tableau.proofs.collect.last_to_do.Given as goal
+use Rattle.ltl_tableau.proofs.steps.last_to_do.Given as goal
 
 abbrev pub invariant-loop-last : goal.invariant-loop-last
 invariant-loop-last g l =
