@@ -1,15 +1,16 @@
 -- Branches that are collected one list after another.
-use Rattle.std.proofs.Common.{◌≡◌, ℕ, zero, suc, ◌<◌, ◌≤◌, ◌⊎◌, Bool, true, false, not, ◌&&◌, cond, nat_eq, if◌then◌else◌, List, [], ◌∷◌, ◌++◌, length, inl, inr, refl, sym, ap, ◌∙◌, subst, arith, length-append}
-use Rattle.std.specs.FinSet.{insert, contains}
+use Rattle.std.proofs.Common.{◌≡◌, ℕ, zero, suc, ◌<◌, ◌≤◌, ◌⊎◌, Bool, true, false, ◌&&◌, cond, nat_eq, if◌then◌else◌, List, [], ◌∷◌, ◌++◌, length, inl, inr, refl, sym, ap, ◌∙◌, subst, arith, length-append}
+use Rattle.std.specs.FinSet.{contains}
 use Rattle.std.specs.List.{Contains, list_any}
-use Rattle.std.proofs.lemmas.Bool.{cases_lt, cases_eq, eqb-true, eq-eqb}
-use Rattle.std.proofs.lemmas.List.Elements.{Contains-append_right}
+use Rattle.std.proofs.lemmas.Bool.{cases_lt, cases_eq, eqb-true, eq-eqb, or_cases}
+use Rattle.std.proofs.lemmas.List.Elements.{Contains-append_right, Contains-push_cases}
 use Rattle.hy_bits.specs.Binary.{ones, number}
 use Rattle.hy_bits.specs.BinaryLaws.{ones-number}
 use Rattle.ltl_closure.specs.Nodes.{Node, node_at}
-use Rattle.ltl_tableau.specs.Branches.{Members, Branch, same_branch, with_branch, with_all, expand, branches_below}
-use Rattle.ltl_tableau.specs.declared.collect.Work.{Work}
-use Rattle.ltl_tableau.specs.Collected.{Collects, branches_of}
+use Rattle.ltl_tableau.specs.Branches.{Members, Branch, same_branch, with_branch, with_all, expand}
+use Rattle.ltl_tableau.specs.declared.settle.Work.{Work}
+use Rattle.ltl_tableau.specs.Ways.{ways}
+use Rattle.ltl_tableau.specs.Collected.{Collects, HasDone}
 use Rattle.ltl_tableau.proofs.Distinct.{equal-branch, same-branch_itself, there-known, all-of}
 
 longer-one : (list : List Branch) (b : Branch) → length list ≤ length (with_branch list b)
@@ -91,22 +92,19 @@ collects-both most old mid new xs ys (inr (same, alike)) rest =
 
 -- ---- numbers that are not to do
 
-pub skipped : (nodes : List Node) (todo now later : Members) (m n : ℕ) → m ≤ n
-    → ((k : ℕ) → m ≤ k → k < n → contains todo k ≡ false)
-    → branches_below nodes n todo now later ≡ branches_below nodes m todo now later
-skipped nodes todo now later m zero le none =
+pub skipped : (nodes : List Node) (held later : Members) (m n : ℕ) → m ≤ n
+    → ((k : ℕ) → m ≤ k → k < n → contains held k ≡ false)
+    → ways nodes n held later ≡ ways nodes m held later
+skipped nodes held later m zero le none =
     let e : 0 ≡ m = omega arith in
-    ap (λ x. branches_below nodes x todo now later) e
-skipped nodes todo now later m (suc f) le none =
+    ap (λ x. ways nodes x held later) e
+skipped nodes held later m (suc f) le none =
     elim (cases_eq m (suc f)) [
-      | inl e ↦ ap (λ x. branches_below nodes x todo now later) (sym e)
+      | inl e ↦ ap (λ x. ways nodes x held later) (sym e)
       | inr apart ↦
-          ap (λ c. cond c
-          (expand nodes now f (λ t l. branches_below nodes f t (insert now f) l) todo later
-          (node_at nodes f))
-          (branches_below nodes f todo now later))
+          ap (λ c. cond c (expand nodes held f (ways nodes f) held later (node_at nodes f)) (ways nodes f held later))
           (none f (omega arith) (omega arith))
-          ∙ skipped nodes todo now later m f (omega arith) (λ k from lt. none k from (omega arith))
+          ∙ skipped nodes held later m f (omega arith) (λ k from lt. none k from (omega arith))
     ]
 
 -- ---- one branch, put into a set
@@ -162,28 +160,89 @@ collects-one most old new b is =
     (equal-is b) old) in
     record { all = λ _. e; many = λ lt. omega (arith, ap length e) }
 
--- ---- what becomes of equal work
+-- ---- equal work
 
-not-false : (b : Bool) → not b ≡ false → b ≡ true
-not-false true e = refl
-not-false false e = absurd (cc)
+-- what `==` of two works computes
+abbrev pub equal_work : {w : ℕ} → Work w → Work w → Bool
+equal_work a b =
+    nat_eq a.below b.below && (nat_eq (number a.held) (number b.held) && nat_eq (number a.next) (number b.next))
 
-pub equal-work : {w : ℕ} (nodes : List Node) (a b : Work w)
-    → not (nat_eq a.below b.below && (nat_eq (number a.todo) (number b.todo)
-    && (nat_eq (number a.now) (number b.now) && nat_eq (number a.next) (number b.next)))) ≡ false
-    → branches_of nodes a ≡ branches_of nodes b
-equal-work nodes a b e =
-    let (below, more) = both-true (nat_eq a.below b.below) _ (not-false _ e) in
-    let (todo, rest) = both-true (nat_eq (number a.todo) (number b.todo)) _ more in
-    let (now, next) = both-true (nat_eq (number a.now) (number b.now)) _ rest in
-    ap (λ x. branches_below nodes x a.todo a.now a.next) (eqb-true a.below b.below below)
-    ∙ ap (λ x. branches_below nodes b.below x a.now a.next) (number-same a.todo b.todo todo)
-    ∙ ap (λ x. branches_below nodes b.below b.todo x a.next) (number-same a.now b.now now)
-    ∙ ap (λ x. branches_below nodes b.below b.todo b.now x) (number-same a.next b.next next)
+pub same-work : {w : ℕ} (a b : Work w) → equal_work a b ≡ true → a ≡ b
+same-work {w} a b e =
+    let (below, more) = both-true (nat_eq a.below b.below) _ e in
+    let (held, next) = both-true (nat_eq (number a.held) (number b.held)) _ more in
+    ap (λ x. let made : Work w = record { below = x; held = a.held; next = a.next } in made) (eqb-true a.below b.below below)
+    ∙ ap (λ x. let made : Work w = record { below = b.below; held = x; next = a.next } in made) (number-same a.held b.held held)
+    ∙ ap (λ x. let made : Work w = record { below = b.below; held = b.held; next = x } in made) (number-same a.next b.next next)
 
 -- where nothing is left to do there is one branch
-pub at-end : (nodes : List Node) (below : ℕ)
-    (todo now later : Members) → below ≤ 0
-    → branches_below nodes below todo now later ≡ record { now = now; later = later } ∷ []
-at-end nodes zero todo now later le = refl
-at-end nodes (suc f) todo now later le = absurd (omega arith)
+pub at-end : (nodes : List Node) (below : ℕ) (held later : Members) → below ≤ 0
+    → ways nodes below held later ≡ record { now = held; later = later } ∷ []
+at-end nodes zero held later le = refl
+at-end nodes (suc f) held later le = absurd (omega arith)
+
+-- ---- choices that are done
+
+-- what was collected is there
+pub collected-there : (most : ℕ) (old list new : List Branch) → Collects most old list new → length new ≤ most
+    → (b : Branch) → Contains old b ⊎ Contains list b → Contains new b
+collected-there most old list new c few b h =
+    let P : List Branch → Type 0 = λ l. Contains l b in
+    subst P (sym (c.all few)) (all-of old list b h)
+
+pub done-longer : {w : ℕ} (nodes : List Node) (most : ℕ) (old list new : List Branch) (done : List (Work w))
+    → Collects most old list new → HasDone nodes most old done → HasDone nodes most new done
+done-longer nodes most old list new done c d =
+    record {
+      there = λ few work h b in_work.
+          let e : new ≡ with_all old list = c.all few in
+          let before : length old ≤ most = omega (arith, longer old list, ap length e) in
+          collected-there most old list new c few b (inl (d.there before work h b in_work));
+    }
+
+pub done-enough : {w : ℕ} (nodes : List Node) (most : ℕ) (list : List Branch) (done : List (Work w)) → most < length list
+    → HasDone nodes most list done
+done-enough nodes most list done lt = record { there = λ few. absurd (omega arith) }
+
+pub collects-known : {w : ℕ} (nodes : List Node) (most : ℕ) (list : List Branch) (done : List (Work w)) (work : Work w)
+    → HasDone nodes most list done → Contains done work
+    → Collects most list (ways nodes (suc work.below) work.held work.next) list
+collects-known nodes most list done work d h =
+    record {
+      all = λ few. sym (with-known list _ (d.there few work h));
+      many = λ lt. omega (arith, longer list (ways nodes (suc work.below) work.held work.next));
+    }
+
+pub collects-as : (most : ℕ) (old xs ys new : List Branch) → xs ≡ ys → Collects most old ys new → Collects most old xs new
+collects-as most old xs ys new e c = let P : List Branch → Type 0 = λ l. Collects most old l new in subst P (sym e) c
+
+-- The choice is done too, since its branches were collected.
+pub done-push : {w : ℕ} (nodes : List Node) (most : ℕ) (old new : List Branch) (done done' : List (Work w)) (work : Work w)
+    → Collects most old (ways nodes (suc work.below) work.held work.next) new → HasDone nodes most new done
+    → ((x : Work w) → Contains done' x → Contains done x ⊎ (x ≡ work)) → HasDone nodes most new done'
+done-push {w} nodes most old new done done' work c d more =
+    record {
+      there = λ few x h b has. elim (more x h) [
+        | inl before ↦ d.there few x before b has
+        | inr e ↦
+            let P : Work w → Type 0 = λ y. Contains (ways nodes (suc y.below) y.held y.next) b in
+            collected-there most old _ new c few b (inr (subst P e has))
+      ];
+    }
+
+-- what `contains` finds
+pub contained : {w : ℕ} (works : List (Work w)) (work : Work w) → list_any (λ x. equal_work work x) works ≡ true → Contains works work
+contained [] work e = absurd (cc)
+contained (x ∷ xs) work e =
+    elim (or_cases (equal_work work x) (list_any (λ y. equal_work work y) xs) e) [
+      | inl here ↦ (0, omega arith, sym (same-work work x here))
+      | inr more ↦ Contains-append_right (x ∷ []) xs work (contained xs work more)
+    ]
+
+-- what `insert` adds
+pub inserted-cases : {w : ℕ} (b : Bool) (old new : List (Work w)) (work x : Work w) → new ≡ (if b then old else old ++ work ∷ [])
+    → Contains new x → Contains old x ⊎ (x ≡ work)
+inserted-cases {w} true old new work x e h = let P : List (Work w) → Type 0 = λ l. Contains l x in inl (subst P e h)
+inserted-cases {w} false old new work x e h =
+    let P : List (Work w) → Type 0 = λ l. Contains l x in
+    elim (Contains-push_cases old work x (subst P e h)) [ inl before ↦ inl before | inr at ↦ inr (sym at) ]

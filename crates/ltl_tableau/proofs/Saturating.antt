@@ -254,7 +254,7 @@ literal-node false name variable (literal false n v) e =
     cc
 literal-node b name variable _ e = absurd (cc)
 
-literal-itself : (b : Bool) (name variable : ℕ)
+pub literal-itself : (b : Bool) (name variable : ℕ)
     → is_literal b name variable (literal b name variable) ≡ true
 literal-itself true name variable =
     both-and _ _ (eq-eqb name name refl) (eq-eqb variable variable refl)

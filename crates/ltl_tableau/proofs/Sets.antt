@@ -9,7 +9,7 @@ use Rattle.ltl_tableau.specs.Branches.{Members, Has}
 pub has-new : (s : Members) (k : ℕ) → Has (insert s k) k
 has-new s k = contains-insert nat_cmp_total s k k ∙ ap (λ b. b || contains s k) (unsigned_tied k k ∙ eq-eqb k k refl)
 
-contains-other : (s : Members) (k q : ℕ) → q ≢ k → contains (insert s k) q ≡ contains s q
+pub contains-other : (s : Members) (k q : ℕ) → q ≢ k → contains (insert s k) q ≡ contains s q
 contains-other s k q apart = contains-insert nat_cmp_total s k q ∙ ap (λ b. b || contains s q) (unsigned_tied q k ∙ ne_eqb q k apart)
 
 pub has-old : (s : Members) (k q : ℕ) → Has s q → Has (insert s k) q

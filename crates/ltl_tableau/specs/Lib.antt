@@ -1,8 +1,10 @@
 pub mod Branches
 pub mod Collected
+pub mod Drafts
 pub mod GraphWalks
 pub mod Ranks
 pub mod Reached
 pub mod Tasks
 pub mod WalkWords
 pub mod Walks
+pub mod Ways

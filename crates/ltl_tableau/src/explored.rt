@@ -2,10 +2,12 @@
 
 ghost use Rattle.std.specs.Prelude.{◌≡◌, ◌≤◌, ◌<◌, ◌*◌, ◌+◌, ◌-◌, ◌^◌, [], ◌∷◌, List as Sequence, length, IfOk, OnOk, IsErrOf};
 ghost use Rattle.ltl_closure.specs.Nodes.{Node};
+ghost use Rattle.ltl_tableau.specs.Ways.{AreOpposites};
 ghost use Rattle.ltl_tableau.specs.Reached.{HasMore, PutsBranch, PutsSet, Explores, AreGroups, Grows, IsReachable, branch_at, set_at};
 
 use crate::branch::Branch;
 use crate::collect::collect;
+use crate::links::Links;
 use crate::tableau_error::TableauError;
 use hy_base::{List, M, Memory, NumList};
 use indexmap::IndexSet;
@@ -67,10 +69,17 @@ impl<const W: usize> Explored<W> {
 
     /// Finds the branches of the first set whose branches were not found yet. `States` comes where
     /// there are more than `states` branches.
-    pub fn explore(&mut self, alloc: Global, c: &Closure, states: u32) -> Result<(), TableauError>
+    pub fn explore(
+        &mut self,
+        alloc: Global,
+        c: &Closure,
+        links: &Links,
+        states: u32,
+    ) -> Result<(), TableauError>
         requires width { W ≤ 16 }
         requires members { length c.now.nodes ≤ 64 * W }
         requires states { states < 2 ^ 32 - 1 }
+        requires links { AreOpposites c.now.nodes links.now.opposites }
         requires more { length self.old.groups < length self.old.sets.keys }
         requires explores { Explores c.now.nodes self.old.sets.keys self.old.branches.keys }
         requires groups { AreGroups c.now.nodes states self.old.sets.keys self.old.branches.keys
@@ -88,8 +97,7 @@ impl<const W: usize> Explored<W> {
             → HasMore c.now.nodes (set_at self.old.sets.keys 0) states }
     {
         let set = self.sets.as_slice()[self.groups.len()];
-        let mut found = IndexSet::new(alloc);
-        collect(c, &set, states as usize, &mut found)?;
+        let found = collect(alloc, c, links, &set, states as usize)?;
         if found.len() > states as usize {
             return Err(TableauError::States);
         }

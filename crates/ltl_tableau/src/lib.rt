@@ -6,6 +6,10 @@ mod collect;
 mod draw;
 mod explored;
 pub mod laws;
+mod links;
+mod settle;
+mod skips;
+mod steps;
 mod tableau;
 mod tableau_error;
 #[cfg(test)]

@@ -8,6 +8,7 @@ ghost use Rattle.ltl_tableau.specs.Reached.{IsTableau, HasMore};
 use crate::branch::Branch;
 use crate::draw::{draw_groups, draw_nodes};
 use crate::explored::Explored;
+use crate::links::Links;
 use crate::tableau_error::TableauError;
 use indexmap::IndexSet;
 use ltl_closure::{Closure, Obl};
@@ -38,9 +39,10 @@ impl<const W: usize> Tableau<W> {
         ensures states { IsErrOf result TableauError.States
             → HasMore c.now.nodes (set_of c.now.roots) states }
     {
+        let links = Links::new(alloc, c)?;
         let mut explored = Explored::new(alloc, root_set(c))?;
         while explored.groups.len() < explored.sets.len() {
-            explored.explore(alloc, c, states)?;
+            explored.explore(alloc, c, &links, states)?;
         }
         let Explored {
             sets,

@@ -1,4 +1,4 @@
-use Rattle.std.proofs.Common.{◌<◌, ◌++◌, ◌∷◌, [], List, ℕ, length, map, sym, ap, ◌∙◌, subst, arith}
+use Rattle.std.proofs.Common.{◌<◌, ◌++◌, ◌∷◌, [], List, ℕ, length, map, refl, sym, ap, ◌∙◌, subst, arith}
 use Rattle.std.specs.List.{Contains}
 use Rattle.ltl_closure.proofs.Tasks.{same-error}
 use Rattle.ltl_tableau.specs.Branches.{Branch, branches}
@@ -10,17 +10,17 @@ pub returns-then-len-states-clause-states : goal.returns-then-len-states-clause-
 returns-then-len-states-clause-states g c is =
     found-more c.args.c.now.nodes c.args.self.now.sets.keys c.args.self.now.branches.keys c.index-as_slice-len.result _ _ c.args.states c.requires.explores
     (set-there c.args.self.now.sets.keys _ _ _ c.index-as_slice-len.result c.as_slice.ensures.keys c.len.ensures c.index-as_slice-len.is c.requires.more)
-    c.new-found.ensures.empty c.in_ok-collect.ensures (omega (arith, c.len-2.ensures.len, c.if-len-states.true))
+    refl c.in_ok-found.ensures (omega (arith, c.len-2.ensures.len, c.if-len-states.true))
 
 pub returns-in_err-add-clause-states : goal.returns-in_err-add-clause-states
 returns-in_err-add-clause-states g c is =
     more-at_root c.args.c.now.nodes c.args.self.now.sets.keys _ c.args.self.now.branches.keys _ c.args.states c.loop-branch.invariant.grows c.requires.explores.some
     (c.in_err-add.ensures.states (same-error c.from_residual-in_err-add.result _ _ c.from_residual-in_err-add.ensures.1 is) c.args.c.now.nodes c.loop-branch.invariant.explores
-    (at-root c.args.c.now.nodes c.args.self.now.sets.keys _ c.args.self.now.branches.keys _ c.branch-item.result c.loop-branch.invariant.grows c.requires.explores.some (c.requires.explores.asked c.index-as_slice-len.result (set-there c.args.self.now.sets.keys _ _ _ c.index-as_slice-len.result c.as_slice.ensures.keys c.len.ensures c.index-as_slice-len.is c.requires.more) c.branch-item.result (item-branch c.args.c.now.nodes c.index-as_slice-len.result _ _ c.loop-branch.branch-index c.branch-item.result c.as_slice-branch-items.ensures.keys (found-all c.args.c.now.nodes c.index-as_slice-len.result _ _ c.args.states c.new-found.ensures.empty c.in_ok-collect.ensures (omega (arith, c.len-2.ensures.len, c.if-len-states.false))) c.loop-branch-test.true c.branch-item.is))))
+    (at-root c.args.c.now.nodes c.args.self.now.sets.keys _ c.args.self.now.branches.keys _ c.branch-item.result c.loop-branch.invariant.grows c.requires.explores.some (c.requires.explores.asked c.index-as_slice-len.result (set-there c.args.self.now.sets.keys _ _ _ c.index-as_slice-len.result c.as_slice.ensures.keys c.len.ensures c.index-as_slice-len.is c.requires.more) c.branch-item.result (item-branch c.args.c.now.nodes c.index-as_slice-len.result _ _ c.loop-branch.branch-index c.branch-item.result c.as_slice-branch-items.ensures.keys (found-all c.args.c.now.nodes c.index-as_slice-len.result _ _ c.args.states refl c.in_ok-found.ensures (omega (arith, c.len-2.ensures.len, c.if-len-states.false))) c.loop-branch-test.true c.branch-item.is))))
 
 pub loop-branch-preserved : goal.loop-branch-preserved
 loop-branch-preserved g c =
-    let reach = (at-root c.args.c.now.nodes c.args.self.now.sets.keys _ c.args.self.now.branches.keys _ c.branch-item.result c.loop-branch.invariant.grows c.requires.explores.some (c.requires.explores.asked c.index-as_slice-len.result (set-there c.args.self.now.sets.keys _ _ _ c.index-as_slice-len.result c.as_slice.ensures.keys c.len.ensures c.index-as_slice-len.is c.requires.more) c.branch-item.result (item-branch c.args.c.now.nodes c.index-as_slice-len.result _ _ c.loop-branch.branch-index c.branch-item.result c.as_slice-branch-items.ensures.keys (found-all c.args.c.now.nodes c.index-as_slice-len.result _ _ c.args.states c.new-found.ensures.empty c.in_ok-collect.ensures (omega (arith, c.len-2.ensures.len, c.if-len-states.false))) c.loop-branch-test.true c.branch-item.is))) in
+    let reach = (at-root c.args.c.now.nodes c.args.self.now.sets.keys _ c.args.self.now.branches.keys _ c.branch-item.result c.loop-branch.invariant.grows c.requires.explores.some (c.requires.explores.asked c.index-as_slice-len.result (set-there c.args.self.now.sets.keys _ _ _ c.index-as_slice-len.result c.as_slice.ensures.keys c.len.ensures c.index-as_slice-len.is c.requires.more) c.branch-item.result (item-branch c.args.c.now.nodes c.index-as_slice-len.result _ _ c.loop-branch.branch-index c.branch-item.result c.as_slice-branch-items.ensures.keys (found-all c.args.c.now.nodes c.index-as_slice-len.result _ _ c.args.states refl c.in_ok-found.ensures (omega (arith, c.len-2.ensures.len, c.if-len-states.false))) c.loop-branch-test.true c.branch-item.is))) in
     let inv = c.loop-branch.invariant in
     let pushed = c.in_ok-push.ensures.added in
     let list : List Branch = c.add.new.self.branches.keys in
@@ -44,5 +44,5 @@ returns-clause-groups g c =
     (groups-push c.args.c.now.nodes c.args.states c.args.self.now.sets.keys c.loop-branch.self.sets.keys c.args.self.now.branches.keys c.loop-branch.self.branches.keys c.args.self.now.groups c.loop-branch.members
     inv.grows c.requires.groups c.requires.more inv.inside
     (few-members c.loop-branch.self.branches.keys _ _ c.loop-branch.members c.loop-branch.branch-index c.args.states c.as_slice-branch-items.ensures.keys (omega (arith, c.len-2.ensures.len, c.if-len-states.false)) c.loop-branch-test.false inv.right)
-    (all-members c.args.c.now.nodes c.index-as_slice-len.result c.loop-branch.self.branches.keys _ _ c.loop-branch.members c.loop-branch.branch-index c.as_slice-branch-items.ensures.keys (found-all c.args.c.now.nodes c.index-as_slice-len.result _ _ c.args.states c.new-found.ensures.empty c.in_ok-collect.ensures (omega (arith, c.len-2.ensures.len, c.if-len-states.false))) c.loop-branch-test.false inv.right
+    (all-members c.args.c.now.nodes c.index-as_slice-len.result c.loop-branch.self.branches.keys _ _ c.loop-branch.members c.loop-branch.branch-index c.as_slice-branch-items.ensures.keys (found-all c.args.c.now.nodes c.index-as_slice-len.result _ _ c.args.states refl c.in_ok-found.ensures (omega (arith, c.len-2.ensures.len, c.if-len-states.false))) c.loop-branch-test.false inv.right
     ∙ ap (branches c.args.c.now.nodes) (sym (set-is c.args.self.now.sets.keys _ _ _ c.index-as_slice-len.result c.as_slice.ensures.keys c.len.ensures c.index-as_slice-len.is c.requires.more))))
