@@ -1,6 +1,12 @@
+mod Closings
+mod Conjoining
+mod Counting
+mod Parts
 mod SafeGates
 mod SafeRange
 mod Saving
 mod Shapes
+mod Stages
 mod Starts
+mod Stepping
 mod Unfolding

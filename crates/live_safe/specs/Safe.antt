@@ -169,7 +169,7 @@ to_safe net = record {
     constraints = map (safe_literal net) net.constraints;
     fairs = [];
     input_names = listed 0 (safe_inputs net) (λ _. []);
-    latch_names = map (λ _. []) (safe_latches net);
+    latch_names = listed 0 (length (safe_latches net)) (λ _. []);
     output_names = codes "bad" ∷ [];
   };
   bad = bad net;

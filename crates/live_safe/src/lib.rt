@@ -2,8 +2,14 @@
 //! has a lasso execution.
 #![tactic(auto)]
 
+mod closing;
+mod effective;
 mod laws;
+mod making;
+mod moved;
+mod places;
 mod safe_net;
 
 pub use laws::paths_are_lassos;
+pub use making::to_safe;
 pub use safe_net::{Path, SafeNet};
