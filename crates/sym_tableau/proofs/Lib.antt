@@ -1,0 +1,6 @@
+mod AttachedRange
+mod Attaching
+mod Foretelling
+mod Gathering
+mod Heeding
+mod Truths

@@ -1,0 +1,7 @@
+//! From a formula to the executions on which it holds: a net with an oracle for each temporal member
+//! of a closure.
+#![tactic(auto)]
+
+mod laws;
+
+pub use laws::executions_are_words;
