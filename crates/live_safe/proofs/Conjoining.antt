@@ -111,7 +111,7 @@ module _ (first : ℕ) (old : List And) (w : Wire) where
       let d : ℕ = n - (j + 1) in
       let whole : n ≡ j + 1 + d = omega (arith, lt) in
       let parts : ws ++ listed 0 n f ≡ ((ws ++ listed 0 j f) ++ f j ∷ []) ++ listed (0 + (j + 1)) d
-          f =
+      f =
       ap (λ n. ws ++ listed 0 n f) whole ∙ ap (λ l. ws ++ l) (listed-parts 0 (j + 1) d f)
       ∙ ap (λ l. ws ++ (l ++ listed (0 + (j + 1)) d f)) (last-listed j f)
       ∙ sym (append_assoc ws (listed 0 j f ++ f j ∷ []) (listed (0 + (j + 1)) d f))
@@ -120,7 +120,7 @@ module _ (first : ℕ) (old : List And) (w : Wire) where
       let Q : Wire → Type 0 = Fits first old in
       subst Q (all-of-last w (f j) (ws ++ listed 0 j f))
       (front-fits ((ws ++ listed 0 j f) ++ f j ∷ []) (listed (0 + (j + 1)) d f)
-          (subst P parts room))
+      (subst P parts room))
 
   both-many : (v x : Wire) → length (made first old (both v x)).ands ≡
       suc (length (made first (made first old v).ands x).ands)

@@ -19,7 +19,7 @@ one-more : (test : ℕ → Bool) (k c : ℕ) (b : Bool) → b ≡ test k → c �
 one-more test k c b e h =
     let up : k + 1 ≡ suc k = omega arith in
     ap (λ c. c + cond b 1 0) h ∙ at b ∙ ap (λ b. cond b (suc (count_below test k))
-        (count_below test k)) e
+    (count_below test k)) e
     ∙ ap (count_below test) (sym up)
   where
     at : (b : Bool) → count_below test k + cond b 1 0 ≡ cond b (suc (count_below test k))
@@ -63,8 +63,12 @@ count-within test zero k le =
 count-within test (suc n) k le =
     elim (cases_eq k (suc n)) [
       | inl e ↦ let same = ap (count_below test) e in omega (arith, same)
-      | inr apart ↦ omega (arith, count-within test n k (omega arith), more (test n)
-          (count_below test n))
+      | inr apart ↦ omega (
+        arith,
+        count-within test n k (omega arith),
+        more (test n)
+            (count_below test n),
+      )
     ]
   where
     more : (b : Bool) (c : ℕ) → c ≤ cond b (suc c) c

@@ -199,11 +199,15 @@ module _ (net : Net) where
     some-saving : suc (length (safe_ands net)) ≤ length (saving net).ands
     some-saving =
         let first = made (safe_first net) (safe_ands net) (both (literal (take net))
-            (opposed (literal (saved net)))) in
+        (opposed (literal (saved net)))) in
         let one = length-append (safe_ands net)
         (and_of (take net) (opposite (saved net)) ∷ []) in
-        omega (arith, one, all-grow (safe_first net) first.ands (either (literal (saved net))
-            (literal (take net)) ∷ []))
+        omega (
+          arith,
+          one,
+          all-grow (safe_first net) first.ands (either (literal (saved net))
+              (literal (take net)) ∷ []),
+        )
 
     abbrev effs : ℕ
     effs = length (effectives net).ands

@@ -1,4 +1,4 @@
--- A safe net by what its making knows: how much the net has, and what stands for the net's variables.
+-- A safe net by what its making knows: how much the net has, and what stands for its variables.
 use Rattle.std.specs.Prelude.{◌≡◌, ℕ, suc, ◌+◌, ◌-◌, ◌*◌, ◌/◌, ◌^◌, ◌<◌, ◌≤◌, Bool, List, [], ◌∷◌, ◌++◌, cond, nat_lt, length}
 use Rattle.aig_net.specs.declared.parts.And.{And}
 use Rattle.aig_net.specs.declared.parts.Reset.{Reset}

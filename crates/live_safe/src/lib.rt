@@ -1,5 +1,5 @@
-//! From liveness to safety: a net with a literal `bad` that can be reached exactly where a given net
-//! has a lasso execution.
+//! From liveness to safety: a net with a literal `bad` that can be reached exactly where a given
+//! net has a lasso execution.
 #![tactic(auto)]
 
 mod closing;

@@ -1,6 +1,6 @@
 -- A net with oracles is a net: its literals are in range.
-use Rattle.std.proofs.Common.{◌≡◌, ℕ, zero, suc, ◌+◌, ◌*◌, ◌/◌, ◌<◌, ◌≤◌, Bool, true, false, cond, List, [], map, length, IsTrue, inl, inr, refl, sym, ap, subst, arith}
-use Rattle.std.proofs.lemmas.Bool.{cases_eq, cases_lt}
+use Rattle.std.proofs.Common.{◌≡◌, ℕ, zero, suc, ◌+◌, ◌*◌, ◌/◌, ◌<◌, ◌≤◌, Bool, true, false, List, [], map, length, IsTrue, inl, inr, refl, sym, ap, subst, arith}
+use Rattle.std.proofs.lemmas.Bool.{cases_lt}
 use Rattle.std.proofs.lemmas.List.{get_or_past, length-map}
 use Rattle.ltl_closure.specs.Nodes as node
 use Rattle.ltl_closure.specs.Nodes.{Node, always, never, and, or, next, weak_next, until, release, node_at, PartsBelow}
@@ -11,8 +11,9 @@ use Rattle.sym_tableau.specs.Oracles.{is_temporal, foretold, oracles_below, orac
 use Rattle.aig_net.proofs.Literals.{below-even, below-opposite, below-under, renumbered}
 use Rattle.aig_net.proofs.Wiring.{below-more, all-grow, all-length, all-ordered, all-turned, each-length, each-grow, each-ordered, made-turned}
 use Rattle.aig_net.proofs.Listed.{each-append, each-listed, each-map, length-listed}
+use Rattle.sym_tableau.proofs.Counting.{oracles-upto}
 use Rattle.sym_tableau.proofs.Gathering.{gathered-all}
-use Rattle.sym_tableau.proofs.Attaching.{moved-early, moved-late, many-latches, many-resets, and-moved, facts-latch}
+use Rattle.sym_tableau.proofs.Parts.{moved-early, moved-late, many-latches, many-resets, and-moved, facts-latch}
 
 below-at : (n : ℕ) (literals : List ℕ) → 0 < n → AllBelow n literals → (k : ℕ) → Below n
     (literal_at literals k)
@@ -37,29 +38,6 @@ member-below n k signal lit o some s l ob (next g) below = ob
 member-below n k signal lit o some s l ob (weak_next g) below = ob
 member-below n k signal lit o some s l ob (until g h) (p, q) = (l h q, (l g p, ob))
 member-below n k signal lit o some s l ob (release g h) (p, q) = (l h q, (l g p, ob))
-
-oracles-more : (b : Bool) (a : ℕ) → cond b (suc a) a ≤ suc a
-oracles-more true a = omega arith
-oracles-more false a = omega arith
-
-oracles-fewer : (b : Bool) (a : ℕ) → a ≤ cond b (suc a) a
-oracles-fewer true a = omega arith
-oracles-fewer false a = omega arith
-
-oracles-upto : (nodes : List Node) (n k : ℕ) → k ≤ n → oracles_below nodes k ≤ oracles_below nodes n
-oracles-upto nodes zero k le = let e : k ≡ 0 = omega arith in let P : ℕ → Type 0 = λ k.
-    oracles_below nodes k ≤ 0 in subst P (sym e) (omega arith)
-oracles-upto nodes (suc n) k le =
-    elim (cases_eq k (suc n)) [
-      | inl e ↦ let P : ℕ → Type 0 = λ k. oracles_below nodes k ≤ oracles_below nodes
-          (suc n) in subst P (sym e) (omega arith)
-      | inr apart ↦ omega (
-        arith,
-        oracles-upto nodes n k (omega arith),
-        oracles-fewer
-            (is_temporal (node_at nodes n)) (oracles_below nodes n),
-      )
-    ]
 
 module _ (net : Net) (nodes : List Node) where
   abbrev first : ℕ

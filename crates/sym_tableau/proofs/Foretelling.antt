@@ -18,7 +18,7 @@ use Rattle.aig_net.proofs.Valuations.{filled, valuation-right, valuation-given, 
 use Rattle.aig_net.proofs.Wiring.{all-length, lit-from}
 use Rattle.aig_net.proofs.Listed.{each-append, each-map, true-or-left, true-or-right, kept-or, not_true}
 use Rattle.sym_tableau.proofs.Gathering.{gathered-all}
-use Rattle.sym_tableau.proofs.Attaching.{oracle-below, moved-value, moved-early, moved-late, latch-moved, many-latches, member-value, promise-value, end-value, old-right, facts-latch, reset-oracle, reset-started, reset-old}
+use Rattle.sym_tableau.proofs.Parts.{oracle-below, moved-value, moved-early, moved-late, latch-moved, many-latches, member-value, promise-value, end-value, old-right, facts-latch, reset-oracle, reset-started, reset-old}
 use Rattle.sym_tableau.proofs.Heeding.{to-local}
 use Rattle.sym_tableau.proofs.AttachedRange.{attached-net}
 use Rattle.sym_tableau.proofs.Truths.{from-local, holds-local, local-holds, truth, truth-right, truth-steady}

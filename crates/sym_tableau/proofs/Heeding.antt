@@ -15,7 +15,7 @@ use Rattle.aig_net.specs.Wires.{Wire, literal, opposed, either, wire_value, wire
 use Rattle.sym_tableau.specs.Oracles.{read, is_temporal, foretold, oracles_below, oracles, moved_literal, moved_and, oracle, owed, started, attached_first, member_wire, members, gathered, optional, promise, beginning, end_of, promises, ends, kept_wires, fair_wires, attach, unmoved}
 use Rattle.aig_net.proofs.Literals.{value-even, value-opposite}
 use Rattle.aig_net.proofs.Wiring.{all-length, lit-from}
-use Rattle.sym_tableau.proofs.Attaching.{LatchFacts, oracle-below, moved-value, latch-moved, member-value, promise-value, end-value, old-right, latch-facts, many-latches, reset-old, reset-started}
+use Rattle.sym_tableau.proofs.Parts.{LatchFacts, oracle-below, moved-value, latch-moved, member-value, promise-value, end-value, old-right, latch-facts, many-latches, reset-old, reset-started}
 use Rattle.aig_net.proofs.Listed.{append-each, map-each, and-true, not-true, or-true, or-kept}
 use Rattle.sym_tableau.proofs.Gathering.{gathered-has}
 

@@ -1,6 +1,10 @@
 mod AttachedRange
-mod Attaching
+mod Counting
 mod Foretelling
 mod Gathering
 mod Heeding
+mod Parts
+mod Rooms
+mod Stages
+mod Stepping
 mod Truths

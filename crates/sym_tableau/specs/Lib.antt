@@ -1,1 +1,2 @@
 pub mod Oracles
+pub mod Places

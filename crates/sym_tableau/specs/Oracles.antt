@@ -1,4 +1,4 @@
--- A net with an oracle for each temporal member of a closure: its executions are those on which the roots hold.
+-- A net with an oracle for each temporal member of a closure, on whose executions the roots hold.
 use Rattle.std.specs.Prelude.{ℕ, zero, suc, ◌+◌, ◌*◌, Bool, true, false, nat_lt, cond, unwrap_or, List, [], ◌∷◌, ◌++◌, map, length}
 use Rattle.hy_formula.specs.Temporal.{Words}
 use Rattle.ltl_closure.specs.Nodes as node

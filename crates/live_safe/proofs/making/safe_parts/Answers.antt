@@ -20,7 +20,7 @@ returns c =
     parts-are c.args.net.now _ _ _ _ _ _ _ _ _ _ _ _
     (ap (λ (p : Places). p.safe_inputs) c.requires.places) c.in_ok-latches.ensures
     c.len-many.ensures c.in_ok-filled.ensures (c.ands.view_is ∙ c.requires.ands)
-        c.in_ok-only.ensures
+    c.in_ok-only.ensures
     c.requires.nexts.bad (moved-are c.args.net.now c.args.moved.now _ _ _ c.in_ok-literals.ensures
     c.requires.moved (c.as_slice.ensures ∙ c.constraints.ensures)) c.new.ensures
     c.in_ok-without_names.ensures c.in_ok-without_names-2.ensures c.in_ok-bad_name.ensures
