@@ -6,6 +6,7 @@ mod SafeGates
 mod SafeRange
 mod Saving
 mod Shapes
+mod Sizes
 mod Stages
 mod Starts
 mod Stepping

@@ -10,6 +10,6 @@ mod moved;
 mod places;
 mod safe_net;
 
-pub use laws::paths_are_lassos;
+pub use laws::{paths_are_lassos, safe_nets_are_small};
 pub use making::to_safe;
 pub use safe_net::{Path, SafeNet};

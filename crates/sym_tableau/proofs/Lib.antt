@@ -5,6 +5,7 @@ mod Gathering
 mod Heeding
 mod Parts
 mod Rooms
+mod Sizes
 mod Stages
 mod Stepping
 mod Truths

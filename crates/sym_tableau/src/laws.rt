@@ -1,6 +1,6 @@
 //! What the executions of a net with oracles are.
 
-ghost use Rattle.std.specs.Prelude.{◌≡◌, ◌↔◌, ◌<◌, ℕ, suc, List, length, true, IsTrue};
+ghost use Rattle.std.specs.Prelude.{◌≡◌, ◌↔◌, ◌+◌, ◌*◌, ◌<◌, ◌≤◌, ℕ, suc, List, length, true, IsTrue};
 ghost use Rattle.hy_formula.specs.Temporal.{IsDecided, endless};
 ghost use Rattle.hy_formula.specs.Normals.{HoldsAt, Normal};
 ghost use Rattle.ltl_closure.specs.Nodes.{Node, Numbers, PartsBelow, node_at};
@@ -37,4 +37,13 @@ pub fn executions_are_words()
         (roots : List ℕ) → ((n x : ℕ) → Below (variables net) (signals n x))
         → ((k : ℕ) → k < length nodes → PartsBelow k (node_at nodes k))
         → IsNet (attach net nodes signals roots) }
+{}
+
+/// A net with oracles is not much larger than its net and the closure.
+pub fn attached_nets_are_small()
+    ensures variables { (net : Net) (nodes : List Node) (signals : ℕ → ℕ → ℕ) (roots : List ℕ)
+        → variables (attach net nodes signals roots)
+        ≤ variables net + 6 * length nodes + length roots + 1 }
+    ensures fairs { (net : Net) (nodes : List Node) (signals : ℕ → ℕ → ℕ) (roots : List ℕ)
+        → length (attach net nodes signals roots).fairs ≤ length net.fairs + length nodes }
 {}

@@ -9,4 +9,4 @@ mod promises;
 mod values;
 
 pub use attaching::attach;
-pub use laws::executions_are_words;
+pub use laws::{attached_nets_are_small, executions_are_words};
