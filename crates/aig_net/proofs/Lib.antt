@@ -1,4 +1,5 @@
 pub mod Closings
+pub mod Costs
 mod Executing
 mod Follows
 mod GateLemmas

@@ -1,8 +1,8 @@
 -- Wires that are made one after the other, as a loop makes them.
-use Rattle.std.proofs.Common.{◌≡◌, ℕ, zero, suc, ◌+◌, ◌-◌, ◌<◌, ◌≤◌, ◌^◌, List, [], ◌∷◌, ◌++◌, length, refl, sym, ap, ◌∙◌, subst, arith}
+use Rattle.std.proofs.Common.{◌≡◌, ℕ, zero, suc, ◌+◌, ◌-◌, ◌<◌, ◌≤◌, List, [], ◌∷◌, ◌++◌, length, refl, sym, ap, ◌∙◌, subst, arith}
 use Rattle.aig_net.specs.declared.parts.And.{And}
-use Rattle.aig_net.specs.Wires.{Wire, Made, made, MadeAll, made_all, Fits, FitsAll, Makes, MakesAll, both, all_of, listed}
-use Rattle.aig_net.proofs.Wiring.{grows, all-grow}
+use Rattle.aig_net.specs.Wires.{Wire, made, made_all, Fits, FitsAll, Makes, MakesAll, both, all_of, listed}
+use Rattle.aig_net.proofs.Wiring.{grows}
 use Rattle.aig_net.proofs.Listed.{listed-last}
 
 pub all-ands : (first : ℕ) (ands : List And) (xs ys : List Wire) →

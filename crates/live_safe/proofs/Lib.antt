@@ -1,6 +1,13 @@
+mod Closings
+mod Conjoining
+mod Counting
+mod Parts
 mod SafeGates
 mod SafeRange
 mod Saving
 mod Shapes
+mod Sizes
+mod Stages
 mod Starts
+mod Stepping
 mod Unfolding

@@ -21,15 +21,6 @@ all-of-below n w [] below all = below
 all-of-below n w (x ∷ ws) below all =
     all-of-below n (both w x) ws (below, all 0 (omega arith)) (λ j lt. all (suc j) (omega arith))
 
-count-upto : (test : ℕ → Bool) (n : ℕ) → count_below test n ≤ n
-count-upto test zero = omega arith
-count-upto test (suc n) = at (test n) (count-upto test n)
-  where
-    at : (b : Bool) → count_below test n ≤ n →
-        cond b (suc (count_below test n)) (count_below test n) ≤ suc n
-    at true le = omega arith
-    at false le = omega arith
-
 abbrev extra : Bool → ℕ
 extra b = cond b 1 0
 
@@ -287,17 +278,11 @@ module _ (net : Net) where
     safe-turned = all-turned first (saving net).ands (closing_wires net)
         (all-turned first (safe_ands net) (saving_wires net) base-turned)
 
-    same-names : {A : Type 0} (xs : List A) → AreNames (length xs) (map (λ _. []) xs)
-    same-names xs = record {
-      many = length-map xs (λ _. []);
-      good = λ k lt. let P : List ℕ → Type 0 = λ name. IsTrue (is_name name) in each-name xs k;
+    no-names : (n : ℕ) → AreNames n (listed 0 n (λ _. []))
+    no-names n = record {
+      many = length-listed 0 n (λ _. []);
+      good = each-listed [] n (λ _. []) (λ _ name. IsTrue (is_name name)) (λ j lt. refl);
     }
-      where
-        each-name : {A : Type 0} (xs : List A) (k : ℕ) →
-            IsTrue (is_name (get_or (map (λ _. []) xs) k []))
-        each-name [] k = refl
-        each-name (x ∷ xs) zero = refl
-        each-name (x ∷ xs) (suc k) = each-name xs k
 
     pub safe-net : IsNet (to_safe net).net
     safe-net =
@@ -327,12 +312,8 @@ module _ (net : Net) where
           constraints = each-map (safe_literal net) 0 0 net.constraints (λ _ l. Below N l)
               (λ j lt. old-in-all (literal_at net.constraints j) (good.constraints j lt));
           fairs = λ j lt. absurd (omega arith);
-          input_names = record {
-            many = length-listed 0 (safe_inputs net) (λ _. []);
-            good = each-listed [] (safe_inputs net) (λ _. []) (λ _ name. IsTrue (is_name name))
-                (λ j lt. refl);
-          };
-          latch_names = same-names (safe_latches net);
+          input_names = no-names (safe_inputs net);
+          latch_names = no-names (length (safe_latches net));
           output_names = record { many = refl; good = named };
         }
       where

@@ -41,7 +41,7 @@ take net = 2 * suc net.inputs
 abbrev pub free_input : Net → ℕ → ℕ
 free_input net j = 2 * suc (net.inputs + suc (count_below (free_at net) j))
 
--- Latches are `saved`, one `seen` for each fairness literal, the net's latches, a copy of each, and `begun`.
+-- Latches are `saved`, a `seen` for each fairness literal, the net's, a copy of each, and `begun`.
 abbrev pub shape : {A : Type 0} → Net → A → (ℕ → A) → (ℕ → A) → (ℕ → A) → List A → List A
 shape net saved seen latch copy begun =
     saved ∷ (listed 0 (length net.fairs) seen
@@ -67,7 +67,7 @@ abbrev pub safe_first : Net → ℕ
 safe_first net = suc (safe_inputs net + suc
     (length net.fairs + (length net.latches + (length net.latches + cond (has_begun net) 1 0))))
 
--- the value of a latch with this literal, which at the start is its reset; a free one is given by an input
+-- the value of a latch with this literal, at the start its reset; an input gives that of a free one
 abbrev pub effective_wire : ℕ → ℕ → ℕ → Reset → Wire
 effective_wire latch begun input Zero = literal latch
 effective_wire latch begun input One = either (literal latch) (opposed (literal begun))
@@ -169,7 +169,7 @@ to_safe net = record {
     constraints = map (safe_literal net) net.constraints;
     fairs = [];
     input_names = listed 0 (safe_inputs net) (λ _. []);
-    latch_names = map (λ _. []) (safe_latches net);
+    latch_names = listed 0 (length (safe_latches net)) (λ _. []);
     output_names = codes "bad" ∷ [];
   };
   bad = bad net;

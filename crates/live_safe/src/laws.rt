@@ -1,6 +1,6 @@
 //! What paths of a safe net to `bad` stand for.
 
-ghost use Rattle.std.specs.Prelude.{◌≡◌, ℕ, suc, ◌+◌, ◌-◌, ◌<◌, ◌≤◌, true, false, length};
+ghost use Rattle.std.specs.Prelude.{◌≡◌, ℕ, suc, ◌+◌, ◌-◌, ◌*◌, ◌<◌, ◌≤◌, true, false, length};
 ghost use Rattle.aig_net.specs.declared.parts.Reset.TheVariants.{Zero};
 ghost use Rattle.aig_net.specs.Nets.{Below, IsNet, Net, literal_value, reset_at, variables};
 ghost use Rattle.aig_net.specs.Executions.{IsLassoExecution, Lasso, Word, gone, lasso_of};
@@ -23,4 +23,10 @@ pub fn paths_are_lassos()
     ensures net { (net : Net) → IsNet net → IsNet (to_safe net).net }
     ensures bad { (net : Net) → IsNet net → Below (variables (to_safe net).net) (to_safe net).bad }
     ensures zero { (net : Net) (j : ℕ) → reset_at (to_safe net).net.resets j ≡ Zero }
+{}
+
+/// A safe net is not much larger than its net.
+pub fn safe_nets_are_small()
+    ensures { (net : Net) → variables (to_safe net).net
+        ≤ 13 * variables net + 5 * length net.fairs }
 {}

@@ -58,3 +58,14 @@ pub composed_parts : (net : Net) (n : ℕ) → 0 < n → IsNet net → (parts : 
     parts ≡ compose net n → IsNet parts
 composed_parts net n some good parts e = let P : NetParts → Type 0 = IsNet in
     subst P (sym e) (composed-net net n some good)
+
+pub composed-size : (net : Net) (n : ℕ) → 0 < n → variables (compose net n) ≤ n * variables net
+composed-size net n some =
+    let a : length (compose net n).latches ≡ length net.latches * n =
+    length-copied n (copy_literal n) net.latches in
+    let b : length (compose net n).ands ≡ length net.ands * n =
+    length-copied n (copy_and n) net.ands in
+    omega (arith, a, b, some)
+
+pub composed-fairs : (net : Net) (n : ℕ) → length (compose net n).fairs ≡ n * length net.fairs
+composed-fairs net n = length-copied n (copy_literal n) net.fairs ∙ omega arith

@@ -1,7 +1,7 @@
 //! What the executions of the copies are.
 
-ghost use Rattle.std.specs.Prelude.{◌≡◌, ℕ, ◌<◌, false};
-ghost use Rattle.aig_net.specs.Nets.{Net, IsNet};
+ghost use Rattle.std.specs.Prelude.{◌≡◌, ℕ, ◌*◌, ◌<◌, ◌≤◌, false, length};
+ghost use Rattle.aig_net.specs.Nets.{Net, IsNet, variables};
 ghost use Rattle.aig_net.specs.Executions.{IsExecution, IsLassoExecution, Lasso, Recurs, Word, gone};
 ghost use Rattle.self_compose.specs.Copies.{compose, copy, joined};
 
@@ -30,4 +30,11 @@ pub fn lassos_are_tuples()
         ((c : ℕ) → c < n → IsLassoExecution net (owns c)) →
         (lasso : Lasso) × IsLassoExecution (compose net n) lasso
         × ((c i v : ℕ) → c < n → copy n c (gone lasso) i v ≡ gone (owns c) i v) }
+{}
+
+/// The copies have no more variables than so many nets, and as many fairness literals.
+pub fn copies_are_as_large()
+    ensures variables { (net : Net) (n : ℕ) → 0 < n
+        → variables (compose net n) ≤ n * variables net }
+    ensures fairs { (net : Net) (n : ℕ) → length (compose net n).fairs ≡ n * length net.fairs }
 {}

@@ -6,4 +6,4 @@ mod copied;
 mod laws;
 
 pub use composing::compose;
-pub use laws::{executions_are_tuples, lassos_are_tuples};
+pub use laws::{copies_are_as_large, executions_are_tuples, lassos_are_tuples};

@@ -1,0 +1,11 @@
+use Rattle.std.proofs.Common.{◌≡◌}
+use Rattle.aig_net.specs.Wires.{MakesAll, listed}
+use Rattle.live_safe.specs.Places.{seen_next_of}
+use Rattle.live_safe.proofs.closing.seen_nexts.Given as goal
+
+-- the values of those so far are made
+abbrev pub invariant-loop-j : goal.invariant-loop-j
+invariant-loop-j l =
+    MakesAll l.fn.gates.first l.fn.gates.ands
+    (listed 0 l.j (seen_next_of l.places l.moved l.next l.fairs)) l.gates.ands l.nexts
+    × (l.gates.first ≡ l.fn.gates.first)

@@ -1,0 +1,11 @@
+mod AttachedRange
+mod Counting
+mod Foretelling
+mod Gathering
+mod Heeding
+mod Parts
+mod Rooms
+mod Sizes
+mod Stages
+mod Stepping
+mod Truths

@@ -1,0 +1,8 @@
+use Rattle.std.proofs.Common.{refl}
+use Rattle.sym_tableau.proofs.Stepping.{listed-more}
+use Rattle.sym_tableau.proofs.attaching.resets.Goals as goal
+
+pub loop-o-preserved : goal.loop-o-preserved
+loop-o-preserved c =
+    listed-more c.loop-o.o _ _ c.loop-o.made _ _ refl c.loop-o.invariant refl
+    c.in_ok-push.ensures.added

@@ -1,0 +1,2 @@
+pub mod Oracles
+pub mod Places
