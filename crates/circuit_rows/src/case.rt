@@ -4,6 +4,18 @@ use anyhow::{Context, Result, bail, ensure};
 use hy_base::Text;
 use std::alloc::Global;
 
+/// Which net of a text is looked at.
+#[derive(Drop)]
+pub enum Wanted {
+    /// That of the text.
+    Own,
+    Copies(u8),
+    /// That with the oracles of a formula.
+    Oracles(String),
+    /// The safe net of a formula.
+    Safe(String),
+}
+
 /// A text, and what is expected of it.
 #[derive(Drop)]
 pub struct Case {
@@ -11,6 +23,9 @@ pub struct Case {
     pub text: Text,
     /// The fault or the limit, as it is printed; empty where a net is expected.
     pub refusal: String,
+    pub wanted: Wanted,
+    /// How many inputs, latches and fairness literals the net has, empty where it is not said.
+    pub counts: String,
     /// The net in ASCII, empty where it is not said.
     pub aag: Text,
     /// The net in the binary form, empty where it is not said.
@@ -28,6 +43,8 @@ impl Case {
             name: String::from_str(alloc, text)?,
             text: Text::new(alloc),
             refusal: String::new(alloc),
+            wanted: Wanted::Own,
+            counts: String::new(alloc),
             aag: Text::new(alloc),
             aig: Text::new(alloc),
             runs: Vec::new(alloc),
@@ -43,6 +60,10 @@ impl Case {
             "repeat" => push_often(&mut self.text, text)?,
             "fault" => self.refusal.push_str(text)?,
             "limit" => self.refusal.push_str("limit")?,
+            "copies" => self.wanted = Wanted::Copies(text.parse::<u8>().context("no number")?),
+            "oracles" => self.wanted = Wanted::Oracles(owned(self.runs.allocator(), text)?),
+            "safe" => self.wanted = Wanted::Safe(owned(self.runs.allocator(), text)?),
+            "counts" => self.counts.push_str(text)?,
             "aag" => push_line(&mut self.aag, text)?,
             "aig" => push_line(&mut self.aig, text)?,
             "aig-bytes" => push_bytes(&mut self.aig, text)?,

@@ -16,6 +16,10 @@
 //! aig TEXT            one more line of its net, as it is printed in the binary form
 //! aig-bytes HEX ..    these bytes of it
 //! run FIRST STEM CYCLE ROWS    what all variables do in a run; `no-lasso` where it is none
+//! copies N            the net is N copies of that of the text
+//! oracles FORMULA     the net is that of the text with the oracles of the formula
+//! safe FORMULA        the net is the safe net of the formula on that of the text
+//! counts NUMBERS      how many inputs, latches and fairness literals the net has
 //! ```
 //!
 //! A net is printed in both forms in any case, and what is printed has to read back and be printed
@@ -24,7 +28,6 @@
 
 mod case;
 mod report;
-mod runs;
 
 use anyhow::{Context, Result};
 use case::Case;

@@ -1,11 +1,11 @@
 //! What the reader answers, beside what was expected.
 
-use crate::case::Case;
-use crate::runs::{rows_text, run_of};
+use crate::case::{Case, Wanted};
 use aig_net::{Net, simulate};
 use aiger_print::{print_aag, print_aig};
 use aiger_read::{AigerError, read_aiger};
 use anyhow::{Result, ensure};
+use bench_tools::{composed, formula_net, rows_text, run_of, safe_of};
 use hy_base::{BYTES_LIMIT, Text};
 use std::alloc::Global;
 use std::fmt;
@@ -50,7 +50,10 @@ pub fn report(rt: &HostRuntime, tally: &mut Tally, case: Case) -> Result<()> {
 fn answer(alloc: Global, case: &Case) -> Result<String> {
     ensure!(case.text.len() <= BYTES_LIMIT, "the text is too long");
     match read_aiger(alloc, case.text.as_slice()) {
-        Ok(net) => net_differs(alloc, case, &net),
+        Ok(net) => match &case.wanted {
+            Wanted::Own => net_differs(alloc, case, &net),
+            wanted => net_differs(alloc, case, &made_net(alloc, &net, wanted)?),
+        },
         Err(error) => {
             let refusal = refusal_text(alloc, error)?;
             if refusal.as_str() == case.refusal.as_str() {
@@ -71,12 +74,37 @@ fn refusal_text(alloc: Global, error: AigerError) -> Result<String> {
     })
 }
 
-/// What differs in a net that was read.
+/// The net that is wanted of another.
+fn made_net(alloc: Global, net: &Net, wanted: &Wanted) -> Result<Net> {
+    match wanted {
+        Wanted::Own => composed(alloc, net, 1),
+        Wanted::Copies(n) => composed(alloc, net, *n),
+        Wanted::Oracles(formula) => formula_net(alloc, net, formula.as_str()),
+        Wanted::Safe(formula) => {
+            let with_oracles = formula_net(alloc, net, formula.as_str())?;
+            Ok(safe_of(alloc, &with_oracles)?.net)
+        }
+    }
+}
+
+/// How many inputs, latches and fairness literals there are.
+fn counts_text(alloc: Global, net: &Net) -> Result<String> {
+    Ok(format!(in alloc;
+        "{} {} {}",
+        net.inputs(),
+        net.latches().len(),
+        net.fairs().len()
+    )?)
+}
+
+/// What differs in a net.
 fn net_differs(alloc: Global, case: &Case, net: &Net) -> Result<String> {
     let aag = print_aag(alloc, net)?;
     let aig = print_aig(alloc, net)?;
     let said = if !case.refusal.as_str().is_empty() {
         "a net"
+    } else if counts_differ(alloc, case, net)? {
+        "other counts"
     } else if differs(&case.aag, &aag) {
         "another text in ASCII"
     } else if differs(&case.aig, &aig) {
@@ -91,6 +119,12 @@ fn net_differs(alloc: Global, case: &Case, net: &Net) -> Result<String> {
         ""
     };
     Ok(String::from_str(alloc, said)?)
+}
+
+/// Whether counts are expected, and they are others.
+fn counts_differ(alloc: Global, case: &Case, net: &Net) -> Result<bool> {
+    let given = counts_text(alloc, net)?;
+    Ok(!case.counts.as_str().is_empty() && case.counts.as_str() != given.as_str())
 }
 
 /// Whether a text is expected, and it is another one.

@@ -1,6 +1,7 @@
 mod Closings
 mod Conjoining
 mod Counting
+mod OnLatches
 mod Parts
 mod SafeGates
 mod SafeRange

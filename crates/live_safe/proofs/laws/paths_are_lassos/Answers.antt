@@ -1,6 +1,7 @@
 use Rattle.live_safe.proofs.Saving.{lasso-path}
 use Rattle.live_safe.proofs.Unfolding.{unfolding-path}
 use Rattle.live_safe.proofs.SafeRange.{safe-net, bad-in-range}
+use Rattle.live_safe.proofs.OnLatches.{bad-on-latches}
 use Rattle.live_safe.proofs.Starts.{zero-at}
 use Rattle.live_safe.specs.Safe.{safe_latches}
 use Rattle.live_safe.proofs.laws.paths_are_lassos.Goals as goal
@@ -19,3 +20,6 @@ returns-clause-bad c = bad-in-range
 
 pub returns-clause-zero : goal.returns-clause-zero
 returns-clause-zero c net = zero-at (safe_latches net)
+
+pub returns-clause-latches : goal.returns-clause-latches
+returns-clause-latches c = bad-on-latches
