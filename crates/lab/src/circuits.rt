@@ -99,12 +99,15 @@ pub fn safe(rt: &HostRuntime, words: &[String]) -> Result<ExitCode> {
     };
     let text = text_of(rt, formula.as_str())?;
     match net_of(rt, file.as_str()) {
-        Ok(net) => {
-            let with_oracles = formula_net(rt.alloc(), &net, text.as_str())?;
-            print_net(rt, &safe_of(rt.alloc(), &with_oracles)?.net, false)
-        }
+        Ok(net) => print_safe(rt, &net, text.as_str()),
         Err(refused) => tell(rt, refused),
     }
+}
+
+fn print_safe(rt: &HostRuntime, net: &Net, formula: &str) -> Result<ExitCode> {
+    let with_oracles = formula_net(rt.alloc(), net, formula)?;
+    let safe = safe_of(rt.alloc(), &with_oracles)?;
+    print_net(rt, &safe.net, false)
 }
 
 /// The net of a file.
