@@ -1,10 +1,12 @@
-//! `lab aag FILE`, `lab aig FILE` and `lab simulate FILE FIRST STEM CYCLE`.
+//! `lab aag FILE`, `lab aig FILE`, `lab simulate FILE FIRST STEM CYCLE`, `lab compose N FILE` and
+//! `lab safe FILE FORMULA`.
 
-use crate::runs::{rows_text, run_of};
+use crate::files::text_of;
 use aig_net::{Net, simulate};
 use aiger_print::{print_aag, print_aig};
 use aiger_read::{AigerError, read_aiger};
 use anyhow::{Result, bail};
+use bench_tools::{composed, formula_net, rows_text, run_of, safe_of};
 use hy_base::{BYTES_LIMIT, DiskShelf, FileError, read_all};
 use std::io::Write;
 use std::process::ExitCode;
@@ -74,6 +76,38 @@ fn print_run(
         None => println!(rt; "no lasso")?,
     }
     Ok(ExitCode::from(0))
+}
+
+/// Prints copies of the net of a file.
+pub fn compose(rt: &HostRuntime, words: &[String]) -> Result<ExitCode> {
+    let [copies, file] = words else {
+        bail!("the words are: compose N FILE");
+    };
+    let Ok(n) = copies.as_str().parse::<u8>() else {
+        bail!("the number of copies is below 256");
+    };
+    match net_of(rt, file.as_str()) {
+        Ok(net) => print_net(rt, &composed(rt.alloc(), &net, n)?, false),
+        Err(refused) => tell(rt, refused),
+    }
+}
+
+/// Prints the safe net of a formula on the net of a file.
+pub fn safe(rt: &HostRuntime, words: &[String]) -> Result<ExitCode> {
+    let [file, formula] = words else {
+        bail!("the words are: safe FILE FORMULA");
+    };
+    let text = text_of(rt, formula.as_str())?;
+    match net_of(rt, file.as_str()) {
+        Ok(net) => print_safe(rt, &net, text.as_str()),
+        Err(refused) => tell(rt, refused),
+    }
+}
+
+fn print_safe(rt: &HostRuntime, net: &Net, formula: &str) -> Result<ExitCode> {
+    let with_oracles = formula_net(rt.alloc(), net, formula)?;
+    let safe = safe_of(rt.alloc(), &with_oracles)?;
+    print_net(rt, &safe.net, false)
 }
 
 /// The net of a file.

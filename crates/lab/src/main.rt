@@ -8,6 +8,8 @@
 //! lab aag FILE                        prints the net of an AIGER file of either form in ASCII
 //! lab aig FILE                        prints it in the binary form
 //! lab simulate FILE FIRST STEM CYCLE  prints the values of all variables in a run, or `no lasso`
+//! lab compose N FILE                  prints N copies of the net in ASCII
+//! lab safe FILE FORMULA               prints the safe net of a formula on it; its output is `bad`
 //! ```
 #![tactic(auto)]
 
@@ -16,7 +18,6 @@ mod circuits;
 mod dimacs;
 mod files;
 mod graphs;
-mod runs;
 mod search;
 mod solve;
 mod tableau;
@@ -33,7 +34,8 @@ fn main(rt: HostRuntime) -> Result<ExitCode> {
     match words.as_slice() {
         [command, rest @ ..] => run(&rt, command.as_str(), rest),
         [] => bail!(
-            "the first word is a command: solve, check, tableau, search, aag, aig, simulate"
+            "the first word is a command: solve, check, tableau, search, aag, aig, simulate, \
+             compose, safe"
         ),
     }
 }
@@ -48,6 +50,8 @@ fn run(rt: &HostRuntime, command: &str, words: &[String]) -> Result<ExitCode> {
         "aag" => circuits::print(rt, words, false),
         "aig" => circuits::print(rt, words, true),
         "simulate" => circuits::run(rt, words),
+        "compose" => circuits::compose(rt, words),
+        "safe" => circuits::safe(rt, words),
         _ => bail!("no command is called {command:?}"),
     }
 }

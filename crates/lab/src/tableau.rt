@@ -4,19 +4,14 @@ ghost use Rattle.std.specs.Prelude.{◌≡◌, ◌*◌, ◌-◌, ◌≤◌, ◌<
 
 use crate::files::text_of;
 use anyhow::{Result, bail};
-use hy_base::M;
+use bench_tools::{closure_of, formula_of};
 use hy_bits::each_width;
-use hy_formula::{Formula, NameTable};
-use hy_read::read_formula;
-use ltl_closure::{Closure, Job, JobList, MapList, VariableMap};
+use hy_formula::NameTable;
+use ltl_closure::Closure;
 use ltl_tableau::{Tableau, TableauError};
 use rank_check::Graph;
-use std::alloc::Global;
 use std::process::ExitCode;
 use std::time::Instant;
-
-/// The most quantifiers of a formula.
-const QUANTIFIERS: u8 = 8;
 
 /// Builds the tableau of the body of a formula, which is to hold with each variable standing for
 /// itself, and prints how many members, branches and edges there are, and the seconds that it took.
@@ -29,50 +24,11 @@ pub fn run(rt: &HostRuntime, words: &[String]) -> Result<ExitCode> {
         Ok(states) if states < u32::MAX => states,
         _ => bail!("the number of states is below 4294967295"),
     };
-    let formula = formula_of(rt.alloc(), text_of(rt, file.as_str())?.as_str())?;
-    let c = closure_of(rt.alloc(), formula)?;
+    let mut names = NameTable::new(rt.alloc())?;
+    let formula = formula_of(rt.alloc(), text_of(rt, file.as_str())?.as_str(), &mut names)?;
+    let c = closure_of(rt.alloc(), formula, true)?;
     println!(rt; "members {}", c.len())?;
     each_width!(c.len(), build(rt, &c, states))
-}
-
-/// The formula of the text.
-fn formula_of(alloc: Global, text: &str) -> Result<Formula> {
-    let bytes = text.as_bytes();
-    if bytes.len() > u32::MAX as usize {
-        bail!("the file is too long");
-    }
-    let mut names = NameTable::new(alloc)?;
-    match read_formula(alloc, bytes, QUANTIFIERS, &mut names) {
-        Ok(formula) => Ok(formula),
-        Err(error) => bail!("no formula: {error:?}"),
-    }
-}
-
-/// The closure of the body of a formula.
-fn closure_of(alloc: Global, formula: Formula) -> Result<Closure> {
-    let mut maps = MapList::new(alloc);
-    maps.push(identity(alloc, formula.prefix.len() as u8)?)?;
-    let mut jobs = JobList::new(alloc);
-    jobs.push(Job {
-        body: formula.body,
-        positive: true,
-        maps,
-    })?;
-    match Closure::new(alloc, &jobs) {
-        Ok(c) => Ok(c),
-        Err(error) => bail!("no closure: {error:?}"),
-    }
-}
-
-/// The map of each of some variables to itself.
-fn identity(alloc: Global, variables: u8) -> M<VariableMap>
-    ensures { IfOk result (λ m. length m ≡ variables) }
-{
-    let mut map = VariableMap::new(alloc);
-    for variable in 0..variables {
-        map.push(variable)?;
-    }
-    Ok(map)
 }
 
 /// Builds the tableau of a closure at one width, and reports it.
