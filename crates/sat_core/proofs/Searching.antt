@@ -9,12 +9,12 @@ use Rattle.sat_core.specs.declared.solver.Solver.{Solver}
 use Rattle.chain_check.specs.declared.logs.Learned.{Learned}
 use Rattle.chain_check.specs.Clauses.{Clause, IsLiteral, AreClauses, IsMadeTrue, SatisfiesAll, IsNew}
 use Rattle.chain_check.specs.Chains.{Refutes, Follows}
-use Rattle.chain_check.specs.Logs.{clauses_of, IsPassed, AreNew}
+use Rattle.chain_check.specs.Logs.{clauses_of, IsPassed, AreNew, EndsEmpty}
 use Rattle.sat_core.specs.Trails.{AreSettled}
 use Rattle.sat_core.specs.Solvers.{IsReady, GoesOn}
 use Rattle.sat_core.specs.Searches.{IsSearching}
 use Rattle.sat_core.proofs.Propagating.{not-shorter, no-more-than}
-use Rattle.sat_core.specs.Outcomes.{AreValues, EndsEmpty}
+use Rattle.sat_core.specs.Outcomes.{AreValues}
 use Rattle.sat_core.proofs.Readying.{ready-from}
 use Rattle.sat_core.proofs.Resolving.{consistent-trail}
 use Rattle.chain_check.proofs.ThreeWays.{few-new}

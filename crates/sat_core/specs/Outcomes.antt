@@ -4,20 +4,13 @@ use Rattle.sat_core.specs.declared.solving.Outcome.{Outcome}
 use Rattle.sat_core.specs.declared.solving.Outcome.TheVariants.{Satisfied, Refuted, Spent}
 use Rattle.chain_check.specs.declared.logs.Learned.{Learned}
 use Rattle.chain_check.specs.Clauses.{Clause, SatisfiesAll}
-use Rattle.chain_check.specs.Logs.{IsPassed, AreNew}
+use Rattle.chain_check.specs.Logs.{IsPassed, AreNew, EndsEmpty}
 
 -- the variables whose literal is true are true
 pub record AreValues (variables : ℕ) (literals : List ℤ) (values : List Bool) : Type 0 where
   pub long : length values ≡ variables
   pub right : (i : ℕ) → i < variables → (slice_index_or values i false ≡ true) ↔
       Contains literals (pos (i + 1))
-
--- the last clause is empty
-pub record EndsEmpty (log : List Learned) : Type 0 where
-  pub front : List Learned
-  pub last : Learned
-  pub parts : log ≡ front ++ last ∷ []
-  pub empty : last.clause ≡ []
 
 abbrev pub IsOutcome : ℕ → List Clause → ℕ → Outcome → Type 0
 IsOutcome variables clauses conflicts (Satisfied values) = (length values ≡ variables) ×
