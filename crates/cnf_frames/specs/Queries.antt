@@ -215,7 +215,7 @@ pub record IsWithin (safe : SafeNet) (asked : Asked) : Type 0 where
   pub few_literals : literals_in (clauses_of safe asked) ≤ most CnfLiterals
 
 pub record IsQuery (safe : SafeNet) (asked : Asked) (query : Query) : Type 0 where
-  pub asked : query.asked ≡ asked
+  pub same : query.asked ≡ asked
   pub clauses : query.cnf.clauses ≡ clauses_of safe asked
   pub variables : query.cnf.variables ≡ variables_of safe asked
   pub within : IsWithin safe asked

@@ -16,7 +16,7 @@ mod writing;
 pub use facts::{Fact, Inv};
 pub use inductions::{InductionProof, LogList};
 pub use laws::{
-    facts_survive, inductive_facts, induction, induction_proof, queries_are_paths, refuted_queries,
+    facts_survive, induction, induction_proof, inductive_facts, queries_are_paths, refuted_queries,
     step_paths_are_short,
 };
 pub use queries::{Asked, FrameError, Query, base_query, keep_query, step_query};

@@ -1,6 +1,7 @@
 //! Queries about paths of a safe net: what is asked, and its clauses.
 
 ghost use Rattle.std.specs.Prelude.{◌≡◌, ◌<◌, ◌^◌, length, IfOk, IfErr};
+ghost use Rattle.cnf_frames.specs.declared.queries.FrameError.TheVariants.{Memory as OutOfMemory};
 ghost use Rattle.cnf_frames.specs.Facts.{AllIn, IsSafe};
 ghost use Rattle.cnf_frames.specs.Queries.{IsQuery, IsRefusal, groups};
 
@@ -40,9 +41,7 @@ pub enum FrameError {
 }
 
 impl From<Memory> for FrameError {
-    ghost use Rattle.std.specs.Prelude.{◌≡◌};
-
-    ghost from_gives = { λ _ e. e ≡ FrameError.Memory };
+    ghost from_gives = { λ _ e. e ≡ OutOfMemory };
 
     fn from(_e: Memory) -> FrameError {
         FrameError::Memory
