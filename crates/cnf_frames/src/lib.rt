@@ -9,6 +9,7 @@ mod inductions;
 mod laws;
 mod queries;
 mod reading;
+mod stating;
 #[cfg(test)]
 mod tests;
 mod writing;

@@ -1,13 +1,21 @@
 //! Queries about paths of a safe net: what is asked, and its clauses.
 
-ghost use Rattle.std.specs.Prelude.{◌≡◌, ◌<◌, ◌^◌, length, IfOk, IfErr};
+ghost use Rattle.std.specs.Prelude.{◌≡◌, suc, ◌*◌, ◌<◌, ◌≤◌, ◌++◌, length, IfOk, IfErr, OnOk};
+ghost use Rattle.aig_net.specs.Nets.{variables};
 ghost use Rattle.cnf_frames.specs.declared.queries.FrameError.TheVariants.{Memory as OutOfMemory};
 ghost use Rattle.cnf_frames.specs.Facts.{AllIn, IsSafe};
-ghost use Rattle.cnf_frames.specs.Queries.{IsQuery, IsRefusal, groups};
+ghost use Rattle.cnf_frames.specs.Queries.{IsQuery, IsRefusal, for_each, good_clauses, group_of, groups};
 
-use crate::facts::Inv;
+use crate::counts::{
+    base_literals, base_variables, check, keep_literals, keep_variables, step_literals,
+    step_variables,
+};
+use crate::facts::{Fact, Inv};
+use crate::frames::{add_frames, add_start};
+use crate::stating::{add_all_apart, add_facts, add_failings};
+use crate::writing::{add_alone, number_of, opposite};
 use chain_check::Cnf;
-use hy_base::{Limit, Memory};
+use hy_base::{Limit, M, Memory};
 use live_safe::SafeNet;
 use std::alloc::Global;
 
@@ -57,7 +65,16 @@ pub fn base_query(alloc: Global, safe: &SafeNet, k: u32) -> Result<Query, FrameE
     ensures query { IfOk result (λ query. IsQuery safe.now (Asked.Base k) query) }
     ensures refused { IfErr result (λ e. IsRefusal safe.now (Asked.Base k) e) }
 {
-    Err(FrameError::Memory)
+    let variables = base_variables(&safe.net, k);
+    check(variables, base_literals(&safe.net, k))?;
+    let mut cnf = Cnf::new(alloc, variables as u32)?;
+    add_frames(&mut cnf, &safe.net, k)?;
+    add_start(&mut cnf, &safe.net)?;
+    add_alone(&mut cnf, number_of(&safe.net, k, safe.bad))?;
+    Ok(Query {
+        cnf,
+        asked: Asked::Base { k },
+    })
 }
 
 /// The query for a path of `k` + 1 pairwise distinct good states that have all facts of `inv`, and a
@@ -72,7 +89,20 @@ pub fn step_query(alloc: Global, safe: &SafeNet, inv: &Inv, k: u32) -> Result<Qu
     ensures query { IfOk result (λ query. IsQuery safe.now (Asked.Step inv.now k) query) }
     ensures refused { IfErr result (λ e. IsRefusal safe.now (Asked.Step inv.now k) e) }
 {
-    Err(FrameError::Memory)
+    let variables = step_variables(&safe.net, k);
+    check(variables, step_literals(&safe.net, inv.as_slice(), k))?;
+    let mut cnf = Cnf::new(alloc, variables as u32)?;
+    add_frames(&mut cnf, &safe.net, k + 1)?;
+    add_goods(&mut cnf, safe, inv.as_slice(), k)?;
+    add_alone(&mut cnf, number_of(&safe.net, k + 1, safe.bad))?;
+    add_all_apart(alloc, &mut cnf, &safe.net, k)?;
+    Ok(Query {
+        cnf,
+        asked: Asked::Step {
+            inv: inv.copy(alloc)?,
+            k,
+        },
+    })
 }
 
 /// The query for a step from a state that has all facts of `inv` to one where a fact of the group
@@ -87,5 +117,52 @@ pub fn keep_query(alloc: Global, safe: &SafeNet, inv: &Inv, group: u32) -> Resul
     ensures query { IfOk result (λ query. IsQuery safe.now (Asked.Keep inv.now group) query) }
     ensures refused { IfErr result (λ e. IsRefusal safe.now (Asked.Keep inv.now group) e) }
 {
-    Err(FrameError::Memory)
+    let asked_of = group_slice(inv.as_slice(), group);
+    let variables = keep_variables(&safe.net, asked_of);
+    check(
+        variables,
+        keep_literals(&safe.net, inv.as_slice(), asked_of),
+    )?;
+    let mut cnf = Cnf::new(alloc, variables as u32)?;
+    add_frames(&mut cnf, &safe.net, 1)?;
+    add_facts(&mut cnf, &safe.net, 0, inv.as_slice())?;
+    add_failings(alloc, &mut cnf, &safe.net, asked_of)?;
+    Ok(Query {
+        cnf,
+        asked: Asked::Keep {
+            inv: inv.copy(alloc)?,
+            group,
+        },
+    })
+}
+
+/// Adds that the states of the frames up to `k` are good and have all facts.
+fn add_goods(cnf: &mut Cnf, safe: &SafeNet, facts: &[Fact], k: u32) -> M<()>
+    requires safe { IsSafe safe.now }
+    requires room { suc k * variables safe.now.net ≤ cnf.old.variables }
+    requires inside { AllIn (length safe.now.net.latches) facts.now }
+    ensures variables { cnf.new.variables ≡ cnf.old.variables }
+    ensures added { OnOk result (cnf.new.clauses ≡ cnf.old.clauses
+        ++ for_each (good_clauses safe.now facts.now) (suc k)) }
+{
+    for frame in 0..k + 1 {
+        add_facts(cnf, &safe.net, frame, facts)?;
+        let bad = number_of(&safe.net, frame, safe.bad);
+        add_alone(cnf, opposite(bad))?;
+    }
+    Ok(())
+}
+
+/// The facts of a group.
+fn group_slice(facts: &[Fact], group: u32) -> &[Fact]
+    requires { group < groups facts.now }
+    ensures { result.now ≡ group_of facts.now group }
+{
+    let start = 64 * group as usize;
+    let end = if facts.len() - start < 64 {
+        facts.len()
+    } else {
+        start + 64
+    };
+    &facts[start..end]
 }
