@@ -1,0 +1,4 @@
+pub mod Conditions
+pub mod Inducing
+pub mod States
+pub mod Surviving
