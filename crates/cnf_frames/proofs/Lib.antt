@@ -2,3 +2,9 @@ pub mod Conditions
 pub mod Inducing
 pub mod States
 pub mod Surviving
+pub mod Values
+pub mod Meanings
+pub mod FramePaths
+pub mod Distinct
+pub mod Keeping
+pub mod Answering
