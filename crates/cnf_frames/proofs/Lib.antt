@@ -8,3 +8,10 @@ pub mod FramePaths
 pub mod Distinct
 pub mod Keeping
 pub mod Answering
+pub mod Likeness
+pub mod Choosing
+pub mod DistinctChosen
+pub mod Groups
+pub mod KeepingChosen
+pub mod Ranges
+pub mod Concluding
