@@ -34,7 +34,7 @@ empty-there log ends =
     let P : List Clause → Type 0 = λ cs. Contains cs [] in
     let Q : Clause → Type 0 = λ c. Contains (clauses_of_log ends.front ++ c ∷ []) [] in
     let e : clauses_of_log log ≡ clauses_of_log ends.front ++ ends.last.clause ∷ [] =
-        ap clauses_of_log ends.parts ∙ map-append (λ e. e.clause) ends.front (ends.last ∷ []) in
+    ap clauses_of_log ends.parts ∙ map-append (λ e. e.clause) ends.front (ends.last ∷ []) in
     subst P (sym e) (subst Q (sym ends.empty) (Contains-push (clauses_of_log ends.front) []))
 
 pub none-answers : (safe : SafeNet) (asked : Asked) (log : List Learned) → IsSafe safe →
@@ -89,14 +89,14 @@ module _ (net : Net) (good : IsNet net) (facts : List Fact)
   stays v w right kept goes known f there =
       let clear : Valuation = λ u. cond (nat_eq u 0) false (w u) in
       let (next, next-right, given) =
-          valuation-some net clear good.ordered (ap (λ b. cond b false (w 0)) (eq-eqb 0 0 refl)) in
+      valuation-some net clear good.ordered (ap (λ b. cond b false (w 0)) (eq-eqb 0 0 refl)) in
       let like : latches-same net next w = λ i few.
-          given (latch_variable net i) (omega arith)
-          ∙ ap (λ b. cond b false (w (latch_variable net i)))
-          (ne_eqb (latch_variable net i) 0 (omega arith)) in
+      given (latch_variable net i) (omega arith)
+      ∙ ap (λ b. cond b false (w (latch_variable net i)))
+      (ne_eqb (latch_variable net i) 0 (omega arith)) in
       holds-of net w f (λ fails.
-          unbroken v next right kept (λ i few. like i few ∙ goes i few) known next-right f there
-          (λ h. fails (fact-alike net next w like f (inside f there) h)))
+      unbroken v next right kept (λ i few. like i few ∙ goes i few) known next-right f there
+      (λ h. fails (fact-alike net next w like f (inside f there) h)))
 
 pub kept-inductive : (safe : SafeNet) (facts : List Fact) (logs : List (List Learned)) →
     IsSafe safe → AllIn (length safe.net.latches) facts →

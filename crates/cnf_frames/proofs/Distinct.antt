@@ -102,7 +102,7 @@ module _ (net : Net) (a : Assignment) where
   all-apart-met : (k : ℕ) → AllMet a (for_each (apart_from net k) (suc k)) ↔ AllMarked k
   all-apart-met k =
       let f : ℕ → ℕ → List Clause =
-          λ i q. apart_clauses net i (suc i + q) (pair_start net k i q) in (
+      λ i q. apart_clauses net i (suc i + q) (pair_start net k i q) in (
         λ h i q le lt. (apart-met i (suc i + q) (pair_start net k i q)).0
             (met-each a (f i) (k - i)
             (met-each a (apart_from net k) (suc k) h i (omega arith)) q lt),
@@ -137,11 +137,11 @@ module _ (safe : SafeNet) (facts : List Fact) (a : Assignment) where
       let goods : List Clause = for_each (good_clauses safe facts) (suc k) in
       let aparts : List Clause = for_each (apart_from safe.net k) (suc k) in
       let one = met-append a (frames safe.net (suc k))
-          (goods ++ (alone (bad_in safe (suc k)) ++ aparts)) in
+      (goods ++ (alone (bad_in safe (suc k)) ++ aparts)) in
       let two = met-append a goods (alone (bad_in safe (suc k)) ++ aparts) in
       let three = met-append a (alone (bad_in safe (suc k))) aparts in
       let bad = alone-met a (bad_in safe (suc k)) _
-          (frame-means a (variables safe.net) (suc k) safe.bad) in (
+      (frame-means a (variables safe.net) (suc k) safe.bad) in (
         λ h.
             let (f, more) = one.0 h in
             let (g, rest) = two.0 more in
@@ -153,11 +153,14 @@ module _ (safe : SafeNet) (facts : List Fact) (a : Assignment) where
                 (bad.0 b, (all-apart-met safe.net a k).0 d),
               ),
             ),
-        λ (f, (g, (b, d))). one.1 ((frames-met safe.net a (suc k)).1 f, two.1 (
-          each-met a (good_clauses safe facts) (suc k)
-              (λ i lt. (good-met i).1 (g i (omega arith))),
-          three.1 (bad.1 b, (all-apart-met safe.net a k).1 d),
-        )),
+        λ (f, (g, (b, d))). one.1 (
+          (frames-met safe.net a (suc k)).1 f,
+          two.1 (
+            each-met a (good_clauses safe facts) (suc k)
+                (λ i lt. (good-met i).1 (g i (omega arith))),
+            three.1 (bad.1 b, (all-apart-met safe.net a k).1 d),
+          ),
+        ),
       )
 
   pub step-right : (k : ℕ) → AllMet a (step_clauses safe facts k) → IsStepPath safe facts k W

@@ -58,7 +58,7 @@ pair-at k (suc n) i q lt few =
     elim (cases_eq i n) [
       | inl e ↦
           let P : ℕ → Type 0 = λ i. q < k - i →
-              get_or (pairs k (suc n)) (pairs_before k i + q) (pair 0 0) ≡ pair i (suc i + q) in
+          get_or (pairs k (suc n)) (pairs_before k i + q) (pair 0 0) ≡ pair i (suc i + q) in
           subst P (sym e) here few
       | inr apart ↦
           let m = many-pairs k n in
@@ -170,8 +170,11 @@ module _ (safe : SafeNet) (good : IsSafe safe) (facts : List Fact)
 
   marked : (i q : ℕ) → i ≤ k → q < k - i →
       Marked safe.net a i (suc i + q) (pair_start safe.net k i q)
-  marked i q le few = (each, found (find (λ j. differs (path i (latch_variable safe.net j))
-      (path (suc i + q) (latch_variable safe.net j))) L))
+  marked i q le few = (
+    each,
+    found (find (λ j. differs (path i (latch_variable safe.net j))
+        (path (suc i + q) (latch_variable safe.net j))) L),
+  )
     where
       each : (j : ℕ) → j < L → a (pair_start safe.net k i q + j) ≡ true →
           W i (latch_variable safe.net j) ≢ W (suc i + q) (latch_variable safe.net j)
@@ -191,14 +194,17 @@ module _ (safe : SafeNet) (good : IsSafe safe) (facts : List Fact)
   bad-same i le = value-same (W i) (path i) safe.bad (a-path i (safe.bad / 2) le good.bad)
 
   pub step-exists : (a : Assignment) × AllMet a (step_clauses safe facts k)
-  step-exists = (a, (parts-met safe facts a k).1 (
-    path-alike safe.net good.net (suc k) path W (λ i le u lt. sym (a-path i u le lt)) is.along,
-    (
-      λ i le. (
-        λ f there. fact-alike safe.net (path i) (W i)
-            (λ j lt. latch-same i j (omega arith) lt) f (inside f there) (is.known i le f there),
-        bad-same i (omega arith) ∙ is.good i le,
+  step-exists = (
+    a,
+    (parts-met safe facts a k).1 (
+      path-alike safe.net good.net (suc k) path W (λ i le u lt. sym (a-path i u le lt)) is.along,
+      (
+        λ i le. (
+          λ f there. fact-alike safe.net (path i) (W i)
+              (λ j lt. latch-same i j (omega arith) lt) f (inside f there) (is.known i le f there),
+          bad-same i (omega arith) ∙ is.good i le,
+        ),
+        (bad-same (suc k) (omega arith) ∙ is.ends, marked),
       ),
-      (bad-same (suc k) (omega arith) ∙ is.ends, marked),
     ),
-  ))
+  )

@@ -39,7 +39,7 @@ module _ (net : Net) (a : Assignment) where
   gates-met j =
       let constant = alone-met a _ _ (means j 1) in
       let both = met-append a (alone (in_frame V j 1))
-          (for_each (gate_clauses net j) (length net.ands)) in (
+      (for_each (gate_clauses net j) (length net.ands)) in (
         λ h.
             let (c, g) = both.0 h in
             record {
@@ -47,9 +47,11 @@ module _ (net : Net) (a : Assignment) where
               gates = λ i lt.
                   (gate-met j i).0 (met-each a (gate_clauses net j) (length net.ands) g i lt);
             },
-        λ right. both.1 (constant.1 (ap not right.constant),
-            each-met a (gate_clauses net j) (length net.ands)
-            (λ i lt. (gate-met j i).1 (right.gates i lt))),
+        λ right. both.1 (
+          constant.1 (ap not right.constant),
+          each-met a (gate_clauses net j) (length net.ands)
+              (λ i lt. (gate-met j i).1 (right.gates i lt)),
+        ),
       )
 
   constraint-met : (j i : ℕ) → AllMet a (constraint_clauses net j i) ↔
@@ -82,12 +84,15 @@ module _ (net : Net) (a : Assignment) where
                     (met-each a (latch_clauses net j) (length net.latches) l i lt),
               ),
             ),
-        λ (g, (c, l)). outer.1 ((gates-met j).1 g, inner.1 (
-          each-met a (constraint_clauses net j) (length net.constraints)
-              (λ i lt. (constraint-met j i).1 (c i lt)),
-          each-met a (latch_clauses net j) (length net.latches)
-              (λ i lt. (latch-met j i).1 (l i lt)),
-        )),
+        λ (g, (c, l)). outer.1 (
+          (gates-met j).1 g,
+          inner.1 (
+            each-met a (constraint_clauses net j) (length net.constraints)
+                (λ i lt. (constraint-met j i).1 (c i lt)),
+            each-met a (latch_clauses net j) (length net.latches)
+                (λ i lt. (latch-met j i).1 (l i lt)),
+          ),
+        ),
       )
 
   pub frames-met : (k : ℕ) → AllMet a (frames net k) ↔ IsPath net k word
@@ -97,7 +102,7 @@ module _ (net : Net) (a : Assignment) where
       to h =
           let (before, last) = (met-append a (for_each (frame_step net) k) (frame_gates net k)).0 h in
           let at : (j : ℕ) → j < k → IsOnward j =
-              λ j lt. (step-met j).0 (met-each a (frame_step net) k before j lt) in
+          λ j lt. (step-met j).0 (met-each a (frame_step net) k before j lt) in
           record {
             right = λ i le.
                 elim (cases_eq i k) [
@@ -152,6 +157,8 @@ base-met safe k a zeros =
             along = (frames-met safe.net a k).0 f;
             ends = bad.0 b;
           },
-      λ is. outer.1 ((frames-met safe.net a k).1 is.along,
-          inner.1 ((start-met safe.net a zeros).1 is.starts, bad.1 is.ends)),
+      λ is. outer.1 (
+        (frames-met safe.net a k).1 is.along,
+        inner.1 ((start-met safe.net a zeros).1 is.starts, bad.1 is.ends),
+      ),
     )

@@ -60,7 +60,7 @@ module _ (net : Net) (facts group : List Fact) (a : Assignment) where
       FactHolds net (path_of V a 1) (opposite_fact (fact_at group i)))
   fails-met i =
       let guard = guarded-met a (2 * V + i)
-          (fact_clauses net 1 (opposite_fact (fact_at group i))) in
+      (fact_clauses net 1 (opposite_fact (fact_at group i))) in
       let inner = fact-met net a 1 (opposite_fact (fact_at group i)) in (
         λ h e. inner.0 (guard.0 h e),
         λ f. guard.1 (λ e. inner.1 (f e)),
@@ -95,12 +95,17 @@ module _ (net : Net) (facts group : List Fact) (a : Assignment) where
                 ),
               ),
             ),
-        λ (f, (g, (e, d))). one.1 ((frames-met net a 1).1 f, two.1 ((facts-met net a 0 facts).1 g,
+        λ (f, (g, (e, d))). one.1 (
+          (frames-met net a 1).1 f,
+          two.1 (
+            (facts-met net a 0 facts).1 g,
             three.1 (
               each-met a (fails_clauses net group) (length group)
                   (λ i lt. (fails-met i).1 (e i lt)),
               (some-met net a (2 * V) (length group)).1 d,
-            ))),
+            ),
+          ),
+        ),
       )
 
   pub keep-right : AllMet a (keep_clauses net facts group) →

@@ -72,11 +72,14 @@ module _ (net : Net) (good : IsNet net) (facts group : List Fact)
       subst P (sym e) fails-there
 
   pub keep-exists : (a : Assignment) × AllMet a (keep_clauses net facts group)
-  keep-exists = (a, (keep-met net facts group a).1 (
-    path-alike net good 1 path W (λ i le u lt. sym (a-path i u le lt)) is.along,
-    (
-      λ f there. fact-alike net (path 0) (W 0) (λ j lt. latch-same 0 j (omega arith) lt) f
-          (inside f there) (is.known f there),
-      (marked, (place, is.fails.1.1, a-mark place ∙ (Decides-eqb place place).1 refl)),
+  keep-exists = (
+    a,
+    (keep-met net facts group a).1 (
+      path-alike net good 1 path W (λ i le u lt. sym (a-path i u le lt)) is.along,
+      (
+        λ f there. fact-alike net (path 0) (W 0) (λ j lt. latch-same 0 j (omega arith) lt) f
+            (inside f there) (is.known f there),
+        (marked, (place, is.fails.1.1, a-mark place ∙ (Decides-eqb place place).1 refl)),
+      ),
     ),
-  ))
+  )

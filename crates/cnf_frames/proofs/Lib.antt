@@ -1,3 +1,4 @@
+pub mod Adding
 pub mod Conditions
 pub mod Inducing
 pub mod States

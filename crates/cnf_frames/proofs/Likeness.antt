@@ -22,11 +22,11 @@ module _ (net : Net) (good : IsNet net) where
     gates = λ j lt.
         let (l, r) = good.ordered j lt in
         let left : literal_value v (and_at net.ands j).left
-            ≡ literal_value w (and_at net.ands j).left =
-            value-same v w (and_at net.ands j).left (same _ (omega (arith, l))) in
+        ≡ literal_value w (and_at net.ands j).left =
+        value-same v w (and_at net.ands j).left (same _ (omega (arith, l))) in
         let right' : literal_value v (and_at net.ands j).right
-            ≡ literal_value w (and_at net.ands j).right =
-            value-same v w (and_at net.ands j).right (same _ (omega (arith, r))) in
+        ≡ literal_value w (and_at net.ands j).right =
+        value-same v w (and_at net.ands j).right (same _ (omega (arith, r))) in
         sym (same (first_and net + j) (omega arith)) ∙ right.gates j lt
         ∙ ap (λ b. b && literal_value v (and_at net.ands j).right) left
         ∙ ap (λ b. literal_value w (and_at net.ands j).left && b) right';

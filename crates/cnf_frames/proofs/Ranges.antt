@@ -19,7 +19,6 @@ use Rattle.cnf_frames.specs.QueryPaths.{CanAsk}
 use Rattle.cnf_frames.proofs.DistinctChosen.{pairs-more}
 use Rattle.cnf_frames.proofs.Groups.{opposite-in, group-in}
 
-
 -- The literal is of the first n variables.
 record IsOf (n : ℕ) (l : ℤ) : Type 0 where
   is : IsLiteral n l
@@ -50,8 +49,10 @@ module _ (n : ℕ) where
       at d (suc k, lt, e) = rest.are d (k, omega arith, e)
 
   both : (xs ys : List Clause) → AreOf n xs → AreOf n ys → AreOf n (xs ++ ys)
-  both xs ys left right = record { are = λ c there. elim (Contains-append_cases xs ys c there)
-      [ inl h ↦ left.are c h | inr h ↦ right.are c h ] }
+  both xs ys left right = record {
+    are = λ c there. elim (Contains-append_cases xs ys c there)
+        [ inl h ↦ left.are c h | inr h ↦ right.are c h ];
+  }
 
   each : (f : ℕ → List Clause) (m : ℕ) → ((k : ℕ) → k < m → AreOf n (f k)) →
       AreOf n (for_each f m)
@@ -245,10 +246,10 @@ module _ (n : ℕ) where
         let up : suc (suc k) * W ≤ n = omega (arith, frames) in
         let next : suc k ≡ k + 1 = omega arith in
         let pairs : pairs_before k i + (k - i) ≤ pairs_before k (k + 1) =
-            pairs-more k i (k + 1) (omega arith) in
+        pairs-more k i (k + 1) (omega arith) in
         let below : length safe.net.latches * suc (pairs_before k i + q)
-            ≤ length safe.net.latches * pairs_before k (k + 1) =
-            mul-le-mul_left (length safe.net.latches) (omega (arith, pairs, few)) in
+        ≤ length safe.net.latches * pairs_before k (k + 1) =
+        mul-le-mul_left (length safe.net.latches) (omega (arith, pairs, few)) in
         apart-of safe.net good.net i (suc i + q) (pair_start safe.net k i q)
         (lower safe.net good.net i (suc k) (omega arith) up)
         (lower safe.net good.net (suc i + q) (suc k) (omega arith) up)

@@ -66,12 +66,12 @@ module _ (safe : SafeNet) (facts : List Fact) (k : ℕ) (word : Word)
       let long : length rows ≡ suc k = length-listed 0 (suc k) bits in
       let small : m < suc k = omega (arith, long, few) in
       let e : bits i ≡ bits m =
-          sym (listed-at (suc k) bits [] i (omega arith)) ∙ same ∙ listed-at (suc k) bits [] m small in
+      sym (listed-at (suc k) bits [] i (omega arith)) ∙ same ∙ listed-at (suc k) bits [] m small in
       is.apart i m lt (omega arith) (λ j less.
-          let f : ℕ → ℕ = λ j. bit (word i (latch_variable safe.net j)) in
-          let g : ℕ → ℕ = λ j. bit (word m (latch_variable safe.net j)) in
-          bit-same _ _ (sym (listed-at L f 0 j less) ∙ ap (λ l. get_or l j 0) e
-          ∙ listed-at L g 0 j less))
+      let f : ℕ → ℕ = λ j. bit (word i (latch_variable safe.net j)) in
+      let g : ℕ → ℕ = λ j. bit (word m (latch_variable safe.net j)) in
+      bit-same _ _ (sym (listed-at L f 0 j less) ∙ ap (λ l. get_or l j 0) e
+      ∙ listed-at L g 0 j less))
 
   pub short-step : k < 2 ^ length safe.net.latches
   short-step =

@@ -27,6 +27,7 @@ fn add_gate(cnf: &mut Cnf, net: &Net, frame: u32, i: u32) -> M<()>
 }
 
 /// Adds that the constant is false and all ands are right in a frame.
+#[tactic(auto, using(crate::proofs::Adding::loops))]
 fn add_gates(cnf: &mut Cnf, net: &Net, frame: u32) -> M<()>
     requires room { suc frame * variables net.now ≤ cnf.old.variables }
     ensures variables { cnf.new.variables ≡ cnf.old.variables }
@@ -43,6 +44,7 @@ fn add_gates(cnf: &mut Cnf, net: &Net, frame: u32) -> M<()>
 }
 
 /// Adds that all constraints are true in a frame.
+#[tactic(auto, using(crate::proofs::Adding::loops))]
 fn add_constraints(cnf: &mut Cnf, net: &Net, frame: u32) -> M<()>
     requires { suc frame * variables net.now ≤ cnf.old.variables }
     ensures variables { cnf.new.variables ≡ cnf.old.variables }
@@ -74,6 +76,7 @@ fn add_latch(cnf: &mut Cnf, net: &Net, frame: u32, i: u32) -> M<()>
 }
 
 /// Adds what a frame says that a step leaves.
+#[tactic(auto, using(crate::proofs::Adding::loops))]
 fn add_step(cnf: &mut Cnf, net: &Net, frame: u32) -> M<()>
     requires { suc (suc frame) * variables net.now ≤ cnf.old.variables }
     ensures variables { cnf.new.variables ≡ cnf.old.variables }
@@ -89,6 +92,7 @@ fn add_step(cnf: &mut Cnf, net: &Net, frame: u32) -> M<()>
 }
 
 /// Adds the frames of a path of `k` steps.
+#[tactic(auto, using(crate::proofs::Adding::loops))]
 pub fn add_frames(cnf: &mut Cnf, net: &Net, k: u32) -> M<()>
     requires { suc k * variables net.now ≤ cnf.old.variables }
     ensures variables { cnf.new.variables ≡ cnf.old.variables }
@@ -101,6 +105,7 @@ pub fn add_frames(cnf: &mut Cnf, net: &Net, k: u32) -> M<()>
 }
 
 /// Adds that all latches are false in frame 0.
+#[tactic(auto, using(crate::proofs::Adding::loops))]
 pub fn add_start(cnf: &mut Cnf, net: &Net) -> M<()>
     requires { variables net.now ≤ cnf.old.variables }
     ensures variables { cnf.new.variables ≡ cnf.old.variables }

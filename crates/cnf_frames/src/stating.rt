@@ -12,7 +12,7 @@ use crate::writing::{
     further_number, latch_number, opposite,
 };
 use aig_net::Net;
-use chain_check::Cnf;
+use chain_check::{Cnf, Literal};
 use hy_base::{List, M};
 use std::alloc::Global;
 
@@ -53,7 +53,7 @@ pub fn add_facts(cnf: &mut Cnf, net: &Net, frame: u32, facts: &[Fact]) -> M<()>
 }
 
 /// Adds that where `d` is true a fact fails in frame 1.
-fn add_failing(cnf: &mut Cnf, net: &Net, d: i32, fact: Fact) -> M<()>
+fn add_failing(cnf: &mut Cnf, net: &Net, d: Literal, fact: Fact) -> M<()>
     requires room { 2 * variables net.now ≤ cnf.old.variables }
     requires inside { IsIn (length net.now.latches) fact }
     requires d { IsLiteral cnf.old.variables d }
@@ -100,7 +100,7 @@ fn add_some(alloc: Global, cnf: &mut Cnf, d: u32, n: u32) -> M<()>
 {
     let mut clause = List::new(alloc);
     for i in 0..n {
-        clause.push(further_number(d + i))?;
+        clause.push(further_number(d + i).number())?;
     }
     add(cnf, clause.as_slice())
 }
