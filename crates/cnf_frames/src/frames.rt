@@ -43,6 +43,19 @@ fn add_gates(cnf: &mut Cnf, net: &Net, frame: u32) -> M<()>
     Ok(())
 }
 
+/// Adds that a constraint is true in a frame.
+fn add_constraint(cnf: &mut Cnf, net: &Net, frame: u32, i: usize) -> M<()>
+    requires room { suc frame * variables net.now ≤ cnf.old.variables }
+    requires few { i < length net.now.constraints }
+    ensures variables { cnf.new.variables ≡ cnf.old.variables }
+    ensures added { OnOk result (cnf.new.clauses ≡ cnf.old.clauses
+        ++ constraint_clauses net.now frame i) }
+{
+    net.variables(); // what each net keeps
+    let constraint = *net.constraints().at(i);
+    add_alone(cnf, number_of(net, frame, constraint))
+}
+
 /// Adds that all constraints are true in a frame.
 #[tactic(auto, using(crate::proofs::Adding::loops))]
 fn add_constraints(cnf: &mut Cnf, net: &Net, frame: u32) -> M<()>
@@ -51,11 +64,8 @@ fn add_constraints(cnf: &mut Cnf, net: &Net, frame: u32) -> M<()>
     ensures added { OnOk result (cnf.new.clauses ≡ cnf.old.clauses
         ++ for_each (constraint_clauses net.now frame) (length net.now.constraints)) }
 {
-    net.variables(); // what each net keeps
     for i in 0..net.constraints().len() {
-        let constraint = *net.constraints().at(i);
-        let number = number_of(net, frame, constraint);
-        add_alone(cnf, number)?;
+        add_constraint(cnf, net, frame, i)?;
     }
     Ok(())
 }

@@ -137,6 +137,7 @@ pub fn keep_query(alloc: Global, safe: &SafeNet, inv: &Inv, group: u32) -> Resul
 }
 
 /// Adds that the states of the frames up to `k` are good and have all facts.
+#[tactic(auto, using(crate::proofs::Adding::loops))]
 fn add_goods(cnf: &mut Cnf, safe: &SafeNet, facts: &[Fact], k: u32) -> M<()>
     requires safe { IsSafe safe.now }
     requires room { suc k * variables safe.now.net ≤ cnf.old.variables }

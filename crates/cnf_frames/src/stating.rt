@@ -39,6 +39,7 @@ fn add_fact(cnf: &mut Cnf, net: &Net, frame: u32, fact: Fact) -> M<()>
 }
 
 /// Adds that all facts hold in a frame.
+#[tactic(auto, using(crate::proofs::Adding::loops))]
 pub fn add_facts(cnf: &mut Cnf, net: &Net, frame: u32, facts: &[Fact]) -> M<()>
     requires room { suc frame * variables net.now ≤ cnf.old.variables }
     requires inside { AllIn (length net.now.latches) facts.now }
@@ -76,6 +77,7 @@ fn add_failing(cnf: &mut Cnf, net: &Net, d: Literal, fact: Fact) -> M<()>
 }
 
 /// Adds that some of the facts fails in frame 1; a further variable says of each whether it does.
+#[tactic(auto, using(crate::proofs::Adding::loops))]
 pub fn add_failings(alloc: Global, cnf: &mut Cnf, net: &Net, group: &[Fact]) -> M<()>
     requires room { 2 * variables net.now + length group.now ≤ cnf.old.variables }
     requires inside { AllIn (length net.now.latches) group.now }
@@ -121,6 +123,7 @@ fn add_latch_differs(cnf: &mut Cnf, net: &Net, j: u32, m: u32, d: u32, i: u32) -
 }
 
 /// Adds that the states of two frames differ; further variables from `d` on say which latches do.
+#[tactic(auto, using(crate::proofs::Adding::loops))]
 fn add_apart(alloc: Global, cnf: &mut Cnf, net: &Net, j: u32, m: u32, d: u32) -> M<()>
     requires first { suc j * variables net.now ≤ cnf.old.variables }
     requires second { suc m * variables net.now ≤ cnf.old.variables }
@@ -139,6 +142,7 @@ fn add_apart(alloc: Global, cnf: &mut Cnf, net: &Net, j: u32, m: u32, d: u32) ->
 
 /// Adds that the state of frame `i` differs from that of each later frame up to `k`; further
 /// variables stand from `d` on.
+#[tactic(auto, using(crate::proofs::Adding::loops))]
 fn add_apart_from(alloc: Global, cnf: &mut Cnf, net: &Net, k: u32, i: u32, d: u32) -> M<()>
     requires before { i ≤ k }
     requires start { d ≡ pair_start net.now k i 0 }
@@ -155,6 +159,7 @@ fn add_apart_from(alloc: Global, cnf: &mut Cnf, net: &Net, k: u32, i: u32, d: u3
 }
 
 /// Adds that the states of the frames up to `k` differ from one another.
+#[tactic(auto, using(crate::proofs::Adding::loops))]
 pub fn add_all_apart(alloc: Global, cnf: &mut Cnf, net: &Net, k: u32) -> M<()>
     requires { pair_start net.now k (suc k) 0 ≤ cnf.old.variables }
     ensures variables { cnf.new.variables ≡ cnf.old.variables }
