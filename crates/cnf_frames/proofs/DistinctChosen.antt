@@ -18,6 +18,7 @@ use Rattle.cnf_frames.proofs.Values.{Assignment, AllMet}
 use Rattle.cnf_frames.proofs.Meanings.{path_of}
 use Rattle.cnf_frames.proofs.Distinct.{Marked, parts-met}
 use Rattle.cnf_frames.proofs.Likeness.{path-alike}
+use Rattle.cnf_frames.proofs.Pairs.{pairs-more}
 use Rattle.cnf_frames.proofs.Choosing.{row-of, column-of, chosen, chosen-path, chosen-extra, in-frames}
 
 -- ---- pairs of frames
@@ -41,15 +42,6 @@ many-pairs k (suc i) =
     let b = length-listed 0 (k - i) (λ q. pair i (suc i + q)) in
     let c = many-pairs k i in
     omega (arith, a, b, c)
-
-pub pairs-more : (k i n : ℕ) → i < n → pairs_before k i + (k - i) ≤ pairs_before k n
-pairs-more k i zero lt = absurd (omega arith)
-pairs-more k i (suc n) lt =
-    elim (cases_eq i n) [
-      | inl e ↦ let P : ℕ → Type 0 = λ i. pairs_before k i + (k - i) ≤ pairs_before k (suc n) in
-          subst P (sym e) (omega arith)
-      | inr apart ↦ omega (arith, pairs-more k i n (omega arith))
-    ]
 
 pair-at : (k n i q : ℕ) → i < n → q < k - i →
     get_or (pairs k n) (pairs_before k i + q) (pair 0 0) ≡ pair i (suc i + q)

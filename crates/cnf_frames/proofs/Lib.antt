@@ -11,6 +11,7 @@ pub mod Keeping
 pub mod Answering
 pub mod Likeness
 pub mod Choosing
+pub mod Pairs
 pub mod DistinctChosen
 pub mod Groups
 pub mod KeepingChosen

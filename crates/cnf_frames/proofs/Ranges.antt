@@ -16,7 +16,7 @@ use Rattle.cnf_frames.specs.declared.queries.Asked.TheVariants.{Base, Step, Keep
 use Rattle.cnf_frames.specs.Facts.{IsIn, AllIn, IsSafe, fact_at, opposite_fact}
 use Rattle.cnf_frames.specs.Queries.{for_each, in_frame, further, alone, and_clauses, next_clauses, same_clauses, differ_clauses, guarded, some_further, latch_in, gate_clauses, frame_gates, constraint_clauses, latch_clauses, frame_step, frames, start_clauses, bad_in, base_clauses, fact_clauses, facts_clauses, good_clauses, latch_differs, apart_clauses, pairs_before, pair_start, apart_from, step_clauses, group_of, fails_clauses, keep_clauses, clauses_of, variables_of}
 use Rattle.cnf_frames.specs.QueryPaths.{CanAsk}
-use Rattle.cnf_frames.proofs.DistinctChosen.{pairs-more}
+use Rattle.cnf_frames.proofs.Pairs.{pairs-more}
 use Rattle.cnf_frames.proofs.Groups.{opposite-in, group-in}
 
 -- The literal is of the first n variables.
@@ -297,3 +297,11 @@ pub in-range : (safe : SafeNet) (asked : Asked) → IsSafe safe → CanAsk safe 
     AreClauses (variables_of safe asked) (clauses_of safe asked)
 in-range safe asked good can =
     (query-of (variables_of safe asked) safe asked good can (omega arith)).are
+
+-- the clause of further variables that are listed
+pub some-literals : (n d m i : ℕ) (clause shown : Clause) → shown ≡ clause →
+    clause ≡ for_each (λ i. further (d + i) ∷ []) i → i ≤ m → d + m ≤ n → AreLiterals n shown
+some-literals n d m i clause shown e f le room =
+    let P : Clause → Type 0 = AreLiterals n in
+    subst P (sym (e ∙ f)) (literals-each n (λ i. further (d + i)) i
+    (λ k lt. further-of n (d + k) (omega arith)))
