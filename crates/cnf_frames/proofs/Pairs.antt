@@ -32,10 +32,10 @@ pub start-room : (net : Net) (k i n : ℕ) → i < suc k → pair_start net k (s
     pair_start net k (suc i) 0 ≤ n
 start-room net k i n lt room =
     let more : pairs_before k (suc i) + 0 ≤ pairs_before k (suc k) + 0 =
-        omega (arith, pairs-more k i (suc k) lt) in
+    omega (arith, pairs-more k i (suc k) lt) in
     let times : length net.latches * (pairs_before k (suc i) + 0)
-        ≤ length net.latches * (pairs_before k (suc k) + 0) =
-        mul-le-mul_left (length net.latches) more in
+    ≤ length net.latches * (pairs_before k (suc k) + 0) =
+    mul-le-mul_left (length net.latches) more in
     at ((k + 2) * variables net) (pairs_before k (suc i) + 0) (pairs_before k (suc k) + 0)
     (length net.latches) times room
   where

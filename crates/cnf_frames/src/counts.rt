@@ -1,10 +1,11 @@
 //! How many variables and literals a query has, counted before a clause is made. Numbers of 128 bits
 //! hold each count.
 
-ghost use Rattle.std.specs.Prelude.{◌≡◌, suc, ◌+◌, ◌*◌, ◌≤◌, length, IfOk, IfErr};
+ghost use Rattle.std.specs.Prelude.{◌≡◌, ◌+◌, ◌*◌, ◌^◌, ◌<◌, ◌≤◌, length, IfOk, IfErr, OnOk};
 ghost use Rattle.hy_base.specs.Limits.{most};
 ghost use Rattle.aig_net.specs.Nets.{variables};
-ghost use Rattle.cnf_frames.specs.Counts.{facts_literals as literals_of_facts, failing_literals as literals_of_failing, frames_literals as literals_of_frames, pairs};
+ghost use Rattle.cnf_frames.specs.Counts as counts;
+ghost use Rattle.cnf_frames.specs.Counts.{pairs};
 ghost use Rattle.cnf_frames.specs.Queries.{IsRefusalBy};
 
 use crate::facts::Fact;
@@ -36,78 +37,114 @@ pub fn keep_variables(net: &Net, group: &[Fact]) -> u128
 
 /// How many pairs of frames up to `k` there are.
 fn pairs_of(k: u32) -> u128
-    ensures { result ≡ pairs k }
+    ensures count { result ≡ pairs k }
+    ensures small { result < 2 ^ 64 }
 {
     k as u128 * (k as u128 + 1) / 2
 }
 
 /// How many literals the frames of a path of `k` steps have.
-fn frames_literals(net: &Net, k: u32) -> u128
-    ensures { result ≡ literals_of_frames net.now k }
+fn frames_literals(net: &Net, k: u64) -> u128
+    requires { k ≤ 2 ^ 32 }
+    ensures count { result ≡ counts.frames_literals net.now k }
+    ensures small { result < 2 ^ 110 }
 {
     let gates = 1 + 7 * net.ands().len() as u128;
     let step = net.constraints().len() as u128 + 4 * net.latches().len() as u128;
     (k as u128 + 1) * gates + k as u128 * step
 }
 
+/// How many literals the clauses of a fact have.
+fn fact_literals(fact: Fact) -> u128
+    ensures count { result ≡ counts.fact_literals fact }
+    ensures few { result ≤ 4 }
+{
+    match fact {
+        Fact::Zero(_) | Fact::One(_) => 1,
+        Fact::Same(_, _) | Fact::Differ(_, _) => 4,
+    }
+}
+
 /// How many literals the clauses of facts have.
 fn facts_literals(facts: &[Fact]) -> u128
-    ensures { result ≡ literals_of_facts facts.now }
+    ensures count { result ≡ counts.facts_literals facts.now }
+    ensures small { result < 2 ^ 67 }
 {
     let mut literals = 0;
     for fact in facts {
-        literals += match fact {
-            Fact::Zero(_) | Fact::One(_) => 1,
-            Fact::Same(_, _) | Fact::Differ(_, _) => 4,
-        };
+        literals += fact_literals(*fact);
     }
     literals
 }
 
+/// How many literals the clauses have that say where a fact fails.
+fn one_failing(fact: Fact) -> u128
+    ensures count { result ≡ counts.one_failing fact }
+    ensures few { result ≤ 6 }
+{
+    match fact {
+        Fact::Zero(_) | Fact::One(_) => 2,
+        Fact::Same(_, _) | Fact::Differ(_, _) => 6,
+    }
+}
+
 /// How many literals the clauses have that say where facts fail.
 fn failing_literals(facts: &[Fact]) -> u128
-    ensures { result ≡ literals_of_failing facts.now }
+    ensures count { result ≡ counts.failing_literals facts.now }
+    ensures small { result < 2 ^ 67 }
 {
     let mut literals = 0;
     for fact in facts {
-        literals += match fact {
-            Fact::Zero(_) | Fact::One(_) => 2,
-            Fact::Same(_, _) | Fact::Differ(_, _) => 6,
-        };
+        literals += one_failing(*fact);
     }
     literals
 }
 
 /// How many literals the base query has.
 pub fn base_literals(net: &Net, k: u32) -> u128
-    ensures { result ≡ literals_of_frames net.now k + length net.now.latches + 1 }
+    ensures { result ≡ counts.base_literals net.now k }
 {
-    frames_literals(net, k) + net.latches().len() as u128 + 1
+    let ends = net.latches().len() as u128 + 1;
+    frames_literals(net, k as u64) + ends
 }
 
 /// How many literals the step query has.
 pub fn step_literals(net: &Net, facts: &[Fact], k: u32) -> u128
-    ensures { result ≡ literals_of_frames net.now (suc k)
-        + ((k + 1) * (literals_of_facts facts.now + 1)
-        + (1 + pairs k * (7 * length net.now.latches))) }
+    ensures { result ≡ counts.step_literals net.now facts.now k }
 {
-    let good = (k as u128 + 1) * (facts_literals(facts) + 1);
-    let apart = pairs_of(k) * (7 * net.latches().len() as u128);
-    frames_literals(net, k + 1) + (good + (1 + apart))
+    let frames = frames_literals(net, k as u64 + 1);
+    frames + (good_literals(facts, k) + (1 + apart_literals(net, k)))
+}
+
+/// How many literals the clauses have that say that the states up to `k` are good and have all facts.
+fn good_literals(facts: &[Fact], k: u32) -> u128
+    ensures count { result ≡ (k + 1) * (counts.facts_literals facts.now + 1) }
+    ensures small { result < 2 ^ 110 }
+{
+    (k as u128 + 1) * (facts_literals(facts) + 1)
+}
+
+/// How many literals the clauses have that say that the states up to `k` differ.
+fn apart_literals(net: &Net, k: u32) -> u128
+    ensures count { result ≡ pairs k * (7 * length net.now.latches) }
+    ensures small { result < 2 ^ 110 }
+{
+    net.variables(); // what each net keeps
+    pairs_of(k) * (7 * net.latches().len() as u128)
 }
 
 /// How many literals a keep query has.
 pub fn keep_literals(net: &Net, facts: &[Fact], group: &[Fact]) -> u128
-    ensures { result ≡ literals_of_frames net.now 1 + (literals_of_facts facts.now
-        + (literals_of_failing group.now + length group.now)) }
+    ensures { result ≡ counts.keep_literals net.now facts.now group.now }
 {
     let failing = failing_literals(group) + group.len() as u128;
     frames_literals(net, 1) + (facts_literals(facts) + failing)
 }
 
-/// Whether so many variables and literals are taken.
-pub fn check(variables: u128, literals: u128) -> Result<(), FrameError>
-    ensures within { IfOk result (λ _. (variables ≤ most Kind.CnfVariables)
+/// The number of variables, where so many of them and so many literals are taken.
+pub fn admit(variables: u128, literals: u128) -> Result<u32, FrameError>
+    ensures variables { IfOk result (λ n. n ≡ variables) }
+    ensures within { OnOk result ((variables ≤ most Kind.CnfVariables)
         × (literals ≤ most Kind.CnfLiterals)) }
     ensures refused { IfErr result (λ e. IsRefusalBy variables literals e) }
 {
@@ -116,7 +153,7 @@ pub fn check(variables: u128, literals: u128) -> Result<(), FrameError>
     } else if literals > Kind::CnfLiterals.most() as u128 {
         Err(refusal(Kind::CnfLiterals))
     } else {
-        Ok(())
+        Ok(variables as u32)
     }
 }
 

@@ -7,7 +7,7 @@ ghost use Rattle.cnf_frames.specs.Facts.{AllIn, IsSafe};
 ghost use Rattle.cnf_frames.specs.Queries.{IsQuery, IsRefusal, for_each, good_clauses, group_of, groups};
 
 use crate::counts::{
-    base_literals, base_variables, check, keep_literals, keep_variables, step_literals,
+    admit, base_literals, base_variables, keep_literals, keep_variables, step_literals,
     step_variables,
 };
 use crate::facts::{Fact, Inv};
@@ -65,12 +65,12 @@ pub fn base_query(alloc: Global, safe: &SafeNet, k: u32) -> Result<Query, FrameE
     ensures query { IfOk result (λ query. IsQuery safe.now (Asked.Base k) query) }
     ensures refused { IfErr result (λ e. IsRefusal safe.now (Asked.Base k) e) }
 {
-    let variables = base_variables(&safe.net, k);
-    check(variables, base_literals(&safe.net, k))?;
-    let mut cnf = Cnf::new(alloc, variables as u32)?;
-    add_frames(&mut cnf, &safe.net, k)?;
-    add_start(&mut cnf, &safe.net)?;
-    add_alone(&mut cnf, number_of(&safe.net, k, safe.bad))?;
+    let net = &safe.net;
+    let variables = admit(base_variables(net, k), base_literals(net, k))?;
+    let mut cnf = Cnf::new(alloc, variables)?;
+    add_frames(&mut cnf, net, k)?;
+    add_start(&mut cnf, net)?;
+    add_alone(&mut cnf, number_of(net, k, safe.bad))?;
     Ok(Query {
         cnf,
         asked: Asked::Base { k },
@@ -89,13 +89,14 @@ pub fn step_query(alloc: Global, safe: &SafeNet, inv: &Inv, k: u32) -> Result<Qu
     ensures query { IfOk result (λ query. IsQuery safe.now (Asked.Step inv.now k) query) }
     ensures refused { IfErr result (λ e. IsRefusal safe.now (Asked.Step inv.now k) e) }
 {
-    let variables = step_variables(&safe.net, k);
-    check(variables, step_literals(&safe.net, inv.as_slice(), k))?;
-    let mut cnf = Cnf::new(alloc, variables as u32)?;
-    add_frames(&mut cnf, &safe.net, k + 1)?;
-    add_goods(&mut cnf, safe, inv.as_slice(), k)?;
-    add_alone(&mut cnf, number_of(&safe.net, k + 1, safe.bad))?;
-    add_all_apart(alloc, &mut cnf, &safe.net, k)?;
+    let net = &safe.net;
+    let facts = inv.as_slice();
+    let variables = admit(step_variables(net, k), step_literals(net, facts, k))?;
+    let mut cnf = Cnf::new(alloc, variables)?;
+    add_frames(&mut cnf, net, k + 1)?;
+    add_goods(&mut cnf, safe, facts, k)?;
+    add_alone(&mut cnf, number_of(net, k + 1, safe.bad))?;
+    add_all_apart(alloc, &mut cnf, net, k)?;
     Ok(Query {
         cnf,
         asked: Asked::Step {
@@ -117,16 +118,14 @@ pub fn keep_query(alloc: Global, safe: &SafeNet, inv: &Inv, group: u32) -> Resul
     ensures query { IfOk result (λ query. IsQuery safe.now (Asked.Keep inv.now group) query) }
     ensures refused { IfErr result (λ e. IsRefusal safe.now (Asked.Keep inv.now group) e) }
 {
-    let asked_of = group_slice(inv.as_slice(), group);
-    let variables = keep_variables(&safe.net, asked_of);
-    check(
-        variables,
-        keep_literals(&safe.net, inv.as_slice(), asked_of),
-    )?;
-    let mut cnf = Cnf::new(alloc, variables as u32)?;
-    add_frames(&mut cnf, &safe.net, 1)?;
-    add_facts(&mut cnf, &safe.net, 0, inv.as_slice())?;
-    add_failings(alloc, &mut cnf, &safe.net, asked_of)?;
+    let net = &safe.net;
+    let facts = inv.as_slice();
+    let some = group_slice(facts, group);
+    let variables = admit(keep_variables(net, some), keep_literals(net, facts, some))?;
+    let mut cnf = Cnf::new(alloc, variables)?;
+    add_frames(&mut cnf, net, 1)?;
+    add_facts(&mut cnf, net, 0, facts)?;
+    add_failings(alloc, &mut cnf, net, some)?;
     Ok(Query {
         cnf,
         asked: Asked::Keep {

@@ -11,10 +11,13 @@ add_apart_from-requires-clause-room c =
     (start-room c.args.net.now c.args.k c.loop-i.i c.args.cnf.now.variables (omega arith) c.requires)
 
 pub overflow_add-d-in-loop-i : goal.overflow_add-d-in-loop-i
-overflow_add-d-in-loop-i c = omega (arith, c.args.cnf.now.few_variables,
-    next-room c.args.net.now c.args.k c.loop-i.i c.args.cnf.now.variables c.len-latches.result
-    c.loop-i.d (c.len-latches.ensures ∙ ap length c.latches.ensures) c.loop-i.invariant.2
-    (omega arith) c.requires)
+overflow_add-d-in-loop-i c = omega (
+  arith,
+  c.args.cnf.now.few_variables,
+  next-room c.args.net.now c.args.k c.loop-i.i c.args.cnf.now.variables c.len-latches.result
+      c.loop-i.d (c.len-latches.ensures ∙ ap length c.latches.ensures) c.loop-i.invariant.2
+      (omega arith) c.requires,
+)
 
 pub loop-i-preserved : goal.loop-i-preserved
 loop-i-preserved c = (
