@@ -15,5 +15,6 @@ pub mod Pairs
 pub mod DistinctChosen
 pub mod Groups
 pub mod KeepingChosen
+pub mod Counting
 pub mod Ranges
 pub mod Concluding
