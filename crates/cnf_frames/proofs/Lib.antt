@@ -16,5 +16,6 @@ pub mod DistinctChosen
 pub mod Groups
 pub mod KeepingChosen
 pub mod Counting
+pub mod Querying
 pub mod Ranges
 pub mod Concluding
