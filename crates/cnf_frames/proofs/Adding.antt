@@ -62,4 +62,9 @@ same_added old made more d x y d' d'' x' y' p q r s e f =
     two_added old made more (d' ∷ x ∷ y' ∷ []) (d'' ∷ x' ∷ y ∷ []) e f in
     cc
 
+-- all of them
+pub all_added : (old made : List Clause) (f : ℕ → List Clause) (i n : ℕ) →
+    made ≡ old ++ for_each f i → i ≡ n → made ≡ old ++ for_each f n
+all_added old made f i n e same = e ∙ ap (λ k. old ++ for_each f k) same
+
 pub ruleset loops = (none_added, one_added, both_added)

@@ -1,6 +1,7 @@
 pub mod Adding
 pub mod Conditions
 pub mod Inducing
+pub mod Listing
 pub mod States
 pub mod Surviving
 pub mod Values
@@ -17,5 +18,6 @@ pub mod Groups
 pub mod KeepingChosen
 pub mod Counting
 pub mod Querying
+pub mod Rows
 pub mod Ranges
 pub mod Concluding

@@ -44,8 +44,8 @@ base-made safe k none one two all l e f g same h =
     (h ∙ ap (λ x. two ++ alone x) same)
 
 pub step-made : (safe : SafeNet) (facts : List Fact) (k : ℕ) (none one two three all : List Clause)
-    (l : ℤ) → none ≡ [] → one ≡ none ++ frames safe.net (suc k) →
-    two ≡ one ++ for_each (good_clauses safe facts) (suc k) → l ≡ bad_in safe (suc k) →
+    (l : ℤ) → none ≡ [] → one ≡ none ++ frames safe.net (k + 1) →
+    two ≡ one ++ for_each (good_clauses safe facts) (suc k) → l ≡ bad_in safe (k + 1) →
     three ≡ two ++ alone l → all ≡ three ++ for_each (apart_from safe.net k) (suc k) →
     all ≡ clauses_of safe (Step facts k)
 unfolding clauses_of
@@ -53,10 +53,12 @@ step-made safe facts k none one two three all l e f g same h i =
     let goods : List Clause = for_each (good_clauses safe facts) (suc k) in
     let ends : List Clause = for_each (apart_from safe.net k) (suc k) in
     let bad : List Clause = alone (bad_in safe (suc k)) in
+    let up : k + 1 ≡ suc k = omega arith in
     let first : two ≡ frames safe.net (suc k) ++ goods =
-        g ∙ ap (λ x. x ++ goods) (first-added none one (frames safe.net (suc k)) e f) in
+        g ∙ ap (λ x. x ++ goods) (first-added none one (frames safe.net (suc k)) e
+        (f ∙ ap (λ n. none ++ frames safe.net n) up)) in
     let last : all ≡ two ++ (bad ++ ends) =
-        both_added two three all bad ends (h ∙ ap (λ x. two ++ alone x) same) i in
+        both_added two three all bad ends (h ∙ ap (λ x. two ++ alone x) (same ∙ ap (bad_in safe) up)) i in
     both_added (frames safe.net (suc k)) two all goods (bad ++ ends) first last
 
 pub keep-made : (safe : SafeNet) (facts : List Fact) (group : ℕ) (none one two all : List Clause) →

@@ -4,12 +4,13 @@ use Rattle.std.specs.List.{Contains}
 use Rattle.aig_net.specs.Nets.{latch_variable}
 use Rattle.aig_net.specs.Executions.{Word}
 use Rattle.aig_net.specs.Wires.{listed}
-use Rattle.aig_net.proofs.Listed.{length-listed, at-listed}
+use Rattle.aig_net.proofs.Listed.{length-listed}
 use Rattle.chain_check.specs.Rows.{IsRow, AreRows, IsWithoutRepeats}
 use Rattle.chain_check.proofs.Counting.{counted-rows}
 use Rattle.live_safe.specs.declared.safe_net.SafeNet.{SafeNet}
 use Rattle.cnf_frames.specs.declared.facts.Fact.{Fact}
 use Rattle.cnf_frames.specs.QueryPaths.{IsStepPath}
+use Rattle.cnf_frames.proofs.Listing.{listed-at, in-listed}
 
 abbrev bit : Bool → ℕ
 bit true = 1
@@ -24,16 +25,6 @@ bit-same true true e = refl
 bit-same true false e = absurd (omega arith)
 bit-same false true e = absurd (omega arith)
 bit-same false false e = refl
-
-listed-at : {A : Type 0} (n : ℕ) (f : ℕ → A) (d : A) (i : ℕ) → i < n → get_or (listed 0 n f) i d ≡ f i
-listed-at n f d i lt = let e : 0 + i ≡ i = omega arith in at-listed 0 n f d i lt ∙ ap f e
-
--- what is in a list of values is one of them
-in-listed : {A : Type 0} (n : ℕ) (f : ℕ → A) (x : A) → Contains (listed 0 n f) x →
-    (i : ℕ) × (i < n) × (f i ≡ x)
-in-listed n f x (i, lt, e) =
-    let few : i < n = omega (arith, length-listed 0 n f, lt) in
-    (i, few, sym (listed-at n f x i few) ∙ e)
 
 module _ (safe : SafeNet) (facts : List Fact) (k : ℕ) (word : Word)
     (is : IsStepPath safe facts k word) where

@@ -158,11 +158,6 @@ fn group_slice(facts: &[Fact], group: u32) -> &[Fact]
     requires { group < groups facts.now }
     ensures { result.now ≡ group_of facts.now group }
 {
-    let start = 64 * group as usize;
-    let end = if facts.len() - start < 64 {
-        facts.len()
-    } else {
-        start + 64
-    };
-    &facts[start..end]
+    let rest = &facts[64 * group as usize..];
+    if rest.len() < 64 { rest } else { &rest[..64] }
 }
