@@ -22,6 +22,13 @@ row_more f n row more x e same g =
 abbrev pub values_from : List Bool → ℕ → ℕ → List Bool
 values_from values start n = listed 0 n (λ v. slice_index_or values (start + v) false)
 
+pub row-as : (values shown : List Bool) (start start' n n' : ℕ) (row : List Bool) →
+    row ≡ values_from shown start n → shown ≡ values → start ≡ start' → n ≡ n' →
+    row ≡ values_from values start' n'
+row-as values shown start start' n n' row e p q r =
+    e ∙ ap (λ l. values_from l start n) p ∙ ap (λ x. values_from values x n) q
+    ∙ ap (values_from values start') r
+
 value-at : (values : List Bool) (start n v : ℕ) → v < n →
     get_or (values_from values start n) v false ≡ get_or values (start + v) false
 value-at values start n v lt =
