@@ -63,9 +63,13 @@ module _ (net : Net) where
       let cs : List Clause = for_each (constraint_clauses net j) C in
       let ls : List Clause = for_each (latch_clauses net j) L in
       both (frame_gates net j) (cs ++ ls)
-      ∙ omega (arith, gates j, both cs ls,
-      as-many (constraint_clauses net j) 1 C (λ i lt. refl),
-      as-many (latch_clauses net j) 4 L (λ i lt. refl))
+      ∙ omega (
+        arith,
+        gates j,
+        both cs ls,
+        as-many (constraint_clauses net j) 1 C (λ i lt. refl),
+        as-many (latch_clauses net j) 4 L (λ i lt. refl),
+      )
 
   pub framed : (k : ℕ) → literals_in (frames net k) ≡ frames_literals net k
   framed k =
@@ -113,8 +117,8 @@ module _ (net : Net) where
   aparts k zero = omega arith
   aparts k (suc n) =
       let here : literals_in (apart_from net k n) ≡ (k - n) * (7 * L) =
-          as-many (λ q. apart_clauses net n (suc n + q) (pair_start net k n q)) (7 * L) (k - n)
-          (λ q lt. apart n (suc n + q) (pair_start net k n q)) in
+      as-many (λ q. apart_clauses net n (suc n + q) (pair_start net k n q)) (7 * L) (k - n)
+      (λ q lt. apart n (suc n + q) (pair_start net k n q)) in
       both (for_each (apart_from net k) n) (apart_from net k n)
       ∙ sum (pairs_before k n) (k - n) (7 * L) _ _ (aparts k n) here
     where
@@ -132,8 +136,12 @@ module _ (safe : SafeNet) where
   unfolding clauses_of
   base-counted k =
       sym (both (frames safe.net k) (start_clauses safe.net ++ alone (bad_in safe k))
-      ∙ omega (arith, framed safe.net k, both (start_clauses safe.net) (alone (bad_in safe k)),
-      started safe.net))
+      ∙ omega (
+        arith,
+        framed safe.net k,
+        both (start_clauses safe.net) (alone (bad_in safe k)),
+        started safe.net,
+      ))
 
   pub step-counted : (facts : List Fact) (k : ℕ) →
       step_literals safe.net facts k ≡ literals_in (clauses_of safe (Step facts k))
@@ -143,13 +151,13 @@ module _ (safe : SafeNet) where
       let goods : List Clause = for_each (good_clauses safe facts) (suc k) in
       let ends : List Clause = for_each (apart_from safe.net k) (suc k) in
       let a : literals_in goods ≡ (k + 1) * (facts_literals facts + 1) =
-          as-many (good_clauses safe facts) (facts_literals facts + 1) (suc k)
-          (λ i lt. good facts i) ∙ ap (λ n. n * (facts_literals facts + 1)) (sym up) in
+      as-many (good_clauses safe facts) (facts_literals facts + 1) (suc k)
+      (λ i lt. good facts i) ∙ ap (λ n. n * (facts_literals facts + 1)) (sym up) in
       let b : literals_in ends ≡ pairs k * (7 * length safe.net.latches) =
-          aparts safe.net k (suc k) ∙ ap (λ n. pairs_before k n * (7 * length safe.net.latches))
-          (sym up) ∙ ap (λ p. p * (7 * length safe.net.latches)) (pairs-counted k) in
+      aparts safe.net k (suc k) ∙ ap (λ n. pairs_before k n * (7 * length safe.net.latches))
+      (sym up) ∙ ap (λ p. p * (7 * length safe.net.latches)) (pairs-counted k) in
       let c : literals_in (frames safe.net (suc k)) ≡ frames_literals safe.net (k + 1) =
-          framed safe.net (suc k) ∙ ap (frames_literals safe.net) (sym up) in
+      framed safe.net (suc k) ∙ ap (frames_literals safe.net) (sym up) in
       sym (both (frames safe.net (suc k)) (goods ++ (alone (bad_in safe (suc k)) ++ ends))
       ∙ sum _ _ _ _ _ _ _ _ c a b (both goods (alone (bad_in safe (suc k)) ++ ends))
       (both (alone (bad_in safe (suc k))) ends))

@@ -55,10 +55,10 @@ step-made safe facts k none one two three all l e f g same h i =
     let bad : List Clause = alone (bad_in safe (suc k)) in
     let up : k + 1 ≡ suc k = omega arith in
     let first : two ≡ frames safe.net (suc k) ++ goods =
-        g ∙ ap (λ x. x ++ goods) (first-added none one (frames safe.net (suc k)) e
-        (f ∙ ap (λ n. none ++ frames safe.net n) up)) in
+    g ∙ ap (λ x. x ++ goods) (first-added none one (frames safe.net (suc k)) e
+    (f ∙ ap (λ n. none ++ frames safe.net n) up)) in
     let last : all ≡ two ++ (bad ++ ends) =
-        both_added two three all bad ends (h ∙ ap (λ x. two ++ alone x) (same ∙ ap (bad_in safe) up)) i in
+    both_added two three all bad ends (h ∙ ap (λ x. two ++ alone x) (same ∙ ap (bad_in safe) up)) i in
     both_added (frames safe.net (suc k)) two all goods (bad ++ ends) first last
 
 pub keep-made : (safe : SafeNet) (facts : List Fact) (group : ℕ) (none one two all : List Clause) →
@@ -70,9 +70,9 @@ pub keep-made : (safe : SafeNet) (facts : List Fact) (group : ℕ) (none one two
 unfolding clauses_of
 keep-made safe facts group none one two all e f g h =
     let fails : List Clause = for_each (fails_clauses safe.net (group_of facts group))
-        (length (group_of facts group)) in
+    (length (group_of facts group)) in
     let some : List Clause = some_further (2 * variables safe.net)
-        (length (group_of facts group)) in
+    (length (group_of facts group)) in
     both_added (frames safe.net 1) two all (facts_clauses safe.net 0 facts) (fails ++ some)
     (g ∙ ap (λ x. x ++ facts_clauses safe.net 0 facts)
     (first-added none one (frames safe.net 1) e f)) h
@@ -90,7 +90,7 @@ pub step-start : (safe : SafeNet) (k v : ℕ) →
 step-start safe k v e =
     let up : suc k ≡ k + 1 = omega arith in
     let p : pairs_before k (suc k) + 0 ≡ pairs k =
-        omega (arith, ap (pairs_before k) up ∙ pairs-counted k) in
+    omega (arith, ap (pairs_before k) up ∙ pairs-counted k) in
     let same : v ≡ pair_start safe.net k (suc k) 0 = e ∙ ap (λ p. (k + 2) * variables safe.net
-        + p * length safe.net.latches) (sym p) in
+    + p * length safe.net.latches) (sym p) in
     omega (arith, same)

@@ -15,7 +15,7 @@ pub returns-in_err-variables-clause-refused : goal.returns-in_err-variables-clau
 returns-in_err-variables-clause-refused c =
     let p = err_from_is_err_and c.from_residual.result c.from_residual.ensures.1 in
     let some = c.group_slice-some.ensures
-        ∙ ap (λ f. group_of f c.args.group) c.as_slice-facts.ensures in
+    ∙ ap (λ f. group_of f c.args.group) c.as_slice-facts.ensures in
     rw (p.1, p.2)
     (refused-as c.keep_variables.result c.keep_literals.result
     (variables_of c.args.safe.now (Keep c.args.inv.now c.args.group))
@@ -39,14 +39,14 @@ add_failings-requires-clause-inside c =
 pub returns-clause-query : goal.returns-clause-query
 returns-clause-query c =
     let some = c.group_slice-some.ensures
-        ∙ ap (λ f. group_of f c.args.group) c.as_slice-facts.ensures in
+    ∙ ap (λ f. group_of f c.args.group) c.as_slice-facts.ensures in
     let count = c.keep_variables.ensures
-        ∙ ap (λ g. 2 * variables c.args.safe.now.net + length g) some in
+    ∙ ap (λ g. 2 * variables c.args.safe.now.net + length g) some in
     let literals = c.keep_literals.ensures
-        ∙ ap (λ f. keep_literals c.args.safe.now.net f c.group_slice-some.result.now)
-        c.as_slice-facts.ensures
-        ∙ ap (keep_literals c.args.safe.now.net c.args.inv.now) some
-        ∙ keep-counted c.args.safe.now c.args.inv.now c.args.group in
+    ∙ ap (λ f. keep_literals c.args.safe.now.net f c.group_slice-some.result.now)
+    c.as_slice-facts.ensures
+    ∙ ap (keep_literals c.args.safe.now.net c.args.inv.now) some
+    ∙ keep-counted c.args.safe.now c.args.inv.now c.args.group in
     record {
       same = ap (λ inv. Keep inv c.args.group) c.in_ok-copy.ensures;
       clauses = keep-made c.args.safe.now c.args.inv.now c.args.group c.in_ok-cnf.cnf.clauses

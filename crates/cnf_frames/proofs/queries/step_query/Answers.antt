@@ -30,13 +30,13 @@ add_all_apart-requires c =
 pub returns-clause-query : goal.returns-clause-query
 returns-clause-query c =
     let variables = step-variables c.args.safe.now c.args.inv.now c.args.k
-        c.step_variables.result c.step_variables.ensures in
+    c.step_variables.result c.step_variables.ensures in
     let literals = c.step_literals.ensures
-        ∙ ap (λ f. step_literals c.args.safe.now.net f c.args.k) c.as_slice-facts.ensures
-        ∙ step-counted c.args.safe.now c.args.inv.now c.args.k in
+    ∙ ap (λ f. step_literals c.args.safe.now.net f c.args.k) c.as_slice-facts.ensures
+    ∙ step-counted c.args.safe.now c.args.inv.now c.args.k in
     let goods = c.in_ok-add_goods.ensures.added
-        ∙ ap (λ f. c.add_frames.new.cnf.clauses
-        ++ for_each (good_clauses c.args.safe.now f) (suc c.args.k)) c.as_slice-facts.ensures in
+    ∙ ap (λ f. c.add_frames.new.cnf.clauses
+    ++ for_each (good_clauses c.args.safe.now f) (suc c.args.k)) c.as_slice-facts.ensures in
     record {
       same = ap (λ inv. Step inv c.args.k) c.in_ok-copy.ensures;
       clauses = step-made c.args.safe.now c.args.inv.now c.args.k c.in_ok-cnf.cnf.clauses

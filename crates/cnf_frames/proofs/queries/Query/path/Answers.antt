@@ -37,6 +37,6 @@ returns-clause-path c =
 pub returns-clause-steps : goal.returns-clause-steps
 returns-clause-steps c =
     let long = length-listed 0 c.loop-i.i (λ i. values_from c.args.values.now
-        (i * variables c.args.safe.now.net + 1) c.args.safe.now.net.inputs) in
+    (i * variables c.args.safe.now.net + 1) c.args.safe.now.net.inputs) in
     let all : c.loop-i.i ≡ c.steps_asked-i-end.result = omega arith in
     ap length c.loop-i.invariant ∙ long ∙ all ∙ c.steps_asked-i-end.ensures
