@@ -1,0 +1,7 @@
+pub mod Forests
+pub mod ForestsFall
+pub mod Kids
+pub mod Numbered
+pub mod NumberTrees
+pub mod NumberTreesFall
+pub mod Tries

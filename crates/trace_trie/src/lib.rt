@@ -1,0 +1,5 @@
+//! Tries of traces whose versions share their nodes.
+#![tactic(auto)]
+
+mod forest;
+mod numbers;
