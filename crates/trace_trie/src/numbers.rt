@@ -119,19 +119,54 @@ impl Numbers {
         }
     }
 
-    /// These traces, then those of the other list, whose numbers are not below the split; both have
-    /// some.
-    fn joined(split: u32, first: Rc<Numbers>, second: Rc<Numbers>) -> Numbers
-        requires first { 0 < length first.value }
-        requires second { 0 < length second.value }
+    /// The traces of two lists, where the split is between their numbers.
+    fn joined(split: u32, first: Rc<Numbers>, second: Rc<Numbers>) -> M<Numbers>
         requires below { Each (λ (p : Numbered). p.0 < split) first.value }
         requires above { Each (λ (p : Numbered). split ≤ p.0) second.value }
-        ensures { result ≡ first.value ++ second.value }
+        ensures { IfOk result (λ made. made ≡ first.value ++ second.value) }
     {
-        let count = first.count().saturating_add(second.count());
-        Numbers {
-            tree: NumberTree::Two(split, count, first, second),
+        if first.is_empty() {
+            return second.share();
         }
+        if second.is_empty() {
+            return first.share();
+        }
+        let count = first.count().saturating_add(second.count());
+        Ok(Numbers {
+            tree: NumberTree::Two(split, count, first, second),
+        })
+    }
+
+    /// As `joined`, with another first list.
+    fn with_first(
+        alloc: Global,
+        split: u32,
+        first: Numbers,
+        second: &Rc<Numbers>,
+    ) -> M<Numbers>
+        requires below { Each (λ (p : Numbered). p.0 < split) first }
+        requires above { Each (λ (p : Numbered). split ≤ p.0) second.now.value }
+        ensures { IfOk result (λ made. made ≡ first ++ second.now.value) }
+    {
+        let first = Rc::new(alloc, first)?;
+        let second = second.clone()?;
+        Numbers::joined(split, first, second)
+    }
+
+    /// As `joined`, with another second list.
+    fn with_second(
+        alloc: Global,
+        split: u32,
+        first: &Rc<Numbers>,
+        second: Numbers,
+    ) -> M<Numbers>
+        requires below { Each (λ (p : Numbered). p.0 < split) first.now.value }
+        requires above { Each (λ (p : Numbered). split ≤ p.0) second }
+        ensures { IfOk result (λ made. made ≡ first.now.value ++ second) }
+    {
+        let first = first.clone()?;
+        let second = Rc::new(alloc, second)?;
+        Numbers::joined(split, first, second)
     }
 
     /// One trace more, whose number is above all. In time and memory logarithmic in their number
@@ -146,14 +181,14 @@ impl Numbers {
             }),
             NumberTree::Two(split, _, first, second) if second.count() < first.count() => {
                 let more = second.push(alloc, number, trace)?;
-                Ok(Numbers::joined(*split, first.clone()?, Rc::new(alloc, more)?))
+                Numbers::with_second(alloc, *split, first, more)
             }
             _ => {
+                let all = Rc::new(alloc, self.share()?)?;
                 let last = Numbers {
                     tree: NumberTree::One(number, trace),
                 };
-                let all = self.share()?;
-                Ok(Numbers::joined(number, Rc::new(alloc, all)?, Rc::new(alloc, last)?))
+                Numbers::with_second(alloc, number, &all, last)
             }
         }
     }
@@ -185,16 +220,10 @@ impl Numbers {
             NumberTree::Two(split, _, first, second) => {
                 if number < *split {
                     let rest = first.without(alloc, number)?;
-                    if rest.is_empty() {
-                        return second.share();
-                    }
-                    Ok(Numbers::joined(*split, Rc::new(alloc, rest)?, second.clone()?))
+                    Numbers::with_first(alloc, *split, rest, second)
                 } else {
                     let rest = second.without(alloc, number)?;
-                    if rest.is_empty() {
-                        return first.share();
-                    }
-                    Ok(Numbers::joined(*split, first.clone()?, Rc::new(alloc, rest)?))
+                    Numbers::with_second(alloc, *split, first, rest)
                 }
             }
         }
