@@ -228,15 +228,17 @@ impl Forest {
         requires have { Each (λ (k : Kid). contains k.0 name ≡ true) second.value }
         ensures { IfOk result (λ made. made ≡ first.value ++ second.value) }
     {
-        if first.len() == 0 {
+        let before = first.len();
+        let after = second.len();
+        if before == 0 {
             return second.share();
         }
-        if second.len() == 0 {
+        if after == 0 {
             return first.share();
         }
         first.kids_differ();
         second.kids_differ();
-        match first.len().checked_add(second.len()) {
+        match before.checked_add(after) {
             None => Err(Memory),
             Some(count) => Ok(Forest {
                 tree: Branch::Fork(name, count, first, second),
@@ -313,6 +315,9 @@ fn differing(a: LetterMask, b: LetterMask) -> Option<usize>
     ensures some { IfSome result (λ name. (name < 64) × (contains b name ≡ not (contains a name))) }
     ensures none { IfNone result (a ≡ b) }
 {
+    if same(a, b) {
+        return None;
+    }
     a.names_below();
     b.names_below();
     for name in 0..64 {
