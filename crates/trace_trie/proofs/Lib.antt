@@ -1,6 +1,9 @@
 pub mod Each
 pub mod Forked
+pub mod Holding
 pub mod Kids
 pub mod Lettering
 pub mod Numbering
+pub mod Ordering
 pub mod Parts
+pub mod Rests

@@ -39,3 +39,10 @@ pub record IsSwapped (a : Letter) (held : List Numbered) (old new : List Kid) : 
   pub apart_after : Each (λ (k : Kid). k.0 ≢ a) after
   pub old_is : old ≡ before ++ kid_of a (behind a old) ++ after
   pub new_is : new ≡ before ++ kid_of a held ++ after
+
+-- The second list has one pair more.
+pub record IsMore (p : Numbered) (old new : List Numbered) : Type 0 where
+  pub before : List Numbered
+  pub after : List Numbered
+  pub old_is : old ≡ before ++ after
+  pub new_is : new ≡ before ++ p ∷ after

@@ -1,5 +1,5 @@
 -- Lists of traces, or of what is left of them, with their numbers.
-use Rattle.std.specs.Prelude.{◌≡◌, ℕ, ◌+◌, ◌<◌, Bool, true, false, not, ◌&&◌, cond, nat_eq, nat_lt, List, [], ◌∷◌, length, map, Option, Some, None}
+use Rattle.std.specs.Prelude.{◌≡◌, ℕ, ◌+◌, ◌<◌, ◌≤◌, Bool, true, false, not, ◌&&◌, cond, nat_eq, nat_lt, List, [], ◌∷◌, length, map, Option, Some, None}
 use Rattle.std.specs.List.{filter}
 use Rattle.std.specs.FinSet.{is_subset}
 use Rattle.hy_bits.specs.Letter.{Letter}
@@ -13,6 +13,10 @@ Numbered = ℕ × List Letter
 abbrev pub IsAscending : List Numbered → Type 0
 IsAscending [] = Unit {0}
 IsAscending (p ∷ ps) = Each (λ (q : Numbered). p.0 < q.0) ps × IsAscending ps
+
+-- Each trace has 1 to 1,024 letters.
+abbrev pub AreTraces : List Numbered → Type 0
+AreTraces list = Each (λ (p : Numbered). (1 ≤ length p.1) × (length p.1 ≤ 1024)) list
 
 -- the list without a number
 abbrev pub without_number : ℕ → List Numbered → List Numbered

@@ -4,7 +4,9 @@ ghost use Rattle.std.specs.Prelude.{◌≡◌, ℕ, ◌<◌, ◌≤◌, List, []
 ghost use Rattle.std.specs.FinSet.{contains};
 ghost use Rattle.hy_formula.specs.Quantifiers.{Each};
 ghost use Rattle.trace_trie.specs.Numbered.{same_letter};
-ghost use Rattle.trace_trie.specs.Kids.{Kid, AreKids, IsSwapped, behind};
+ghost use Rattle.std.specs.List.{Contains};
+ghost use Rattle.hy_bits.specs.Letter.{Letter};
+ghost use Rattle.trace_trie.specs.Kids.{Kid, AreKids, IsSwapped, behind, spread};
 ghost use Rattle.trace_trie.specs.Forests.{passing};
 
 use crate::numbers::Numbers;
@@ -127,8 +129,24 @@ impl Forest {
         }
     }
 
+    /// The number of some trace that passes a child, where there is one. Takes no memory, and at
+    /// most 64 steps for each letter that is left.
+    pub(crate) fn any(&self) -> Option<u32>
+        ensures some { IfSome result (λ n. (t : List Letter) × Contains (spread self.now) (n, t)) }
+        ensures none { IfNone result (self.now ≡ []) }
+    {
+        match &self.tree {
+            Branch::Bare => None,
+            Branch::Child(_, ends, children) => match ends.first() {
+                Some(number) => Some(number),
+                None => children.any(),
+            },
+            Branch::Fork(_, _, first, _) => first.any(),
+        }
+    }
+
     /// The child of a letter, where there is one. Takes no memory, and at most 64 steps.
-    pub(crate) fn get(&self, letter: LetterMask) -> Option<Grown<'_>>
+    fn get(&self, letter: LetterMask) -> Option<Grown<'_>>
         ensures some { IfSome result (λ grown. behind letter self.now ≡ passing grown.ends.now grown.children.now) }
         ensures none { IfNone result (behind letter self.now ≡ []) }
     {
@@ -151,9 +169,45 @@ impl Forest {
         }
     }
 
+    /// The child of a letter; where there is none, nothing: no number, and no children. As `get`.
+    pub(crate) fn grown<'a>(
+        &'a self,
+        letter: LetterMask,
+        none: &'a Numbers,
+        bare: &'a Forest,
+    ) -> Grown<'a>
+        requires none { none.now ≡ [] }
+        requires bare { bare.now ≡ [] }
+        ensures { passing result.ends.now result.children.now ≡ behind letter self.now }
+    {
+        match self.get(letter) {
+            Some(grown) => grown,
+            None => Grown { letter, ends: none, children: bare },
+        }
+    }
+
+    /// The child of this letter is the given one, where some trace passes it, and there is none
+    /// otherwise. The others are as they were. In time and memory as `get`.
+    pub(crate) fn swap(
+        &self,
+        alloc: Global,
+        letter: LetterMask,
+        ends: Numbers,
+        children: Forest,
+    ) -> M<Forest>
+        ensures { IfOk result (λ made. IsSwapped letter (passing ends children) self.now made) }
+    {
+        if ends.is_empty() && children.len() == 0 {
+            return self.without(alloc, letter);
+        }
+        children.kids_differ();
+        let children = Rc::new(alloc, children)?;
+        self.put(alloc, letter, ends, children)
+    }
+
     /// The child of this letter is the given one, and the others are as they were. Some trace
     /// passes it. In time and memory as `get`.
-    pub(crate) fn put(
+    fn put(
         &self,
         alloc: Global,
         letter: LetterMask,
@@ -186,7 +240,7 @@ impl Forest {
 
     /// There is no child of this letter, and the others are as they were. In time and memory as
     /// `get`.
-    pub(crate) fn without(&self, alloc: Global, letter: LetterMask) -> M<Forest>
+    fn without(&self, alloc: Global, letter: LetterMask) -> M<Forest>
         ensures { IfOk result (λ made. IsSwapped letter [] self.now made) }
     {
         match &self.tree {

@@ -5,7 +5,7 @@ ghost use Rattle.hy_formula.specs.Quantifiers.{Each};
 ghost use Rattle.trace_trie.specs.Numbered.{Numbered, first_number, with_number, without_number};
 
 use hy_base::M;
-use hy_bits::Letters as Trace;
+use hy_finite::Trace;
 use std::alloc::Global;
 use std::marker::Model;
 use std::rc::Rc;
