@@ -1,5 +1,5 @@
 -- Letters are equal where the test says so.
-use Rattle.std.proofs.Common.{◌≡◌, ℕ, ◌<◌, Bool, true, false, ◌&&◌, refl, sym, ap, ◌∙◌, inl, inr}
+use Rattle.std.proofs.Common.{◌≡◌, ℕ, zero, suc, ◌+◌, ◌<◌, List, [], ◌∷◌, length, drop, slice_get, Some, add-one, Bool, true, false, ◌&&◌, refl, sym, ap, ◌∙◌, inl, inr}
 use Rattle.std.proofs.lemmas.Bool.{and_parts, and_from, cases_Bool}
 use Rattle.std.specs.FinSet.{is_subset, contains, is_subset-contains, contains-is_subset, same_set, nat_cmp-IsAntisymmetric}
 use Rattle.std.specs.Cmp.{nat_cmp_total}
@@ -46,3 +46,23 @@ pub same-below : (a b : Letter) → AreBelow 64 a → AreBelow 64 b → ((k : �
 same-below a b h g same =
     same_set nat_cmp_total nat_cmp-IsAntisymmetric a b
     (λ k. agree (contains a k) (contains b k) (λ e. sym (same k (h k e)) ∙ e) (λ e. same k (g k e) ∙ e))
+
+-- ---- what is left of a trace
+
+pub drop-at : {A : Type 0} (t : List A) (i : ℕ) (a : A) → slice_get t i ≡ Some a → drop i t ≡ a ∷ drop (i + 1) t
+drop-at t i a e = rw add-one (next t i a e)
+  where
+    next : {A : Type 0} (t : List A) (i : ℕ) (a : A) → slice_get t i ≡ Some a → drop i t ≡ a ∷ drop (suc i) t
+    next [] i a e = absurd (cc)
+    next (b ∷ t) zero a e = ap (λ q. q ∷ t) (some-is b a e)
+      where
+        some-is : {A : Type 0} (b a : A) → Some b ≡ Some a → b ≡ a
+        some-is b a e = cc
+    next (b ∷ t) (suc i) a e = next t i a e
+
+pub drop-end : {A : Type 0} (t : List A) (i : ℕ) → i ≡ length t → drop i t ≡ []
+drop-end t i e = ap (λ k. drop k t) e ∙ all t
+  where
+    all : {A : Type 0} (t : List A) → drop (length t) t ≡ []
+    all [] = refl
+    all (b ∷ t) = all t

@@ -1,4 +1,6 @@
+pub mod Ascending
 pub mod Each
+pub mod Finding
 pub mod Forked
 pub mod Holding
 pub mod Kids

@@ -78,24 +78,21 @@ contains-in-order x (p ∷ ps) c = elim (contains-cases p x ps c) [
 
 -- ---- a filter
 
-AreSorted : List Numbered → Type 0
+abbrev AreSorted : List Numbered → Type 0
 AreSorted [] = Unit {0}
 AreSorted (p ∷ ps) = Each (λ (q : Numbered). p.0 ≤ q.0) ps × AreSorted ps
 
 put-sorted : (p : Numbered) (xs : List Numbered) → AreSorted xs → AreSorted (put_in_order p xs)
-unfolding AreSorted
 put-sorted p [] h = (tt, tt)
 put-sorted p (q ∷ qs) h = step (ltb q.0 p.0) refl (put-sorted p qs h.1)
   where
     step : (b : Bool) → ltb q.0 p.0 ≡ b → AreSorted (put_in_order p qs) → AreSorted (cond b (q ∷ put_in_order p qs) (p ∷ q ∷ qs))
-    unfolding AreSorted
     step true e m = let lt = ltb-true q.0 p.0 e in (each-put (λ (r : Numbered). q.0 ≤ r.0) p qs (omega arith) h.0, m)
     step false e m =
         let le = ltb-false q.0 p.0 e in
         ((le, each-like (λ (r : Numbered). q.0 ≤ r.0) (λ (r : Numbered). p.0 ≤ r.0) (λ r k. omega arith) qs h.0), h)
 
 in-order-sorted : (xs : List Numbered) → AreSorted (in_order xs)
-unfolding AreSorted
 in-order-sorted [] = tt
 in-order-sorted (p ∷ ps) = put-sorted p (in_order ps) (in-order-sorted ps)
 
@@ -111,7 +108,6 @@ inside p q false d xs ys e h = h
 
 module _ (f : Numbered → Bool) where
   filter-put : (p : Numbered) (xs : List Numbered) → AreSorted xs → filter f (put_in_order p xs) ≡ cond (f p) (put_in_order p (filter f xs)) (filter f xs)
-  unfolding AreSorted
   filter-put p [] h = refl
   filter-put p (q ∷ qs) h = elim (cases_Bool (ltb q.0 p.0)) [
     | inl e ↦

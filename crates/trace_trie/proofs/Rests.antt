@@ -149,10 +149,10 @@ apart-number n a t kids apart h =
     head-is : (b a : Letter) (u t : List Letter) → b ∷ u ≡ a ∷ t → b ≡ a
     head-is b a u t e = cc
 
-pub without-spread : {n : ℕ} {a : Letter} {t : List Letter} {held : List Numbered} {old new : List Kid} (ends : List Numbered) → IsSwapped a held old new
+pub without-spread : (n : ℕ) {a : Letter} (t : List Letter) {held : List Numbered} {old new : List Kid} (ends : List Numbered) → IsSwapped a held old new
     → held ≡ without_number n (behind a old) → Each (λ (p : Numbered). p.0 ≡ n → p.1 ≡ a ∷ t) (passing ends old)
     → passing ends new ≡ without_number n (passing ends old)
-without-spread {n} {a} {t} {held} {old} {new} ends s e h =
+without-spread n {a} t {held} {old} {new} ends s e h =
     let P : Numbered → Type 0 = λ (p : Numbered). p.0 ≡ n → p.1 ≡ a ∷ t in
     let Q : List Numbered → Type 0 = Each P in
     let three : spread old ≡ spread s.before ++ led_by a (behind a old) ++ spread s.after = ap spread s.old_is ∙ spread-three a (behind a old) s.before s.after in

@@ -91,12 +91,14 @@ impl Version {
     pub fn without(&self, number: u32) -> M<Version>
         ensures { IfOk result (λ made. made ≡ without_number number self.now) }
     {
-        let Some(trace) = self.all.get(number) else {
-            return self.share();
-        };
-        let node = uprooted(self.alloc, &self.ends, &self.children, number, trace, 0)?;
-        let all = self.all.without(self.alloc, number)?;
-        Ok(Version { alloc: self.alloc, all, ends: node.ends, children: node.children })
+        match self.all.get(number) {
+            None => self.share(),
+            Some(trace) => {
+                let node = uprooted(self.alloc, &self.ends, &self.children, number, trace, 0)?;
+                let all = self.all.without(self.alloc, number)?;
+                Ok(Version { alloc: self.alloc, all, ends: node.ends, children: node.children })
+            }
+        }
     }
 
     /// Whether there is a trace with the number. Takes no memory, and time logarithmic in the number
