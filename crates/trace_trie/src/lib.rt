@@ -9,6 +9,8 @@ mod cursor;
 mod forest;
 mod node;
 mod numbers;
+#[cfg(test)]
+mod tests;
 mod version;
 
 pub use cursor::Cursor;

@@ -25,4 +25,4 @@ returns-in-Fork-clause-some t c =
     let at = at_fork c.self.view_is c.self.invariant c.in-Fork.is in
     let P : List Kid → ℕ → Type 0 = λ (q : List Kid) (n : ℕ). (t : List Letter) × Contains (spread q) (n, t) in
     IfSome_then c.any-in-Fork.result {P = λ (n : ℕ). P c.deref-in-Fork.result.now n} {Q = λ (n : ℕ). P c.args.self.now n} c.any-in-Fork.ensures.some
-    (λ n h. let Q : List Kid → Type 0 = λ (q : List Kid). P q n in subst Q (sym at.is) (any-left c.in-Fork.first.value c.in-Fork.second.value n (subst Q c.deref-in-Fork.ensures h)))
+    (λ n h. let Q : List Kid → Type 0 = λ (q : List Kid). P q n in subst Q (sym at.is) (any-left c.in-Fork.first.value c.in-Fork.field-3.value n (subst Q c.deref-in-Fork.ensures h)))

@@ -23,11 +23,11 @@ uprooted-requires-clause-only c =
 pub invariant_of-result : goal.invariant_of-result
 invariant_of-result c =
     let all : List Numbered = c.self.inside.all in
-    let whole : c.in_ok-all.all ≡ without_number c.args.number all = c.in_ok-all.ensures in
+    let whole : c.in_ok-all-in-Some.all ≡ without_number c.args.number all = c.in_ok-all-in-Some.ensures in
     record {
       ascending = subst IsAscending (sym whole) (ascending-filter (λ (p : Numbered). not (eqb p.0 c.args.number)) all c.self.invariant.ascending);
       traces = subst AreTraces (sym whole) (each-filter (λ (p : Numbered). (1 ≤ length p.1) × (length p.1 ≤ 1024)) (λ (p : Numbered). not (eqb p.0 c.args.number)) all c.self.invariant.traces);
       rests =
-          ap in_order c.in_ok-node.ensures ∙ in-order-filter (λ (p : Numbered). not (eqb p.0 c.args.number)) (passing c.self.inside.ends c.self.inside.children)
+          ap in_order c.in_ok-node-in-Some.ensures ∙ in-order-filter (λ (p : Numbered). not (eqb p.0 c.args.number)) (passing c.self.inside.ends c.self.inside.children)
           ∙ ap (without_number c.args.number) c.self.invariant.rests ∙ sym whole;
     }
