@@ -1,0 +1,11 @@
+pub mod Ascending
+pub mod Each
+pub mod Finding
+pub mod Forked
+pub mod Holding
+pub mod Kids
+pub mod Lettering
+pub mod Numbering
+pub mod Ordering
+pub mod Parts
+pub mod Rests

@@ -1,0 +1,61 @@
+use Rattle.std.proofs.Common.{◌≡◌, ◌++◌, [], ◌∷◌, List, true, false, sym, ap, ◌∙◌, subst}
+use Rattle.std.proofs.lemmas.Result.{IfOk-weaker}
+use Rattle.std.specs.FinSet.{contains}
+use Rattle.hy_bits.specs.Letter.{Letter}
+use Rattle.hy_formula.specs.Quantifiers.{Each}
+use Rattle.trace_trie.specs.Kids.{Kid, IsSwapped}
+use Rattle.trace_trie.proofs.Kids.{each-swapped, swapped-gone, swapped-other}
+use Rattle.trace_trie.proofs.Forked.{at_fork, at_child, swapped-have, swapped-lack}
+use Rattle.trace_trie.proofs.forest.Forest.+without.Goals as goal
+
+pub with_second-requires-clause-have : goal.with_second-requires-clause-have
+with_second-requires-clause-have t c =
+    let at = at_fork c.self.view_is c.self.invariant c.in-Fork.is in
+    let P : List Kid → Type 0 = Each (λ (k : Kid). contains k.0 c.in-Fork.name ≡ true) in
+    each-swapped (λ (a : Letter). contains a c.in-Fork.name ≡ true) c.in_ok-rest-in-Fork.ensures
+    (sym c.has.ensures ∙ c.if-has.true) (subst P (sym c.deref.ensures) at.have)
+
+pub with_first-requires-clause-lack : goal.with_first-requires-clause-lack
+with_first-requires-clause-lack t c =
+    let at = at_fork c.self.view_is c.self.invariant c.in-Fork.is in
+    let P : List Kid → Type 0 = Each (λ (k : Kid). contains k.0 c.in-Fork.name ≡ false) in
+    each-swapped (λ (a : Letter). contains a c.in-Fork.name ≡ false) c.in_ok-rest-in-Fork-2.ensures
+    (sym c.has.ensures ∙ c.if-has.false) (subst P (sym c.deref-else-has.ensures) at.lack)
+
+pub with_first-requires-clause-have : goal.with_first-requires-clause-have
+with_first-requires-clause-have t c =
+    let at = at_fork c.self.view_is c.self.invariant c.in-Fork.is in
+    at.have
+
+pub returns-then-same : goal.returns-then-same
+returns-then-same t c =
+    let at = at_child c.self.view_is c.self.invariant c.in-Child.is in
+    let P : List Kid → Type 0 = λ (q : List Kid). IsSwapped c.args.letter [] q [] in
+    let Q : List Kid → Type 0 = λ (q : List Kid). IsSwapped c.args.letter [] c.args.self.now q in
+    subst Q (sym c.new-then-same.ensures) (subst P (sym at.is) (swapped-gone c.args.letter c.in-Child.held _ (sym c.same.ensures ∙ c.if-same.true) at.some))
+
+pub returns-else-same : goal.returns-else-same
+returns-else-same t c =
+    let at = at_child c.self.view_is c.self.invariant c.in-Child.is in
+    let P : List Kid → Type 0 = λ (q : List Kid). IsSwapped c.args.letter [] q q in
+    let Q : List Kid → Type 0 = λ (q : List Kid). IsSwapped c.args.letter [] c.args.self.now q in
+    let s : Q c.args.self.now = subst P (sym at.is) (swapped-other c.args.letter c.in-Child.held _ (sym c.same.ensures ∙ c.if-same.false)) in
+    IfOk-weaker c.share.result (λ (q : List Kid). q ≡ c.args.self.now) Q (λ q e. subst Q (sym e) s) c.share.ensures
+
+pub returns-in_ok-rest-in-Fork : goal.returns-in_ok-rest-in-Fork
+returns-in_ok-rest-in-Fork t c =
+    let at = at_fork c.self.view_is c.self.invariant c.in-Fork.is in
+    let P : List Kid → Type 0 = λ (q : List Kid). IsSwapped c.args.letter [] q c.in_ok-rest-in-Fork.rest in
+    let Q : List Kid → Type 0 = λ (q : List Kid). IsSwapped c.args.letter [] c.args.self.now q in
+    let s : Q (c.in-Fork.first.value ++ c.in_ok-rest-in-Fork.rest) =
+        swapped-have c.args.letter at (sym c.has.ensures ∙ c.if-has.true) (subst P c.deref.ensures c.in_ok-rest-in-Fork.ensures) in
+    IfOk-weaker c.with_second.result (λ (q : List Kid). q ≡ c.in-Fork.first.value ++ c.in_ok-rest-in-Fork.rest) Q (λ q e. subst Q (sym e) s) c.with_second.ensures
+
+pub returns-in_ok-rest-in-Fork-2 : goal.returns-in_ok-rest-in-Fork-2
+returns-in_ok-rest-in-Fork-2 t c =
+    let at = at_fork c.self.view_is c.self.invariant c.in-Fork.is in
+    let P : List Kid → Type 0 = λ (q : List Kid). IsSwapped c.args.letter [] q c.in_ok-rest-in-Fork-2.rest in
+    let Q : List Kid → Type 0 = λ (q : List Kid). IsSwapped c.args.letter [] c.args.self.now q in
+    let s : Q (c.in_ok-rest-in-Fork-2.rest ++ c.in-Fork.second.value) =
+        swapped-lack c.args.letter at (sym c.has.ensures ∙ c.if-has.false) (subst P c.deref-else-has.ensures c.in_ok-rest-in-Fork-2.ensures) in
+    IfOk-weaker c.with_first.result (λ (q : List Kid). q ≡ c.in_ok-rest-in-Fork-2.rest ++ c.in-Fork.second.value) Q (λ q e. subst Q (sym e) s) c.with_first.ensures
