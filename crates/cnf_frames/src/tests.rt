@@ -2,13 +2,19 @@
 //! of the input, the and of the latch and the input, which is never true, and the latch is bad. In
 //! frame j the constant has the number 4j + 1, the input 4j + 2, the latch 4j + 3, the and 4j + 4.
 
-use crate::{Asked, Fact, FrameError, Inv, Query, base_query, keep_query, step_query};
+ghost use Rattle.std.specs.Prelude.{◌≡◌, length, IfOk};
+ghost use Rattle.cnf_frames.specs.Facts.{IsSafe};
+
+use crate::{Fact, FrameError, Inv, Query, base_query, keep_query, step_query};
 use aig_net::{And, AndList, NameList, Net, NetParts, Reset, ResetList};
-use hy_base::{Kind, Limit, List, NumList, Text};
+use hy_base::{Kind, Limit, NumList, Text};
 use live_safe::SafeNet;
 use std::alloc::Global;
 
-fn example(alloc: Global) -> Result<SafeNet, FrameError> {
+fn example(alloc: Global) -> Result<SafeNet, FrameError>
+    ensures safe { IfOk result (λ safe. IsSafe safe) }
+    ensures latches { IfOk result (λ safe. length safe.net.latches ≡ 1) }
+{
     let mut latches = NumList::new(alloc);
     latches.push(3)?;
     let mut resets = ResetList::new(alloc);
@@ -33,10 +39,9 @@ fn example(alloc: Global) -> Result<SafeNet, FrameError> {
         latch_names,
         output_names: NameList::new(alloc),
     };
-    Ok(SafeNet {
-        net: Net::new(parts),
-        bad: 4,
-    })
+    let net = Net::new(parts);
+    net.variables(); // what each net keeps
+    Ok(SafeNet { net, bad: 4 })
 }
 
 /// Whether the clauses are these, each with a 0 after it.
@@ -68,14 +73,6 @@ fn base_query_of_one_step(rt: HostRuntime) -> Result<(), FrameError> {
         0, 8, -7, -6, 0, -3, 0, 7, 0,
     ];
     assert!(rt; has(&query, &clauses));
-    let mut values = List::new(alloc);
-    for i in 0..8 {
-        values.push(i == 6)?;
-    }
-    let path = query.path(alloc, &safe, &values)?;
-    assert!(rt; path.first.as_slice() == [false].as_slice());
-    assert!(rt; path.inputs.len() == 1);
-    assert!(rt; path.inputs.at(0).as_slice() == [false].as_slice());
     Ok(())
 }
 
