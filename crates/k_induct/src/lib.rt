@@ -4,6 +4,8 @@
 
 mod asking;
 mod proving;
+#[cfg(test)]
+mod tests;
 mod verdict;
 
 pub use proving::prove;
