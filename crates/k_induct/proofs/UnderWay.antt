@@ -11,21 +11,22 @@ use Rattle.live_safe.specs.Paths.{IsBadPath}
 use Rattle.live_safe.specs.declared.safe_net.SafeNet.{SafeNet}
 use Rattle.live_safe.specs.declared.safe_net.Path.{Path}
 use Rattle.cnf_frames.specs.declared.facts.Fact.{Fact}
-use Rattle.cnf_frames.specs.declared.queries.Asked.{Asked}
 use Rattle.cnf_frames.specs.declared.queries.Asked.TheVariants.{Base, Step}
 use Rattle.cnf_frames.specs.declared.queries.Query.{Query}
 use Rattle.cnf_frames.specs.declared.queries.FrameError.{FrameError}
 use Rattle.cnf_frames.specs.declared.queries.FrameError.TheVariants.{Limit, Memory}
-use Rattle.cnf_frames.specs.Facts.{AllIn, IsInductive, IsSafe}
-use Rattle.cnf_frames.specs.Queries.{IsQuery, IsRefusal, clauses_of, variables_of}
-use Rattle.cnf_frames.specs.QueryPaths.{Answers, CanAsk, IsReached, IsStepPath}
+use Rattle.cnf_frames.specs.Facts.{IsInductive, IsSafe}
+use Rattle.cnf_frames.specs.Queries.{IsQuery, IsRefusal, variables_of}
+use Rattle.cnf_frames.specs.QueryPaths.{CanAsk, IsReached, IsStepPath}
 use Rattle.cnf_frames.specs.Proofs.{AreBases, IsRefuted, log_at}
+use Rattle.cnf_frames.proofs.Concluding.{none-answers}
+use Rattle.cnf_frames.proofs.Inducing.{never-bad}
+use Rattle.cnf_frames.proofs.States.{short-step}
 use Rattle.sat_core.specs.declared.solving.Outcome.TheVariants.{Refuted as RefutedOutcome}
 use Rattle.sat_core.specs.Outcomes.{IsOutcome}
 use Rattle.k_induct.specs.declared.asking.Reply.TheVariants.{Refuted}
 use Rattle.k_induct.specs.Replies.{IsAnswer, IsReply}
 use Rattle.k_induct.specs.Verdicts.{IsDeep, IsGoodBelow, IsMet, IsSafeProof, IsStopped}
-use Rattle.k_induct.proofs.Stubs.{refuted_query, never_bad, short_step}
 
 -- a refuted query has no answer
 pub refuted-reply : (safe : SafeNet) (query : Query) (conflicts : ℕ) (log : List Learned) →
@@ -40,7 +41,7 @@ refuted-reply safe query conflicts log is can right (passes, ends) =
       refutation = subst P right.clauses
           (subst V right.variables (record { passes = passes; ends = ends }));
     } in
-    (refuted, refuted_query safe query.asked log is can refuted)
+    (refuted, none-answers safe query.asked log is can refuted)
 
 -- what is known before the queries at k are asked
 pub record IsUnderWay (safe : SafeNet) (facts : List Fact) (depth k : ℕ)
@@ -143,7 +144,7 @@ proved safe facts depth k logs more log on inductive bases none step no_step = r
   within = on.within;
   base = bases;
   step = step;
-  good = never_bad safe facts k inductive
+  good = never-bad safe facts inductive k
       (λ i le. good-below safe facts k on.reached none i (omega arith)) no_step;
 }
 
@@ -156,5 +157,5 @@ deep safe facts depth k logs path on same none (word, answers, shows, rows) =
     subst D same (record {
       good = good-below safe facts k on.reached none;
       answers = (word, answers, shows, rows);
-      few = short_step safe facts k word answers;
+      few = short-step safe facts k word answers;
     })

@@ -44,9 +44,12 @@ returns-in-Spent-2-clause-verdict c =
     let P : Reply → Type 0 = IsReply c.args.safe.now (Base c.depths.k) c.args.conflicts in
     let Q : Reply → Type 0 = IsReply c.args.safe.now (Step c.args.inv.now c.depths.k)
     c.args.conflicts in
-    let base = subst P c.in-Refuted.is c.in_ok-log.ensures.reply in
-    (Step c.args.inv.now c.depths.k, met-step c.args.safe.now c.args.inv.now c.args.depth c.depths.k
-    c.depths.base c.depths.invariant base.1, subst Q c.in-Spent-2.is c.in_ok-step.ensures.reply)
+    let base = subst P c.in-Refuted.is c.in_ok-log.ensures.reply in (
+      Step c.args.inv.now c.depths.k,
+      met-step c.args.safe.now c.args.inv.now c.args.depth c.depths.k
+          c.depths.base c.depths.invariant base.1,
+      subst Q c.in-Spent-2.is c.in_ok-step.ensures.reply,
+    )
 
 pub depths-preserved : goal.depths-preserved
 depths-preserved c =

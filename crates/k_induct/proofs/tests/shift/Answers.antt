@@ -1,7 +1,6 @@
-use Rattle.std.proofs.Common.{◌≡◌, ℕ, zero, suc, ◌<◌, ◌∙◌, List, [], ◌∷◌, ap, refl, sym, subst, arith, length}
-use Rattle.aig_net.specs.declared.parts.Reset.{Reset}
+use Rattle.std.proofs.Common.{◌≡◌, ℕ, zero, suc, ◌∙◌, [], ◌∷◌, ap, refl, subst, arith, length}
 use Rattle.aig_net.specs.declared.parts.Reset.TheVariants.{Zero}
-use Rattle.aig_net.specs.Nets.{Net, Valuation, IsNet, latch_variable, literal_value, reset_at, variables}
+use Rattle.aig_net.specs.Nets.{Net, IsNet, latch_variable, reset_at}
 use Rattle.cnf_frames.specs.Facts.{IsSafe}
 use Rattle.k_induct.proofs.tests.shift.Goals as goal
 
