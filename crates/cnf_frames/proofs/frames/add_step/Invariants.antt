@@ -1,0 +1,9 @@
+use Rattle.std.proofs.Common.{◌≡◌, ◌++◌}
+use Rattle.cnf_frames.specs.Queries.{for_each, latch_clauses}
+use Rattle.cnf_frames.proofs.frames.add_step.Given as goal
+
+-- those so far are added
+abbrev pub invariant-loop-i : goal.invariant-loop-i
+invariant-loop-i l =
+    (l.cnf.variables ≡ l.initial.cnf.variables)
+    × (l.cnf.clauses ≡ l.initial.cnf.clauses ++ for_each (latch_clauses l.net l.frame) l.i)

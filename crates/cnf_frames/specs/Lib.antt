@@ -1,0 +1,5 @@
+pub mod Counts
+pub mod Facts
+pub mod Queries
+pub mod QueryPaths
+pub mod Proofs
