@@ -1,0 +1,4 @@
+pub mod Sublists
+pub mod Settled
+pub mod Starting
+pub mod Searching

@@ -1,0 +1,135 @@
+-- The candidates, and those that are true at the start.
+use Rattle.std.proofs.Common.{◌≡◌, ℕ, zero, suc, ◌+◌, ◌*◌, ◌<◌, ◌≤◌, ◌^◌, min, Bool, false, List, [], ◌∷◌, ◌++◌, length, inl, inr, refl, sym, ◌∙◌, subst, arith, length-append, replicate}
+use Rattle.std.specs.Prelude.{Contains, ◌↔◌, Result, Ok, Err, IfOk}
+use Rattle.std.proofs.lemmas.List.Elements.{Contains-append_cases}
+use Rattle.aig_net.specs.declared.parts.Reset.{Reset}
+use Rattle.aig_net.specs.Nets.{Net, Valuation, IsStart, ResetTo, latch_variable, reset_at, row}
+use Rattle.live_safe.specs.declared.safe_net.SafeNet.{SafeNet}
+use Rattle.cnf_frames.specs.declared.facts.Fact.{Fact}
+use Rattle.cnf_frames.specs.declared.facts.Fact.TheVariants.{Zero, One, Same, Differ}
+use Rattle.cnf_frames.specs.Facts.{FactHolds, AllHold, AllIn, AreAmong, IsIn, IsInductive, IsSafe}
+use Rattle.cnf_frames.specs.Queries.{for_each}
+use Rattle.invar_find.specs.Candidates.{candidates, pairs_with, single_facts}
+use Rattle.invar_find.specs.Kepts.{AreStarting, HasAll, IsOpenCandidate}
+use Rattle.invar_find.specs.Parts.{AreThose, HoldsIn}
+use Rattle.invar_find.specs.Searches.{IsSearching}
+use Rattle.invar_find.proofs.Sublists.{contains-none, contains-cases, sublist-among, sublist-length}
+
+pub if-ok-map : {T E : Type 0} (r : Result T E) (P Q : T → Type 0) → IfOk r P →
+    ((v : T) → P v → Q v) → IfOk r Q
+if-ok-map (Ok v) P Q h f = f v h
+if-ok-map (Err e) P Q h f = tt
+
+-- ---- which candidates there are
+
+for_each-cases : (g : ℕ → List Fact) (n : ℕ) (f : Fact) → Contains (for_each g n) f →
+    (i : ℕ) × (i < n) × Contains (g i) f
+for_each-cases g zero f has = absurd (contains-none f has)
+for_each-cases g (suc n) f has = elim (Contains-append_cases (for_each g n) (g n) f has) [
+  | inl before ↦ let (i, lt, one) = for_each-cases g n f before in (i, omega arith, one)
+  | inr here ↦ (n, omega arith, here)
+]
+
+for_each-all : (P : Fact → Type 0) (g : ℕ → List Fact) (n : ℕ) →
+    ((i : ℕ) → i < n → (f : Fact) → Contains (g i) f → P f) → (f : Fact) →
+    Contains (for_each g n) f → P f
+for_each-all P g n each f has =
+    let (i, lt, one) = for_each-cases g n f has in each i lt f one
+
+two-all : (P : Fact → Type 0) (a b : Fact) → P a → P b → (f : Fact) →
+    Contains (a ∷ b ∷ []) f → P f
+two-all P a b first second f has = elim (contains-cases a f (b ∷ []) has) [
+  | inl same ↦ subst P same first
+  | inr later ↦ elim (contains-cases b f [] later) [
+    | inl same ↦ subst P same second
+    | inr never ↦ absurd (contains-none f never)
+  ]
+]
+
+pub candidate-in : (n : ℕ) → AllIn n (candidates n)
+candidate-in n f has =
+    elim (Contains-append_cases (single_facts n) (for_each pairs_with (min n 512)) f has) [
+      | inl single ↦
+          for_each-all (IsIn n) (λ j. Zero j ∷ One j ∷ []) n
+          (λ j lt. two-all (IsIn n) (Zero j) (One j) lt lt) f single
+      | inr pair ↦
+          for_each-all (IsIn n) pairs_with (min n 512)
+          (λ j lt. for_each-all (IsIn n) (λ i. Same i j ∷ Differ i j ∷ []) j
+          (λ i less. two-all (IsIn n) (Same i j) (Differ i j) (omega arith, omega arith)
+          (omega arith, omega arith))) f pair
+    ]
+
+length-for_each : (g : ℕ → List Fact) (m n : ℕ) → ((i : ℕ) → i < n → length (g i) ≤ m) →
+    length (for_each g n) ≤ n * m
+length-for_each g m zero each = omega arith
+length-for_each g m (suc n) each =
+    let before : length (for_each g n) ≤ n * m =
+    length-for_each g m n (λ i lt. each i (omega arith)) in
+    let here : length (g n) ≤ m = each n (omega arith) in
+    let e : length (for_each g n ++ g n) ≡ length (for_each g n) + length (g n) = length-append _ _ in
+    omega (arith, before, here, e)
+
+candidates-few : (n : ℕ) → n < 2 ^ 31 → length (candidates n) < 2 ^ 37
+candidates-few n few =
+    let single : length (single_facts n) ≤ n * 2 =
+    length-for_each (λ j. Zero j ∷ One j ∷ []) 2 n (λ i lt. omega arith) in
+    let pairs : length (for_each pairs_with (min n 512)) ≤ min n 512 * 1024 =
+    length-for_each pairs_with 1024 (min n 512) (λ j lt.
+    let two : length (pairs_with j) ≤ j * 2 =
+    length-for_each (λ i. Same i j ∷ Differ i j ∷ []) 2 j (λ i less. omega arith) in
+    omega (arith, two)) in
+    let e : length (candidates n) ≡
+        length (single_facts n) + length (for_each pairs_with (min n 512)) = length-append _ _ in
+    omega (arith, few, single, pairs, e)
+
+-- ---- facts in a state
+
+pub holds-alike : (net : Net) (v : Valuation) (n : ℕ) (state : ℕ → Bool) →
+    ((j : ℕ) → j < n → state j ≡ v (latch_variable net j)) → (f : Fact) → IsIn n f →
+    HoldsIn state f ↔ FactHolds net v f
+holds-alike net v n state same (Zero j) lt = (λ h. sym (same j lt) ∙ h, λ h. same j lt ∙ h)
+holds-alike net v n state same (One j) lt = (λ h. sym (same j lt) ∙ h, λ h. same j lt ∙ h)
+holds-alike net v n state same (Same i j) (li, lj) =
+    (λ h. sym (same i li) ∙ h ∙ same j lj, λ h. same i li ∙ h ∙ sym (same j lj))
+holds-alike net v n state same (Differ i j) (li, lj) =
+    (λ h e. h (same i li ∙ e ∙ sym (same j lj)), λ h e. h (sym (same i li) ∙ e ∙ same j lj))
+
+-- ---- the start
+
+start-false : (safe : SafeNet) → IsSafe safe → (v : Valuation) → IsStart safe.net v → (j : ℕ) →
+    j < length safe.net.latches → v (latch_variable safe.net j) ≡ false
+start-false safe is v start j lt =
+    let P : Reset → Type 0 = λ r. ResetTo r (v (latch_variable safe.net j)) in
+    subst P (is.zero j) (start j lt)
+
+pub started : (safe : SafeNet) (conflicts : ℕ) (all facts : List Fact) (state : List Bool) →
+    IsSafe safe → length safe.net.latches < 2 ^ 31 → all ≡ candidates (length safe.net.latches) →
+    ((j : ℕ) → j < length safe.net.latches → row state j ≡ false) →
+    AreThose (HoldsIn (row state)) all facts → IsSearching safe conflicts facts []
+started safe conflicts all facts state is room e zeros given =
+    let T : List Fact → Type 0 = λ all. AreThose (HoldsIn (row state)) all facts in
+    let those : T (candidates (length safe.net.latches)) = subst T e given in
+    record {
+      starting = record {
+        sublist = those.sublist;
+        starts = λ v start f has.
+            (holds-alike safe.net v (length safe.net.latches) (row state)
+            (λ j lt. zeros j lt ∙ sym (start-false safe is v start j lt)) f
+            (candidate-in (length safe.net.latches) f (sublist-among _ _ those.sublist f has))).0
+            (those.right f has);
+      };
+      unspent = λ f has (s, among, _). contains-none s among;
+      greatest = λ some inductive opens f has.
+          let here = (opens f has).candidate in
+          let v : Valuation = λ _. false in
+          those.whole f here
+          ((holds-alike safe.net v (length safe.net.latches) (row state) zeros f
+          (candidate-in (length safe.net.latches) f here)).1
+          (inductive.starts v (λ j lt. let P : Reset → Type 0 = λ r. ResetTo r false in
+          subst P (sym (is.zero j)) refl) f has));
+      spent = λ s among. absurd (contains-none s among);
+      few =
+          let less = sublist-length those.sublist in
+          let few = candidates-few (length safe.net.latches) room in
+          omega (arith, less, few);
+    }

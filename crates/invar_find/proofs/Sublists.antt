@@ -1,0 +1,136 @@
+-- Sublists, and those facts for which something holds.
+use Rattle.std.proofs.Common.{◌≡◌, ℕ, ◌+◌, ◌<◌, ◌≤◌, List, [], ◌∷◌, ◌++◌, length, inl, inr, sym, ◌∙◌, subst, arith, take}
+use Rattle.std.specs.Prelude.{Contains, ◌⊎◌}
+use Rattle.std.proofs.lemmas.List.{append-nil, take_all, take_more}
+use Rattle.std.proofs.lemmas.List.Elements.{Contains-append_left, Contains-append_right, Contains-append_cases, Contains-push, Contains-push_cases}
+use Rattle.cnf_frames.specs.declared.facts.Fact.{Fact}
+use Rattle.cnf_frames.specs.declared.facts.Fact.TheVariants.{Zero}
+use Rattle.cnf_frames.specs.Facts.{fact_at}
+use Rattle.invar_find.specs.Parts.{IsSublist, none, leaves, takes, AreThose}
+
+pub contains-none : {A : Type 0} (x : A) → ¬ Contains [] x
+contains-none x (k, lt, e) = absurd (omega arith)
+
+pub contains-cases : (f g : Fact) (facts : List Fact) → Contains (f ∷ facts) g →
+    (f ≡ g) ⊎ Contains facts g
+contains-cases f g facts has = elim (Contains-append_cases (f ∷ []) facts g has) [
+  | inl one ↦ elim (Contains-push_cases [] f g one) [
+    | inl never ↦ absurd (contains-none g never)
+    | inr same ↦ inl same
+  ]
+  | inr later ↦ inr later
+]
+
+pub sublist-refl : (facts : List Fact) → IsSublist facts facts
+sublist-refl [] = none
+sublist-refl (f ∷ facts) = takes (sublist-refl facts)
+
+pub sublist-trans : {some more all : List Fact} → IsSublist some more → IsSublist more all →
+    IsSublist some all
+sublist-trans s none = s
+sublist-trans s (leaves t) = leaves (sublist-trans s t)
+sublist-trans (leaves s) (takes t) = leaves (sublist-trans s t)
+sublist-trans (takes s) (takes t) = takes (sublist-trans s t)
+
+pub sublist-among : (some all : List Fact) → IsSublist some all → (f : Fact) →
+    Contains some f → Contains all f
+sublist-among some all none f has = has
+sublist-among some (g ∷ all) (leaves s) f has =
+    Contains-append_right (g ∷ []) all f (sublist-among some all s f has)
+sublist-among (g ∷ some) (g' ∷ all) (takes s) f has = elim (contains-cases g f some has) [
+  | inl same ↦
+      let P : Fact → Type 0 = λ x. Contains (g ∷ all) x in
+      subst P same (Contains-append_left (g ∷ []) all g (Contains-push [] g))
+  | inr later ↦ Contains-append_right (g ∷ []) all f (sublist-among some all s f later)
+]
+
+pub sublist-length : {some all : List Fact} → IsSublist some all → length some ≤ length all
+sublist-length none = omega arith
+sublist-length (leaves s) = let h = sublist-length s in omega arith
+sublist-length (takes s) = let h = sublist-length s in omega arith
+
+pub sublist-shorter : (some all : List Fact) (f : Fact) → IsSublist some all → Contains all f →
+    ¬ Contains some f → length some < length all
+sublist-shorter some all f none has not_there = absurd (not_there has)
+sublist-shorter some (g ∷ all) f (leaves s) has not_there =
+    let h = sublist-length s in omega arith
+sublist-shorter (g ∷ some) (g' ∷ all) f (takes s) has not_there =
+    let rest = sublist-shorter some all f s
+    (elim (contains-cases g f all has) [
+      | inl same ↦
+          let P : Fact → Type 0 = λ x. Contains (g ∷ some) x in
+          absurd (not_there (subst P same (Contains-append_left (g ∷ []) some g (Contains-push [] g))))
+      | inr later ↦ later
+    ])
+    (λ there. not_there (Contains-append_right (g ∷ []) some f there)) in
+    omega arith
+
+pub sublist-append : {some all more whole : List Fact} → IsSublist some all →
+    IsSublist more whole → IsSublist (some ++ more) (all ++ whole)
+sublist-append none t = t
+sublist-append (leaves s) t = leaves (sublist-append s t)
+sublist-append (takes s) t = takes (sublist-append s t)
+
+-- ---- those for which something holds
+
+pub those-none : (P : Fact → Type 0) → AreThose P [] []
+those-none P = record {
+  sublist = none;
+  right = λ f has. absurd (contains-none f has);
+  whole = λ f has holds. has;
+}
+
+pub those-more : (P : Fact → Type 0) (all some : List Fact) (f : Fact) → AreThose P all some →
+    P f → AreThose P (all ++ f ∷ []) (some ++ f ∷ [])
+those-more P all some f those holds = record {
+  sublist = sublist-append those.sublist (takes none);
+  right = λ g has. elim (Contains-push_cases some f g has) [
+    | inl before ↦ those.right g before
+    | inr same ↦ subst P same holds
+  ];
+  whole = λ g has right. elim (Contains-push_cases all f g has) [
+    | inl before ↦ Contains-append_left some (f ∷ []) g (those.whole g before right)
+    | inr same ↦
+        let Q : Fact → Type 0 = λ x. Contains (some ++ f ∷ []) x in
+        subst Q same (Contains-push some f)
+  ];
+}
+
+pub those-less : (P : Fact → Type 0) (all some : List Fact) (f : Fact) → AreThose P all some →
+    ¬ P f → AreThose P (all ++ f ∷ []) some
+those-less P all some f those fails = record {
+  sublist =
+      let S : List Fact → Type 0 = λ x. IsSublist x (all ++ f ∷ []) in
+      subst S (append-nil some) (sublist-append those.sublist (leaves {f = f} none));
+  right = those.right;
+  whole = λ g has right. elim (Contains-push_cases all f g has) [
+    | inl before ↦ those.whole g before right
+    | inr same ↦ absurd (fails (subst P (sym same) right))
+  ];
+}
+
+-- ---- along a list
+
+pub those-taken : (P : Fact → Type 0) (all some left : List Fact) (i : ℕ) →
+    AreThose P (take i all) some → i < length all → P (fact_at all i) →
+    left ≡ some ++ fact_at all i ∷ [] → AreThose P (take (i + 1) all) left
+those-taken P all some left i those lt holds e =
+    let A : List Fact → Type 0 = λ all. AreThose P all left in
+    let L : List Fact → Type 0 = AreThose P (take i all ++ fact_at all i ∷ []) in
+    subst A (sym (take_more all i (Zero 0) lt))
+    (subst L (sym e) (those-more P (take i all) some (fact_at all i) those holds))
+
+pub those-left : (P : Fact → Type 0) (all some left : List Fact) (i : ℕ) →
+    AreThose P (take i all) some → i < length all → ¬ P (fact_at all i) → left ≡ some →
+    AreThose P (take (i + 1) all) left
+those-left P all some left i those lt fails e =
+    let A : List Fact → Type 0 = λ all. AreThose P all left in
+    let L : List Fact → Type 0 = AreThose P (take i all ++ fact_at all i ∷ []) in
+    subst A (sym (take_more all i (Zero 0) lt))
+    (subst L (sym e) (those-less P (take i all) some (fact_at all i) those fails))
+
+pub those-whole : (P : Fact → Type 0) (all items some : List Fact) (n : ℕ) →
+    AreThose P (take n items) some → items ≡ all → length items ≤ n → AreThose P all some
+those-whole P all items some n those e le =
+    let A : List Fact → Type 0 = λ all. AreThose P all some in
+    subst A (take_all n items le ∙ e) those

@@ -1,0 +1,7 @@
+use Rattle.std.proofs.Common.{◌≡◌, ◌++◌, [], ◌∷◌}
+use Rattle.cnf_frames.specs.declared.facts.Fact.TheVariants.{Same, Differ}
+use Rattle.cnf_frames.specs.Queries.{for_each}
+use Rattle.invar_find.proofs.candidates.add_pairs.Given as goal
+
+abbrev pub invariant-loop-i : goal.invariant-loop-i
+invariant-loop-i l = l.made ≡ l.fn.made ++ for_each (λ i. Same i l.j ∷ Differ i l.j ∷ []) l.i

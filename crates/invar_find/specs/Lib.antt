@@ -1,0 +1,4 @@
+pub mod Candidates
+pub mod Parts
+pub mod Kepts
+pub mod Searches

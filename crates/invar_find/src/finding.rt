@@ -1,0 +1,130 @@
+//! The search for the greatest inductive part of the candidates.
+
+ghost use Rattle.std.specs.Prelude.{◌≡◌, ◌<◌, ◌≤◌, ◌^◌, ℕ, [], length, MatchOption, OnOk, IfOk, IfErr};
+ghost use Rattle.cnf_frames.specs.declared.queries.Asked.TheVariants.{Keep};
+ghost use Rattle.cnf_frames.specs.Facts.{IsSafe};
+ghost use Rattle.cnf_frames.specs.Queries.{groups};
+ghost use Rattle.cnf_frames.specs.Proofs.{AreKept, IsRefuted};
+ghost use Rattle.invar_find.specs.Kepts.{IsKept, IsStopped};
+ghost use Rattle.invar_find.specs.Searches.{IsSearching};
+
+use crate::candidates::candidates;
+use crate::kept::{Kept, SpentGroup, SpentList};
+use crate::left::{held, outside, state_after};
+use chain_check::Log;
+use cnf_frames::{FrameError, Inv, LogList, keep_query};
+use hy_base::{List, M};
+use live_safe::SafeNet;
+use sat_core::{Outcome, solve};
+use std::alloc::Global;
+use std::mem;
+
+/// The candidates that are true at the start.
+fn starting(alloc: Global, safe: &SafeNet) -> M<Inv>
+    requires { IsSafe safe.now }
+    ensures { IfOk result (λ facts. (conflicts : ℕ) → IsSearching safe.now conflicts facts []) }
+{
+    safe.net.variables(); // what each net keeps
+    let latches = safe.net.latches().len();
+    let all = candidates(alloc, latches as u32)?;
+    let zeros = List::filled(alloc, false, latches)?;
+    held(alloc, zeros.as_slice(), &all)
+}
+
+/// Asks whether a step breaks a fact of the group: a refutation, or none where facts were left out,
+/// all that some step breaks, or the group, on whose query the conflicts were spent.
+fn ask_group(
+    alloc: Global,
+    safe: &SafeNet,
+    facts: &mut Inv,
+    spent: &mut SpentList,
+    group: u32,
+    conflicts: u32,
+) -> Result<Option<Log>, FrameError>
+    requires safe { IsSafe safe.now }
+    requires searching { IsSearching safe.now conflicts facts.old spent.old }
+    requires group { group < groups facts.old }
+    requires conflicts { conflicts < 2 ^ 31 }
+    ensures searching { OnOk result (IsSearching safe.now conflicts facts.new spent.new) }
+    ensures reply { IfOk result (λ found. MatchOption found (length facts.new < length facts.old)
+        (λ log. (facts.new ≡ facts.old) × IsRefuted safe.now (Keep facts.old group) log)) }
+    ensures refused { IfErr result (IsStopped safe.now) }
+{
+    let query = keep_query(alloc, safe, facts, group)?;
+    match solve(alloc, &query.cnf, conflicts)? {
+        Outcome::Refuted(log) => Ok(Some(log)),
+        Outcome::Satisfied(values) => {
+            *facts = held(alloc, state_after(safe, values.as_slice()), facts)?;
+            Ok(None)
+        }
+        Outcome::Spent(log) => {
+            let left = outside(alloc, facts, group)?;
+            let asked = mem::replace(facts, left);
+            spent.push(SpentGroup {
+                facts: asked,
+                group,
+                log,
+            })?;
+            Ok(None)
+        }
+    }
+}
+
+/// Asks for each group of the facts, and again where facts were left out: the refutations, where
+/// none were.
+fn ask_all(
+    alloc: Global,
+    safe: &SafeNet,
+    facts: &mut Inv,
+    spent: &mut SpentList,
+    conflicts: u32,
+) -> Result<LogList, FrameError>
+    requires safe { IsSafe safe.now }
+    requires searching { IsSearching safe.now conflicts facts.old spent.old }
+    requires conflicts { conflicts < 2 ^ 31 }
+    ensures searching { OnOk result (IsSearching safe.now conflicts facts.new spent.new) }
+    ensures fewer { OnOk result (length facts.new ≤ length facts.old) }
+    ensures kept { IfOk result (λ logs. length facts.new ≡ length facts.old →
+        AreKept safe.now facts.new logs) }
+    ensures refused { IfErr result (IsStopped safe.now) }
+{
+    let mut logs = List::new(alloc);
+    let mut group = 0;
+    'groups: while 64 * (group as usize) < facts.len() {
+        if let Some(log) = ask_group(alloc, safe, facts, spent, group, conflicts)? {
+            logs.push(log)?;
+            group += 1;
+        }
+    }
+    Ok(logs)
+}
+
+/// Inductive facts: of the candidates (for each latch that it is 0, and that it is 1, and for each
+/// two of the first 512 latches that they are equal, and that they differ) those of the greatest
+/// inductive list, but for groups on whose query `conflicts` clauses were learned in vain. Each
+/// round asks one query for each 64 facts, over clauses linear in the net and in all facts; a
+/// further round is needed only where one left facts out.
+///
+/// # Errors
+///
+/// `Limit` where a query has too many variables or literals.
+pub fn invariants(alloc: Global, safe: &SafeNet, conflicts: u32) -> Result<Kept, FrameError>
+    requires safe { IsSafe safe.now }
+    requires conflicts { conflicts < 2 ^ 31 }
+    ensures kept { IfOk result (IsKept safe.now conflicts) }
+    ensures refused { IfErr result (IsStopped safe.now) }
+{
+    let mut facts = starting(alloc, safe)?;
+    let mut spent = List::new(alloc);
+    'rounds: loop {
+        let before = facts.len();
+        let logs = ask_all(alloc, safe, &mut facts, &mut spent, conflicts)?;
+        if facts.len() == before {
+            return Ok(Kept {
+                inv: facts,
+                logs,
+                spent,
+            });
+        }
+    }
+}

@@ -1,0 +1,40 @@
+//! A query, asked of the solver.
+
+ghost use Rattle.std.specs.Prelude.{◌<◌, ◌^◌, IfOk};
+ghost use Rattle.cnf_frames.specs.Facts.{IsSafe};
+ghost use Rattle.cnf_frames.specs.Queries.{IsQuery};
+ghost use Rattle.cnf_frames.specs.QueryPaths.{CanAsk};
+ghost use Rattle.k_induct.specs.Replies.{IsReply};
+
+use chain_check::Log;
+use cnf_frames::Query;
+use hy_base::M;
+use live_safe::{Path, SafeNet};
+use sat_core::{Outcome, solve};
+use std::alloc::Global;
+
+/// What a query came to.
+#[derive(Drop)]
+pub enum Reply {
+    /// Nothing answers it.
+    Refuted(Log),
+    /// A path that does.
+    Answered(Path),
+    /// The conflicts were spent.
+    Spent(Log),
+}
+
+/// Asks a query, learning at most `conflicts` clauses.
+pub fn ask(alloc: Global, safe: &SafeNet, query: &Query, conflicts: u32) -> M<Reply>
+    requires safe { IsSafe safe.now }
+    requires can_ask { CanAsk safe.now query.now.asked }
+    requires query { IsQuery safe.now query.now.asked query.now }
+    requires conflicts { conflicts < 2 ^ 31 }
+    ensures { IfOk result (IsReply safe.now query.now.asked conflicts) }
+{
+    match solve(alloc, &query.cnf, conflicts)? {
+        Outcome::Refuted(log) => Ok(Reply::Refuted(log)),
+        Outcome::Satisfied(values) => Ok(Reply::Answered(query.path(alloc, safe, &values)?)),
+        Outcome::Spent(log) => Ok(Reply::Spent(log)),
+    }
+}
