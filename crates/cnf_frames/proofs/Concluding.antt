@@ -1,10 +1,10 @@
 -- What refuted queries show.
-use Rattle.std.proofs.Common.{◌≡◌, ℕ, zero, suc, ◌+◌, ◌<◌, ◌≤◌, Bool, true, false, cond, nat_eq, List, [], ◌∷◌, ◌++◌, length, map, refl, sym, ap, ◌∙◌, subst, arith}
+use Rattle.std.proofs.Common.{◌≡◌, ℕ, zero, suc, ◌<◌, ◌≤◌, false, cond, nat_eq, List, [], ◌∷◌, ◌++◌, length, refl, sym, ap, ◌∙◌, subst, arith}
 use Rattle.std.specs.List.{Contains}
 use Rattle.std.proofs.lemmas.Bool.{eq-eqb, ne_eqb}
 use Rattle.std.proofs.lemmas.List.{map-append}
 use Rattle.std.proofs.lemmas.List.Elements.{Contains-push}
-use Rattle.aig_net.specs.Nets.{Net, Valuation, IsNet, latch_variable, first_and, IsRight, IsStart, IsStep, AllTrue}
+use Rattle.aig_net.specs.Nets.{Net, Valuation, IsNet, latch_variable, IsRight, IsStart, IsStep, AllTrue}
 use Rattle.aig_net.specs.Executions.{Word}
 use Rattle.aig_net.proofs.Valuations.{valuation-some}
 use Rattle.chain_check.specs.declared.logs.Learned.{Learned}
@@ -12,7 +12,7 @@ use Rattle.chain_check.specs.Clauses.{Clause}
 use Rattle.chain_check.specs.Logs.{clauses_of as clauses_of_log, EndsEmpty}
 use Rattle.chain_check.proofs.Passing.{unsatisfied}
 use Rattle.live_safe.specs.declared.safe_net.SafeNet.{SafeNet}
-use Rattle.live_safe.specs.Paths.{IsPath, IsBadPath}
+use Rattle.live_safe.specs.Paths.{IsBadPath}
 use Rattle.cnf_frames.specs.declared.facts.Fact.{Fact}
 use Rattle.cnf_frames.specs.declared.queries.Asked.{Asked}
 use Rattle.cnf_frames.specs.declared.queries.Asked.TheVariants.{Base, Step, Keep}

@@ -1,17 +1,15 @@
 -- How many literals the clauses of queries have.
-use Rattle.std.proofs.Common.{◌≡◌, ℕ, zero, suc, ◌+◌, ◌-◌, ◌*◌, ◌/◌, ◌<◌, ◌≤◌, List, [], ◌∷◌, ◌++◌, length, refl, sym, ap, ◌∙◌, arith, length-append}
+use Rattle.std.proofs.Common.{◌≡◌, ℕ, zero, suc, ◌+◌, ◌-◌, ◌*◌, ◌<◌, List, [], ◌∷◌, ◌++◌, length, refl, sym, ap, ◌∙◌, arith, length-append}
 use Rattle.std.specs.Prelude.{ℤ, neg_ℤ}
 use Rattle.aig_net.specs.Nets.{Net, variables}
 use Rattle.chain_check.specs.Clauses.{Clause}
 use Rattle.live_safe.specs.declared.safe_net.SafeNet.{SafeNet}
 use Rattle.cnf_frames.specs.declared.facts.Fact.{Fact}
 use Rattle.cnf_frames.specs.declared.facts.Fact.TheVariants.{Zero, One, Same, Differ}
-use Rattle.cnf_frames.specs.declared.queries.Asked.{Asked}
 use Rattle.cnf_frames.specs.declared.queries.Asked.TheVariants.{Base, Step, Keep}
-use Rattle.cnf_frames.specs.declared.queries.FrameError.{FrameError}
 use Rattle.cnf_frames.specs.Facts.{fact_at, opposite_fact}
 use Rattle.cnf_frames.specs.Counts.{sum_for, pairs, frames_literals, fact_literals, facts_literals, one_failing, failing_literals, base_literals, step_literals, keep_literals}
-use Rattle.cnf_frames.specs.Queries.{for_each, further, alone, some_further, in_frame, latch_in, gate_clauses, frame_gates, constraint_clauses, latch_clauses, frame_step, frames, start_clauses, bad_in, base_clauses, guarded, fact_clauses, facts_clauses, good_clauses, latch_differs, apart_clauses, pairs_before, pair_start, apart_from, step_clauses, group_of, fails_clauses, keep_clauses, clauses_of, literals_in}
+use Rattle.cnf_frames.specs.Queries.{for_each, further, alone, some_further, in_frame, latch_in, gate_clauses, frame_gates, constraint_clauses, latch_clauses, frame_step, frames, start_clauses, bad_in, guarded, fact_clauses, facts_clauses, good_clauses, latch_differs, apart_clauses, pairs_before, pair_start, apart_from, group_of, fails_clauses, clauses_of, literals_in}
 use Rattle.cnf_frames.proofs.Pairs.{pairs-counted}
 
 both : (xs ys : List Clause) → literals_in (xs ++ ys) ≡ literals_in xs + literals_in ys

@@ -1,10 +1,10 @@
 -- The clauses of a step query say that an assignment is a path of pairwise distinct good states.
-use Rattle.std.proofs.Common.{◌≡◌, ◌≢◌, ℕ, zero, suc, ◌+◌, ◌-◌, ◌<◌, ◌≤◌, ◌↔◌, Bool, true, false, not, List, [], ◌∷◌, ◌++◌, length, get_or, IsTrue, inl, inr, refl, sym, ap, ◌∙◌, subst, arith}
-use Rattle.std.specs.Prelude.{ℤ, neg_ℤ}
+use Rattle.std.proofs.Common.{◌≡◌, ◌≢◌, ℕ, suc, ◌+◌, ◌-◌, ◌<◌, ◌≤◌, ◌↔◌, true, false, List, ◌++◌, length, IsTrue, sym, ◌∙◌, subst, arith}
+use Rattle.std.specs.Prelude.{neg_ℤ}
 use Rattle.std.specs.List.{Contains}
 use Rattle.std.proofs.lemmas.List.{get_or_default}
 use Rattle.std.proofs.lemmas.List.Elements.{Contains-get_or}
-use Rattle.aig_net.specs.Nets.{Net, Valuation, literal_value, latch_variable, variables}
+use Rattle.aig_net.specs.Nets.{Net, literal_value, latch_variable, variables}
 use Rattle.aig_net.specs.Executions.{Word}
 use Rattle.live_safe.specs.declared.safe_net.SafeNet.{SafeNet}
 use Rattle.live_safe.specs.Paths.{IsPath}
@@ -14,7 +14,7 @@ use Rattle.cnf_frames.specs.declared.facts.Fact.TheVariants.{Zero, One, Same, Di
 use Rattle.cnf_frames.specs.Facts.{FactHolds, AllHold, fact_at}
 use Rattle.cnf_frames.specs.Queries.{for_each, further, alone, latch_in, frames, bad_in, fact_clauses, facts_clauses, good_clauses, differ_clauses, latch_differs, some_further, apart_clauses, apart_from, pair_start, step_clauses}
 use Rattle.cnf_frames.specs.QueryPaths.{IsStepPath}
-use Rattle.cnf_frames.proofs.Values.{Assignment, AllMet, clause_value, met-append, met-each, each-met, some-value, value-some}
+use Rattle.cnf_frames.proofs.Values.{Assignment, AllMet, met-append, met-each, each-met, some-value, value-some}
 use Rattle.cnf_frames.proofs.Meanings.{Means, path_of, frame-means, alone-met, opposite-met, same-met, differ-met, guarded-met}
 use Rattle.cnf_frames.proofs.FramePaths.{frames-met, variable-means}
 

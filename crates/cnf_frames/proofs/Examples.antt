@@ -1,10 +1,8 @@
 -- A small net that is safe.
-use Rattle.std.proofs.Common.{◌≡◌, ℕ, zero, suc, ◌+◌, ◌<◌, List, [], ◌∷◌, ◌++◌, length, inl, inr, refl, sym, ap, ◌∙◌, subst, arith}
+use Rattle.std.proofs.Common.{◌≡◌, ℕ, zero, suc, List, [], ◌∷◌, ◌++◌, length, inl, inr, refl, sym, ap, ◌∙◌, subst, arith}
 use Rattle.std.proofs.lemmas.List.Elements.{Contains-push_cases}
-use Rattle.aig_net.specs.declared.parts.Reset.{Reset}
 use Rattle.aig_net.specs.declared.parts.Reset.TheVariants.{Zero as ResetZero}
-use Rattle.aig_net.specs.Nets.{Net, Valuation, IsNet, IsRight, reset_at, literal_value, latch_variable, variables}
-use Rattle.live_safe.specs.declared.safe_net.SafeNet.{SafeNet}
+use Rattle.aig_net.specs.Nets.{Net, IsNet, reset_at, latch_variable}
 use Rattle.cnf_frames.specs.declared.facts.Fact.{Fact}
 use Rattle.cnf_frames.specs.declared.facts.Fact.TheVariants.{Zero, Same}
 use Rattle.cnf_frames.specs.Facts.{AllIn, IsIn, IsSafe}

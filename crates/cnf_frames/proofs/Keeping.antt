@@ -1,8 +1,7 @@
 -- The clauses of a keep query say that an assignment is a step after which a fact of the group fails.
-use Rattle.std.proofs.Common.{◌≡◌, ◌≢◌, ℕ, ◌+◌, ◌*◌, ◌<◌, ◌↔◌, Bool, true, false, List, ◌++◌, length, refl, sym, ◌∙◌, subst, arith}
-use Rattle.std.specs.List.{Contains}
+use Rattle.std.proofs.Common.{◌≡◌, ℕ, ◌+◌, ◌*◌, ◌<◌, ◌↔◌, Bool, true, false, List, ◌++◌, length, refl, sym, ◌∙◌}
 use Rattle.std.proofs.lemmas.List.Elements.{Contains-get_or}
-use Rattle.aig_net.specs.Nets.{Net, Valuation, latch_variable, variables}
+use Rattle.aig_net.specs.Nets.{Net, Valuation, variables}
 use Rattle.live_safe.specs.Paths.{IsPath}
 use Rattle.chain_check.specs.Clauses.{Clause}
 use Rattle.cnf_frames.specs.declared.facts.Fact.{Fact}

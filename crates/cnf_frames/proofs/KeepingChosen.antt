@@ -1,14 +1,13 @@
 -- A step after which a fact of the group fails gives an assignment of the keep query.
-use Rattle.std.proofs.Common.{◌≡◌, ℕ, suc, ◌+◌, ◌*◌, ◌<◌, ◌≤◌, Bool, true, nat_eq, List, length, get_or, refl, sym, ap, ◌∙◌, subst, arith}
-use Rattle.std.specs.List.{Contains}
+use Rattle.std.proofs.Common.{◌≡◌, ℕ, ◌+◌, ◌*◌, ◌<◌, ◌≤◌, true, nat_eq, List, length, refl, sym, ◌∙◌, subst, arith}
 use Rattle.std.proofs.lemmas.Bool.Decides.{Decides-eqb}
 use Rattle.std.proofs.lemmas.List.{get_or_default}
 use Rattle.std.proofs.lemmas.List.Elements.{Contains-get_or}
 use Rattle.aig_net.specs.Nets.{Net, IsNet, latch_variable, variables}
 use Rattle.aig_net.specs.Executions.{Word}
 use Rattle.cnf_frames.specs.declared.facts.Fact.{Fact}
-use Rattle.cnf_frames.specs.declared.facts.Fact.TheVariants.{Zero, One, Same, Differ}
-use Rattle.cnf_frames.specs.Facts.{FactHolds, IsIn, AllIn, fact_at, opposite_fact}
+use Rattle.cnf_frames.specs.declared.facts.Fact.TheVariants.{Zero}
+use Rattle.cnf_frames.specs.Facts.{FactHolds, AllIn, fact_at, opposite_fact}
 use Rattle.cnf_frames.specs.Queries.{keep_clauses}
 use Rattle.cnf_frames.specs.QueryPaths.{IsKeepPath}
 use Rattle.cnf_frames.proofs.Values.{Assignment, AllMet}

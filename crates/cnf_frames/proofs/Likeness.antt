@@ -1,6 +1,6 @@
 -- Valuations that agree on the variables of a net, and paths of these.
-use Rattle.std.proofs.Common.{◌≡◌, ℕ, suc, ◌+◌, ◌/◌, ◌<◌, ◌≤◌, Bool, ◌&&◌, sym, ap, ◌∙◌, subst, arith}
-use Rattle.aig_net.specs.Nets.{Net, Valuation, IsNet, ResetTo, literal_value, and_value, literal_at, reset_at, and_at, latch_variable, first_and, variables, IsRight, IsStart, IsStep, AllTrue}
+use Rattle.std.proofs.Common.{◌≡◌, ℕ, suc, ◌+◌, ◌<◌, ◌≤◌, Bool, ◌&&◌, sym, ap, ◌∙◌, subst, arith}
+use Rattle.aig_net.specs.Nets.{Net, Valuation, IsNet, ResetTo, literal_value, literal_at, reset_at, and_at, latch_variable, first_and, variables, IsRight, IsStart, IsStep, AllTrue}
 use Rattle.aig_net.specs.Executions.{Word}
 use Rattle.aig_net.proofs.Literals.{value-same}
 use Rattle.live_safe.specs.declared.safe_net.SafeNet.{SafeNet}

@@ -1,5 +1,5 @@
 -- Lists of the values of a function.
-use Rattle.std.proofs.Common.{◌≡◌, ℕ, ◌+◌, ◌<◌, List, get_or, sym, ap, ◌∙◌, arith}
+use Rattle.std.proofs.Common.{◌≡◌, ℕ, ◌+◌, ◌<◌, get_or, sym, ap, ◌∙◌, arith}
 use Rattle.std.specs.List.{Contains}
 use Rattle.aig_net.specs.Wires.{listed}
 use Rattle.aig_net.proofs.Listed.{length-listed, at-listed}

@@ -1,9 +1,7 @@
 -- The literals of a query are of its variables.
-use Rattle.std.proofs.Common.{◌≡◌, ℕ, zero, suc, ◌+◌, ◌-◌, ◌*◌, ◌/◌, ◌<◌, ◌≤◌, Bool, true, false, cond, List, [], ◌∷◌, ◌++◌, length, inl, inr, refl, sym, ap, ◌∙◌, subst, arith}
-use Rattle.std.specs.Prelude.{ℤ, pos, negsuc, neg_ℤ, unsigned_abs}
-use Rattle.std.specs.List.{Contains}
+use Rattle.std.proofs.Common.{◌≡◌, ℕ, zero, suc, ◌+◌, ◌-◌, ◌*◌, ◌/◌, ◌<◌, ◌≤◌, Bool, true, false, cond, List, [], ◌∷◌, ◌++◌, length, inl, inr, refl, sym, ◌∙◌, subst, arith}
+use Rattle.std.specs.Prelude.{ℤ, pos, negsuc, neg_ℤ}
 use Rattle.std.proofs.Math.Nat.{mul-le-mul_left}
-use Rattle.std.proofs.lemmas.Bool.{cases_eq}
 use Rattle.std.proofs.lemmas.List.Elements.{Contains-append_cases, Contains-get_or}
 use Rattle.aig_net.specs.Nets.{Net, IsNet, Below, is_even, and_at, literal_at, first_and, latch_variable, variables}
 use Rattle.chain_check.specs.Clauses.{Clause, IsLiteral, AreLiterals, AreClauses}
@@ -14,7 +12,7 @@ use Rattle.cnf_frames.specs.declared.facts.Fact.TheVariants.{Zero, One, Same, Di
 use Rattle.cnf_frames.specs.declared.queries.Asked.{Asked}
 use Rattle.cnf_frames.specs.declared.queries.Asked.TheVariants.{Base, Step, Keep}
 use Rattle.cnf_frames.specs.Facts.{IsIn, AllIn, IsSafe, fact_at, opposite_fact}
-use Rattle.cnf_frames.specs.Queries.{for_each, in_frame, further, alone, and_clauses, next_clauses, same_clauses, differ_clauses, guarded, some_further, latch_in, gate_clauses, frame_gates, constraint_clauses, latch_clauses, frame_step, frames, start_clauses, bad_in, base_clauses, fact_clauses, facts_clauses, good_clauses, latch_differs, apart_clauses, pairs_before, pair_start, apart_from, step_clauses, group_of, fails_clauses, keep_clauses, clauses_of, variables_of}
+use Rattle.cnf_frames.specs.Queries.{for_each, in_frame, further, alone, and_clauses, next_clauses, same_clauses, differ_clauses, guarded, some_further, latch_in, gate_clauses, frame_gates, constraint_clauses, latch_clauses, frame_step, frames, start_clauses, bad_in, fact_clauses, facts_clauses, good_clauses, latch_differs, apart_clauses, pairs_before, pair_start, apart_from, group_of, fails_clauses, clauses_of, variables_of}
 use Rattle.cnf_frames.specs.QueryPaths.{CanAsk}
 use Rattle.cnf_frames.proofs.Pairs.{pairs-more}
 use Rattle.cnf_frames.proofs.Groups.{opposite-in, group-in}

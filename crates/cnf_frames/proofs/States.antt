@@ -1,6 +1,5 @@
 -- How many distinct states a net has: rows of bits, one for each state of a step path.
-use Rattle.std.proofs.Common.{◌≡◌, ℕ, suc, ◌+◌, ◌^◌, ◌<◌, ◌≤◌, Bool, true, false, List, [], length, get_or, refl, sym, ap, ◌∙◌, subst, arith}
-use Rattle.std.specs.List.{Contains}
+use Rattle.std.proofs.Common.{◌≡◌, ℕ, suc, ◌^◌, ◌<◌, ◌≤◌, Bool, true, false, List, [], length, get_or, refl, sym, ap, ◌∙◌, subst, arith}
 use Rattle.aig_net.specs.Nets.{latch_variable}
 use Rattle.aig_net.specs.Executions.{Word}
 use Rattle.aig_net.specs.Wires.{listed}

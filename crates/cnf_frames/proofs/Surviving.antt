@@ -1,12 +1,11 @@
 -- Lists of facts that steps keep.
-use Rattle.std.proofs.Common.{◌≡◌, ℕ, ◌<◌, ◌≤◌, List, ◌++◌, inl, inr, arith}
-use Rattle.std.specs.List.{Contains}
+use Rattle.std.proofs.Common.{List, ◌++◌, inl, inr, arith}
 use Rattle.std.proofs.lemmas.List.Elements.{Contains-append_left, Contains-append_right, Contains-append_cases}
 use Rattle.aig_net.specs.Nets.{Net, Valuation}
 use Rattle.aig_net.specs.Executions.{Word}
 use Rattle.live_safe.specs.Paths.{IsPath}
 use Rattle.cnf_frames.specs.declared.facts.Fact.{Fact}
-use Rattle.cnf_frames.specs.Facts.{AllHold, AreAmong, FactHolds, IsInductive}
+use Rattle.cnf_frames.specs.Facts.{AllHold, AreAmong, IsInductive}
 
 hold-both : (net : Net) (v : Valuation) (some more : List Fact) → AllHold net some v →
     AllHold net more v → AllHold net (some ++ more) v

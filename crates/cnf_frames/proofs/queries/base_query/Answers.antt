@@ -1,4 +1,4 @@
-use Rattle.std.proofs.Common.{refl, ◌∙◌, ap, sym}
+use Rattle.std.proofs.Common.{refl, ◌∙◌}
 use Rattle.std.proofs.lemmas.Result.{err_from_is_err_and}
 use Rattle.cnf_frames.specs.declared.queries.Asked.TheVariants.{Base}
 use Rattle.cnf_frames.specs.Queries.{clauses_of, variables_of, literals_in}

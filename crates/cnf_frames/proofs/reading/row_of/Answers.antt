@@ -1,4 +1,4 @@
-use Rattle.std.proofs.Common.{◌+◌, ℕ, Bool, false, refl}
+use Rattle.std.proofs.Common.{◌+◌, false}
 use Rattle.std.specs.Prelude.{slice_index_or}
 use Rattle.cnf_frames.proofs.Rows.{row_more}
 use Rattle.cnf_frames.proofs.reading.row_of.Goals as goal

@@ -1,4 +1,4 @@
-use Rattle.std.proofs.Common.{◌≡◌, List, [], ◌∷◌, ◌++◌, length, refl, ◌∙◌, ap}
+use Rattle.std.proofs.Common.{[], ◌∷◌, ◌++◌, length, ◌∙◌, ap}
 use Rattle.aig_net.specs.declared.parts.Reset.TheVariants.{Zero}
 use Rattle.cnf_frames.proofs.Examples.{example-safe}
 use Rattle.cnf_frames.proofs.tests.example.Goals as goal

@@ -1,4 +1,4 @@
-use Rattle.std.proofs.Common.{◌≡◌, ℕ, ◌+◌, ◌*◌, ◌<◌, ◌≤◌, Bool, List, length, sym, ap, ◌∙◌, subst, arith}
+use Rattle.std.proofs.Common.{◌≡◌, ◌+◌, ◌*◌, List, length, ap, ◌∙◌, subst, arith}
 use Rattle.aig_net.specs.Nets.{variables}
 use Rattle.aig_net.proofs.Listed.{length-listed}
 use Rattle.chain_check.specs.Clauses.{Clause, SatisfiesAll}
