@@ -1,5 +1,5 @@
--- The steps of the search: facts that a step breaks, and groups on whose query the conflicts were spent.
-use Rattle.std.proofs.Common.{◌≡◌, ℕ, suc, ◌+◌, ◌*◌, ◌/◌, ◌<◌, ◌≤◌, Bool, List, [], ◌∷◌, ◌++◌, length, take, drop, inl, inr, refl, sym, ap, ◌∙◌, subst, arith, length-drop, length-append}
+-- The steps of the search: facts that a step breaks, and groups that were spent.
+use Rattle.std.proofs.Common.{◌≡◌, ℕ, ◌+◌, ◌*◌, ◌<◌, ◌≤◌, Bool, List, [], ◌∷◌, ◌++◌, length, drop, inl, inr, refl, sym, ap, ◌∙◌, subst, arith, length-drop, length-append}
 use Rattle.std.specs.Prelude.{Contains}
 use Rattle.std.proofs.Math.Seq.{get_or-append_seam}
 use Rattle.std.proofs.lemmas.Bool.{cases_eq}
@@ -17,7 +17,7 @@ use Rattle.cnf_frames.specs.declared.queries.Asked.TheVariants.{Keep}
 use Rattle.cnf_frames.specs.declared.queries.Query.{Query}
 use Rattle.cnf_frames.specs.declared.queries.FrameError.{FrameError}
 use Rattle.cnf_frames.specs.declared.queries.FrameError.TheVariants.{Limit, Memory}
-use Rattle.cnf_frames.specs.Facts.{AreAmong, AllIn, IsInductive, IsSafe, fact_at}
+use Rattle.cnf_frames.specs.Facts.{AllIn, IsSafe, fact_at}
 use Rattle.cnf_frames.specs.Queries.{IsQuery, IsRefusal, clauses_of, group_of, groups, variables_of}
 use Rattle.cnf_frames.specs.QueryPaths.{IsKeepPath, word_of}
 use Rattle.cnf_frames.specs.Proofs.{AreKept, IsRefuted, log_at}
@@ -26,8 +26,7 @@ use Rattle.cnf_frames.proofs.Concluding.{kept-inductive}
 use Rattle.cnf_frames.proofs.Groups.{of-group}
 use Rattle.cnf_frames.proofs.Surviving.{survives}
 use Rattle.invar_find.specs.declared.kept.SpentGroup.{SpentGroup}
-use Rattle.invar_find.specs.Candidates.{candidates}
-use Rattle.invar_find.specs.Kepts.{AreStarting, HasAll, IsKept, IsOpenCandidate, IsSpentFact, IsSpentGroup, IsStopped}
+use Rattle.invar_find.specs.Kepts.{AreStarting, IsKept, IsSpentGroup, IsStopped}
 use Rattle.invar_find.specs.Parts.{AreThose, HoldsIn, IsOutside, IsSublist}
 use Rattle.invar_find.specs.Searches.{IsSearching}
 use Rattle.invar_find.proofs.Sublists.{sublist-among, sublist-length, sublist-shorter, sublist-trans}
@@ -91,10 +90,10 @@ broken-left safe conflicts group facts left gone state word search path same tho
         omega (arith, less, few);
   },
   let (f, among, fails) = path.fails in
-  let here = of-group facts group f among in
-  sublist-shorter left facts f those.sublist here (λ has. fails
-  ((holds-alike safe.net (word 1) (length safe.net.latches) (row state) same f
-  (all-in safe facts search.starting f here)).0 (those.right f has))),
+      let here = of-group facts group f among in
+      sublist-shorter left facts f those.sublist here (λ has. fails
+      ((holds-alike safe.net (word 1) (length safe.net.latches) (row state) same f
+      (all-in safe facts search.starting f here)).0 (those.right f has))),
 )
 
 -- An assignment of a group's query is such a step.

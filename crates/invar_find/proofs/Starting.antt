@@ -1,16 +1,15 @@
 -- The candidates, and those that are true at the start.
-use Rattle.std.proofs.Common.{◌≡◌, ℕ, zero, suc, ◌+◌, ◌*◌, ◌<◌, ◌≤◌, ◌^◌, min, Bool, false, List, [], ◌∷◌, ◌++◌, length, inl, inr, refl, sym, ◌∙◌, subst, arith, length-append, replicate}
+use Rattle.std.proofs.Common.{◌≡◌, ℕ, zero, suc, ◌+◌, ◌*◌, ◌<◌, ◌≤◌, ◌^◌, min, Bool, false, List, [], ◌∷◌, ◌++◌, length, inl, inr, refl, sym, ◌∙◌, subst, arith, length-append}
 use Rattle.std.specs.Prelude.{Contains, ◌↔◌, Result, Ok, Err, IfOk}
 use Rattle.std.proofs.lemmas.List.Elements.{Contains-append_cases}
 use Rattle.aig_net.specs.declared.parts.Reset.{Reset}
-use Rattle.aig_net.specs.Nets.{Net, Valuation, IsStart, ResetTo, latch_variable, reset_at, row}
+use Rattle.aig_net.specs.Nets.{Net, Valuation, IsStart, ResetTo, latch_variable, row}
 use Rattle.live_safe.specs.declared.safe_net.SafeNet.{SafeNet}
 use Rattle.cnf_frames.specs.declared.facts.Fact.{Fact}
 use Rattle.cnf_frames.specs.declared.facts.Fact.TheVariants.{Zero, One, Same, Differ}
-use Rattle.cnf_frames.specs.Facts.{FactHolds, AllHold, AllIn, AreAmong, IsIn, IsInductive, IsSafe}
+use Rattle.cnf_frames.specs.Facts.{FactHolds, AllIn, IsIn, IsSafe}
 use Rattle.cnf_frames.specs.Queries.{for_each}
 use Rattle.invar_find.specs.Candidates.{candidates, pairs_with, single_facts}
-use Rattle.invar_find.specs.Kepts.{AreStarting, HasAll, IsOpenCandidate}
 use Rattle.invar_find.specs.Parts.{AreThose, HoldsIn}
 use Rattle.invar_find.specs.Searches.{IsSearching}
 use Rattle.invar_find.proofs.Sublists.{contains-none, contains-cases, sublist-among, sublist-length}
@@ -66,7 +65,8 @@ length-for_each g m (suc n) each =
     let before : length (for_each g n) ≤ n * m =
     length-for_each g m n (λ i lt. each i (omega arith)) in
     let here : length (g n) ≤ m = each n (omega arith) in
-    let e : length (for_each g n ++ g n) ≡ length (for_each g n) + length (g n) = length-append _ _ in
+    let e : length (for_each g n ++ g n) ≡ length (for_each g n) + length (g n) =
+    length-append _ _ in
     omega (arith, before, here, e)
 
 candidates-few : (n : ℕ) → n < 2 ^ 31 → length (candidates n) < 2 ^ 37
@@ -79,7 +79,7 @@ candidates-few n few =
     length-for_each (λ i. Same i j ∷ Differ i j ∷ []) 2 j (λ i less. omega arith) in
     omega (arith, two)) in
     let e : length (candidates n) ≡
-        length (single_facts n) + length (for_each pairs_with (min n 512)) = length-append _ _ in
+    length (single_facts n) + length (for_each pairs_with (min n 512)) = length-append _ _ in
     omega (arith, few, single, pairs, e)
 
 -- ---- facts in a state

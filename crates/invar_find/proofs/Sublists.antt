@@ -59,7 +59,8 @@ sublist-shorter (g ∷ some) (g' ∷ all) f (takes s) has not_there =
     (elim (contains-cases g f all has) [
       | inl same ↦
           let P : Fact → Type 0 = λ x. Contains (g ∷ some) x in
-          absurd (not_there (subst P same (Contains-append_left (g ∷ []) some g (Contains-push [] g))))
+          absurd (not_there
+          (subst P same (Contains-append_left (g ∷ []) some g (Contains-push [] g))))
       | inr later ↦ later
     ])
     (λ there. not_there (Contains-append_right (g ∷ []) some f there)) in

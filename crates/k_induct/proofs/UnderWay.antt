@@ -35,7 +35,8 @@ pub refuted-reply : (safe : SafeNet) (query : Query) (conflicts : ℕ) (log : Li
     IsReply safe query.asked conflicts (Refuted log)
 refuted-reply safe query conflicts log is can right (passes, ends) =
     let V : ℕ → Type 0 = λ n. IsRefutation n query.cnf.clauses log in
-    let P : List Clause → Type 0 = λ clauses. IsRefutation (variables_of safe query.asked) clauses log in
+    let P : List Clause → Type 0 = λ clauses.
+    IsRefutation (variables_of safe query.asked) clauses log in
     let refuted : IsRefuted safe query.asked log = record {
       within = right.within;
       refutation = subst P right.clauses

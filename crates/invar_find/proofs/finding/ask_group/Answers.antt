@@ -1,8 +1,5 @@
-use Rattle.std.proofs.Common.{ℕ, List, length, sym, ap, subst, ◌∙◌}
+use Rattle.std.proofs.Common.{ℕ, sym, ap, subst, ◌∙◌}
 use Rattle.std.proofs.lemmas.Result.{err_from_is_err_and}
-use Rattle.chain_check.specs.Clauses.{Clause, SatisfiesAll}
-use Rattle.cnf_frames.specs.declared.facts.Fact.{Fact}
-use Rattle.cnf_frames.specs.declared.queries.Asked.TheVariants.{Keep}
 use Rattle.aig_net.specs.Nets.{latch_variable}
 use Rattle.cnf_frames.specs.Facts.{AllIn}
 use Rattle.cnf_frames.specs.QueryPaths.{word_of}

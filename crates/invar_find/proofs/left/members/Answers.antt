@@ -1,4 +1,4 @@
-use Rattle.std.proofs.Common.{◌≡◌, ℕ, ◌-◌, ◌*◌, ◌≤◌, List, length, take, drop, min, sym, ap, ◌∙◌, subst, arith, length-drop}
+use Rattle.std.proofs.Common.{◌≡◌, ℕ, ◌-◌, ◌*◌, List, length, take, drop, min, ap, ◌∙◌, arith, length-drop}
 use Rattle.std.proofs.lemmas.List.{take_all, take_min}
 use Rattle.cnf_frames.specs.declared.facts.Fact.{Fact}
 use Rattle.cnf_frames.specs.Queries.{group_of}

@@ -22,7 +22,8 @@ loop-fact-preserved c =
           let G : List Fact → Type 0 = λ group. Contains group (fact_at
           c.as_slice-fact-items.result.now c.loop-fact.fact-index) in
           let clash : false ≡ true = w.if-not-is_among.ensures.1
-          (subst G (sym c.members-members.ensures) member) in (cc)) (w.left-is ∙ w.in_ok-push.ensures.added)
+          (subst G (sym c.members-members.ensures) member) in (cc))
+          (w.left-is ∙ w.in_ok-push.ensures.added)
       | else-not-is_among w ↦
           those-left (IsOutside c.args.facts.now c.args.group) c.as_slice-fact-items.result.now
           c.loop-fact.left _ c.loop-fact.fact-index c.loop-fact.invariant c.loop-fact-test.true

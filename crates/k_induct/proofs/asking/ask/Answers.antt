@@ -9,4 +9,5 @@ returns-in-Refuted c =
     let P : Outcome → Type 0 = IsOutcome c.args.query.now.cnf.variables
     c.args.query.now.cnf.clauses c.args.conflicts in
     refuted-reply c.args.safe.now c.args.query.now c.args.conflicts c.in-Refuted.log
-    c.requires.safe c.requires.can_ask c.requires.query (subst P c.in-Refuted.is c.in_ok-log.ensures)
+    c.requires.safe c.requires.can_ask c.requires.query
+    (subst P c.in-Refuted.is c.in_ok-log.ensures)

@@ -26,7 +26,8 @@ returns-in-Refuted-2-clause-verdict c =
     proved c.args.safe.now c.args.inv.now c.args.depth c.depths.k c.depths.base c.push.new.self
     c.in-Refuted-2.step c.depths.invariant c.requires.inductive
     (refuted-bases c.args.safe.now c.args.inv.now c.args.depth c.depths.k c.depths.base
-    c.push.new.self c.in-Refuted.log c.depths.invariant base.0 c.in_ok-push-in-Refuted.ensures.added)
+    c.push.new.self c.in-Refuted.log c.depths.invariant base.0
+    c.in_ok-push-in-Refuted.ensures.added)
     base.1 step.0 step.1
 
 pub returns-then-k-depth-clause-verdict : goal.returns-then-k-depth-clause-verdict
@@ -60,5 +61,6 @@ depths-preserved c =
     going-on c.args.safe.now c.args.inv.now c.args.depth c.depths.k c.depths.base c.push.new.self
     c.in-Answered-2.path c.depths.invariant
     (refuted-bases c.args.safe.now c.args.inv.now c.args.depth c.depths.k c.depths.base
-    c.push.new.self c.in-Refuted.log c.depths.invariant base.0 c.in_ok-push-in-Refuted.ensures.added)
+    c.push.new.self c.in-Refuted.log c.depths.invariant base.0
+    c.in_ok-push-in-Refuted.ensures.added)
     base.1 (subst Q c.in-Answered-2.is c.in_ok-step.ensures.reply) c.if-k-depth.false
