@@ -46,8 +46,18 @@ pub depth_le-letters : (t : Branch) → IsForest t → max (deep-Branch t) 0 ≤
 depth_le-letters Bare h = omega arith
 depth_le-letters (Child a ends children) h =
     let held : List Numbered = passing ends children.value in
-    omega (arith, h.kids.0, letters-append (led_by a held) [], letters-led a held,
-    letters-append (ended ends) (spread children.value), letters-ended ends)
+    omega (
+      arith,
+      h.kids.0,
+      letters-append (led_by a held) [],
+      letters-led a held,
+      letters-append (ended ends) (spread children.value),
+      letters-ended ends,
+    )
 depth_le-letters (Fork name count l r) h =
-    omega (arith, letters-spread l.value r.value, some-left l.value r.value h.kids h.forked.1,
-    some-right l.value r.value h.kids h.forked.2)
+    omega (
+      arith,
+      letters-spread l.value r.value,
+      some-left l.value r.value h.kids h.forked.1,
+      some-right l.value r.value h.kids h.forked.2,
+    )

@@ -59,7 +59,10 @@ impl<'a> Cursor<'a> {
     {
         self.children.kids_differ();
         let grown = self.children.at(i);
-        Cursor { ends: grown.ends, children: grown.children }
+        Cursor {
+            ends: grown.ends,
+            children: grown.children,
+        }
     }
 
     /// A trace that ends here, where there is one. Takes no memory.

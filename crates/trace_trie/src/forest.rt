@@ -117,7 +117,11 @@ impl Forest {
     {
         match &self.tree {
             Branch::Bare => unreachable!(),
-            Branch::Child(letter, ends, children) => Grown { letter: *letter, ends, children },
+            Branch::Child(letter, ends, children) => Grown {
+                letter: *letter,
+                ends,
+                children,
+            },
             Branch::Fork(_, _, first, second) => {
                 let before = first.len();
                 if i < before {
@@ -154,7 +158,11 @@ impl Forest {
             Branch::Bare => None,
             Branch::Child(held, ends, children) => {
                 if same(letter, *held) {
-                    Some(Grown { letter: *held, ends, children })
+                    Some(Grown {
+                        letter: *held,
+                        ends,
+                        children,
+                    })
                 } else {
                     None
                 }
@@ -182,7 +190,11 @@ impl Forest {
     {
         match self.get(letter) {
             Some(grown) => grown,
-            None => Grown { letter, ends: none, children: bare },
+            None => Grown {
+                letter,
+                ends: none,
+                children: bare,
+            },
         }
     }
 
@@ -301,12 +313,7 @@ impl Forest {
     }
 
     /// As `joined`, with another first list.
-    fn with_first(
-        alloc: Global,
-        name: usize,
-        first: Forest,
-        second: &Rc<Forest>,
-    ) -> M<Forest>
+    fn with_first(alloc: Global, name: usize, first: Forest, second: &Rc<Forest>) -> M<Forest>
         requires name { name < 64 }
         requires lack { Each (λ (k : Kid). contains k.0 name ≡ false) first }
         requires have { Each (λ (k : Kid). contains k.0 name ≡ true) second.now.value }
@@ -318,12 +325,7 @@ impl Forest {
     }
 
     /// As `joined`, with another second list.
-    fn with_second(
-        alloc: Global,
-        name: usize,
-        first: &Rc<Forest>,
-        second: Forest,
-    ) -> M<Forest>
+    fn with_second(alloc: Global, name: usize, first: &Rc<Forest>, second: Forest) -> M<Forest>
         requires name { name < 64 }
         requires lack { Each (λ (k : Kid). contains k.0 name ≡ false) first.now.value }
         requires have { Each (λ (k : Kid). contains k.0 name ≡ true) second }
@@ -335,13 +337,7 @@ impl Forest {
     }
 
     /// The children of both lists. Those of the one have the name where the other ones lack it.
-    fn forked(
-        alloc: Global,
-        name: usize,
-        has: bool,
-        others: Forest,
-        one: Forest,
-    ) -> M<Forest>
+    fn forked(alloc: Global, name: usize, has: bool, others: Forest, one: Forest) -> M<Forest>
         requires name { name < 64 }
         requires others { Each (λ (k : Kid). contains k.0 name ≡ not has) others }
         requires one { Each (λ (k : Kid). contains k.0 name ≡ has) one }

@@ -17,7 +17,6 @@ use std::rc::Rc;
 
 /// Traces with their numbers, which ascend; contracts see the list of these pairs. Versions share
 /// their nodes, and no call on one changes another.
-#[derive(Drop)]
 pub struct Version {
     alloc: Global,
     all: Numbers,
@@ -42,6 +41,18 @@ impl Model for Version {
     ghost invariant = { λ v. IsVersion v.all v.ends v.children };
 }
 
+impl Drop for Version {
+    /// Lets the nodes go that no other version has. The stack is as deep as the trie.
+    fn drop(self) {
+        let Version {
+            alloc: _,
+            all: _,
+            ends: _,
+            children: _,
+        } = self;
+    }
+}
+
 impl Version {
     /// No trace. Takes no memory.
     pub fn new(alloc: Global) -> Version
@@ -62,7 +73,12 @@ impl Version {
         let all = self.all.share()?;
         let ends = self.ends.share()?;
         let children = self.children.share()?;
-        Ok(Version { alloc: self.alloc, all, ends, children })
+        Ok(Version {
+            alloc: self.alloc,
+            all,
+            ends,
+            children,
+        })
     }
 
     /// The numbers ascend, and each trace has 1 to 1,024 letters.
@@ -84,7 +100,12 @@ impl Version {
         let trace = Rc::new(self.alloc, trace.remake(self.alloc)?)?;
         let node = planted(self.alloc, &self.ends, &self.children, number, &trace, 0)?;
         let all = self.all.push(self.alloc, number, trace)?;
-        Ok(Version { alloc: self.alloc, all, ends: node.ends, children: node.children })
+        Ok(Version {
+            alloc: self.alloc,
+            all,
+            ends: node.ends,
+            children: node.children,
+        })
     }
 
     /// This version without the trace of a number. In time and memory as `insert`.
@@ -96,7 +117,12 @@ impl Version {
             Some(trace) => {
                 let node = uprooted(self.alloc, &self.ends, &self.children, number, trace, 0)?;
                 let all = self.all.without(self.alloc, number)?;
-                Ok(Version { alloc: self.alloc, all, ends: node.ends, children: node.children })
+                Ok(Version {
+                    alloc: self.alloc,
+                    all,
+                    ends: node.ends,
+                    children: node.children,
+                })
             }
         }
     }
