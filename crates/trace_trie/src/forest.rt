@@ -44,7 +44,8 @@ impl Model for Forest {
 
     ghost Value = { List (Letter × List (ℕ × List Letter)) };
 
-    ghost coded = { coded_list (coded× (set.code coded_ℕ) (coded_list (coded× coded_ℕ (coded_list (set.code coded_ℕ))))) };
+    ghost coded = { coded_list (coded× (set.code coded_ℕ)
+        (coded_list (coded× coded_ℕ (coded_list (set.code coded_ℕ))))) };
 
     ghost use Rattle.trace_trie.specs.Forests.{kids_of, IsForest};
 
@@ -113,7 +114,8 @@ impl Forest {
     /// mostly, at most 64 steps.
     pub(crate) fn at(&self, i: usize) -> Grown<'_>
         requires { i < length self.now }
-        ensures { slice_get self.now i ≡ Some (result.letter, passing result.ends.now result.children.now) }
+        ensures { slice_get self.now i
+            ≡ Some (result.letter, passing result.ends.now result.children.now) }
     {
         match &self.tree {
             Branch::Bare => unreachable!(),
@@ -151,7 +153,8 @@ impl Forest {
 
     /// The child of a letter, where there is one. Takes no memory, and at most 64 steps.
     fn get(&self, letter: LetterMask) -> Option<Grown<'_>>
-        ensures some { IfSome result (λ grown. behind letter self.now ≡ passing grown.ends.now grown.children.now) }
+        ensures some { IfSome result (λ grown. behind letter self.now
+            ≡ passing grown.ends.now grown.children.now) }
         ensures none { IfNone result (behind letter self.now ≡ []) }
     {
         match &self.tree {
@@ -227,7 +230,8 @@ impl Forest {
         children: Rc<Forest>,
     ) -> M<Forest>
         requires { 0 < length (passing ends children.value) }
-        ensures { IfOk result (λ made. IsSwapped letter (passing ends children.value) self.now made) }
+        ensures { IfOk result (λ made.
+            IsSwapped letter (passing ends children.value) self.now made) }
     {
         match &self.tree {
             Branch::Bare => Ok(Forest::one(letter, ends, children)),

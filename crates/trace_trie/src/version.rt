@@ -89,9 +89,9 @@ impl Version {
         let _all = &self.all;
     }
 
-    /// This version with one trace more, whose number is above all. In time and memory linear in its
-    /// letters, at most 64 times as much, and logarithmic in the number of traces; the other nodes
-    /// are shared.
+    /// This version with one trace more, whose number is above all. In time and memory linear in
+    /// its letters, at most 64 times as much, and logarithmic in the number of traces; the other
+    /// nodes are shared.
     pub fn insert(&self, number: u32, trace: &Trace) -> M<Version>
         requires { Each (λ (p : Numbered). p.0 < number) self.now }
         ensures { IfOk result (λ made. made ≡ self.now ++ (number, trace.now) ∷ []) }
@@ -127,8 +127,8 @@ impl Version {
         }
     }
 
-    /// Whether there is a trace with the number. Takes no memory, and time logarithmic in the number
-    /// of traces.
+    /// Whether there is a trace with the number. Takes no memory, and time logarithmic in the
+    /// number of traces.
     pub fn has(&self, number: u32) -> bool
         ensures { result ≡ is_some (with_number number self.now) }
     {
