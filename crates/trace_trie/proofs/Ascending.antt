@@ -26,6 +26,7 @@ only-number n t (x ∷ xs) h e = step (eqb x.0 n) refl e (only-number n t xs h.1
   where
     some-is : (u : List Letter) → Some u ≡ Some t → u ≡ t
     some-is u e = cc
+
     step : (b : Bool) → eqb x.0 n ≡ b → cond b (Some x.1) (with_number n xs) ≡ Some t → (with_number n xs ≡ Some t → Each (λ (p : Numbered). p.0 ≡ n → p.1 ≡ t) xs)
         → Each (λ (p : Numbered). p.0 ≡ n → p.1 ≡ t) (x ∷ xs)
     step true f g more =

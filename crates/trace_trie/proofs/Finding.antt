@@ -25,7 +25,7 @@ module _ (ends : List Numbered) (kids : List Kid) where
       long : (a : Letter) → 0 < length (behind a kids) → 0 < length (under a (in_order (passing ends kids)))
       long a lt =
           let e : length (under a (in_order (passing ends kids))) ≡ length (behind a kids) =
-              ap length (sym (in-order-under a (passing ends kids)) ∙ ap in_order (under-passing a ends kids h)) ∙ length-in-order (behind a kids) in
+          ap length (sym (in-order-under a (passing ends kids)) ∙ ap in_order (under-passing a ends kids h)) ∙ length-in-order (behind a kids) in
           omega (arith, e, lt)
 
   pub first-some : IfSome (first_number ends) (λ n. Contains (in_order (passing ends kids)) (n, []))
@@ -61,6 +61,7 @@ kid-at (o ∷ ks) zero a k h e f =
   where
     letter-is : (b a : Letter) → Some b ≡ Some a → b ≡ a
     letter-is b a e = cc
+
     kid-is : (o k : Kid) → Some o ≡ Some k → o ≡ k
     kid-is o k e = cc
 kid-at (o ∷ ks) (suc i) a k h e f =

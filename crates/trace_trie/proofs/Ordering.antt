@@ -116,7 +116,7 @@ module _ (f : Numbered → Bool) where
     | inr e ↦
         let le = ltb-false q.0 p.0 e in
         let all : Each (λ (r : Numbered). p.0 ≤ r.0) (q ∷ qs) =
-            (le, each-like (λ (r : Numbered). q.0 ≤ r.0) (λ (r : Numbered). p.0 ≤ r.0) (λ r k. omega arith) qs h.0) in
+        (le, each-like (λ (r : Numbered). q.0 ≤ r.0) (λ (r : Numbered). p.0 ≤ r.0) (λ r k. omega arith) qs h.0) in
         ap (filter f) (put-front p (q ∷ qs) all)
         ∙ sym (ap (λ l. cond (f p) l (filter f (q ∷ qs))) (put-front p (filter f (q ∷ qs)) (each-filter (λ (r : Numbered). p.0 ≤ r.0) f (q ∷ qs) all)))
   ]

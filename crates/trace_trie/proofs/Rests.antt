@@ -56,9 +56,9 @@ more-spread {a} {n} {t} {held} {old} {new} ends s m =
     let P : List Numbered → Type 0 = λ (q : List Numbered). IsMore (n, a ∷ t) q (passing ends new) in
     let Q : List Numbered → Type 0 = λ (q : List Numbered). IsMore (n, a ∷ t) (ended ends ++ spread s.before ++ led_by a (behind a old) ++ spread s.after) q in
     let e : passing ends old ≡ ended ends ++ spread s.before ++ led_by a (behind a old) ++ spread s.after =
-        ap (λ l. ended ends ++ spread l) s.old_is ∙ whole (behind a old) in
+    ap (λ l. ended ends ++ spread l) s.old_is ∙ whole (behind a old) in
     let f : passing ends new ≡ ended ends ++ spread s.before ++ led_by a held ++ spread s.after =
-        ap (λ l. ended ends ++ spread l) s.new_is ∙ whole held in
+    ap (λ l. ended ends ++ spread l) s.new_is ∙ whole held in
     subst P (sym e) (subst Q (sym f) (more-within (n, a ∷ t) (ended ends ++ spread s.before) (spread s.after) (led_by a (behind a old)) (led_by a held) (more-led a n t (behind a old) held m)))
   where
     whole : (l : List Numbered) → ended ends ++ spread (s.before ++ kid_of a l ++ s.after) ≡ ended ends ++ spread s.before ++ led_by a l ++ spread s.after
@@ -135,8 +135,8 @@ pub without-ended : (n : ℕ) (ends : List Numbered) (kids : List Kid) → Each 
     → passing (without_number n ends) kids ≡ without_number n (passing ends kids)
 without-ended n ends kids h =
     let others : Each (λ (p : Numbered). p.0 ≡ n → ⊥) (spread kids) =
-        each-both (λ (p : Numbered). p.0 ≡ n → p.1 ≡ []) (λ (p : Numbered). 0 < length p.1) (λ (p : Numbered). p.0 ≡ n → ⊥)
-        (λ p f lt e. absurd (omega (arith, ap length (f e)))) (spread kids) (each-right (λ (p : Numbered). p.0 ≡ n → p.1 ≡ []) (ended ends) (spread kids) h) (spread-some kids) in
+    each-both (λ (p : Numbered). p.0 ≡ n → p.1 ≡ []) (λ (p : Numbered). 0 < length p.1) (λ (p : Numbered). p.0 ≡ n → ⊥)
+    (λ p f lt e. absurd (omega (arith, ap length (f e)))) (spread kids) (each-right (λ (p : Numbered). p.0 ≡ n → p.1 ≡ []) (ended ends) (spread kids) h) (spread-some kids) in
     sym (without-append n (ended ends) (spread kids) ∙ ap (λ l. l ++ without_number n (spread kids)) (filter-ended n ends) ∙ ap (λ l. ended (without_number n ends) ++ l) (without-other n (spread kids) others))
 
 -- no child but that of the letter has the number
@@ -159,19 +159,19 @@ without-spread n {a} t {held} {old} {new} ends s e h =
     let parts : Q (spread s.before ++ led_by a (behind a old) ++ spread s.after) = subst Q three (each-right P (ended ends) (spread old) h) in
     let front : Q (spread s.before ++ led_by a (behind a old)) = each-left P (spread s.before ++ led_by a (behind a old)) (spread s.after) parts in
     let before : without_number n (spread s.before) ≡ spread s.before =
-        without-other n (spread s.before) (apart-number n a t s.before s.apart_before (each-left P (spread s.before) (led_by a (behind a old)) front)) in
+    without-other n (spread s.before) (apart-number n a t s.before s.apart_before (each-left P (spread s.before) (led_by a (behind a old)) front)) in
     let after : without_number n (spread s.after) ≡ spread s.after =
-        without-other n (spread s.after) (apart-number n a t s.after s.apart_after (each-right P (spread s.before ++ led_by a (behind a old)) (spread s.after) parts)) in
+    without-other n (spread s.after) (apart-number n a t s.after s.apart_after (each-right P (spread s.before ++ led_by a (behind a old)) (spread s.after) parts)) in
     let ends-same : without_number n (ended ends) ≡ ended ends =
-        without-other n (ended ends) (each-map (λ (p : Numbered). p.0 ≡ n → ⊥) (λ (p : Numbered). (p.0, [])) ends
-        (each-like (λ (p : Numbered). P (p.0, [])) (λ (p : Numbered). p.0 ≡ n → ⊥) (λ p f k. none (f k)) ends (each-unmap P (λ (p : Numbered). (p.0, [])) ends (each-left P (ended ends) (spread old) h)))) in
+    without-other n (ended ends) (each-map (λ (p : Numbered). p.0 ≡ n → ⊥) (λ (p : Numbered). (p.0, [])) ends
+    (each-like (λ (p : Numbered). P (p.0, [])) (λ (p : Numbered). p.0 ≡ n → ⊥) (λ p f k. none (f k)) ends (each-unmap P (λ (p : Numbered). (p.0, [])) ends (each-left P (ended ends) (spread old) h)))) in
     let kept : without_number n (spread old) ≡ spread new =
-        ap (without_number n) three ∙ without-append n (spread s.before ++ led_by a (behind a old)) (spread s.after)
-        ∙ ap (λ l. l ++ without_number n (spread s.after)) (without-append n (spread s.before) (led_by a (behind a old)))
-        ∙ ap (λ l. l ++ without_number n (led_by a (behind a old)) ++ without_number n (spread s.after)) before
-        ∙ ap (λ l. spread s.before ++ l ++ without_number n (spread s.after)) (filter-led n a (behind a old) ∙ ap (led_by a) (sym e))
-        ∙ ap (λ l. spread s.before ++ led_by a held ++ l) after
-        ∙ sym (ap spread s.new_is ∙ spread-three a held s.before s.after) in
+    ap (without_number n) three ∙ without-append n (spread s.before ++ led_by a (behind a old)) (spread s.after)
+    ∙ ap (λ l. l ++ without_number n (spread s.after)) (without-append n (spread s.before) (led_by a (behind a old)))
+    ∙ ap (λ l. l ++ without_number n (led_by a (behind a old)) ++ without_number n (spread s.after)) before
+    ∙ ap (λ l. spread s.before ++ l ++ without_number n (spread s.after)) (filter-led n a (behind a old) ∙ ap (led_by a) (sym e))
+    ∙ ap (λ l. spread s.before ++ led_by a held ++ l) after
+    ∙ sym (ap spread s.new_is ∙ spread-three a held s.before s.after) in
     sym (without-append n (ended ends) (spread old) ∙ ap (λ l. l ++ without_number n (spread old)) ends-same ∙ ap (λ l. ended ends ++ l) kept)
   where
     none : [] ≡ a ∷ t → ⊥
@@ -199,6 +199,7 @@ under-led a b ps = elim (cases_Bool (same_letter a b)) [
     all (p ∷ ps) e =
         ap (λ c. map (λ (q : Numbered). (q.0, tail q.1)) (cond c ((p.0, b ∷ p.1) ∷ filter (λ (q : Numbered). begins a q.1) (led_by b ps)) (filter (λ (q : Numbered). begins a q.1) (led_by b ps)))) e
         ∙ ap (λ l. p ∷ l) (all ps e)
+
     none : (ps : List Numbered) → same_letter a b ≡ false → under a (led_by b ps) ≡ []
     none [] e = refl
     none (p ∷ ps) e =
@@ -235,6 +236,7 @@ letters-some (k ∷ ks) h =
     here : (b : Bool) → b ≡ true → 0 < length (cond b k.1 (behind k.0 ks))
     here true e = h.0
     here false e = absurd (cc)
+
     later : (a : Letter) (b : Bool) → 0 < length (behind a ks) → 0 < length (cond b k.1 (behind a ks))
     later a true lt = h.0
     later a false lt = lt
@@ -247,6 +249,7 @@ letters-whole ends kids =
     over : (ps : List Numbered) → Each (λ (p : Numbered). GoesOn (kid_letters kids) p.1) (ended ps)
     over [] = tt
     over (p ∷ ps) = (tt, over ps)
+
     inside : (ks : List Kid) (letters : List Letter) → ((a : Letter) → Contains (kid_letters ks) a → Contains letters a) → Each (λ (k : Kid). Contains letters k.0) ks
     inside [] letters f = tt
     inside (k ∷ ks) letters f = (f k.0 (contains-here k.0 (kid_letters ks)), inside ks letters (λ a c. f a (contains-later k.0 a (kid_letters ks) c)))

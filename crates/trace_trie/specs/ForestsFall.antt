@@ -13,7 +13,8 @@ letters-append : (xs ys : List Numbered) → letters_in (xs ++ ys) ≡ letters_i
 letters-append [] ys = omega arith
 letters-append (p ∷ ps) ys = omega (arith, letters-append ps ys)
 
-letters-led : (a : Letter) (ps : List Numbered) → letters_in (led_by a ps) ≡ length ps + letters_in ps
+letters-led : (a : Letter) (ps : List Numbered)
+    → letters_in (led_by a ps) ≡ length ps + letters_in ps
 letters-led a [] = omega arith
 letters-led a (p ∷ ps) = omega (arith, letters-led a ps)
 
@@ -25,7 +26,12 @@ letters-spread : (xs ys : List Kid)
     → letters_in (spread (xs ++ ys)) ≡ letters_in (spread xs) + letters_in (spread ys)
 letters-spread [] ys = omega arith
 letters-spread (k ∷ ks) ys =
-    omega (arith, letters-spread ks ys, letters-append (led_by k.0 k.1) (spread (ks ++ ys)), letters-append (led_by k.0 k.1) (spread ks))
+    omega (
+      arith,
+      letters-spread ks ys,
+      letters-append (led_by k.0 k.1) (spread (ks ++ ys)),
+      letters-append (led_by k.0 k.1) (spread ks),
+    )
 
 some-left : (xs ys : List Kid) → AreKids (xs ++ ys) → 0 < length xs → 0 < letters_in (spread xs)
 some-left [] ys h lt = absurd (omega arith)
@@ -42,12 +48,23 @@ some-right [] ys h lt = some-all ys h lt
 some-right (k ∷ ks) ys h lt = some-right ks ys h.2 lt
 
 -- no part is deeper than letters are left
-pub depth_le-letters : (t : Branch) → IsForest t → max (deep-Branch t) 0 ≤ letters_in (spread (kids_of t))
+pub depth_le-letters : (t : Branch) → IsForest t
+    → max (deep-Branch t) 0 ≤ letters_in (spread (kids_of t))
 depth_le-letters Bare h = omega arith
 depth_le-letters (Child a ends children) h =
     let held : List Numbered = passing ends children.value in
-    omega (arith, h.kids.0, letters-append (led_by a held) [], letters-led a held,
-    letters-append (ended ends) (spread children.value), letters-ended ends)
+    omega (
+      arith,
+      h.kids.0,
+      letters-append (led_by a held) [],
+      letters-led a held,
+      letters-append (ended ends) (spread children.value),
+      letters-ended ends,
+    )
 depth_le-letters (Fork name count l r) h =
-    omega (arith, letters-spread l.value r.value, some-left l.value r.value h.kids h.forked.1,
-    some-right l.value r.value h.kids h.forked.2)
+    omega (
+      arith,
+      letters-spread l.value r.value,
+      some-left l.value r.value h.kids h.forked.1,
+      some-right l.value r.value h.kids h.forked.2,
+    )

@@ -1,5 +1,5 @@
--- The children of a node of a trie: each has its letter, and what is left behind it of the traces that
--- pass it.
+-- The children of a node of a trie: each has its letter, and what is left behind it of the traces
+-- that pass it.
 use Rattle.std.specs.Prelude.{◌≡◌, ◌≢◌, ℕ, ◌<◌, cond, List, [], ◌∷◌, ◌++◌, length, map}
 use Rattle.hy_bits.specs.Letter.{Letter}
 use Rattle.hy_formula.specs.Quantifiers.{Each}

@@ -59,7 +59,10 @@ impl<'a> Cursor<'a> {
     {
         self.children.kids_differ();
         let grown = self.children.at(i);
-        Cursor { ends: grown.ends, children: grown.children }
+        Cursor {
+            ends: grown.ends,
+            children: grown.children,
+        }
     }
 
     /// A trace that ends here, where there is one. Takes no memory.
@@ -73,7 +76,8 @@ impl<'a> Cursor<'a> {
     /// A trace that passes here, where there is one. Takes no memory, and time linear in the most
     /// letters that are left, at most 64 steps for each.
     pub fn below(&self) -> Option<u32>
-        ensures some { IfSome result (λ n. (t : List Letter) × Contains (rests_at self.now) (n, t)) }
+        ensures some { IfSome result (λ n. (t : List Letter)
+            × Contains (rests_at self.now) (n, t)) }
         ensures none { IfNone result (rests_at self.now ≡ []) }
     {
         match self.ends.first() {

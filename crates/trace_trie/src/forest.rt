@@ -44,7 +44,8 @@ impl Model for Forest {
 
     ghost Value = { List (Letter × List (ℕ × List Letter)) };
 
-    ghost coded = { coded_list (coded× (set.code coded_ℕ) (coded_list (coded× coded_ℕ (coded_list (set.code coded_ℕ))))) };
+    ghost coded = { coded_list (coded× (set.code coded_ℕ)
+        (coded_list (coded× coded_ℕ (coded_list (set.code coded_ℕ))))) };
 
     ghost use Rattle.trace_trie.specs.Forests.{kids_of, IsForest};
 
@@ -113,11 +114,16 @@ impl Forest {
     /// mostly, at most 64 steps.
     pub(crate) fn at(&self, i: usize) -> Grown<'_>
         requires { i < length self.now }
-        ensures { slice_get self.now i ≡ Some (result.letter, passing result.ends.now result.children.now) }
+        ensures { slice_get self.now i
+            ≡ Some (result.letter, passing result.ends.now result.children.now) }
     {
         match &self.tree {
             Branch::Bare => unreachable!(),
-            Branch::Child(letter, ends, children) => Grown { letter: *letter, ends, children },
+            Branch::Child(letter, ends, children) => Grown {
+                letter: *letter,
+                ends,
+                children,
+            },
             Branch::Fork(_, _, first, second) => {
                 let before = first.len();
                 if i < before {
@@ -147,14 +153,19 @@ impl Forest {
 
     /// The child of a letter, where there is one. Takes no memory, and at most 64 steps.
     fn get(&self, letter: LetterMask) -> Option<Grown<'_>>
-        ensures some { IfSome result (λ grown. behind letter self.now ≡ passing grown.ends.now grown.children.now) }
+        ensures some { IfSome result (λ grown. behind letter self.now
+            ≡ passing grown.ends.now grown.children.now) }
         ensures none { IfNone result (behind letter self.now ≡ []) }
     {
         match &self.tree {
             Branch::Bare => None,
             Branch::Child(held, ends, children) => {
                 if same(letter, *held) {
-                    Some(Grown { letter: *held, ends, children })
+                    Some(Grown {
+                        letter: *held,
+                        ends,
+                        children,
+                    })
                 } else {
                     None
                 }
@@ -182,7 +193,11 @@ impl Forest {
     {
         match self.get(letter) {
             Some(grown) => grown,
-            None => Grown { letter, ends: none, children: bare },
+            None => Grown {
+                letter,
+                ends: none,
+                children: bare,
+            },
         }
     }
 
@@ -215,7 +230,8 @@ impl Forest {
         children: Rc<Forest>,
     ) -> M<Forest>
         requires { 0 < length (passing ends children.value) }
-        ensures { IfOk result (λ made. IsSwapped letter (passing ends children.value) self.now made) }
+        ensures { IfOk result (λ made.
+            IsSwapped letter (passing ends children.value) self.now made) }
     {
         match &self.tree {
             Branch::Bare => Ok(Forest::one(letter, ends, children)),
@@ -301,12 +317,7 @@ impl Forest {
     }
 
     /// As `joined`, with another first list.
-    fn with_first(
-        alloc: Global,
-        name: usize,
-        first: Forest,
-        second: &Rc<Forest>,
-    ) -> M<Forest>
+    fn with_first(alloc: Global, name: usize, first: Forest, second: &Rc<Forest>) -> M<Forest>
         requires name { name < 64 }
         requires lack { Each (λ (k : Kid). contains k.0 name ≡ false) first }
         requires have { Each (λ (k : Kid). contains k.0 name ≡ true) second.now.value }
@@ -318,12 +329,7 @@ impl Forest {
     }
 
     /// As `joined`, with another second list.
-    fn with_second(
-        alloc: Global,
-        name: usize,
-        first: &Rc<Forest>,
-        second: Forest,
-    ) -> M<Forest>
+    fn with_second(alloc: Global, name: usize, first: &Rc<Forest>, second: Forest) -> M<Forest>
         requires name { name < 64 }
         requires lack { Each (λ (k : Kid). contains k.0 name ≡ false) first.now.value }
         requires have { Each (λ (k : Kid). contains k.0 name ≡ true) second }
@@ -335,13 +341,7 @@ impl Forest {
     }
 
     /// The children of both lists. Those of the one have the name where the other ones lack it.
-    fn forked(
-        alloc: Global,
-        name: usize,
-        has: bool,
-        others: Forest,
-        one: Forest,
-    ) -> M<Forest>
+    fn forked(alloc: Global, name: usize, has: bool, others: Forest, one: Forest) -> M<Forest>
         requires name { name < 64 }
         requires others { Each (λ (k : Kid). contains k.0 name ≡ not has) others }
         requires one { Each (λ (k : Kid). contains k.0 name ≡ has) one }

@@ -1,8 +1,8 @@
 //! Tries of traces, in versions that share their nodes.
 //!
-//! A version is a list of traces with ascending numbers. It keeps them by number, and as a trie: each
-//! node has the numbers of the traces that end there, and its children by letter. A version with one
-//! trace more or less has nodes of its own for the path of that trace alone.
+//! A version is a list of traces with ascending numbers. It keeps them by number, and as a trie:
+//! each node has the numbers of the traces that end there, and its children by letter. A version
+//! with one trace more or less has nodes of its own for the path of that trace alone.
 #![tactic(auto)]
 
 mod cursor;

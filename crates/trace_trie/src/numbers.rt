@@ -93,13 +93,7 @@ impl Numbers {
     {
         match &self.tree {
             NumberTree::Nothing => None,
-            NumberTree::One(held, trace) => {
-                if *held == number {
-                    Some(trace)
-                } else {
-                    None
-                }
-            }
+            NumberTree::One(held, trace) => { if *held == number { Some(trace) } else { None } }
             NumberTree::Two(split, _, first, second) => {
                 if number < *split {
                     first.get(number)
@@ -138,12 +132,7 @@ impl Numbers {
     }
 
     /// As `joined`, with another first list.
-    fn with_first(
-        alloc: Global,
-        split: u32,
-        first: Numbers,
-        second: &Rc<Numbers>,
-    ) -> M<Numbers>
+    fn with_first(alloc: Global, split: u32, first: Numbers, second: &Rc<Numbers>) -> M<Numbers>
         requires below { Each (λ (p : Numbered). p.0 < split) first }
         requires above { Each (λ (p : Numbered). split ≤ p.0) second.now.value }
         ensures { IfOk result (λ made. made ≡ first ++ second.now.value) }
@@ -154,12 +143,7 @@ impl Numbers {
     }
 
     /// As `joined`, with another second list.
-    fn with_second(
-        alloc: Global,
-        split: u32,
-        first: &Rc<Numbers>,
-        second: Numbers,
-    ) -> M<Numbers>
+    fn with_second(alloc: Global, split: u32, first: &Rc<Numbers>, second: Numbers) -> M<Numbers>
         requires below { Each (λ (p : Numbered). p.0 < split) first.now.value }
         requires above { Each (λ (p : Numbered). split ≤ p.0) second }
         ensures { IfOk result (λ made. made ≡ first.now.value ++ second) }

@@ -17,7 +17,6 @@ use std::rc::Rc;
 
 /// Traces with their numbers, which ascend; contracts see the list of these pairs. Versions share
 /// their nodes, and no call on one changes another.
-#[derive(Drop)]
 pub struct Version {
     alloc: Global,
     all: Numbers,
@@ -42,6 +41,18 @@ impl Model for Version {
     ghost invariant = { λ v. IsVersion v.all v.ends v.children };
 }
 
+impl Drop for Version {
+    /// Lets the nodes go that no other version has. The stack is as deep as the trie.
+    fn drop(self) {
+        let Version {
+            alloc: _,
+            all: _,
+            ends: _,
+            children: _,
+        } = self;
+    }
+}
+
 impl Version {
     /// No trace. Takes no memory.
     pub fn new(alloc: Global) -> Version
@@ -62,7 +73,12 @@ impl Version {
         let all = self.all.share()?;
         let ends = self.ends.share()?;
         let children = self.children.share()?;
-        Ok(Version { alloc: self.alloc, all, ends, children })
+        Ok(Version {
+            alloc: self.alloc,
+            all,
+            ends,
+            children,
+        })
     }
 
     /// The numbers ascend, and each trace has 1 to 1,024 letters.
@@ -73,9 +89,9 @@ impl Version {
         let _all = &self.all;
     }
 
-    /// This version with one trace more, whose number is above all. In time and memory linear in its
-    /// letters, at most 64 times as much, and logarithmic in the number of traces; the other nodes
-    /// are shared.
+    /// This version with one trace more, whose number is above all. In time and memory linear in
+    /// its letters, at most 64 times as much, and logarithmic in the number of traces; the other
+    /// nodes are shared.
     pub fn insert(&self, number: u32, trace: &Trace) -> M<Version>
         requires { Each (λ (p : Numbered). p.0 < number) self.now }
         ensures { IfOk result (λ made. made ≡ self.now ++ (number, trace.now) ∷ []) }
@@ -84,7 +100,12 @@ impl Version {
         let trace = Rc::new(self.alloc, trace.remake(self.alloc)?)?;
         let node = planted(self.alloc, &self.ends, &self.children, number, &trace, 0)?;
         let all = self.all.push(self.alloc, number, trace)?;
-        Ok(Version { alloc: self.alloc, all, ends: node.ends, children: node.children })
+        Ok(Version {
+            alloc: self.alloc,
+            all,
+            ends: node.ends,
+            children: node.children,
+        })
     }
 
     /// This version without the trace of a number. In time and memory as `insert`.
@@ -96,13 +117,18 @@ impl Version {
             Some(trace) => {
                 let node = uprooted(self.alloc, &self.ends, &self.children, number, trace, 0)?;
                 let all = self.all.without(self.alloc, number)?;
-                Ok(Version { alloc: self.alloc, all, ends: node.ends, children: node.children })
+                Ok(Version {
+                    alloc: self.alloc,
+                    all,
+                    ends: node.ends,
+                    children: node.children,
+                })
             }
         }
     }
 
-    /// Whether there is a trace with the number. Takes no memory, and time logarithmic in the number
-    /// of traces.
+    /// Whether there is a trace with the number. Takes no memory, and time logarithmic in the
+    /// number of traces.
     pub fn has(&self, number: u32) -> bool
         ensures { result ≡ is_some (with_number number self.now) }
     {

@@ -19,10 +19,14 @@ planted-requires t c =
     let len : c.len.result ≡ length c.args.trace.now.value = c.len.ensures.len ∙ ap length c.deref.ensures in
     let lt : c.args.at < length c.args.trace.now.value = omega (arith, len, c.if-at-len.false, c.requires.within) in
     let P : List Numbered → Type 0 = Each (λ (p : Numbered). p.0 < c.args.number) in
-    let within : c.args.at + 1 ≤ length c.args.trace.now.value = omega (arith, lt) in
-    (omega (arith, lt, c.decreases), (within,
-    subst P (sym c.grown-grown.ensures) (each-behind (λ (p : Numbered). p.0 < c.args.number) c.at-letter.result c.args.children.now
-    (each-right (λ (p : Numbered). p.0 < c.args.number) (ended c.args.ends.now) (spread c.args.children.now) c.requires.above))))
+    let within : c.args.at + 1 ≤ length c.args.trace.now.value = omega (arith, lt) in (
+      omega (arith, lt, c.decreases),
+      (
+        within,
+        subst P (sym c.grown-grown.ensures) (each-behind (λ (p : Numbered). p.0 < c.args.number) c.at-letter.result c.args.children.now
+            (each-right (λ (p : Numbered). p.0 < c.args.number) (ended c.args.ends.now) (spread c.args.children.now) c.requires.above)),
+      ),
+    )
 
 pub returns : goal.returns
 returns t c =

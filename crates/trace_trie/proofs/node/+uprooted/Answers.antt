@@ -28,13 +28,17 @@ uprooted-requires t c =
     let left : drop c.args.at trace ≡ c.at-letter.result ∷ drop (c.args.at + 1) trace = drop-at trace c.args.at c.at-letter.result c.at-letter.ensures in
     let P : List Letter → Type 0 = λ (q : List Letter). Each (λ (p : Numbered). p.0 ≡ c.args.number → p.1 ≡ q) (passing c.args.ends.now c.args.children.now) in
     let Q : List Numbered → Type 0 = Each (λ (p : Numbered). p.0 ≡ c.args.number → p.1 ≡ drop (c.args.at + 1) trace) in
-    let only = subst P left c.requires.only in
-    (omega (arith, lt, c.decreases), (within,
-    subst Q (sym c.grown-grown.ensures)
-    (each-like (λ (p : Numbered). p.0 ≡ c.args.number → c.at-letter.result ∷ p.1 ≡ c.at-letter.result ∷ drop (c.args.at + 1) trace)
-    (λ (p : Numbered). p.0 ≡ c.args.number → p.1 ≡ drop (c.args.at + 1) trace) (λ p f e. tail-is c.at-letter.result p.1 (drop (c.args.at + 1) trace) (f e)) _
-    (each-behind (λ (p : Numbered). p.0 ≡ c.args.number → p.1 ≡ c.at-letter.result ∷ drop (c.args.at + 1) trace) c.at-letter.result c.args.children.now
-    (each-right (λ (p : Numbered). p.0 ≡ c.args.number → p.1 ≡ c.at-letter.result ∷ drop (c.args.at + 1) trace) (ended c.args.ends.now) (spread c.args.children.now) only)))))
+    let only = subst P left c.requires.only in (
+      omega (arith, lt, c.decreases),
+      (
+        within,
+        subst Q (sym c.grown-grown.ensures)
+            (each-like (λ (p : Numbered). p.0 ≡ c.args.number → c.at-letter.result ∷ p.1 ≡ c.at-letter.result ∷ drop (c.args.at + 1) trace)
+            (λ (p : Numbered). p.0 ≡ c.args.number → p.1 ≡ drop (c.args.at + 1) trace) (λ p f e. tail-is c.at-letter.result p.1 (drop (c.args.at + 1) trace) (f e)) _
+            (each-behind (λ (p : Numbered). p.0 ≡ c.args.number → p.1 ≡ c.at-letter.result ∷ drop (c.args.at + 1) trace) c.at-letter.result c.args.children.now
+            (each-right (λ (p : Numbered). p.0 ≡ c.args.number → p.1 ≡ c.at-letter.result ∷ drop (c.args.at + 1) trace) (ended c.args.ends.now) (spread c.args.children.now) only))),
+      ),
+    )
 
 pub returns : goal.returns
 returns t c =
@@ -42,6 +46,6 @@ returns t c =
     let left : drop c.args.at trace ≡ c.at-letter.result ∷ drop (c.args.at + 1) trace = drop-at trace c.args.at c.at-letter.result c.at-letter.ensures in
     let P : List Letter → Type 0 = λ (q : List Letter). Each (λ (p : Numbered). p.0 ≡ c.args.number → p.1 ≡ q) (passing c.args.ends.now c.args.children.now) in
     let below : passing c.in_ok-below.below.ends c.in_ok-below.below.children ≡ without_number c.args.number (behind c.at-letter.result c.args.children.now) =
-        c.in_ok-below.ensures ∙ ap (without_number c.args.number) c.grown-grown.ensures in
+    c.in_ok-below.ensures ∙ ap (without_number c.args.number) c.grown-grown.ensures in
     ap (λ (q : List Numbered). passing q c.in_ok-children-2.children) c.in_ok-ends-2.ensures
     ∙ without-spread c.args.number (drop (c.args.at + 1) trace) c.args.ends.now c.in_ok-children-2.ensures below (subst P left c.requires.only)

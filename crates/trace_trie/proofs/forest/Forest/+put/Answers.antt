@@ -65,7 +65,7 @@ returns-in_ok-more-in-Fork t c =
     let P : List Kid → Type 0 = λ (q : List Kid). IsSwapped c.args.letter (passing c.args.ends c.args.children.value) q c.in_ok-more-in-Fork.more in
     let Q : List Kid → Type 0 = λ (q : List Kid). IsSwapped c.args.letter (passing c.args.ends c.args.children.value) c.args.self.now q in
     let s : Q (c.in-Fork.first.value ++ c.in_ok-more-in-Fork.more) =
-        swapped-have c.args.letter at (sym c.has-in-Fork.ensures ∙ c.if-has.true) (subst P c.deref.ensures c.in_ok-more-in-Fork.ensures) in
+    swapped-have c.args.letter at (sym c.has-in-Fork.ensures ∙ c.if-has.true) (subst P c.deref.ensures c.in_ok-more-in-Fork.ensures) in
     IfOk-weaker c.with_second.result (λ (q : List Kid). q ≡ c.in-Fork.first.value ++ c.in_ok-more-in-Fork.more) Q (λ q e. subst Q (sym e) s) c.with_second.ensures
 
 pub returns-in_ok-more-in-Fork-2 : goal.returns-in_ok-more-in-Fork-2
@@ -74,5 +74,5 @@ returns-in_ok-more-in-Fork-2 t c =
     let P : List Kid → Type 0 = λ (q : List Kid). IsSwapped c.args.letter (passing c.args.ends c.args.children.value) q c.in_ok-more-in-Fork-2.more in
     let Q : List Kid → Type 0 = λ (q : List Kid). IsSwapped c.args.letter (passing c.args.ends c.args.children.value) c.args.self.now q in
     let s : Q (c.in_ok-more-in-Fork-2.more ++ c.in-Fork.second.value) =
-        swapped-lack c.args.letter at (sym c.has-in-Fork.ensures ∙ c.if-has.false) (subst P c.deref-else-has.ensures c.in_ok-more-in-Fork-2.ensures) in
+    swapped-lack c.args.letter at (sym c.has-in-Fork.ensures ∙ c.if-has.false) (subst P c.deref-else-has.ensures c.in_ok-more-in-Fork-2.ensures) in
     IfOk-weaker c.with_first.result (λ (q : List Kid). q ≡ c.in_ok-more-in-Fork-2.more ++ c.in-Fork.second.value) Q (λ q e. subst Q (sym e) s) c.with_first.ensures

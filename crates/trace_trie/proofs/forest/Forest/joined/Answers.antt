@@ -13,7 +13,7 @@ invariant_of-result c =
     let more : 0 < length c.args.second.value = omega (arith, after, c.if-after-eq0.false) in
     let sum : c.in-Some.count ≡ c.len-before.result + c.len-after.result = c.in-Some.ensures.1 in
     let count : c.in-Some.count ≡ length (c.args.first.value ++ c.args.second.value) =
-        omega (arith, length-append c.args.first.value c.args.second.value, before, after, sum) in
+    omega (arith, length-append c.args.first.value c.args.second.value, before, after, sum) in
     record {
       forked = (c.requires.name, some, more, count, c.requires.lack, c.requires.have);
       kids = kids-append c.args.name c.args.first.value c.args.second.value kids others c.requires.lack c.requires.have;

@@ -11,7 +11,7 @@ use Rattle.trace_trie.proofs.version.Version.without.Goals as goal
 pub returns-in-None : goal.returns-in-None
 returns-in-None c =
     let none : without_number c.args.number c.args.self.now ≡ c.args.self.now =
-        ap (without_number c.args.number) (sym c.self.view_is) ∙ without-none c.args.number c.self.inside.all c.in-None.ensures.none ∙ c.self.view_is in
+    ap (without_number c.args.number) (sym c.self.view_is) ∙ without-none c.args.number c.self.inside.all c.in-None.ensures.none ∙ c.self.view_is in
     rw none c.share.ensures
 
 pub uprooted-requires-clause-only : goal.uprooted-requires-clause-only
