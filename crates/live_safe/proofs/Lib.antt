@@ -3,12 +3,12 @@ mod Conjoining
 mod Counting
 mod OnLatches
 mod Parts
-mod SafeGates
-mod SafeRange
-mod Saving
+pub mod SafeGates
+pub mod SafeRange
+pub mod Saving
 mod Shapes
 mod Sizes
 mod Stages
-mod Starts
+pub mod Starts
 mod Stepping
-mod Unfolding
+pub mod Unfolding

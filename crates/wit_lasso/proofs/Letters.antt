@@ -1,0 +1,2 @@
+-- to come
+use Rattle.std.proofs.Common.{◌≡◌, ℕ}
