@@ -1,0 +1,4 @@
+pub mod Facts
+pub mod Queries
+pub mod QueryPaths
+pub mod Proofs

@@ -1,0 +1,1 @@
+//! Counts of variables and literals.

@@ -1,0 +1,1 @@
+//! Clauses of few literals.

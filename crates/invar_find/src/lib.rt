@@ -1,0 +1,6 @@
+//! STUB, not to be merged.
+#![tactic(auto)]
+
+mod finding;
+
+pub use finding::{Kept, SpentGroup, SpentList, invariants};

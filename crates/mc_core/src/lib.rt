@@ -1,0 +1,14 @@
+//! Checks of circuits against formulas.
+#![tactic(auto)]
+
+mod ask;
+mod checked;
+mod checking;
+mod mc_error;
+mod printing;
+
+pub use ask::Ask;
+pub use checked::Checked;
+pub use checking::check;
+pub use mc_error::McError;
+pub use printing::print_proof;
