@@ -1,8 +1,7 @@
 -- A circuit and a formula: paths to bad of the formula's safe net are tuples of executions that
 -- satisfy the body, or its negation.
 use Rattle.std.proofs.Common.{◌≡◌, ℕ, zero, suc, ◌+◌, ◌-◌, ◌/◌, ◌<◌, ◌≤◌, ◌↔◌, Bool, true, false, List, [], ◌∷◌, length, get_or, IsTrue, Some, inl, inr, refl, sym, ap, ◌∙◌, subst, arith}
-use Rattle.std.proofs.Math.Path.{fun_ext}
-use Rattle.std.proofs.lemmas.List.{get_or_past}
+use Rattle.std.proofs.lemmas.List.{length-map}
 use Rattle.hy_formula.specs.Trees.{Tree, vars_below}
 use Rattle.hy_formula.specs.Temporal.{endless, Words, SatisfiesAt, Decided, Repeats, IsDecided}
 use Rattle.hy_formula.specs.Normals.{Normal, HoldsAt, Signed}
@@ -12,10 +11,11 @@ use Rattle.hy_formula.specs.declared.prefix.Quant.TheVariants.{Exists, Forall}
 use Rattle.hy_formula.proofs.Deciding.{decided-like}
 use Rattle.hy_formula.proofs.Repeating.{decided-repeating}
 use Rattle.hy_formula.proofs.Tuples.{every-tuple, some-tuple}
-use Rattle.ltl_closure.specs.Closures.{closure, form_in, nodes_of}
-use Rattle.ltl_closure.specs.Jobs.{Task, forms_of, task_roots, variable_in, Holds}
+use Rattle.ltl_closure.specs.Closures.{closure, form_in, node_of}
+use Rattle.ltl_closure.specs.Jobs.{Task, forms_of, form_of_task, variable_in}
 use Rattle.ltl_closure.specs.Nodes.{Node, Numbers}
-use Rattle.ltl_closure.proofs.Closing.{closure-numbers}
+use Rattle.ltl_closure.proofs.Closing.{closure-numbers, number-found}
+use Rattle.ltl_closure.proofs.Tasks.{forms-there, none-closed}
 use Rattle.ltl_closure.proofs.Roots.{root-right}
 use Rattle.aig_net.specs.declared.signals.Signal.{Signal}
 use Rattle.aig_net.specs.Nets.{Net, Valuation, Below, variables, literal_value, literal_at, IsNet}
@@ -36,12 +36,11 @@ use Rattle.sym_tableau.proofs.Heeding.{old-execution, roots-hold}
 use Rattle.live_safe.specs.Paths.{IsBadPath}
 use Rattle.live_safe.specs.Safe.{shown_word}
 use Rattle.live_safe.proofs.Saving.{lasso-path}
+use Rattle.live_safe.proofs.Unfolding.{unfolding-path}
 use Rattle.wit_lasso.specs.FormulaNets.{AreOwn, Tableau, body_nodes, body_roots, body_task, copy_signals, formula_net, formula_safe, formula_tableau, identity_map, tableau_net}
 use Rattle.wit_lasso.specs.Satisfaction.{IsVisible, Meets, Satisfies, Trace, no_trace, trace_words}
-use Rattle.wit_lasso.specs.Unfoldings.{Saves, copy_lasso, copy_word}
-use Rattle.wit_lasso.proofs.Bodies.{body-same, signed-like, signed-same}
+use Rattle.wit_lasso.proofs.Bodies.{body-same, signed-same}
 use Rattle.wit_lasso.proofs.CopySignals.{copies-below, signal-copied}
-use Rattle.wit_lasso.proofs.Steps.{lasso-same, near}
 
 -- ---- what does not depend on the formula: lassos of the net with oracles, and of the copies
 
@@ -174,35 +173,70 @@ module _ (net : Net) (good : IsNet net) (signals : List Signal) (are : AreOwn ne
       small h)
 
   root-inside : (r : ℕ) → r < 1 → literal_at roots r < length nodes
-  root-inside r lt = ?
+  root-inside zero lt =
+      let there = forms-there (forms_of tasks) [] none-closed in
+      let (p, _, below, e) = there.0 in
+      let found = number-found (closure (forms_of tasks)) (form_of_task (body_task n body b)) p below
+      e in
+      let many = length-map (closure (forms_of tasks)) (node_of (closure (forms_of tasks))) in
+      omega (arith, found.0, below, many)
+  root-inside (suc r) lt = absurd (omega arith)
 
   net-is : IsNet (formula_net net signals n body b)
   net-is = attached-net all nodes all-net sig roots sig-below numbers.parts
 
   -- ---- from a tuple to a path
 
+  -- an execution of the copies that a tuple of traces is seen of
+  pub record Joins (tuple : List Trace) : Type 0 where
+    pub lasso : Lasso
+    pub execution : IsLassoExecution all lasso
+    pub agree : (a v i : ℕ) → v < n → trace_words tuple a v i ≡ read sig (gone lasso) a v i
+
+  joins : (tuple : List Trace) → IsTuple (IsVisible net signals) n tuple → Joins tuple
+  joins tuple is =
+      let lassos : ℕ → Lasso = owns net signals tuple is.members in
+      let (lasso, execution, same) = join-lasso net n lassos good some
+      (λ c lt. owns-are net signals tuple is.members c (omega (arith, lt, is.count))) in
+      record {
+        lasso = lasso;
+        execution = execution;
+        agree = λ a v i lt. ap (λ (x : Trace). x a i) (owns-seen net signals tuple is.members v
+            (omega (arith, lt, is.count)))
+            ∙ sym (seen-copy (gone lasso) a v i lt
+            ∙ value-same (copy n v (gone lasso) i) (gone (lassos v) i) (signal_in signals a 0)
+            (same v i (signal_in signals a 0 / 2) lt));
+      }
+
+  decided-in : (lasso : Lasso) → IsLassoExecution all lasso →
+      IsDecided endless (read sig (gone lasso))
+  decided-in lasso is =
+      decided-repeating (length lasso.stem) (length lasso.cycle) (read sig (gone lasso))
+      (repeats (gone lasso) (length lasso.stem) (length lasso.cycle) (gone-recurs lasso is.some))
+
+  decided-tuple : (tuple : List Trace) → IsTuple (IsVisible net signals) n tuple →
+      Decided (Meets body tuple)
+  decided-tuple tuple is =
+      let j = joins tuple is in
+      decided-like
+      (body-same n some (read sig (gone j.lasso)) (trace_words tuple)
+      (λ a v i lt. sym (j.agree a v i lt)) body small 0)
+      (body-same n some (trace_words tuple) (read sig (gone j.lasso)) j.agree body small 0)
+      (decided-in j.lasso j.execution body 0)
+
   pub to-path : (tuple : List Trace) → IsTuple (IsVisible net signals) n tuple →
       Signed b (Meets body tuple) →
       (k : ℕ) × (word : Word) × IsBadPath (formula_safe net signals n body b) k word
   to-path tuple is h =
-      let lassos : ℕ → Lasso = owns net signals tuple is.members in
-      let (lasso, execution, same) = join-lasso net n lassos good some
-      (λ c lt. owns-are net signals tuple is.members c (omega (arith, lt, is.count))) in
-      let whole : Word = gone lasso in
-      let s : ℕ = length lasso.stem in
-      let p : ℕ = length lasso.cycle in
-      let recurs : Recurs whole s p = gone-recurs lasso execution.some in
-      let whole-is : IsExecution all whole = gone-execution all lasso execution in
-      let decided : IsDecided endless (read sig whole) =
-      decided-repeating s p (read sig whole) (repeats whole s p recurs) in
-      let agree : (a v i : ℕ) → v < n → trace_words tuple a v i ≡ read sig whole a v i =
-      λ a v i lt. ap (λ (x : Trace). x a i) (owns-seen net signals tuple is.members v
-      (omega (arith, lt, is.count)))
-      ∙ sym (seen-copy whole a v i lt
-      ∙ value-same (copy n v whole i) (gone (lassos v) i) (signal_in signals a 0)
-      (same v i (signal_in signals a 0 / 2) lt)) in
+      let j = joins tuple is in
+      let whole : Word = gone j.lasso in
+      let s : ℕ = length j.lasso.stem in
+      let p : ℕ = length j.lasso.cycle in
+      let recurs : Recurs whole s p = gone-recurs j.lasso j.execution.some in
+      let whole-is : IsExecution all whole = gone-execution all j.lasso j.execution in
+      let decided : IsDecided endless (read sig whole) = decided-in j.lasso j.execution in
       let hold : Rooted (read sig whole) = says-root (read sig whole) decided
-      (signed-same b n some (trace_words tuple) (read sig whole) agree body small h) in
+      (signed-same b n some (trace_words tuple) (read sig whole) j.agree body small h) in
       let roots-hold' : (r : ℕ) → r < 1 →
       HoldsAt endless (read sig whole) (form (literal_at roots r)) 0 =
       λ r lt. (let P : ℕ → Type 0 = λ r. HoldsAt endless (read sig whole)
@@ -237,3 +271,95 @@ module _ (net : Net) (good : IsNet net) (signals : List Signal) (are : AreOwn ne
       (roots-hold all nodes sig roots (gone lasso)
       (gone-execution (formula_net net signals n body b) lasso is) form numbers 0 (omega arith)
       (root-inside 0 (omega arith))))
+
+  -- the traces of the copies
+  module _ (lasso : Lasso) (is : IsLassoExecution (formula_net net signals n body b) lasso) where
+    abbrev word : Word
+    word = old net good n some t lasso is
+
+    abbrev own : ℕ → Lasso
+    own c = lasso_of (copy n c word) (length lasso.stem) (length lasso.cycle)
+
+    abbrev seen : ℕ → Trace
+    seen c = visible signals (gone (own c))
+
+    -- what is seen of the lasso of a copy is what is seen of its word
+    pub seen-own : (a c i : ℕ) → seen c a i ≡ visible signals (copy n c word) a i
+    seen-own a c i =
+        value-same (gone (own c) i) (copy n c word i) (signal_in signals a 0)
+        (recurring (copy n c word) (length lasso.stem) (length lasso.cycle)
+        (copy-recurs n word (length lasso.stem) (length lasso.cycle) c
+        (old-recurs net good n some t lasso is)) i (signal_in signals a 0 / 2))
+
+    abbrev tuple : List Trace
+    tuple = listed 0 n seen
+
+    tuple-at : (c : ℕ) → c < n → get_or tuple c no_trace ≡ seen c
+    tuple-at c lt = let plain : 0 + c ≡ c = omega arith in
+        at-listed 0 n seen no_trace c lt ∙ ap seen plain
+
+    tuple-is : IsTuple (IsVisible net signals) n tuple
+    tuple-is = record {
+      count = length-listed 0 n seen;
+      members = at-each (IsVisible net signals) tuple no_trace
+          (λ c lt.
+          let many = length-listed 0 n seen in
+          let few : c < n = omega (arith, many, lt) in
+          let P : Trace → Type 0 = IsVisible net signals in
+          subst P (sym (tuple-at c few)) (record {
+            lasso = own c;
+            execution = own-execution net good n some t lasso is c few;
+            seen = refl;
+          }));
+    }
+
+    tuple-says : Signed b (Meets body tuple)
+    tuple-says =
+        signed-same b n some (λ a v i. visible signals (copy n v word) a i) (trace_words tuple)
+        (λ a v i lt. sym (ap (λ (x : Trace). x a i) (tuple-at v lt) ∙ seen-own a v i)) body small
+        (lasso-says lasso is)
+
+  pub from-path : (k : ℕ) (path : Word) → IsBadPath (formula_safe net signals n body b) k path →
+      (tuple : List Trace) × IsTuple (IsVisible net signals) n tuple × Signed b (Meets body tuple)
+  from-path k path bad =
+      let (save, _, _, _, is) = unfolding-path (formula_net net signals n body b) k path bad in
+      let lasso : Lasso = lasso_of (shown_word (formula_net net signals n body b) path) save
+      (k - save) in
+      (tuple lasso is, tuple-is lasso is, tuple-says lasso is)
+
+-- ---- both kinds of formulas
+
+pub universal-right : (net : Net) (signals : List Signal) (n : ℕ) (body : Tree) → IsNet net →
+    AreOwn net signals → 0 < n → IsTrue (vars_below n body) →
+    Satisfies net signals (repeated Forall n) body
+    ↔ ((k : ℕ) (word : Word) → ¬ IsBadPath (formula_safe net signals n body false) k word)
+universal-right net signals n body good are some small = (there, back)
+  where
+    there : Satisfies net signals (repeated Forall n) body →
+        (k : ℕ) (word : Word) → ¬ IsBadPath (formula_safe net signals n body false) k word
+    there holds k word bad =
+        let (tuple, is, fails) = from-path net good signals are n some body small false k word bad in
+        fails ((every-tuple (IsVisible net signals) (Meets body) n).0 holds tuple is)
+
+    back : ((k : ℕ) (word : Word) → ¬ IsBadPath (formula_safe net signals n body false) k word) →
+        Satisfies net signals (repeated Forall n) body
+    back none = (every-tuple (IsVisible net signals) (Meets body) n).1 (λ tuple is.
+        elim (decided-tuple net good signals are n some body small false tuple is) [
+          | inl holds ↦ holds
+          | inr fails ↦
+              let (k, word, bad) = to-path net good signals are n some body small false tuple is
+              fails in
+              absurd (none k word bad)
+        ])
+
+pub existential-right : (net : Net) (signals : List Signal) (n : ℕ) (body : Tree) → IsNet net →
+    AreOwn net signals → 0 < n → IsTrue (vars_below n body) →
+    Satisfies net signals (repeated Exists n) body
+    ↔ ((k : ℕ) × (word : Word) × IsBadPath (formula_safe net signals n body true) k word)
+existential-right net signals n body good are some small = (
+  λ holds.
+      let (tuple, is, says) = (some-tuple (IsVisible net signals) (Meets body) n).0 holds in
+      to-path net good signals are n some body small true tuple is says,
+  λ (k, word, bad). (some-tuple (IsVisible net signals) (Meets body) n).1
+      (from-path net good signals are n some body small true k word bad),
+)
