@@ -3,6 +3,7 @@ pub mod Checking
 pub mod Counting
 pub mod CopySignals
 pub mod Letters
+pub mod PathLassos
 pub mod PathRuns
 pub mod Running
 pub mod Steps

@@ -21,6 +21,8 @@ ghost use Rattle.wit_lasso.specs.Satisfaction.{Satisfies};
 ghost use Rattle.wit_lasso.specs.Seeing.{IsTraceOf};
 ghost use Rattle.wit_lasso.specs.Unfoldings.{AreUnfolded, IsRunOf, run_at};
 
+use aig_net::one_execution;
+
 /// A circuit satisfies a universal formula exactly where no path from the start reaches bad in the
 /// safe net of the formula, whose body is negated, and an existential one exactly where some path
 /// does, where the body is not. The visible traces of the runs of such a path satisfy the body, or
@@ -42,7 +44,9 @@ pub fn checked()
         → length traces ≡ n
         → ((c : ℕ) → c < n → IsTraceOf net signals (run_at runs c) (slice_index_or traces c no_lasso))
         → Signed positive (words.Meets body traces) }
-{}
+{
+    one_execution();
+}
 
 /// The run of a lasso execution is that of values which agree with it.
 pub fn runs_are_executions()
