@@ -1,6 +1,6 @@
 mod Closings
 mod Conjoining
-mod Counting
+pub mod Counting
 mod OnLatches
 mod Parts
 pub mod SafeGates

@@ -5,5 +5,6 @@ pub mod CopySignals
 pub mod Letters
 pub mod PathLassos
 pub mod PathRuns
+pub mod Places
 pub mod Running
 pub mod Steps

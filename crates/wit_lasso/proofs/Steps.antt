@@ -1,9 +1,10 @@
 -- The steps of a lasso, and words that agree for so long.
-use Rattle.std.proofs.Common.{◌≡◌, ℕ, zero, suc, ◌+◌, ◌-◌, ◌%◌, ◌<◌, ◌≤◌, List, [], ◌∷◌, inl, inr, refl, sym, ap, ◌∙◌, subst, arith}
+use Rattle.std.proofs.Common.{◌≡◌, ℕ, zero, suc, ◌+◌, ◌-◌, ◌%◌, ◌<◌, ◌≤◌, List, [], ◌∷◌, ◌++◌, inl, inr, refl, sym, ap, ◌∙◌, subst, arith}
 use Rattle.std.proofs.Math.Nat.{mod-eq_of_lt}
 use Rattle.std.proofs.lemmas.Bool.{cases_lt}
 use Rattle.aig_net.specs.Executions.{Word, gone, lasso_of, part}
 use Rattle.aig_net.specs.Wires.{listed}
+use Rattle.aig_net.proofs.Listed.{listed-last}
 use Rattle.aig_net.proofs.Rounds.{before, round}
 
 -- as far as it goes a lasso is its word
@@ -38,3 +39,11 @@ listed-same c zero f g same = refl
 listed-same c (suc n) f g same =
     ap (λ x. x ∷ listed (suc c) n f) (same c (omega arith) (omega arith))
     ∙ ap (λ l. g c ∷ l) (listed-same (suc c) n f g (λ i le lt. same i (omega arith) (omega arith)))
+
+pub listed_next : {B : Type 0} (f : ℕ → B) (k : ℕ) (made more : List B) (x : B) →
+    made ≡ listed 0 k f → more ≡ made ++ x ∷ [] → x ≡ f k → more ≡ listed 0 (k + 1) f
+listed_next f k made more x e added is =
+    let up : k + 1 ≡ suc k = omega arith in
+    let plain : 0 + k ≡ k = omega arith in
+    added ∙ ap (λ l. l ++ x ∷ []) e ∙ ap (λ y. listed 0 k f ++ y ∷ []) (is ∙ ap f (sym plain))
+    ∙ sym (listed-last 0 k f) ∙ ap (λ n. listed 0 n f) (sym up)

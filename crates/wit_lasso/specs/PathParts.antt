@@ -1,6 +1,6 @@
 -- The run of each copy by places of a path's rows: input j of copy c of n stands at place j * n + c,
 -- and behind the input that saves stand the inputs of the free latches in the same order.
-use Rattle.std.specs.Prelude.{ℕ, suc, ◌+◌, ◌-◌, ◌*◌, Bool, true, false, List, [], map, take, drop, length}
+use Rattle.std.specs.Prelude.{ℕ, suc, ◌+◌, ◌-◌, ◌*◌, ◌^◌, ◌<◌, ◌≤◌, Bool, true, false, List, [], map, take, drop, length}
 use Rattle.aig_net.specs.declared.parts.Reset.{Reset}
 use Rattle.aig_net.specs.declared.parts.Reset.TheVariants.{Zero, One, Free}
 use Rattle.aig_net.specs.declared.run.Run.{Run}
@@ -43,3 +43,12 @@ own_run net n place rows start c = record {
   stem = map (own_inputs net.inputs n c) (take start rows);
   cycle = map (own_inputs net.inputs n c) (drop start rows);
 }
+
+-- Each row, of which there is one at least, has the inputs of the copies before the one that saves,
+-- and those of the free latches behind it.
+pub record AreRows (net : Net) (n place : ℕ) (rows : List (List Bool)) : Type 0 where
+  pub some : 0 < length rows
+  pub inputs : net.inputs * n ≤ place
+  pub small : free_before net.resets (length net.resets) * n < 2 ^ 32
+  pub long : (i : ℕ) → i < length rows →
+      free_before net.resets (length net.resets) * n + suc place ≤ length (row_at rows i)
