@@ -3,12 +3,12 @@
 ghost use Rattle.std.specs.Prelude.{◌≡◌, ℕ, ◌<◌, false, length, IfOk};
 ghost use Rattle.aig_net.specs.declared.run.ValueLasso.{ValueLasso};
 ghost use Rattle.aig_net.specs.Following.{row_at};
-ghost use Rattle.aig_net.specs.Nets.{row, variables};
+ghost use Rattle.aig_net.specs.Nets.{Below, row, variables};
 ghost use Rattle.aig_net.specs.Simulations.{IsExecutionOf};
 ghost use Rattle.sym_tableau.specs.Places.{AreWithin};
-ghost use Rattle.wit_lasso.specs.Seeing.{AreSeen, IsSeen, IsTraceOf};
+ghost use Rattle.wit_lasso.specs.Seeing.{AreSeen, Counts, IsSeen, IsTraceOf};
 
-use aig_net::{Net, Row, Run, Signals, simulate, value_of};
+use aig_net::{Net, Row, Run, Signal, Signals, simulate, value_of};
 use hy_base::{List, M};
 use hy_bits::{LetterMask, Letters};
 use hy_lasso::Lasso;
@@ -47,7 +47,7 @@ fn letters_of(alloc: Global, rows: &[Row], signals: &Signals) -> M<Letters>
 }
 
 /// What is seen of a row of values: the names of variable 0 whose literals are true. The first
-/// signal of a name counts.
+/// signal of a name counts, so it is looked at last.
 fn letter_of(values: &[bool], signals: &Signals) -> LetterMask
     requires within { AreWithin (length values.now) signals.now }
     requires constant { row values.now 0 ≡ false }
@@ -55,15 +55,27 @@ fn letter_of(values: &[bool], signals: &Signals) -> LetterMask
 {
     let mut letter = LetterMask::empty();
     for i in (0..signals.len()).rev() {
-        let signal = signals.at(i);
-        if signal.var == 0 {
-            let name = usize::from(signal.name);
-            letter = if value_of(values, signal.literal) {
-                letter.with(name)
-            } else {
-                letter.without(name)
-            };
-        }
+        letter = with_signal(letter, *signals.at(i), values);
     }
     letter
+}
+
+/// The letter with the name of a signal where its literal is true, and else without it. A signal of
+/// another variable than 0 changes nothing.
+#[tactic(auto, using(crate::proofs::Letters::counts_true, crate::proofs::Letters::counts_false,
+    crate::proofs::Letters::counts_none))]
+fn with_signal(letter: LetterMask, signal: Signal, values: &[bool]) -> LetterMask
+    requires name { signal.name < 64 }
+    requires within { Below (length values.now) signal.literal }
+    ensures { Counts signal (row values.now) letter result }
+{
+    let name = usize::from(signal.name);
+    if signal.var != 0 {
+        return letter;
+    }
+    if value_of(values, signal.literal) {
+        letter.with(name)
+    } else {
+        letter.without(name)
+    }
 }
