@@ -1,0 +1,17 @@
+pub mod Conditions
+pub mod Inducing
+pub mod States
+pub mod Surviving
+pub mod Values
+pub mod Meanings
+pub mod FramePaths
+pub mod Distinct
+pub mod Keeping
+pub mod Answering
+pub mod Likeness
+pub mod Choosing
+pub mod DistinctChosen
+pub mod Groups
+pub mod KeepingChosen
+pub mod Ranges
+pub mod Concluding

@@ -1,3 +1,4 @@
+pub mod Counts
 pub mod Facts
 pub mod Queries
 pub mod QueryPaths

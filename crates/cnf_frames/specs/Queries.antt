@@ -201,13 +201,22 @@ abbrev pub literals_in : List Clause → ℕ
 literals_in [] = 0
 literals_in (c ∷ clauses) = length c + literals_in clauses
 
--- Which count of the query is past its limit; variables are counted first.
+-- Which of two counts is past its limit; variables come first.
+abbrev pub IsPastBy : ℕ → ℕ → Kind → Type 0
+IsPastBy variables literals CnfVariables = most CnfVariables < variables
+IsPastBy variables literals CnfLiterals =
+    (variables ≤ most CnfVariables) × (most CnfLiterals < literals)
+IsPastBy variables literals _ = ⊥
+
+-- why no query has so many variables and literals; want of memory needs no cause
+abbrev pub IsRefusalBy : ℕ → ℕ → FrameError → Type 0
+IsRefusalBy variables literals (Limit limit) =
+    IsPastBy variables literals limit.kind × (limit.limit ≡ most limit.kind)
+IsRefusalBy variables literals Memory = Unit {0}
+
 abbrev pub IsPast : SafeNet → Asked → Kind → Type 0
-IsPast safe asked CnfVariables = most CnfVariables < variables_of safe asked
-IsPast safe asked CnfLiterals =
-    (variables_of safe asked ≤ most CnfVariables)
-    × (most CnfLiterals < literals_in (clauses_of safe asked))
-IsPast safe asked _ = ⊥
+IsPast safe asked kind =
+    IsPastBy (variables_of safe asked) (literals_in (clauses_of safe asked)) kind
 
 -- Both counts are within their limits.
 pub record IsWithin (safe : SafeNet) (asked : Asked) : Type 0 where
@@ -220,7 +229,6 @@ pub record IsQuery (safe : SafeNet) (asked : Asked) (query : Query) : Type 0 whe
   pub variables : query.cnf.variables ≡ variables_of safe asked
   pub within : IsWithin safe asked
 
--- why there is no query; want of memory needs no cause
+-- why there is no query
 abbrev pub IsRefusal : SafeNet → Asked → FrameError → Type 0
-IsRefusal safe asked (Limit limit) = IsPast safe asked limit.kind × (limit.limit ≡ most limit.kind)
-IsRefusal safe asked Memory = Unit {0}
+IsRefusal safe asked e = IsRefusalBy (variables_of safe asked) (literals_in (clauses_of safe asked)) e

@@ -2,16 +2,16 @@
 //! and proofs by induction made of refutations.
 #![tactic(auto)]
 
-mod counts;
 mod facts;
-mod frames;
 mod inductions;
+mod laws;
 mod queries;
 mod reading;
-#[cfg(test)]
-mod tests;
-mod writing;
 
 pub use facts::{Fact, Inv};
 pub use inductions::{InductionProof, LogList};
+pub use laws::{
+    facts_survive, induction, induction_proof, inductive_facts, queries_are_paths, refuted_queries,
+    step_paths_are_short,
+};
 pub use queries::{Asked, FrameError, Query, base_query, keep_query, step_query};

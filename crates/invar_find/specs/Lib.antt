@@ -1,1 +1,3 @@
-pub mod Finding
+pub mod Candidates
+pub mod Kepts
+pub mod Parts

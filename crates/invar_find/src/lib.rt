@@ -2,5 +2,7 @@
 #![tactic(auto)]
 
 mod finding;
+mod kept;
 
-pub use finding::{Kept, SpentGroup, SpentList, invariants};
+pub use finding::invariants;
+pub use kept::{Kept, SpentGroup, SpentList};

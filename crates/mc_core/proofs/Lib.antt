@@ -1,0 +1,5 @@
+pub mod Copied
+pub mod Growing
+pub mod MeaningLemmas
+pub mod NameSets
+pub mod SignalTables

@@ -26,8 +26,8 @@ use Rattle.cnf_frames.specs.declared.queries.FrameError.TheVariants as frame
 use Rattle.cnf_frames.specs.Proofs.{IsInductionProof}
 use Rattle.k_induct.specs.Verdicts.{IsDeep, IsStopped, IsVerdict}
 use Rattle.k_induct.specs.declared.verdict.Verdict.TheVariants as verdict
-use Rattle.invar_find.specs.declared.finding.Kept.{Kept}
-use Rattle.invar_find.specs.Finding as finding
+use Rattle.invar_find.specs.declared.kept.Kept.{Kept}
+use Rattle.invar_find.specs.Kepts as kepts
 use Rattle.mc_core.specs.declared.ask.Ask.{Ask}
 use Rattle.mc_core.specs.declared.checked.Checked.{Checked}
 use Rattle.mc_core.specs.declared.checked.Checked.TheVariants.{Holds, Violated, UnknownDepth, UnknownConflicts}
@@ -95,7 +95,7 @@ IsEvidence false net signals prefix body depth traces runs proof =
 -- The facts that are used: none where they are not asked for.
 abbrev pub IsKept : Bool → SafeNet → ℕ → Kept → Type 0
 IsKept true safe conflicts kept = (kept.inv ≡ []) × (kept.logs ≡ []) × (kept.spent ≡ [])
-IsKept false safe conflicts kept = finding.IsKept safe conflicts kept
+IsKept false safe conflicts kept = kepts.IsKept safe conflicts kept
 
 -- ---- answers
 
@@ -116,16 +116,30 @@ IsChecked net signals prefix body ask (UnknownConflicts conflicts k step kept lo
     × IsVerdict (checked_safe net signals prefix body) kept.inv ask.depth ask.conflicts
     (verdict.Spent k step log)
 
+-- why a body has no closure; want of memory needs no cause
+abbrev pub IsClosureRefusal : ℕ → Tree → Bool → McError → Type 0
+IsClosureRefusal n body positive (Limit limit) =
+    (most Closure < length (body_nodes n body positive)) × (limit.kind ≡ Closure)
+    × (limit.limit ≡ most Closure)
+IsClosureRefusal n body positive Memory = Unit {0}
+IsClosureRefusal n body positive _ = ⊥
+
+-- why a body has no signals; want of memory needs no cause
+abbrev pub IsNameRefusal : Net → List (List ℕ) → Tree → McError → Type 0
+IsNameRefusal net names body (Name name twice) = IsFirstBad net names body name twice
+IsNameRefusal net names body Memory = Unit {0}
+IsNameRefusal net names body _ = ⊥
+
 -- ---- refusals, in this order: the class, the closure, the names, and what the work meets
 
 abbrev pub IsRefused : Net → List (List ℕ) → List Quant → Tree → Ask → McError → Type 0
 IsRefused net names prefix body ask (Prefix class) =
     (class ≡ class_of prefix) × (¬ IsTaken prefix)
 IsRefused net names prefix body ask (Limit limit) =
-    (IsTaken prefix × (most Closure < members prefix body) × (limit.kind ≡ Closure)
-    × (limit.limit ≡ most Closure))
+    (IsTaken prefix
+    × IsClosureRefusal (length prefix) body (is_existential prefix) (Limit limit))
     ⊎ ((signals : List Signal) × IsPosed net names prefix body signals × (ask.plain ≡ false)
-    × finding.IsStopped (checked_safe net signals prefix body) ask.conflicts (frame.Limit limit))
+    × kepts.IsStopped (checked_safe net signals prefix body) (frame.Limit limit))
 IsRefused net names prefix body ask (CnfLimit kind limit kept) =
     (signals : List Signal) × IsPosed net names prefix body signals
     × IsKept ask.plain (checked_safe net signals prefix body) ask.conflicts kept

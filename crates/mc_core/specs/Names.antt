@@ -1,9 +1,9 @@
 -- What the names of a formula stand for in a net: the literals of the inputs, latches and outputs
 -- that have the name. An empty name is none.
-use Rattle.std.specs.Prelude.{◌≡◌, ◌≢◌, ℕ, suc, ◌+◌, ◌*◌, ◌<◌, ◌⊎◌, ◌||◌, Bool, true, false, nat_eq, IsTrue, List, [], length, slice_index_or, Contains, All}
+use Rattle.std.specs.Prelude.{◌≡◌, ◌≢◌, ℕ, ◌+◌, ◌*◌, ◌<◌, ◌⊎◌, ◌||◌, Bool, true, false, nat_eq, IsTrue, List, [], length, slice_index_or, Contains, All}
 use Rattle.hy_formula.specs.Trees.{Tree, always, never, atom, not, next, finally, globally, and, or, implies, iff, until, release, weak}
 use Rattle.aig_net.specs.declared.signals.Signal.{Signal}
-use Rattle.aig_net.specs.Nets.{Net, latch_variable, literal_at}
+use Rattle.aig_net.specs.Nets.{Net, literal_at}
 use Rattle.aig_net.specs.Signals.{are_signals, has_signal}
 
 -- whether the name, by its number, stands in an atom
@@ -30,12 +30,21 @@ name_at names k = slice_index_or names k []
 abbrev pub StandsAt : List (List ℕ) → List ℕ → ℕ → Type 0
 StandsAt names name j = (j < length names) × (name_at names j ≡ name)
 
+-- A variable of these, the first of which has this number, has the name: its literal.
+abbrev pub NamesVariable : List (List ℕ) → List ℕ → ℕ → ℕ → Type 0
+NamesVariable names name first l = (j : ℕ) × StandsAt names name j × (l ≡ 2 * (first + j))
+
+-- A literal of these has the name.
+abbrev pub NamesLiteral : List (List ℕ) → List ℕ → List ℕ → ℕ → Type 0
+NamesLiteral names name literals l =
+    (j : ℕ) × StandsAt names name j × (l ≡ literal_at literals j)
+
 -- An input, a latch or an output with this literal has the name.
 abbrev pub HasLiteral : Net → List ℕ → ℕ → Type 0
 HasLiteral net name l =
-    (name ≢ []) × (((j : ℕ) × StandsAt net.input_names name j × (l ≡ 2 * suc j))
-    ⊎ (((j : ℕ) × StandsAt net.latch_names name j × (l ≡ 2 * latch_variable net j))
-    ⊎ ((j : ℕ) × StandsAt net.output_names name j × (l ≡ literal_at net.outputs j))))
+    (name ≢ []) × (NamesVariable net.input_names name 1 l
+    ⊎ (NamesVariable net.latch_names name (1 + net.inputs) l
+    ⊎ NamesLiteral net.output_names name net.outputs l))
 
 -- The name stands for this literal alone.
 pub record IsOnly (net : Net) (name : List ℕ) (l : ℕ) : Type 0 where

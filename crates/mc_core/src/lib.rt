@@ -5,7 +5,10 @@ mod ask;
 mod checked;
 mod checking;
 mod mc_error;
+mod meaning;
+mod naming;
 mod printing;
+mod safe_nets;
 
 pub use ask::Ask;
 pub use checked::Checked;

@@ -69,10 +69,10 @@ module _ (n name : ℕ) (s : Signal) (rest : List Signal) where
             ∙ found m (suc a) c (omega (arith, le, apart)) (omega (arith, lt))
       ]
 
-abbrev AreFirst : List Signal → Type 0
+abbrev pub AreFirst : List Signal → Type 0
 AreFirst signals = All (λ s. s.var ≡ 0) signals
 
-literal-copied : (n name c : ℕ) → c < n → (signals : List Signal) → AreFirst signals →
+pub literal-copied : (n name c : ℕ) → c < n → (signals : List Signal) → AreFirst signals →
     literal_of (copy_signals n signals) name c ≡ option_map (copy_literal n c)
     (literal_of signals name 0)
 literal-copied n name c few [] own = refl

@@ -1,1 +1,0 @@
-//! Counts of variables and literals.

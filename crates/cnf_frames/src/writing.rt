@@ -1,1 +1,0 @@
-//! Clauses of few literals.
