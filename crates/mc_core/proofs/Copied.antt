@@ -39,13 +39,14 @@ before : (signals : List Signal) (i : ℕ) (s : Signal) → IsTrue (are_signals 
 before [] i s are e = absurd (cc)
 before (x ∷ signals) zero s are e = refl
 before (x ∷ signals) (suc i) s are e =
-    at (is_for s.name s.var x) refl
+    at (is_for s.name s.var x) refl (before signals i s (and-both _ _ are).1 e)
   where
-    rest : has_signal (take i signals) s.name s.var ≡ false
-    rest = before signals i s (and-both _ _ are).1 e
-
     fresh : has_signal signals x.name x.var ≡ false
-    fresh = not-it _ (and-both _ _ (and-both _ _ are).0).1
+    fresh =
+        let (front, _) = and-both (nat_lt x.name 64 && not (has_signal signals x.name x.var))
+        (are_signals signals) are in
+        let (_, new) = and-both (nat_lt x.name 64) (not (has_signal signals x.name x.var)) front in
+        not-it (has_signal signals x.name x.var) new
 
     there : (signals : List Signal) (i : ℕ) → slice_get signals i ≡ Some s →
         has_signal signals s.name s.var ≡ true
@@ -68,9 +69,10 @@ before (x ∷ signals) (suc i) s are e =
         at false h = h
 
     at : (b : Bool) → is_for s.name s.var x ≡ b →
+        has_signal (take i signals) s.name s.var ≡ false →
         is_some (cond b (Some x.literal) (literal_of (take i signals) s.name s.var)) ≡ false
-    at false is = rest
-    at true is =
+    at false is rest = rest
+    at true is rest =
         let (n, v) = and-both _ _ is in
         let e1 : x.name ≡ s.name = (Decides-eqb x.name s.name).0 n in
         let e2 : x.var ≡ s.var = (Decides-eqb x.var s.var).0 v in

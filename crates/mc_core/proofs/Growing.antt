@@ -1,12 +1,12 @@
 -- A net is no larger than its copies, those with oracles, and the safe net of these.
-use Rattle.std.proofs.Common.{◌≡◌, ℕ, suc, ◌+◌, ◌*◌, ◌/◌, ◌^◌, ◌<◌, ◌≤◌, List, length, length-append, arith, All}
+use Rattle.std.proofs.Common.{◌≡◌, ℕ, suc, ◌+◌, ◌*◌, ◌/◌, ◌^◌, ◌<◌, ◌≤◌, List, get_or, length, length-append, arith, All}
 use Rattle.std.proofs.Math.Nat.{mul-le-mul_left}
 use Rattle.std.proofs.lemmas.List.{length-map}
 use Rattle.ltl_closure.specs.Nodes.{Node}
 use Rattle.aig_net.specs.declared.signals.Signal.{Signal}
 use Rattle.aig_net.specs.Nets.{Net, variables}
 use Rattle.aig_net.proofs.Wiring.{all-grow, each-grow}
-use Rattle.self_compose.specs.Copies.{compose}
+use Rattle.self_compose.specs.Copies.{compose, copy_and, copy_literal}
 use Rattle.self_compose.proofs.Copying.{length-copied}
 use Rattle.sym_tableau.specs.Oracles.{attach, attached_first, fair_wires, kept_wires, ends, promises, member_wire, members, moved_and, moved_literal, oracle}
 use Rattle.sym_tableau.specs.Places.{AreWithin}
@@ -45,8 +45,8 @@ attach-grows net nodes signals roots =
 copies-many : (net : Net) (n : ℕ) →
     suc ((net.inputs + length net.latches + length net.ands) * n) ≡ variables (compose net n)
 copies-many net n =
-    let a = length-copied n _ net.latches in
-    let b = length-copied n _ net.ands in
+    let a = length-copied n (copy_literal n) net.latches in
+    let b = length-copied n (copy_and n) net.ands in
     omega (arith, a, b)
 
 pub literals-small : (net : Net) (n : ℕ) (signals : List Signal) →
@@ -56,8 +56,7 @@ literals-small net n signals within room k d lt =
     let below = within k d lt in
     let many = copies-many net n in
     let m : ℕ = net.inputs + length net.latches + length net.ands in
-    let l = mul-le-mul_left n (at-most _ m (omega (arith, below))) in
+    let x : ℕ = (get_or signals k d).literal / 2 in
+    let le : x ≤ m = omega (arith, below) in
+    let l : n * x ≤ n * m = mul-le-mul_left n le in
     omega (arith, l, many, room)
-  where
-    at-most : (x m : ℕ) → x < suc m → x ≤ m
-    at-most x m lt = omega arith
