@@ -23,7 +23,8 @@ use Rattle.wit_lasso.specs.Seeing.{IsTraceOf}
 use Rattle.wit_lasso.specs.Unfoldings.{run_at}
 use Rattle.cnf_frames.specs.declared.inductions.InductionProof.{InductionProof}
 use Rattle.cnf_frames.specs.declared.queries.FrameError.TheVariants as frame
-use Rattle.cnf_frames.specs.Proofs.{IsInductionProof}
+use Rattle.cnf_frames.specs.Facts.{AllIn, IsInductive}
+use Rattle.cnf_frames.specs.Proofs.{AreKept, IsInductionProof}
 use Rattle.k_induct.specs.Verdicts.{IsDeep, IsStopped, IsVerdict}
 use Rattle.k_induct.specs.declared.verdict.Verdict.TheVariants as verdict
 use Rattle.invar_find.specs.declared.kept.Kept.{Kept}
@@ -67,6 +68,13 @@ HasRoom net names prefix body =
     variables (checked_safe net signals prefix body).net ≤ 2 ^ 31
 
 -- ---- what an answer carries
+
+-- a trace for each run
+pub record AreTraces (net : Net) (signals : List Signal) (runs : List Run)
+    (traces : List (letters.Lasso Letter)) : Type 0 where
+  pub many : length traces ≡ length runs
+  pub each : (c : ℕ) → c < length runs →
+      IsTraceOf net signals (run_at runs c) (slice_index_or traces c no_lasso)
 
 -- A run for each quantifier, and the normal forms of their visible traces, which satisfy the body,
 -- or its negation where the value is false.
@@ -130,6 +138,28 @@ IsNameRefusal net names body (Name name twice) = IsFirstBad net names body name 
 IsNameRefusal net names body Memory = Unit {0}
 IsNameRefusal net names body _ = ⊥
 
+-- what the work meets; want of memory needs no cause
+abbrev pub IsWorkRefusal : SafeNet → Ask → McError → Type 0
+IsWorkRefusal safe ask (Limit limit) =
+    (ask.plain ≡ false) × kepts.IsStopped safe (frame.Limit limit)
+IsWorkRefusal safe ask (CnfLimit kind limit kept) =
+    IsKept ask.plain safe ask.conflicts kept
+    × IsStopped safe kept.inv ask.depth (frame.Limit (record { kind = kind; limit = limit }))
+IsWorkRefusal safe ask Memory = Unit {0}
+IsWorkRefusal safe ask _ = ⊥
+
+-- the answer that the circuit satisfies the formula, or that it does not
+abbrev pub answered : Bool → List (letters.Lasso Letter) → List Run → Option InductionProof →
+    Checked
+answered true traces runs proof = Holds traces runs proof
+answered false traces runs proof = Violated traces runs proof
+
+-- Facts that a proof by induction may use.
+pub record IsUsable (safe : SafeNet) (kept : Kept) : Type 0 where
+  pub inside : AllIn (length safe.net.latches) kept.inv
+  pub inductive : IsInductive safe.net kept.inv
+  pub logs : AreKept safe kept.inv kept.logs
+
 -- ---- refusals, in this order: the class, the closure, the names, and what the work meets
 
 abbrev pub IsRefused : Net → List (List ℕ) → List Quant → Tree → Ask → McError → Type 0
@@ -138,13 +168,11 @@ IsRefused net names prefix body ask (Prefix class) =
 IsRefused net names prefix body ask (Limit limit) =
     (IsTaken prefix
     × IsClosureRefusal (length prefix) body (is_existential prefix) (Limit limit))
-    ⊎ ((signals : List Signal) × IsPosed net names prefix body signals × (ask.plain ≡ false)
-    × kepts.IsStopped (checked_safe net signals prefix body) (frame.Limit limit))
+    ⊎ ((signals : List Signal) × IsPosed net names prefix body signals
+    × IsWorkRefusal (checked_safe net signals prefix body) ask (Limit limit))
 IsRefused net names prefix body ask (CnfLimit kind limit kept) =
     (signals : List Signal) × IsPosed net names prefix body signals
-    × IsKept ask.plain (checked_safe net signals prefix body) ask.conflicts kept
-    × IsStopped (checked_safe net signals prefix body) kept.inv ask.depth
-    (frame.Limit (record { kind = kind; limit = limit }))
+    × IsWorkRefusal (checked_safe net signals prefix body) ask (CnfLimit kind limit kept)
 IsRefused net names prefix body ask (Name name twice) =
     IsTaken prefix × (members prefix body ≤ most Closure)
     × IsFirstBad net names body name twice

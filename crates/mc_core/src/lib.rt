@@ -4,6 +4,7 @@
 mod ask;
 mod checked;
 mod checking;
+mod judging;
 mod mc_error;
 mod meaning;
 mod naming;
