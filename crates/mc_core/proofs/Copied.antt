@@ -1,13 +1,12 @@
 -- The signals of the copies, one more at a time: each is new.
-use Rattle.std.proofs.Common.{◌≡◌, ℕ, zero, suc, ◌+◌, ◌<◌, ◌≤◌, Bool, true, false, not, ◌&&◌, cond, nat_eq, nat_lt, List, [], ◌∷◌, ◌++◌, length, take, get_or, slice_get, IsTrue, Option, Some, None, is_some, All, inl, inr, refl, sym, ap, ◌∙◌, subst, arith}
+use Rattle.std.proofs.Common.{◌≡◌, ℕ, zero, suc, ◌+◌, ◌<◌, ◌≤◌, Bool, true, false, not, ◌&&◌, cond, nat_eq, nat_lt, List, [], ◌∷◌, ◌++◌, take, slice_get, IsTrue, Option, Some, None, is_some, All, refl, sym, ap, ◌∙◌, subst, arith}
 use Rattle.std.specs.Option.{option_map}
-use Rattle.std.proofs.lemmas.Bool.{cases_eq}
 use Rattle.std.proofs.lemmas.Bool.Decides.{Decides-eqb}
 use Rattle.aig_net.specs.declared.signals.Signal.{Signal}
 use Rattle.aig_net.specs.Signals.{are_signals, has_signal, is_for, literal_of}
 use Rattle.aig_net.specs.Wires.{listed}
 use Rattle.aig_net.proofs.Listed.{not_true}
-use Rattle.self_compose.specs.Copies.{copied, copy_literal}
+use Rattle.self_compose.specs.Copies.{copy_literal}
 use Rattle.wit_lasso.specs.FormulaNets.{copy_signal, copy_signals}
 use Rattle.wit_lasso.proofs.CopySignals.{literal-copied}
 use Rattle.wit_lasso.proofs.Letters.{name-small}

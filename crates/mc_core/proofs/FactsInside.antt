@@ -1,5 +1,5 @@
 -- The facts that are kept name latches.
-use Rattle.std.proofs.Common.{◌≡◌, ℕ, zero, suc, ◌+◌, ◌<◌, ◌≤◌, min, List, [], ◌∷◌, ◌++◌, length, Contains, inl, inr, refl, subst, arith}
+use Rattle.std.proofs.Common.{ℕ, zero, suc, ◌<◌, min, List, [], ◌∷◌, ◌++◌, length, Contains, inl, inr, refl, subst, arith}
 use Rattle.std.proofs.lemmas.List.Elements.{Contains-append_cases}
 use Rattle.hy_formula.proofs.Tuples.{contains-cases, contains-later, contains-none}
 use Rattle.live_safe.specs.declared.safe_net.SafeNet.{SafeNet}

@@ -8,14 +8,13 @@ use Rattle.aig_net.specs.Nets.{Net, variables}
 use Rattle.aig_net.proofs.Wiring.{all-grow, each-grow}
 use Rattle.self_compose.specs.Copies.{compose, copy_and, copy_literal}
 use Rattle.self_compose.proofs.Copying.{length-copied}
-use Rattle.sym_tableau.specs.Oracles.{attach, attached_first, fair_wires, kept_wires, ends, promises, member_wire, members, moved_and, moved_literal, oracle}
+use Rattle.sym_tableau.specs.Oracles.{attach, attached_first, kept_wires, ends, promises, member_wire, members, moved_and, moved_literal, oracle}
 use Rattle.sym_tableau.specs.Places.{AreWithin}
 use Rattle.sym_tableau.proofs.Parts.{many-latches}
 use Rattle.aig_net.specs.Nets.{literal_at}
 use Rattle.ltl_closure.specs.Nodes.{node_at}
-use Rattle.live_safe.specs.Safe.{closing, closing_wires, effectives, safe_and, safe_ands, safe_first, saving, saving_wires, to_safe}
+use Rattle.live_safe.specs.Safe.{closing_wires, effectives, safe_and, safe_ands, safe_first, saving, saving_wires, to_safe}
 use Rattle.live_safe.proofs.SafeGates.{first-safe}
-use Rattle.aig_net.specs.declared.parts.And.{And}
 use Rattle.std.specs.Prelude.{map}
 
 pub safe-grows : (net : Net) → variables net ≤ variables (to_safe net).net

@@ -1,11 +1,7 @@
 -- What a check is asked, and its answers by those of its parts.
-use Rattle.std.proofs.Common.{◌≡◌, ℕ, ◌<◌, ◌≤◌, ◌⊎◌, Bool, true, false, cond, List, [], ◌∷◌, get_or, length, IsTrue, Result, Ok, Err, IfErr, IfOk, inl, inr, refl, sym, ap, ◌∙◌, subst, arith, All}
-use Rattle.hy_formula.specs.Trees.{Tree, vars_below}
-use Rattle.hy_formula.specs.Classes.{behind, class_of, has_only}
-use Rattle.hy_formula.specs.declared.classes.Class.{Class}
-use Rattle.hy_formula.specs.declared.classes.Class.TheVariants as class
+use Rattle.std.proofs.Common.{◌≡◌, ℕ, ◌<◌, ◌≤◌, Bool, List, [], ◌∷◌, get_or, length, Result, Ok, Err, IfErr, IfOk, inl, inr, refl, sym, subst, arith}
+use Rattle.hy_formula.specs.Trees.{Tree}
 use Rattle.hy_formula.specs.declared.prefix.Quant.{Quant}
-use Rattle.hy_formula.specs.declared.prefix.Quant.TheVariants as quant
 use Rattle.aig_net.specs.declared.signals.Signal.{Signal}
 use Rattle.hy_base.specs.Limits.{most}
 use Rattle.hy_base.specs.declared.limit.Kind.TheVariants.{Closure}

@@ -1,6 +1,6 @@
 -- What verdicts on the safe net of a formula say of the formula.
-use Rattle.std.proofs.Common.{◌≡◌, ◌≢◌, ℕ, zero, suc, ◌+◌, ◌<◌, ◌≤◌, ◌⊎◌, Bool, true, false, not, cond, List, [], ◌∷◌, ◌++◌, length, take, get_or, IsTrue, Option, Some, None, inl, inr, refl, sym, ap, ◌∙◌, subst, arith, length-append}
-use Rattle.std.proofs.lemmas.Bool.{cases_eq, cases_lt}
+use Rattle.std.proofs.Common.{◌≡◌, ℕ, zero, suc, ◌+◌, ◌<◌, ◌≤◌, ◌⊎◌, Bool, true, false, not, cond, List, [], ◌∷◌, ◌++◌, length, take, get_or, IsTrue, Some, None, inl, inr, refl, sym, ap, ◌∙◌, subst, arith, length-append}
+use Rattle.std.proofs.lemmas.Bool.{cases_lt}
 use Rattle.std.proofs.lemmas.List.{get_or_append_left, get_or-append-add, take_more}
 use Rattle.hy_bits.specs.Letter.{Letter}
 use Rattle.hy_formula.specs.Classes.{behind, class_of, has_only}
@@ -26,16 +26,15 @@ use Rattle.live_safe.specs.declared.safe_net.SafeNet.{SafeNet}
 use Rattle.live_safe.specs.Paths.{IsBadPath}
 use Rattle.cnf_frames.specs.declared.inductions.InductionProof.{InductionProof}
 use Rattle.cnf_frames.specs.declared.queries.Asked.TheVariants.{Base}
-use Rattle.cnf_frames.specs.Facts.{AllHold}
 use Rattle.cnf_frames.specs.Proofs.{IsInductionProof}
 use Rattle.k_induct.specs.declared.verdict.SafeProof.{SafeProof}
 use Rattle.k_induct.specs.Replies.{IsAnswer}
-use Rattle.k_induct.specs.Verdicts.{IsSafeProof, IsShortest}
+use Rattle.k_induct.specs.Verdicts.{IsSafeProof}
 use Rattle.invar_find.specs.declared.kept.Kept.{Kept}
 use Rattle.wit_lasso.specs.FormulaNets.{AreOwn, formula_safe, formula_tableau}
 use Rattle.wit_lasso.specs.Satisfaction.{Satisfies}
 use Rattle.wit_lasso.specs.Seeing.{IsTraceOf}
-use Rattle.wit_lasso.specs.Unfoldings.{AreUnfolded, GoesToBad, IsSafeOf, IsUnfolding, ShowsInputs, no_run, run_at}
+use Rattle.wit_lasso.specs.Unfoldings.{AreUnfolded, GoesToBad, IsSafeOf, IsUnfolding, no_run, run_at}
 use Rattle.wit_lasso.proofs.Checking.{existential-right, universal-right}
 use Rattle.wit_lasso.proofs.Running.{run-execution}
 use Rattle.mc_core.specs.declared.ask.Ask.{Ask}
@@ -272,8 +271,11 @@ module _ (net : Net) (good : IsNet net) (signals : List Signal) (prefix : List Q
 
 pub traces_none : (net : Net) (signals : List Signal) (runs : List Run) →
     AreTraces net signals (take 0 runs) []
-traces_none net signals runs = record { many = none runs; each = λ c lt. absurd
-    (let e = none runs in omega (arith, e, lt)) }
+traces_none net signals runs = record {
+  many = none runs;
+  each = λ c lt. absurd
+      (let e = none runs in omega (arith, e, lt));
+}
   where
     none : (runs : List Run) → 0 ≡ length (take 0 runs)
     none [] = refl

@@ -7,7 +7,6 @@ use Rattle.hy_formula.specs.Classes.{class_of, has_only}
 use Rattle.hy_formula.specs.Lassos as letters
 use Rattle.hy_formula.specs.Normals.{Signed}
 use Rattle.hy_formula.specs.Trees.{Tree}
-use Rattle.hy_formula.specs.declared.classes.Class.{Class}
 use Rattle.hy_formula.specs.declared.classes.Class.TheVariants as class
 use Rattle.hy_formula.specs.declared.prefix.Quant.{Quant}
 use Rattle.hy_formula.specs.declared.prefix.Quant.TheVariants.{Exists}

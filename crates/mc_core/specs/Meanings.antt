@@ -1,13 +1,13 @@
 -- What a name may stand for: nothing, one literal, or several; and what is known of a search under
 -- way.
-use Rattle.std.specs.Prelude.{◌≡◌, ◌≢◌, ℕ, ◌<◌, ◌&&◌, Bool, true, false, cond, nat_eq, IsTrue, List, slice_index_or, Contains, All}
+use Rattle.std.specs.Prelude.{◌≡◌, ◌≢◌, ℕ, ◌<◌, cond, nat_eq, IsTrue, List, Contains, All}
 use Rattle.hy_formula.specs.Trees.{Tree}
 use Rattle.aig_net.specs.declared.signals.Signal.{Signal}
 use Rattle.aig_net.specs.Nets.{Net}
 use Rattle.aig_net.specs.Signals.{has_signal}
 use Rattle.mc_core.specs.declared.meaning.Meaning.{Meaning}
 use Rattle.mc_core.specs.declared.meaning.Meaning.TheVariants.{Nothing, Literal, Several}
-use Rattle.mc_core.specs.Names.{AreSignals, IsOnly, has_name, name_at}
+use Rattle.mc_core.specs.Names.{IsOnly, has_name, name_at}
 
 -- P holds of no literal, of this one alone, or of several.
 abbrev pub Means : (ℕ → Type 0) → Meaning → Type 0

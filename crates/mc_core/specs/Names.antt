@@ -1,7 +1,7 @@
 -- What the names of a formula stand for in a net: the literals of the inputs, latches and outputs
 -- that have the name. An empty name is none.
 use Rattle.std.specs.Prelude.{◌≡◌, ◌≢◌, ℕ, ◌+◌, ◌*◌, ◌<◌, ◌⊎◌, ◌||◌, Bool, true, false, nat_eq, IsTrue, List, [], length, slice_index_or, Contains, All}
-use Rattle.hy_formula.specs.Trees.{Tree, always, never, atom, not, next, finally, globally, and, or, implies, iff, until, release, weak}
+use Rattle.hy_formula.specs.Trees.{Tree, atom, not, next, finally, globally, and, or, implies, iff, until, release, weak}
 use Rattle.aig_net.specs.declared.signals.Signal.{Signal}
 use Rattle.aig_net.specs.Nets.{Net, literal_at}
 use Rattle.aig_net.specs.Signals.{are_signals, has_signal}

@@ -3,7 +3,7 @@
 --     proof induction DEPTH FACTS
 --     a line for each fact: f 0 A, f 1 A, f = A B or f ! A B, by places of latches
 --     the logs: one for each group of facts, one for each base query from 0 on, that of the step
-use Rattle.std.specs.Prelude.{ℕ, List, [], ◌∷◌, ◌++◌, length, codes, decimal}
+use Rattle.std.specs.Prelude.{ℕ, List, ◌++◌, length, codes, decimal}
 use Rattle.std.specs.List.{flat_map}
 use Rattle.chain_check.specs.LogTexts.{log_text}
 use Rattle.cnf_frames.specs.declared.facts.Fact.{Fact}

@@ -28,7 +28,11 @@ pub enum Checked {
     },
     /// No path of at most `depth` steps is an answer, and induction over so many, with the facts
     /// that were kept, leaves this path of states.
-    UnknownDepth { depth: u32, kept: Kept, path: Path },
+    UnknownDepth {
+        depth: u32,
+        kept: Kept,
+        path: Path,
+    },
     /// A query learned as many clauses as `conflicts`: that for a path of `k` steps, or where `step`
     /// that for one more step from any states, with the facts that were kept.
     UnknownConflicts {

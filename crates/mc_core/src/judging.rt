@@ -61,7 +61,12 @@ pub fn judge(
                 base: proof.base,
                 step: proof.step,
             };
-            Ok(answer(!existential, List::new(alloc), List::new(alloc), Some(proof)))
+            Ok(answer(
+                !existential,
+                List::new(alloc),
+                List::new(alloc),
+                Some(proof),
+            ))
         }
         Ok(Verdict::Path(path)) => {
             let found = find_witnesses(alloc, net, formula, signals, safe, &path)?;
@@ -89,12 +94,7 @@ pub fn judge(
 }
 
 /// The answer that the circuit satisfies the formula, or that it does not.
-fn answer(
-    holds: bool,
-    traces: LassoList,
-    runs: RunList,
-    proof: Option<InductionProof>,
-) -> Checked
+fn answer(holds: bool, traces: LassoList, runs: RunList, proof: Option<InductionProof>) -> Checked
     ensures { result ≡ answered holds traces runs proof }
 {
     if holds {

@@ -14,8 +14,7 @@ use hy_formula::{Body, NameTable};
 use std::alloc::Global;
 
 /// The numbers of the names in the atoms of a body, in time linear in it.
-#[tactic(auto, using(crate::proofs::NameSets::no_name, crate::proofs::NameSets::one_name,
-    crate::proofs::NameSets::either_name))]
+#[tactic(auto, using(crate::proofs::NameSets::no_name, crate::proofs::NameSets::one_name, crate::proofs::NameSets::either_name))]
 pub fn names_of(body: &Body) -> LetterMask
     ensures { (k : ℕ) → contains result k ≡ has_name (tree_of body.now) k }
 {
@@ -38,9 +37,7 @@ pub fn names_of(body: &Body) -> LetterMask
 
 /// The signals of the names of a body, those of variable 0, in the order of the names' numbers. In
 /// time linear in the names of the net, for each name of the body.
-#[tactic(auto, using(crate::proofs::SignalTables::fresh_name,
-    crate::proofs::SignalTables::first_none, crate::proofs::SignalTables::first_several,
-    crate::proofs::SignalTables::literal_only))]
+#[tactic(auto, using(crate::proofs::SignalTables::fresh_name, crate::proofs::SignalTables::first_none, crate::proofs::SignalTables::first_several, crate::proofs::SignalTables::literal_only))]
 pub fn signals_of(
     alloc: Global,
     net: &Net,

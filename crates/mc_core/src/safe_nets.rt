@@ -25,12 +25,7 @@ use sym_tableau::attach;
 
 /// The closure of the body of a formula of `n` variables, negated where `positive` is false. In time
 /// linear in the body.
-pub fn closure_for(
-    alloc: Global,
-    body: &Body,
-    n: u8,
-    positive: bool,
-) -> Result<Closure, McError>
+pub fn closure_for(alloc: Global, body: &Body, n: u8, positive: bool) -> Result<Closure, McError>
     requires { IsTrue (vars_below n (tree_of body.now)) }
     ensures closure { IfOk result (λ c.
         c ≡ closure_of (body_task n (tree_of body.now) positive ∷ [])) }
@@ -106,8 +101,7 @@ pub fn safe_for(
 }
 
 /// The signals of the copies: each of them in each copy.
-#[tactic(auto, using(self_compose::proofs::Copying::one_copy, crate::proofs::Copied::copy_new,
-    crate::proofs::Copied::small_name))]
+#[tactic(auto, using(self_compose::proofs::Copying::one_copy, crate::proofs::Copied::copy_new, crate::proofs::Copied::small_name))]
 fn copy_signals(alloc: Global, signals: &Signals, n: u8) -> M<Signals>
     requires own { All (λ s. s.var ≡ 0) signals.now }
     requires small { All (λ s. s.literal / 2 * n < 2 ^ 31) signals.now }

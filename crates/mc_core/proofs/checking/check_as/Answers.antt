@@ -1,4 +1,4 @@
-use Rattle.std.proofs.Common.{◌≡◌, ℕ, ◌<◌, ◌≤◌, Bool, length, IfErr, Result, Err, sym, ap, ◌∙◌, subst, arith}
+use Rattle.std.proofs.Common.{◌≡◌, ℕ, ◌≤◌, Bool, length, IfErr, Result, Err, sym, ap, ◌∙◌, subst, arith}
 use Rattle.std.proofs.lemmas.Result.{err_from_is_err_and}
 use Rattle.hy_base.specs.Limits.{most}
 use Rattle.hy_base.specs.declared.limit.Kind.TheVariants.{Closure}
@@ -9,7 +9,7 @@ use Rattle.cnf_frames.specs.Facts.{IsSafe}
 use Rattle.wit_lasso.specs.FormulaNets.{body_nodes, formula_safe}
 use Rattle.mc_core.specs.declared.checked.Checked.{Checked}
 use Rattle.mc_core.specs.declared.mc_error.McError.{McError}
-use Rattle.mc_core.specs.Answers.{IsAnswer, IsClosureRefusal, IsPosed, IsWorkRefusal, checked_safe, is_existential, members}
+use Rattle.mc_core.specs.Answers.{IsAnswer, IsClosureRefusal, IsPosed, IsWorkRefusal, checked_safe}
 use Rattle.mc_core.proofs.Posing.{formula-safe-is, judged, own-signals, unclosed, unnamed}
 use Rattle.mc_core.proofs.checking.check_as.Goals as goal
 

@@ -1,4 +1,4 @@
-use Rattle.std.proofs.Common.{◌≡◌, ℕ, zero, suc, ◌<◌, length, List, [], ◌∷◌, ◌++◌, IsTrue, All, sym, ap, ◌∙◌, subst, arith}
+use Rattle.std.proofs.Common.{◌≡◌, ℕ, zero, suc, length, List, [], ◌∷◌, ◌++◌, IsTrue, All, sym, ap, ◌∙◌, subst, arith}
 use Rattle.hy_formula.specs.Trees.{Tree, tree_of, vars_below}
 use Rattle.aig_net.proofs.Listed.{length-listed}
 use Rattle.ltl_closure.specs.declared.job.Job.{Job}
