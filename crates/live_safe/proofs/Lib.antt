@@ -1,14 +1,14 @@
 mod Closings
 mod Conjoining
-mod Counting
+pub mod Counting
 mod OnLatches
 mod Parts
-mod SafeGates
-mod SafeRange
-mod Saving
+pub mod SafeGates
+pub mod SafeRange
+pub mod Saving
 mod Shapes
 mod Sizes
 mod Stages
-mod Starts
+pub mod Starts
 mod Stepping
-mod Unfolding
+pub mod Unfolding

@@ -1,4 +1,4 @@
-mod Copying
-mod Periods
+pub mod Copying
+pub mod Periods
 mod Rooms
-mod Tuples
+pub mod Tuples

@@ -1,10 +1,10 @@
-mod AttachedRange
+pub mod AttachedRange
 mod Counting
-mod Foretelling
+pub mod Foretelling
 mod Gathering
-mod Heeding
-mod Parts
-mod Rooms
+pub mod Heeding
+pub mod Parts
+pub mod Rooms
 mod Sizes
 mod Stages
 mod Stepping

@@ -1,0 +1,68 @@
+-- The facts that are kept name latches.
+use Rattle.std.proofs.Common.{ℕ, zero, suc, ◌<◌, min, List, [], ◌∷◌, ◌++◌, length, Contains, inl, inr, refl, subst, arith}
+use Rattle.std.proofs.lemmas.List.Elements.{Contains-append_cases}
+use Rattle.hy_formula.proofs.Tuples.{contains-cases, contains-later, contains-none}
+use Rattle.live_safe.specs.declared.safe_net.SafeNet.{SafeNet}
+use Rattle.cnf_frames.specs.declared.facts.Fact.{Fact}
+use Rattle.cnf_frames.specs.declared.facts.Fact.TheVariants.{Zero, One, Same, Differ}
+use Rattle.cnf_frames.specs.Facts.{AllIn, IsIn}
+use Rattle.cnf_frames.specs.Queries.{for_each}
+use Rattle.invar_find.specs.declared.kept.Kept.{Kept}
+use Rattle.invar_find.specs.Candidates.{candidates, pairs_with, single_facts}
+use Rattle.invar_find.specs.Kepts as kepts
+use Rattle.invar_find.specs.Parts.{IsSublist, none, leaves, takes}
+use Rattle.mc_core.specs.Answers.{IsUsable}
+
+abbrev Each : (Fact → Type 0) → List Fact → Type 0
+Each P facts = (f : Fact) → Contains facts f → P f
+
+module _ (P : Fact → Type 0) where
+  each-append : (xs ys : List Fact) → Each P xs → Each P ys → Each P (xs ++ ys)
+  each-append xs ys a b f h =
+      elim (Contains-append_cases xs ys f h) [ inl x ↦ a f x | inr y ↦ b f y ]
+
+  each-two : (x y : Fact) → P x → P y → Each P (x ∷ y ∷ [])
+  each-two x y p q f h =
+      elim (contains-cases x f (y ∷ []) h) [
+        | inl e ↦ subst P e p
+        | inr more ↦ elim (contains-cases y f [] more) [
+          | inl e ↦ subst P e q
+          | inr rest ↦ absurd (contains-none f rest)
+        ]
+      ]
+
+  each-for : (g : ℕ → List Fact) (n : ℕ) → ((j : ℕ) → j < n → Each P (g j)) →
+      Each P (for_each g n)
+  each-for g zero all = λ f h. absurd (contains-none f h)
+  each-for g (suc n) all =
+      each-append (for_each g n) (g n) (each-for g n (λ j lt. all j (omega arith)))
+      (all n (omega arith))
+
+  each-part : {some all : List Fact} → IsSublist some all → Each P all → Each P some
+  each-part none each = each
+  each-part (leaves {f} {some} {all} part) each =
+      each-part part (λ g h. each g (contains-later f g all h))
+  each-part (takes {f} {some} {all} part) each = λ g h.
+      elim (contains-cases f g some h) [
+        | inl e ↦ subst P e (each f (0, omega arith, refl))
+        | inr more ↦ each-part part (λ g h. each g (contains-later f g all h)) g more
+      ]
+
+candidates-in : (n : ℕ) → AllIn n (candidates n)
+candidates-in n =
+    each-append (IsIn n) (single_facts n) (for_each pairs_with (min n 512))
+    (each-for (IsIn n) (λ j. Zero j ∷ One j ∷ []) n
+    (λ j lt. each-two (IsIn n) (Zero j) (One j) lt lt))
+    (each-for (IsIn n) pairs_with (min n 512) (λ j lt.
+    each-for (IsIn n) (λ i. Same i j ∷ Differ i j ∷ []) j (λ i less.
+    each-two (IsIn n) (Same i j) (Differ i j) (omega arith, omega arith)
+    (omega arith, omega arith))))
+
+pub usable : (safe : SafeNet) (conflicts : ℕ) (kept : Kept) → kepts.IsKept safe conflicts kept →
+    IsUsable safe kept
+usable safe conflicts kept is = record {
+  inside = each-part (IsIn (length safe.net.latches)) is.starting.sublist
+      (candidates-in (length safe.net.latches));
+  inductive = is.inductive;
+  logs = is.logs;
+}

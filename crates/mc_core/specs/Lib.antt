@@ -1,0 +1,4 @@
+pub mod Answers
+pub mod Meanings
+pub mod Names
+pub mod ProofTexts

@@ -1,0 +1,67 @@
+//! The check of a circuit against a formula.
+
+ghost use Rattle.std.specs.Prelude.{◌≡◌, ◌<◌, ◌^◌};
+ghost use Rattle.hy_formula.specs.Trees.{tree_of};
+ghost use Rattle.mc_core.specs.Answers.{HasRoom, IsAnswer, IsTaken, is_existential};
+
+use crate::ask::Ask;
+use crate::checked::Checked;
+use crate::judging::judge;
+use crate::mc_error::McError;
+use crate::naming::signals_of;
+use crate::safe_nets::{closure_for, safe_for};
+use aig_net::Net;
+use hy_formula::{Class, Formula, NameTable, class};
+use live_safe::paths_are_lassos;
+use std::alloc::Global;
+
+/// Checks a circuit against a formula whose quantifiers are all universal or all existential, and
+/// whose names are those of inputs, latches and outputs.
+///
+/// # Errors
+///
+/// As `McError` says, and in its order.
+pub fn check(
+    alloc: Global,
+    net: &Net,
+    formula: &Formula,
+    names: &NameTable,
+    ask: &Ask,
+) -> Result<Checked, McError>
+    requires conflicts { ask.now.conflicts < 2 ^ 31 }
+    requires room { HasRoom net.now names.now formula.now.prefix (tree_of formula.now.body) }
+    ensures { IsAnswer net.now names.now formula.now.prefix (tree_of formula.now.body) ask.now
+        result }
+{
+    match class(formula) {
+        Class::Exists => check_as(alloc, net, formula, true, names, ask),
+        Class::Forall => check_as(alloc, net, formula, false, names, ask),
+        other => Err(McError::Prefix(other)),
+    }
+}
+
+/// The same of a formula whose quantifiers are all existential, or all universal.
+fn check_as(
+    alloc: Global,
+    net: &Net,
+    formula: &Formula,
+    existential: bool,
+    names: &NameTable,
+    ask: &Ask,
+) -> Result<Checked, McError>
+    requires taken { IsTaken formula.now.prefix }
+    requires kind { existential ≡ is_existential formula.now.prefix }
+    requires conflicts { ask.now.conflicts < 2 ^ 31 }
+    requires room { HasRoom net.now names.now formula.now.prefix (tree_of formula.now.body) }
+    ensures { IsAnswer net.now names.now formula.now.prefix (tree_of formula.now.body) ask.now
+        result }
+{
+    net.variables(); // what each net keeps
+    paths_are_lassos(); // and each safe net
+    let n = formula.prefix.len() as u8;
+    let body = &formula.body;
+    let closure = closure_for(alloc, body, n, existential)?;
+    let signals = signals_of(alloc, net, body, names)?;
+    let safe = safe_for(alloc, net, n, body, existential, &closure, &signals)?;
+    judge(alloc, net, formula, existential, &signals, &safe, ask)
+}

@@ -1,0 +1,18 @@
+//! Checks of circuits against formulas.
+#![tactic(auto)]
+
+mod ask;
+mod checked;
+mod checking;
+mod judging;
+mod mc_error;
+mod meaning;
+mod naming;
+mod printing;
+mod safe_nets;
+
+pub use ask::Ask;
+pub use checked::Checked;
+pub use checking::check;
+pub use mc_error::McError;
+pub use printing::print_proof;

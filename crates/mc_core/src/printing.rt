@@ -1,0 +1,87 @@
+//! The text of a proof by induction.
+
+ghost use Rattle.std.specs.Prelude.{◌≡◌, ◌++◌, codes, decimal, IfOk, OnOk};
+ghost use Rattle.std.specs.List.{flat_map};
+ghost use Rattle.chain_check.specs.LogTexts.{log_text};
+ghost use Rattle.mc_core.specs.ProofTexts.{fact_text, proof_text};
+
+use chain_check::print_log;
+use cnf_frames::{Fact, InductionProof, LogList};
+use hy_base::{M, Text};
+use itoa::Buffer;
+use std::alloc::Global;
+
+/// The text of a proof by induction: its depth and the number of its facts, a line for each fact,
+/// and the logs of the groups of facts, of the base queries and of the step query. In time and
+/// memory linear in the proof.
+pub fn print_proof(alloc: Global, proof: &InductionProof) -> M<Text>
+    ensures { IfOk result (λ text. text ≡ proof_text proof.now) }
+{
+    let mut text = Text::new(alloc);
+    text.extend(b"proof induction ")?;
+    push_number(&mut text, proof.depth)?;
+    text.extend(b" ")?;
+    let mut buffer = Buffer::new();
+    text.extend(buffer.format(proof.inv.len()).as_bytes())?;
+    text.extend(b"\n")?;
+    for fact in proof.inv.as_slice() {
+        push_fact(&mut text, *fact)?;
+    }
+    push_logs(alloc, &mut text, &proof.keep)?;
+    push_logs(alloc, &mut text, &proof.base)?;
+    let step = print_log(alloc, &proof.step)?;
+    text.extend(step.as_slice())?;
+    Ok(text)
+}
+
+/// Adds the line of a fact.
+fn push_fact(text: &mut Text, fact: Fact) -> M<()>
+    ensures { OnOk result (text.new ≡ text.old ++ fact_text fact) }
+{
+    match fact {
+        Fact::Zero(a) => push_line(text, b"f 0 ", a),
+        Fact::One(a) => push_line(text, b"f 1 ", a),
+        Fact::Same(a, b) => push_pair(text, b"f = ", a, b),
+        Fact::Differ(a, b) => push_pair(text, b"f ! ", a, b),
+    }
+}
+
+/// Adds a line with a number.
+fn push_line(text: &mut Text, start: &[u8], a: u32) -> M<()>
+    ensures { OnOk result (text.new ≡ text.old ++ start.now ++ decimal a ++ codes "\n") }
+{
+    text.extend(start)?;
+    push_number(text, a)?;
+    text.extend(b"\n")
+}
+
+/// Adds a line with two numbers.
+fn push_pair(text: &mut Text, start: &[u8], a: u32, b: u32) -> M<()>
+    ensures { OnOk result
+        (text.new ≡ text.old ++ start.now ++ decimal a ++ codes " " ++ decimal b ++ codes "\n") }
+{
+    text.extend(start)?;
+    push_number(text, a)?;
+    text.extend(b" ")?;
+    push_number(text, b)?;
+    text.extend(b"\n")
+}
+
+/// Adds a number.
+fn push_number(text: &mut Text, number: u32) -> M<()>
+    ensures { OnOk result (text.new ≡ text.old ++ decimal number) }
+{
+    let mut buffer = Buffer::new();
+    text.extend(buffer.format(number).as_bytes())
+}
+
+/// Adds the texts of logs.
+fn push_logs(alloc: Global, text: &mut Text, logs: &LogList) -> M<()>
+    ensures { OnOk result (text.new ≡ text.old ++ flat_map log_text logs.now) }
+{
+    for log in logs.as_slice() {
+        let printed = print_log(alloc, log)?;
+        text.extend(printed.as_slice())?;
+    }
+    Ok(())
+}

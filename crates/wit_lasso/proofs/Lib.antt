@@ -1,0 +1,10 @@
+pub mod Bodies
+pub mod Checking
+pub mod Counting
+pub mod CopySignals
+pub mod Letters
+pub mod PathLassos
+pub mod PathRuns
+pub mod Places
+pub mod Running
+pub mod Steps

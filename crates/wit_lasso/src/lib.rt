@@ -1,0 +1,11 @@
+//! What a path of a safe net stands for: runs of a circuit, and what is seen of them; and when a
+//! circuit satisfies a formula.
+#![tactic(auto)]
+
+mod laws;
+mod seeing;
+mod unfolding;
+
+pub use laws::{checked, runs_are_executions};
+pub use seeing::visible;
+pub use unfolding::unfold;
