@@ -1,4 +1,5 @@
-pub mod Asking
-pub mod Gathering
-pub mod Items
-pub mod OneCommand
+pub mod Holding
+pub mod Lookups
+pub mod Reading
+pub mod Splitting
+pub mod Walking
