@@ -2,4 +2,5 @@ pub mod Holding
 pub mod Lookups
 pub mod Reading
 pub mod Splitting
+pub mod Telling
 pub mod Walking

@@ -3,6 +3,7 @@ use Rattle.std.proofs.Common.{◌≡◌, ◌≢◌, ◌⊎◌, inl, inr, codes, 
 use Rattle.std.specs.List.{list_any, list_all, fold, slice_get}
 use Rattle.std.specs.Bool.{IsTrue}
 use Rattle.std.specs.Str.{bytes_eq, chars, IsUtf8}
+use Rattle.std.proofs.lemmas.Grind.{flat_map-append}
 use Rattle.clap.specs.Lexer.{long_of, short_of}
 use Rattle.clap.specs.Walk.{Row, Rule, Held, Walk, Waiting, idle, option, positional, Text, all_of, walked, settled, reacted, used, has_row, nothing_held}
 use Rattle.clap.specs.Faults.{turn_fault, react_fault, settle_fault, use_fault, walk_fault}
@@ -20,23 +21,23 @@ use Rattle.hy_words.proofs.Walking.{built_flag, built_option, built_files, rules
 use Rattle.hy_words.proofs.Lookups.{row_there}
 use Rattle.hy_words.proofs.Holding.{held, Holds, named-more, file-more}
 
-or-empty : (a b : Kinds) → or_else a b ≡ [] → (a ≡ []) × (b ≡ [])
+pub or-empty : (a b : Kinds) → or_else a b ≡ [] → (a ≡ []) × (b ≡ [])
 or-empty [] b e = (refl, e)
 or-empty (k ∷ a) b e = absurd (some-none e)
 
-or-nothing : (a b : Kinds) → a ≡ [] → b ≡ [] → or_else a b ≡ []
+pub or-nothing : (a b : Kinds) → a ≡ [] → b ≡ [] → or_else a b ≡ []
 or-nothing a b e f = rw e f
 
 -- ---- the names of a tool
 
 module _ (tool : Tool) where
-  abbrev flags : List Text
+  abbrev pub flags : List Text
   flags = flags_of tool
 
-  abbrev options : List Text
+  abbrev pub options : List Text
   options = options_of tool
 
-  abbrev rules : List Rule
+  abbrev pub rules : List Rule
   rules = rules_for flags options
 
   -- What has to hold of the names: flags and options differ, none is that of files, and each stands whole behind dashes.
@@ -50,10 +51,10 @@ module _ (tool : Tool) where
 
   -- ---- from a place in the words to their end
 
-  abbrev end_of : Walk → List Text → Held
+  abbrev pub end_of : Walk → List Text → Held
   end_of walk words = (fold (walked rules []) walk words).held
 
-  abbrev rest_fault : Walk → List Text → Kinds
+  abbrev pub rest_fault : Walk → List Text → Kinds
   rest_fault walk words = or_else (walk_fault (shape_for rules) [] walk words) (settle_fault rules false (end_of walk words))
 
   rest-split : (walk : Walk) (word : Text) (words : List Text) → rest_fault walk (word ∷ words) ≡ []
@@ -74,11 +75,11 @@ module _ (tool : Tool) where
   -- ---- what a walk comes to
 
   -- The rows at the end of the words hold the items.
-  abbrev Ends : Walk → List Text → List Item → Type 0
+  abbrev pub Ends : Walk → List Text → List Item → Type 0
   Ends walk words items = Holds (settled rules (end_of walk words)).rows items
 
   -- where what waits is used without a fault, the rows then hold the items
-  abbrev Will : Held → List Item → Type 0
+  abbrev pub Will : Held → List Item → Type 0
   Will h items = settle_fault rules false h ≡ [] → Holds (settled rules h).rows items
 
   files-apart : IsFine → (name : Text) (names : List Text) → has names files_name ≡ false → has names name ≡ true → bytes_eq files_name name ≡ false
@@ -129,21 +130,21 @@ module _ (tool : Tool) where
 
   -- ---- words that the parser takes say items
 
-  abbrev Ready : Held → Waiting → List Item → Type 0
+  abbrev pub Ready : Held → Waiting → List Item → Type 0
   Ready h idle items = (h.skip ≡ 0) × Will h items
   Ready h positional items = (h.skip ≡ 0) × Will h items
   Ready h (option name) items = (h.skip ≡ 0) × (has options name ≡ true) × (h.pending ≡ Some (name, [])) × Holds h.rows items
 
-  abbrev Reads : Waiting → List Text → List Item → Type 0
+  abbrev pub Reads : Waiting → List Text → List Item → Type 0
   Reads idle words ys = Says tool words ys
   Reads positional words ys = Says tool words ys
   Reads (option name) words ys = Says tool (dashed name ∷ words) ys
 
-  abbrev Comes : Held → Waiting → List Text → List Item → Type 0
+  abbrev pub Comes : Held → Waiting → List Text → List Item → Type 0
   Comes h waiting words items = (ys : List Item) × Reads waiting words ys × Ends (stands h waiting false) words (items ++ ys)
 
   -- what comes of all later words is sound
-  abbrev Later : List Text → Type 0
+  abbrev pub Later : List Text → Type 0
   Later words = (h : Held) (waiting : Waiting) (items : List Item) → Ready h waiting items → rest_fault (stands h waiting false) words ≡ [] → Comes h waiting words items
 
   abbrev Says-next : Held → Waiting → Text → List Text → List Item → Type 0
@@ -331,7 +332,7 @@ module _ (tool : Tool) where
   -- ---- words that say items are taken
 
   -- No value begins with a dash and is longer.
-  pub AreBare : List Item → Type 0
+  abbrev pub AreBare : List Item → Type 0
   AreBare [] = Unit {0}
   AreBare (given name v ∷ items) = IsTrue (is_bare v) × AreBare items
   AreBare (file v ∷ items) = AreBare items
@@ -344,7 +345,10 @@ module _ (tool : Tool) where
       row_there name rows ∙ ap is_some (holds.named name free) ∙ ap (λ vs. is_some (held vs)) (short (given_in name items) (given_in name ys) counts)
     where
       counts : length (given_in name items) + (1 + length (given_in name ys)) ≤ 1
-      counts = ?
+      counts =
+          let e : given_in name (items ++ i ∷ ys) ≡ given_in name items ++ (v ∷ given_in name ys) =
+          flat_map-append (item_gives name) items (i ∷ ys) ∙ ap (λ vs. given_in name items ++ (vs ++ given_in name ys)) gives in
+          omega (arith, few, ap length e, length-append (given_in name items) (v ∷ given_in name ys))
       short : (olds news : List Text) → length olds + (1 + length news) ≤ 1 → olds ≡ []
       short [] news lt = refl
       short (x ∷ olds) news lt = absurd (omega arith)
