@@ -1,11 +1,12 @@
 //! The command that the matches of a parse are.
 
-ghost use Rattle.std.specs.Prelude.{◌≡◌, List, Some, true, false, IfSome, IfNone, map, codes};
+ghost use Rattle.std.specs.Prelude.{◌≡◌, List, Some, true, false, IsTrue, IfSome, IfNone, map, codes};
+ghost use Rattle.std.specs.List.{list_all};
 ghost use Rattle.clap.specs.Matches.{found_of, first_value};
 ghost use Rattle.hy_words.specs.Commands.{Command as Meant, Orders};
-ghost use Rattle.hy_words.specs.Found.{Tells, IsFit, AreFilled, found_files};
+ghost use Rattle.hy_words.specs.Found.{Tells, IsFit, AreFilled, found_files, found_value, listed_slice};
 ghost use Rattle.hy_words.specs.Said.{said_by};
-ghost use Rattle.hy_words.specs.Words.{Item};
+ghost use Rattle.hy_words.specs.Words.{Item, is_value};
 ghost use Rattle.hy_words.specs.declared.tool.Tool.TheVariants.{EaHyper, RvHyper, McHyper};
 
 use crate::command::Command;
@@ -40,6 +41,19 @@ fn has_flag(matches: &ArgMatches<'_>, name: &str) -> bool
     matches.get_str(name) == Some("true")
 }
 
+/// What an option is given, if anything; None where that is no value.
+fn value_in<'a>(matches: &ArgMatches<'a>, name: &str) -> Option<Option<&'a str>>
+    ensures some { IfSome result (λ value. (found_value matches.now name.now ≡ listed_slice value)
+        × IsTrue (list_all is_value (listed_slice value))) }
+    ensures none { IfNone result (list_all is_value (found_value matches.now name.now) ≡ false) }
+{
+    let value = matches.get_str(name);
+    if !is_value_or_none(value) {
+        return None;
+    }
+    Some(value)
+}
+
 /// The command of `eahyper` for what its words give.
 fn decision<'a>(files: &[&'a str], matches: &ArgMatches<'a>) -> Option<Command<'a>>
     requires { map (λ name. name.now) files.now ≡ found_files matches.now }
@@ -51,16 +65,10 @@ fn decision<'a>(files: &[&'a str], matches: &ArgMatches<'a>) -> Option<Command<'
     let &[formula] = files else {
         return None;
     };
-    let (on, implies, equivalent) = (
-        matches.get_str("on"),
-        matches.get_str("implies"),
-        matches.get_str("equivalent"),
-    );
-    let given = matches.get_str("states");
-    if !(is_value_or_none(on) && is_value_or_none(implies) && is_value_or_none(equivalent)) {
-        return None;
-    }
-    let states = number_or(100_000, given, 1, 4_194_304)?;
+    let on = value_in(matches, "on")?;
+    let implies = value_in(matches, "implies")?;
+    let equivalent = value_in(matches, "equivalent")?;
+    let states = number_or(100_000, matches.get_str("states"), 1, 4_194_304)?;
     let proof = has_flag(matches, "proof");
     match (on, implies, equivalent) {
         (None, None, None) => Some(Command::Decide {
