@@ -1,5 +1,5 @@
 -- What the getters of matches give, and the commands that this makes.
-use Rattle.std.proofs.Common.{◌≡◌, ℕ, ◌+◌, ◌<◌, ◌≤◌, ◌^◌, ◌&&◌, ◌==◌, Bool, true, false, not, if◌then◌else◌, List, [], ◌∷◌, map, length, codes, Option, Some, None, Bor, slice_index_or, decimal, refl, sym, ap, subst, ◌∙◌, arith, true≢false, eqb-true, ne_eqb}
+use Rattle.std.proofs.Common.{◌≡◌, ℕ, ◌<◌, ◌≤◌, ◌^◌, ◌==◌, Bool, true, false, not, if◌then◌else◌, List, [], ◌∷◌, map, length, codes, Option, Some, None, Bor, slice_index_or, decimal, refl, sym, ap, subst, ◌∙◌, arith, eqb-true, ne_eqb}
 use Rattle.std.specs.Bool.{IsTrue}
 use Rattle.std.specs.List.{list_all}
 use Rattle.std.specs.Option.{option_map}
@@ -8,8 +8,8 @@ use Rattle.std.specs.Str.Parse.{AllDigits}
 use Rattle.std.proofs.lemmas.Fmt.{decimal_is_IsNumeral, decimal_nonempty}
 use Rattle.hy_finite.specs.declared.lengths.Lengths.{Lengths}
 use Rattle.hy_finite.specs.declared.lengths.Lengths.TheVariants.{Min, Pad}
-use Rattle.hy_words.specs.Words.{Text, Item, is_value, is_filled, files_in, given_in}
-use Rattle.hy_words.specs.Commands.{IsNumber, IsNumberOr, IsRule, Asks}
+use Rattle.hy_words.specs.Words.{Text, Item, is_value, is_filled, given_in}
+use Rattle.hy_words.specs.Commands.{IsNumberOr, IsRule, Asks}
 use Rattle.hy_words.specs.Found.{listed, listed_slice, found_value, found_files, Tells, IsFit, AreFilled}
 use Rattle.clap.specs.Matches.{found_of, first_value}
 use Rattle.clap.specs.declared.parser.matches.ArgMatches.{ArgMatches}
@@ -43,6 +43,7 @@ number-value (b ∷ bs) n small e = by (b == 45) refl
   where
     digits : AllDigits 10 (b ∷ bs)
     digits = subst (AllDigits 10) (sym e) (decimal_is_IsNumeral n small).0.1
+
     by : (t : Bool) → (b == 45) ≡ t → IsTrue (is_value (b ∷ bs))
     by false f =
         let some : (length (b ∷ bs) == 0) ≡ false = ne_eqb (length (b ∷ bs)) 0 (λ z. omega (arith, z)) in
@@ -76,8 +77,7 @@ module _ (items : List Item) (m : ArgMatches) (tells : Tells EaHyper items m) (f
       let three = tells.options.1.1.0 ∙ c in
       let four = seen (given_in (codes "states") items) states _ tells.options.1.1.1.0 e in
       let number_is = number_values 100000 states 1 4194304 n (omega arith) number in
-      let P : List Text → Type 0 = λ vs. IsNumberOr 100000 vs 1 4194304 n in
-      (
+      let P : List Text → Type 0 = λ vs. IsNumberOr 100000 vs 1 4194304 n in (
         (filled, rw (one, two, three, four, av, bv, cv, number_is) refl),
         record {
           files = tells.files ∙ sym same ∙ one_file files d some few;
@@ -88,3 +88,13 @@ module _ (items : List Item) (m : ArgMatches) (tells : Tells EaHyper items m) (f
           proves = flag_read _ _ proof tells.flags.0 at_true at_false;
         },
       )
+
+pub asks_as : (items : List Item) (formula : Text) (a b c x y z : List Text) (n : ℕ) (p : Bool) → a ≡ x → b ≡ y → c ≡ z → Asks items formula a b c n p → Asks items formula x y z n p
+asks_as items formula a b c x y z n p e f g asks = record {
+  files = asks.files;
+  on = asks.on ∙ e;
+  implies = asks.implies ∙ f;
+  equivalent = asks.equivalent ∙ g;
+  budget = asks.budget;
+  proves = asks.proves;
+}

@@ -1,5 +1,5 @@
 -- What rows hold of items.
-use Rattle.std.proofs.Common.{◌≡◌, ℕ, ◌+◌, ◌≤◌, ◌||◌, Bool, true, false, cond, List, [], ◌∷◌, ◌++◌, length, Option, Some, None, is_some, refl, sym, ap, subst, ◌∙◌, arith, true≢false, append-nil, length-append}
+use Rattle.std.proofs.Common.{◌≡◌, ◌≤◌, Bool, true, false, cond, List, [], ◌∷◌, ◌++◌, length, Option, Some, None, is_some, refl, sym, ap, subst, ◌∙◌, arith, true≢false, append-nil}
 use Rattle.std.specs.Str.{bytes_eq}
 use Rattle.std.proofs.lemmas.Grind.{flat_map-append}
 use Rattle.clap.specs.Walk.{Row, all_of, with_values, without, has_row}
@@ -69,6 +69,7 @@ module _ (rows : List Row) (items : List Item) (holds : Holds rows items) (how :
         by : (id : Text) (b : Bool) → bytes_eq files_name id ≡ false → cond b (more (all_of id rows) (v ∷ [])) (all_of id rows) ≡ held (given_in id items ++ cond b (v ∷ []) [])
         by id true free = ap (λ o. more o (v ∷ [])) (holds.named id free) ∙ held-more (given_in id items) v
         by id false free = holds.named id free ∙ ap held (sym (append-nil (given_in id items)))
+
         few : (id : Text) (b : Bool) → bytes_eq name id ≡ b → length (given_in id items ++ cond b (v ∷ []) []) ≤ 1
         few id true e = let P : Text → Type 0 = λ n. length (given_in n items ++ v ∷ []) ≤ 1 in subst P (same_bytes name id e) (rw not-given (omega arith))
         few id false e = rw (append-nil (given_in id items)) (holds.once id)

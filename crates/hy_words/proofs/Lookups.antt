@@ -1,13 +1,12 @@
 -- What the rows of matches hold, by name, and the arguments that a name finds.
-use Rattle.std.proofs.Common.{◌≡◌, ◌≢◌, ℕ, ◌||◌, ◌&&◌, ◌==◌, Bool, true, false, not, cond, List, [], ◌∷◌, ◌++◌, map, length, Option, Some, None, is_some, unwrap_or, refl, sym, ap, subst, ◌∙◌, arith, true≢false}
-use Rattle.std.specs.List.{list_any, find, fold}
-use Rattle.std.specs.Option.{option_map}
+use Rattle.std.proofs.Common.{◌≡◌, ◌||◌, Bool, true, false, cond, List, [], ◌∷◌, ◌++◌, map, Option, Some, None, is_some, refl, sym, ap, ◌∙◌, true≢false}
+use Rattle.std.specs.List.{find}
 use Rattle.std.specs.Str.{bytes_eq}
-use Rattle.clap.specs.Walk.{Row, Rule, all_of, at_row, with_values, without, has_row, more_values, default_rows, with_default, reading_by}
+use Rattle.clap.specs.Walk.{Row, Rule, all_of, with_values, without, has_row}
 use Rattle.clap.specs.declared.builder.value_parser.Reading.{Reading}
 use Rattle.clap.specs.declared.parser.matches.ValueSource.{ValueSource}
 use Rattle.hy_words.specs.Words.{Text, has}
-use Rattle.hy_words.proofs.Splitting.{same_bytes, bytes_same, or_false}
+use Rattle.hy_words.proofs.Splitting.{same_bytes, bytes_same}
 
 -- ---- the first argument that passes a test
 

@@ -1,13 +1,13 @@
 -- Items that give the same order the same command.
-use Rattle.std.proofs.Common.{◌≡◌, ℕ, ◌<◌, ◌≤◌, ◌^◌, ◌⊎◌, inl, inr, codes, true≢false, Bool, List, [], ◌∷◌, decimal, refl, sym, ap, subst, ◌∙◌, arith}
+use Rattle.std.proofs.Common.{◌≡◌, ℕ, ◌<◌, ◌^◌, ◌⊎◌, inl, inr, codes, true≢false, Bool, List, [], ◌∷◌, refl, sym, ap, subst, ◌∙◌, arith}
 use Rattle.std.specs.Str.{bytes_eq}
 use Rattle.std.proofs.lemmas.Fmt.{decimal_injective}
 use Rattle.hy_finite.specs.declared.lengths.Lengths.{Lengths}
 use Rattle.hy_finite.specs.declared.lengths.Lengths.TheVariants.{Min, Pad}
 use Rattle.hy_words.specs.declared.tool.Tool.{Tool}
 use Rattle.hy_words.specs.declared.tool.Tool.TheVariants.{EaHyper, RvHyper, McHyper}
-use Rattle.hy_words.specs.Words.{Text, Item, files_in, given_in}
-use Rattle.hy_words.specs.Commands.{Command, monitor, monitor_made, judge, decide, imply, compare, check, IsNumber, IsNumberOr, IsRule, Asks, Monitors, Checks, Orders, IsCommand, is_given}
+use Rattle.hy_words.specs.Words.{Text, Item, given_in}
+use Rattle.hy_words.specs.Commands.{Command, monitor, monitor_made, judge, decide, imply, compare, check, IsNumber, IsNumberOr, IsRule, Asks, Monitors, Checks, Orders, IsCommand}
 use Rattle.hy_words.proofs.Telling.{Same, same_items}
 
 some-nothing : {A : Type 0} {x : A} {xs : List A} → x ∷ xs ≡ [] → ⊥

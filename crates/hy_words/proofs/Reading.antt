@@ -1,21 +1,20 @@
 -- The parser takes exactly the words that say items, and finds what the items give.
-use Rattle.std.proofs.Common.{◌≡◌, ◌≢◌, ◌⊎◌, inl, inr, codes, ℕ, ◌+◌, ◌≤◌, ◌||◌, ◌&&◌, ◌==◌, Bool, true, false, not, cond, List, [], ◌∷◌, ◌++◌, map, length, Option, Some, None, is_some, refl, sym, ap, subst, ◌∙◌, arith, true≢false, append_assoc, append-nil, length-append}
-use Rattle.std.specs.List.{list_any, list_all, fold, slice_get}
+use Rattle.std.proofs.Common.{◌≡◌, ◌≢◌, codes, ◌+◌, ◌≤◌, Bool, true, false, cond, List, [], ◌∷◌, ◌++◌, map, length, Option, Some, None, is_some, refl, sym, ap, subst, ◌∙◌, arith, true≢false, append_assoc, append-nil, length-append}
+use Rattle.std.specs.List.{fold}
 use Rattle.std.specs.Bool.{IsTrue}
-use Rattle.std.specs.Str.{bytes_eq, chars, IsUtf8}
+use Rattle.std.specs.Str.{bytes_eq, IsUtf8}
 use Rattle.std.proofs.lemmas.Grind.{flat_map-append}
 use Rattle.clap.specs.Lexer.{long_of, short_of}
-use Rattle.clap.specs.Walk.{Row, Rule, Held, Walk, Waiting, idle, option, positional, Text, all_of, walked, settled, reacted, used, has_row, nothing_held}
-use Rattle.clap.specs.Faults.{turn_fault, react_fault, settle_fault, use_fault, walk_fault}
+use Rattle.clap.specs.Walk.{Row, Rule, Held, Walk, Waiting, idle, option, positional, Text, walked, settled, reacted, used, has_row}
+use Rattle.clap.specs.Faults.{turn_fault, settle_fault, walk_fault}
 use Rattle.clap.specs.Kinds.{Kinds, or_else}
 use Rattle.clap.specs.declared.error.kind.ErrorKind.TheVariants.{InvalidValue}
 use Rattle.hy_formula.specs.Quantifiers.{Each}
 use Rattle.hy_words.specs.declared.tool.Tool.{Tool}
-use Rattle.hy_words.specs.declared.tool.Tool.TheVariants.{EaHyper, RvHyper, McHyper}
 use Rattle.hy_words.specs.Words.{Item, file, flag, Says, nothing, behind_dashes, a_file, a_flag, an_option, joined, has, dashed, is_bare, flags_of, options_of, given_in, item_gives}
 use Rattle.hy_words.specs.Words.{option as given}
 use Rattle.hy_words.specs.Parsers.{files_name}
-use Rattle.hy_words.proofs.Splitting.{same_bytes, bytes_same, or_false, IsSplit, long_word, not_dashes, bare_word, short_word, other_word, first_char}
+use Rattle.hy_words.proofs.Splitting.{same_bytes, bytes_same, IsSplit, long_word, not_dashes, bare_word, short_word, other_word, first_char}
 use Rattle.hy_words.proofs.Walking as w
 use Rattle.hy_words.proofs.Walking.{built_flag, built_option, built_files, rules_for, shape_for, stands, calm, some-none}
 use Rattle.hy_words.proofs.Lookups.{row_there}
@@ -122,8 +121,7 @@ module _ (tool : Tool) where
       let done : settle_fault rules false later ≡ [] = w.files_settles flags options word (settled rules h).rows h.skip fine.free fine.clear in
       let (rest, ends) = trailing_complete fine words later positional (items ++ file word ∷ []) done (file_will fine h word items holds done) in
       let P : Walk → Type 0 = λ walk. rest_fault walk words ≡ [] in
-      let Q : Walk → Type 0 = λ walk. Ends walk words (items ++ map file (word ∷ words)) in
-      (
+      let Q : Walk → Type 0 = λ walk. Ends walk words (items ++ map file (word ∷ words)) in (
         rest-joined (stands h waiting true) word words (w.trailing_turn flags options h waiting word ∙ settles) (subst P (sym next) rest),
         subst Q (sym next) (subst (λ xs. Ends (stands later positional true) words xs) (append_assoc items (file word ∷ []) (map file words)) ends),
       )
@@ -243,9 +241,9 @@ module _ (tool : Tool) where
         let P : Walk → Type 0 = λ walk. rest_fault walk words ≡ [] in
         let waits = record h { pending = Some (name, word ∷ []) } in
         let will : Will waits (items ++ given name word ∷ []) = λ done.
-            let new = w.option_once flags options name word h.rows (sym (w.option_settles flags options name (word ∷ []) h.rows h.skip gone there) ∙ done) in
-            let R : List Row → Type 0 = λ rows. Holds rows (items ++ given name word ∷ []) in
-            subst R (sym (w.option_settled flags options name (word ∷ []) h.rows h.skip gone there)) (option_will fine h.rows name word items there holds new) in
+        let new = w.option_once flags options name word h.rows (sym (w.option_settles flags options name (word ∷ []) h.rows h.skip gone there) ∙ done) in
+        let R : List Row → Type 0 = λ rows. Holds rows (items ++ given name word ∷ []) in
+        subst R (sym (w.option_settled flags options name (word ∷ []) h.rows h.skip gone there)) (option_will fine h.rows name word items there holds new) in
         let (ys, says, ends) = later waits idle (items ++ given name word ∷ []) (skip, will) (subst P next rest) in
         (given name word ∷ ys, an_option name word words ys there says, ends-next h (option name) word words items (given name word) _ idle next ys ends)
 
@@ -276,6 +274,7 @@ module _ (tool : Tool) where
     where
       fails : settle_fault rules false h ≡ [] → Comes h (option name) (word ∷ words) items
       fails done = absurd (waiting_fails fine h name there pending done)
+
       by : (d : Bool) (l : Option (Text × Option Text)) (s : Option Text) → bytes_eq word (45 ∷ 45 ∷ []) ≡ d → long_of word ≡ l → short_of word ≡ s
           → Comes h (option name) (word ∷ words) items
       by true l s ed el es =
@@ -304,8 +303,7 @@ module _ (tool : Tool) where
           let next = w.dashes_next flags options h waiting word ed in
           let P : Walk → Type 0 = λ walk. rest_fault walk words ≡ [] in
           let Q : Walk → Type 0 = λ walk. Ends walk words (items ++ map file words) in
-          let R : Text → Type 0 = λ word. Says tool (word ∷ words) (map file words) in
-          (
+          let R : Text → Type 0 = λ word. Says tool (word ∷ words) (map file words) in (
             map file words,
             subst R (sym (same_bytes word (45 ∷ 45 ∷ []) ed)) (behind_dashes words),
             subst Q (sym next) (trailing_sound fine words h waiting items will (subst P next rest)),
@@ -349,6 +347,7 @@ module _ (tool : Tool) where
           let e : given_in name (items ++ i ∷ ys) ≡ given_in name items ++ (v ∷ given_in name ys) =
           flat_map-append (item_gives name) items (i ∷ ys) ∙ ap (λ vs. given_in name items ++ (vs ++ given_in name ys)) gives in
           omega (arith, few, ap length e, length-append (given_in name items) (v ∷ given_in name ys))
+
       short : (olds news : List Text) → length olds + (1 + length news) ≤ 1 → olds ≡ []
       short [] news lt = refl
       short (x ∷ olds) news lt = absurd (omega arith)
@@ -371,8 +370,7 @@ module _ (tool : Tool) where
       let done : settle_fault rules false later ≡ [] = w.files_settles flags options name (settled rules h).rows h.skip fine.free fine.clear in
       let (rest, ends) = complete fine words ys says bare later positional tt (items ++ file name ∷ []) done (file_will fine h name items holds done)
       (λ n. subst (λ xs. length (given_in n xs) ≤ 1) (sym (append_assoc items (file name ∷ []) ys)) (once n)) in
-      let P : Walk → Type 0 = λ walk. rest_fault walk words ≡ [] in
-      (
+      let P : Walk → Type 0 = λ walk. rest_fault walk words ≡ [] in (
         rest-joined (stands h waiting false) name words (w.bare_turn flags options h name long short other waiting quiet ∙ settles) (subst P (sym next) rest),
         ends-next h waiting name words items (file name) later positional next ys ends,
       )
@@ -384,11 +382,10 @@ module _ (tool : Tool) where
       let later = reacted rules (built_flag name) [] h in
       let (rest, ends) = complete fine words ys says bare later idle tt (items ++ flag name ∷ []) refl (flag_will fine h name items there holds new)
       (λ n. subst (λ xs. length (given_in n xs) ≤ 1) (sym (append_assoc items (flag name ∷ []) ys)) (once n)) in
-      let P : Walk → Type 0 = λ walk. rest_fault walk words ≡ [] in
-      (
+      let P : Walk → Type 0 = λ walk. rest_fault walk words ≡ [] in (
         rest-joined (stands h waiting false) (dashed name) words
-        (w.flag_turn flags options h waiting (dashed name) name None long other there refl
-        ∙ or-nothing _ _ (or-nothing _ _ settles (w.flag_new flags options name (settled rules h).rows new)) refl) (subst P (sym next) rest),
+            (w.flag_turn flags options h waiting (dashed name) name None long other there refl
+            ∙ or-nothing _ _ (or-nothing _ _ settles (w.flag_new flags options name (settled rules h).rows new)) refl) (subst P (sym next) rest),
         ends-next h waiting (dashed name) words items (flag name) later idle next ys ends,
       )
   complete fine _ _ (joined name v words ys there says) (good, bare) h waiting quiet items settles holds once =
@@ -401,11 +398,10 @@ module _ (tool : Tool) where
       let later = reacted rules (built_option name) (v ∷ []) h in
       let (rest, ends) = complete fine words ys says bare later idle tt (items ++ given name v ∷ []) refl (option_will fine (settled rules h).rows name v items there holds new)
       (λ n. subst (λ xs. length (given_in n xs) ≤ 1) (sym (append_assoc items (given name v ∷ []) ys)) (once n)) in
-      let P : Walk → Type 0 = λ walk. rest_fault walk words ≡ [] in
-      (
+      let P : Walk → Type 0 = λ walk. rest_fault walk words ≡ [] in (
         rest-joined (stands h waiting false) word words
-        (w.valued_turn flags options h waiting word name (Some v) long other gone there v refl
-        ∙ or-nothing _ _ (or-nothing _ _ settles (w.option_new flags options name v (settled rules h).rows new)) refl) (subst P (sym next) rest),
+            (w.valued_turn flags options h waiting word name (Some v) long other gone there v refl
+            ∙ or-nothing _ _ (or-nothing _ _ settles (w.option_new flags options name v (settled rules h).rows new)) refl) (subst P (sym next) rest),
         ends-next h waiting word words items (given name v) later idle next ys ends,
       )
   complete fine _ _ (an_option name v words ys there says) (good, bare) h waiting quiet items settles holds once =
@@ -426,9 +422,8 @@ module _ (tool : Tool) where
       (λ n. subst (λ xs. length (given_in n xs) ≤ 1) (sym (append_assoc items (given name v ∷ []) ys)) (once n)) in
       let P : Walk → Type 0 = λ walk. rest_fault walk words ≡ [] in
       let Q : Walk → Type 0 = λ walk. rest_fault walk (v ∷ words) ≡ [] in
-      let E : Walk → Type 0 = λ walk. Ends walk (v ∷ words) (items ++ given name v ∷ ys) in
-      (
+      let E : Walk → Type 0 = λ walk. Ends walk (v ∷ words) (items ++ given name v ∷ ys) in (
         rest-joined (stands h waiting false) word (v ∷ words) (w.option_turn flags options h waiting word name None long other gone there refl ∙ or-nothing _ _ settles refl)
-        (subst Q (sym next) (rest-joined (stands mid (option name) false) v words (w.value_turn flags options mid v vlong vshort vother name) (subst P (sym further) rest))),
+            (subst Q (sym next) (rest-joined (stands mid (option name) false) v words (w.value_turn flags options mid v vlong vshort vother name) (subst P (sym further) rest))),
         subst E (sym next) (ends-next mid (option name) v words items (given name v) later idle further ys ends),
       )

@@ -1,12 +1,12 @@
 -- How a word splits: at its dashes, and at its first equals sign.
-use Rattle.std.proofs.Common.{suc, ◌+◌, ◌≡◌, ◌≢◌, ℕ, ◌||◌, ◌&&◌, ◌==◌, Bool, true, false, not, cond, List, [], ◌∷◌, ◌++◌, length, Option, Some, None, refl, sym, ap, subst, ◌∙◌, arith, true≢false, eqb-true, ne_eqb}
-use Rattle.std.specs.List.{list_any, before_first, after_first, position_or_len, slice_get}
+use Rattle.std.proofs.Common.{suc, ◌+◌, ◌≡◌, ℕ, ◌||◌, ◌&&◌, ◌==◌, Bool, true, false, not, List, [], ◌∷◌, ◌++◌, length, Option, Some, None, refl, sym, ap, subst, ◌∙◌, arith, true≢false, eqb-true, ne_eqb}
+use Rattle.std.specs.List.{slice_get}
 use Rattle.std.specs.Bool.{IsTrue}
 use Rattle.std.specs.Char.{encode_utf8}
 use Rattle.std.specs.Str.{bytes_eq, chars, IsUtf8, is_utf8, all_scalars, encode_utf8_all}
 use Rattle.std.proofs.lemmas.Slice.Eq.{bytes_eq-Decides}
 use Rattle.std.proofs.lemmas.Str.{is_utf8-from_IsUtf8}
-use Rattle.clap.specs.Lexer.{long_of, short_of, name_and_value, has_byte}
+use Rattle.clap.specs.Lexer.{long_of, short_of, name_and_value}
 use Rattle.hy_words.specs.Words.{Text, dashed, is_bare}
 
 pub same_bytes : (a b : Text) → bytes_eq a b ≡ true → a ≡ b

@@ -1,5 +1,5 @@
 -- What the matches of a parse tell of the items that the words say.
-use Rattle.std.proofs.Common.{if◌then◌else◌, ◌≡◌, ◌≢◌, ◌⊎◌, inl, inr, codes, ℕ, ◌+◌, ◌≤◌, ◌||◌, ◌&&◌, Bool, true, false, not, cond, List, [], ◌∷◌, ◌++◌, map, length, Option, Some, None, is_some, unwrap_or, refl, sym, ap, subst, ◌∙◌, arith, true≢false}
+use Rattle.std.proofs.Common.{if◌then◌else◌, ◌≡◌, codes, ◌≤◌, ◌||◌, ◌&&◌, Bool, true, false, not, cond, List, [], ◌∷◌, ◌++◌, map, length, Option, Some, None, is_some, unwrap_or, refl, sym, ap, subst, ◌∙◌, arith, true≢false}
 use Rattle.std.specs.List.{list_any, list_all, fold, slice_get, find}
 use Rattle.std.specs.Bool.{IsTrue}
 use Rattle.std.specs.Option.{option_map, option_and_then}
@@ -377,7 +377,7 @@ tells tool items m rows same once told =
     record {
       files = unheld (files_in items) ∙ ap (λ o. unwrap_or o []) (sym (raw_values-rows (found_of m) files_name ∙ ap (all_of files_name) same ∙ told.files));
       options = each_from (options_of tool) _ (λ name there. one-listed (given_in name items) (once name)
-      ∙ ap (λ o. listed (option_and_then (λ vs. slice_get vs 0) o)) (sym (told.options name there)) ∙ ap listed (sym (first name)));
+          ∙ ap (λ o. listed (option_and_then (λ vs. slice_get vs 0) o)) (sym (told.options name there)) ∙ ap listed (sym (first name)));
       flags = each_from (flags_of tool) _ (λ name there. first name ∙ ap (λ o. option_and_then (λ vs. slice_get vs 0) o) (told.flags name there));
     }
 

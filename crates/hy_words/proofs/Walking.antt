@@ -1,16 +1,16 @@
 -- What the parser does with each kind of word.
-use Rattle.std.proofs.Common.{◌≡◌, ◌≢◌, ◌⊎◌, inl, inr, ℕ, ◌||◌, ◌&&◌, ◌==◌, Bool, true, false, not, cond, List, [], ◌∷◌, ◌++◌, map, length, Option, Some, None, is_some, unwrap_or, refl, sym, ap, subst, ◌∙◌, arith, true≢false}
+use Rattle.std.proofs.Common.{◌≡◌, ◌≢◌, ℕ, ◌&&◌, ◌==◌, Bool, true, false, not, List, [], ◌∷◌, ◌++◌, map, Option, Some, None, is_some, refl, sym, ◌∙◌}
 use Rattle.std.specs.List.{list_any, find, fold, slice_get}
 use Rattle.std.specs.Str.{bytes_eq, chars, IsUtf8}
 use Rattle.clap.specs.Lexer.{long_of, short_of}
 use Rattle.clap.specs.Walk.{Row, Rule, Held, Walk, Waiting, idle, option, positional, all_of, arg_by_long, arg_by_short, arg_by_id, arg_by_index, subcommand_met, walked, settled, reacted, pushed, used, has_row}
 use Rattle.clap.specs.Simple.{Shape, new_shape, filled, with_index}
-use Rattle.clap.specs.Faults.{turn_fault, react_fault, settle_fault, use_fault, option_fault, flags_fault}
-use Rattle.clap.specs.Kinds.{Kinds, or_else}
+use Rattle.clap.specs.Faults.{turn_fault, react_fault, settle_fault, use_fault, flags_fault}
+use Rattle.clap.specs.Kinds.{or_else}
 use Rattle.clap.specs.declared.error.kind.ErrorKind.TheVariants.{UnknownArgument, TooManyValues, ArgumentConflict}
-use Rattle.hy_words.specs.Words.{Text, has, dashed}
+use Rattle.hy_words.specs.Words.{Text, has}
 use Rattle.hy_words.specs.Parsers.{flag_rule, option_rule, files_rule, files_name}
-use Rattle.hy_words.proofs.Splitting.{same_bytes, bytes_same, or_false, first_char}
+use Rattle.hy_words.proofs.Splitting.{bytes_same, or_false}
 use Rattle.hy_words.proofs.Lookups.{find_named, find_past, find_skip}
 
 abbrev pub built_flag : Text → Rule

@@ -1,6 +1,6 @@
 -- The parser of a tool's words: one simple command without subcommands, help and version.
-use Rattle.std.specs.Prelude.{◌≡◌, ℕ, true, List, [], ◌∷◌, ◌++◌, map, codes, Some}
-use Rattle.clap.specs.Simple.{App, Shape, new_rule, new_shape}
+use Rattle.std.specs.Prelude.{true, List, [], ◌∷◌, ◌++◌, map, codes, Some}
+use Rattle.clap.specs.Simple.{App, new_rule, new_shape}
 use Rattle.clap.specs.Walk.{Rule}
 use Rattle.clap.specs.declared.builder.action.ArgAction.TheVariants.{Set, Append, SetTrue}
 use Rattle.hy_words.specs.declared.tool.Tool.{Tool}

@@ -7,7 +7,7 @@
 --
 -- Flags and options stand anywhere among the names of files, but not behind a word `--`, behind which every word is the
 -- name of a file. The value of an option is the word behind it, or stands behind an equals sign in the same word.
-use Rattle.std.specs.Prelude.{◌≡◌, ◌≢◌, ◌≤◌, ◌||◌, ◌&&◌, ◌==◌, ℕ, Bool, true, false, not, if◌then◌else◌, List, [], ◌∷◌, ◌++◌, IsTrue, length, map, codes, String}
+use Rattle.std.specs.Prelude.{◌≤◌, ◌||◌, ◌&&◌, ◌==◌, ℕ, Bool, true, not, if◌then◌else◌, List, [], ◌∷◌, ◌++◌, IsTrue, length, map, codes, String}
 use Rattle.std.specs.List.{list_any, list_all, flat_map}
 use Rattle.std.specs.Str.{bytes_eq}
 use Rattle.std.specs.String.{string_bytes}

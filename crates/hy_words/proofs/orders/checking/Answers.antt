@@ -12,8 +12,7 @@ returns-clause-some c = λ items tells filled.
     let P : List Text → Type 0 = λ vs. IsNumberOr 64 vs 0 100000 c.in_ok-depth.depth in
     let Q : List Text → Type 0 = λ vs. IsNumberOr 100000 vs 0 1000000000 c.in_ok-conflicts.conflicts in
     let one = number_values 64 c.get_str.result 0 100000 _ (omega arith) c.in_ok-depth.ensures.some in
-    let two = number_values 100000 c.get_str-2.result 0 1000000000 _ (omega arith) c.in_ok-conflicts.ensures.some in
-    (
+    let two = number_values 100000 c.get_str-2.result 0 1000000000 _ (omega arith) c.in_ok-conflicts.ensures.some in (
       (filled, rw (d, n, one, two) refl),
       record {
         files = tells.files ∙ sym c.requires ∙ two_files c.args.files.now _ c.in-len2.len_at_least c.in-len2.len_below;

@@ -12,14 +12,15 @@ returns-in_ok-count-in-len1-Some-clause-some c = λ items tells filled.
     let made = m ∙ ap listed_slice c.in-len1-Some.is-1 in
     let P : List Text → Type 0 = λ vs. IsRule vs c.in_ok-lengths.lengths in
     let one = rule_values c.get_str.result c.in_ok-lengths.lengths c.in_ok-lengths.ensures.some in
-    let two = number_values 1 (Some c.in-len1-Some.given) 1 1000000 _ (omega arith) c.in_ok-count-in-len1-Some.ensures.some in
-    (
+    let two = number_values 1 (Some c.in-len1-Some.given) 1 1000000 _ (omega arith) c.in_ok-count-in-len1-Some.ensures.some in (
       (filled, rw (l, made, one, two) refl),
-      c.in-len1-Some.given.now,
-      record {
-        files = tells.files ∙ sym c.requires ∙ one_file c.args.files.now _ c.in-len1-Some.len_at_least c.in-len1-Some.len_below;
-        make = made;
-        rule = subst P (sym l) c.in_ok-lengths.ensures.some;
-      },
-      c.in_ok-count-in-len1-Some.ensures.some,
+      (
+        c.in-len1-Some.given.now,
+        record {
+          files = tells.files ∙ sym c.requires ∙ one_file c.args.files.now _ c.in-len1-Some.len_at_least c.in-len1-Some.len_below;
+          make = made;
+          rule = subst P (sym l) c.in_ok-lengths.ensures.some;
+        },
+        c.in_ok-count-in-len1-Some.ensures.some,
+      ),
     )

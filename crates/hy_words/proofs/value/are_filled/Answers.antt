@@ -1,4 +1,4 @@
-use Rattle.std.proofs.Common.{◌≡◌, sym, ◌∙◌}
+use Rattle.std.proofs.Common.{sym, ◌∙◌}
 use Rattle.hy_words.proofs.Steps.{unfilled}
 use Rattle.hy_words.proofs.value.are_filled.Goals as goal
 
