@@ -5,7 +5,7 @@ use Rattle.hy_bits.specs.Letter.{Letter}
 use Rattle.hy_formula.specs.Lassos.{Lasso}
 use Rattle.hy_text.specs.Lines.{lines_of}
 use Rattle.hy_finite.specs.declared.event.Placed.{Placed}
-use Rattle.hy_finite.specs.declared.lengths.Lengths.TheVariants.{Min}
+use Rattle.hy_finite.specs.declared.lengths.Lengths.{Lengths}
 use Rattle.hy_finite.specs.Traces.{Trace}
 use Rattle.rv_core.specs.Endings.{Spec, IsClean, FirstViolated}
 use Rattle.rv_core.specs.Histories.{History, empty_history, Step, refused, goes, step, arrives}
@@ -16,7 +16,7 @@ use Rattle.ea_core.specs.Undecided.{HasFewBranches, HasManyBranches}
 use Rattle.ea_core.proofs.Searching.{not-both}
 use Rattle.hy_answer.specs.declared.answer.Answer.{Answer}
 use Rattle.hy_answer.specs.declared.answer.Answer.TheVariants as answers
-use Rattle.hy_words.specs.Commands.{Command, monitor, judge, decide, imply, compare}
+use Rattle.hy_words.specs.Commands.{Command, monitor, judge, decide, imply, compare, check}
 use Rattle.hy_top.specs.Classes.{takes, file_of, RefusesClass, FirstUntaken}
 use Rattle.hy_top.specs.Contents.{content_of, most_quantifiers, IsRefused}
 use Rattle.hy_top.specs.Deciding.{plan_of, plan_against, Determines, DecidesBy, DecidesOne, DecidesTwo, ComparesTwo, sat, unsat, implied, not_implied, beyond, equivalent, first_alone, second_alone, many_branches}
@@ -37,11 +37,11 @@ agree {a} e = subst (Agree a) e (same a)
 
 -- ---- two verdicts on events
 
-same-clean : (specs : List Spec) (list : List Trace) (s : ℕ) → FirstViolated Min specs list s → ¬ IsClean Min specs list
-same-clean specs list s first clean = clean s first.there first.violated
+same-clean : (lengths : Lengths) (specs : List Spec) (list : List Trace) (s : ℕ) → FirstViolated lengths specs list s → ¬ IsClean lengths specs list
+same-clean lengths specs list s first clean = clean s first.there first.violated
 
-one-violated : (specs : List Spec) (list : List Trace) (s t : ℕ) → FirstViolated Min specs list s → FirstViolated Min specs list t → s ≡ t
-one-violated specs list s t one two =
+one-violated : (lengths : Lengths) (specs : List Spec) (list : List Trace) (s t : ℕ) → FirstViolated lengths specs list s → FirstViolated lengths specs list t → s ≡ t
+one-violated lengths specs list s t one two =
     elim (cases_lt s t) [
       | inl lt ↦ absurd (two.before s lt one.violated)
       | inr from ↦
@@ -51,9 +51,9 @@ one-violated specs list s t one two =
           ]
     ]
 
-violations-agree : (specs : List Spec) (list : List Trace) (a b : Answer) → IsViolation specs list a → IsViolation specs list b → Agree a b
-violations-agree specs list a b one two =
-    let spec = one-violated specs list one.spec two.spec one.found.first two.found.first in
+violations-agree : (lengths : Lengths) (specs : List Spec) (list : List Trace) (a b : Answer) → IsViolation lengths specs list a → IsViolation lengths specs list b → Agree a b
+violations-agree lengths specs list a b one two =
+    let spec = one-violated lengths specs list one.spec two.spec one.found.first two.found.first in
     let trace : one.trace ≡ two.trace = let p = one.found.last in let q = two.found.last in omega (arith, p, q) in
     let P : Answer → Type 0 = λ x. Agree x b in
     let Q : Answer → Type 0 = λ y. Agree (answers.Violation one.spec one.trace one.tuple) y in
@@ -61,31 +61,31 @@ violations-agree specs list a b one two =
     let T : ℕ → Type 0 = λ t. Agree (answers.Violation one.spec one.trace one.tuple) (answers.Violation two.spec t two.tuple) in
     subst P (sym one.answered) (subst Q (sym two.answered) (subst T trace (subst R spec (other_tuple one.spec one.trace one.tuple two.tuple))))
 
-step-agrees : (specs : List Spec) (line : ℕ) (arriving : Bool) (st : Step) (Rest : History → Answer → Type 0)
+step-agrees : (lengths : Lengths) (specs : List Spec) (line : ℕ) (arriving : Bool) (st : Step) (Rest : History → Answer → Type 0)
     → ((h : History) (a b : Answer) → Rest h a → Rest h b → Agree a b) → (a b : Answer)
-    → Comes specs line arriving st (λ h. Rest h a) a → Comes specs line arriving st (λ h. Rest h b) b → Agree a b
-step-agrees specs line arriving (refused r) Rest again a b one two = agree (one ∙ sym two)
-step-agrees specs line false (goes h) Rest again a b one two = again h a b one two
-step-agrees specs line true (goes h) Rest again a b (inl one) (inl two) = violations-agree specs h.present.arrived a b one two
-step-agrees specs line true (goes h) Rest again a b (inl one) (inr (clean, two)) =
-    absurd (same-clean specs h.present.arrived one.spec one.found.first clean)
-step-agrees specs line true (goes h) Rest again a b (inr (clean, one)) (inl two) =
-    absurd (same-clean specs h.present.arrived two.spec two.found.first clean)
-step-agrees specs line true (goes h) Rest again a b (inr (clean, one)) (inr (also, two)) = again h a b one two
+    → Comes lengths specs line arriving st (λ h. Rest h a) a → Comes lengths specs line arriving st (λ h. Rest h b) b → Agree a b
+step-agrees lengths specs line arriving (refused r) Rest again a b one two = agree (one ∙ sym two)
+step-agrees lengths specs line false (goes h) Rest again a b one two = again h a b one two
+step-agrees lengths specs line true (goes h) Rest again a b (inl one) (inl two) = violations-agree lengths specs h.present.arrived a b one two
+step-agrees lengths specs line true (goes h) Rest again a b (inl one) (inr (clean, two)) =
+    absurd (same-clean lengths specs h.present.arrived one.spec one.found.first clean)
+step-agrees lengths specs line true (goes h) Rest again a b (inr (clean, one)) (inl two) =
+    absurd (same-clean lengths specs h.present.arrived two.spec two.found.first clean)
+step-agrees lengths specs line true (goes h) Rest again a b (inr (clean, one)) (inr (also, two)) = again h a b one two
 
-events-agree : (specs : List Spec) (events : List Placed) (h : History) (a b : Answer) → ComesToAnswer specs h events a
-    → ComesToAnswer specs h events b → Agree a b
-events-agree specs [] h a b one two = agree (one ∙ sym two)
-events-agree specs (placed ∷ events) h a b one two =
-    step-agrees specs placed.line (arrives placed.event) (step h placed.event) (λ next x. ComesToAnswer specs next events x)
-    (λ next x y. events-agree specs events next x y) a b one two
+events-agree : (lengths : Lengths) (specs : List Spec) (events : List Placed) (h : History) (a b : Answer) → ComesToAnswer lengths specs h events a
+    → ComesToAnswer lengths specs h events b → Agree a b
+events-agree lengths specs [] h a b one two = agree (one ∙ sym two)
+events-agree lengths specs (placed ∷ events) h a b one two =
+    step-agrees lengths specs placed.line (arrives placed.event) (step h placed.event) (λ next x. ComesToAnswer lengths specs next events x)
+    (λ next x y. events-agree lengths specs events next x y) a b one two
 
-verdicts-agree : (formulas : List Plain) (names : List (List ℕ)) (bytes : List ℕ) (a b : Answer) → IsVerdict formulas names bytes a
-    → IsVerdict formulas names bytes b → Agree a b
-verdicts-agree formulas names bytes a b (events, said, one) (others, also, two) =
+verdicts-agree : (lengths : Lengths) (formulas : List Plain) (names : List (List ℕ)) (bytes : List ℕ) (a b : Answer) → IsVerdict lengths formulas names bytes a
+    → IsVerdict lengths formulas names bytes b → Agree a b
+verdicts-agree lengths formulas names bytes a b (events, said, one) (others, also, two) =
     let same = events-once names 1 (lines_of bytes) events others said also in
-    let P : List Placed → Type 0 = λ es. ComesToAnswer (specs_of formulas) empty_history es a in
-    events-agree (specs_of formulas) others empty_history a b (subst P same one) two
+    let P : List Placed → Type 0 = λ es. ComesToAnswer lengths (specs_of formulas) empty_history es a in
+    events-agree lengths (specs_of formulas) others empty_history a b (subst P same one) two
 
 -- ---- two decisions
 
@@ -187,14 +187,14 @@ module _ (command : Command) (given : Given) where
       absurd (one (subst Q lists (subst P formula two)))
   judgements_agree _ _ (fails f list has one) (fails g other also two) = same answers.OnFalse
 
-  monitors_agree : (a b : Answer) → Monitors command given a → Monitors command given b → Agree a b
-  monitors_agree a b one two =
+  monitors_agree : (lengths : Lengths) (a b : Answer) → Monitors lengths command given a → Monitors lengths command given b → Agree a b
+  monitors_agree lengths a b one two =
       let (formulas, names) = texts_once command given 1 one.formulas two.formulas one.names two.names one.first two.first in
       let bytes = bytes_once given 1 one.bytes two.bytes one.came two.came in
-      let P : List Plain → Type 0 = λ fs. IsVerdict fs one.names one.bytes a in
-      let Q : List (List ℕ) → Type 0 = λ ns. IsVerdict two.formulas ns one.bytes a in
-      let R : List ℕ → Type 0 = λ bs. IsVerdict two.formulas two.names bs a in
-      verdicts-agree two.formulas two.names two.bytes a b (subst R bytes (subst Q names (subst P formulas one.verdict))) two.verdict
+      let P : List Plain → Type 0 = λ fs. IsVerdict lengths fs one.names one.bytes a in
+      let Q : List (List ℕ) → Type 0 = λ ns. IsVerdict lengths two.formulas ns one.bytes a in
+      let R : List ℕ → Type 0 = λ bs. IsVerdict lengths two.formulas two.names bs a in
+      verdicts-agree lengths two.formulas two.names two.bytes a b (subst R bytes (subst Q names (subst P formulas one.verdict))) two.verdict
 
 decided_agree : (command : Command) (formulas : List Plain) (a b : Answer) → DecidesBy command formulas a → DecidesBy command formulas b → Agree a b
 decided_agree (decide formula states proof) (f ∷ []) a b one two = decisions_agree f states a b one two
@@ -208,11 +208,12 @@ determined_agree command given a b one two =
     decided_agree command two.formulas a b (subst P (of_formulas command given two.formulas two.has one.formulas one.has) one.decides) two.decides
 
 works_agree : (command : Command) (given : Given) (a b : Answer) → ComesTo command given a → ComesTo command given b → Agree a b
-works_agree (monitor specs traces) given a b one two = monitors_agree (monitor specs traces) given a b one two
+works_agree (monitor specs traces lengths) given a b one two = monitors_agree (monitor specs traces lengths) given lengths a b one two
 works_agree (judge formula list) given a b one two = judgements_agree (judge formula list) given a b one two
 works_agree (decide formula states proof) given a b one two = determined_agree (decide formula states proof) given a b one two
 works_agree (imply first second states proof) given a b one two = determined_agree (imply first second states proof) given a b one two
 works_agree (compare first second states proof) given a b one two = determined_agree (compare first second states proof) given a b one two
+works_agree (check circuit formula depth conflicts plain proof) given a b one two = absurd one
 
 one_stage : (command : Command) (given : Given) (stage : Stage) (a b : Answer) → Met command given stage a → Met command given stage b → Agree a b
 one_stage command given (opening k) a b e f = agree (e.1 ∙ sym f.1)

@@ -13,7 +13,7 @@ use Rattle.hy_read.specs.Answers.{Answer as Found, Answers, Plain, read_as}
 use Rattle.hy_answer.specs.declared.answer.Answer.{Answer}
 use Rattle.hy_answer.specs.declared.answer.Answer.TheVariants.{Line}
 use Rattle.hy_answer.specs.Refusals.{Refuses, line_answer}
-use Rattle.hy_words.specs.Commands.{Command, monitor, judge, decide, imply, compare}
+use Rattle.hy_words.specs.Commands.{Command, monitor, judge, decide, imply, compare, check}
 
 pub data Content : Type 0 where
   -- formulas, joined by semicolons
@@ -26,21 +26,23 @@ pub data Content : Type 0 where
 
 -- what file k of the command is to be
 abbrev pub content_of : Command → ℕ → Content
-content_of (monitor specs traces) zero = specifications
-content_of (monitor specs traces) (suc k) = events
+content_of (monitor specs traces lengths) zero = specifications
+content_of (monitor specs traces lengths) (suc k) = events
 content_of (judge formula list) zero = one_formula
 content_of (judge formula list) (suc k) = lassos
 content_of (decide formula states proof) k = one_formula
 content_of (imply first second states proof) k = one_formula
 content_of (compare first second states proof) k = one_formula
+content_of (check circuit formula depth conflicts plain proof) k = one_formula
 
 -- most quantifiers of a formula of the command
 abbrev pub most_quantifiers : Command → ℕ
-most_quantifiers (monitor specs traces) = 4
+most_quantifiers (monitor specs traces lengths) = 4
 most_quantifiers (judge formula list) = 8
 most_quantifiers (decide formula states proof) = 8
 most_quantifiers (imply first second states proof) = 8
 most_quantifiers (compare first second states proof) = 8
+most_quantifiers (check circuit formula depth conflicts plain proof) = 4
 
 -- The bytes are a text of this content, where `old` are the names of the files before: it has these formulas, and
 -- `new` are the names then.

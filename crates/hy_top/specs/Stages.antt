@@ -11,7 +11,7 @@ use Rattle.ea_core.specs.declared.rank_proof.RankProof.{RankProof}
 use Rattle.fin_monitor.specs.Limits.{HasLargeClosure, HasManyAtoms, HasLargeTable}
 use Rattle.hy_answer.specs.declared.answer.Answer.{Answer}
 use Rattle.hy_answer.specs.declared.answer.Answer.TheVariants.{Sat, Unsat, Implied, NotImplied, Equivalent, NotEquivalent, Violation, OpenFault, ReadFault, Limit}
-use Rattle.hy_words.specs.Commands.{Command, monitor, judge, decide, imply, compare, files_of}
+use Rattle.hy_words.specs.Commands.{Command, monitor, judge, decide, imply, compare, check, files_of}
 use Rattle.hy_top.specs.Files.{Given, Came, RefusesText}
 use Rattle.hy_top.specs.Classes.{RefusesClass}
 use Rattle.hy_top.specs.Deciding as deciding
@@ -84,11 +84,12 @@ IsPast command given table = monitoring.SomeBody HasLargeTable command given
 
 -- The work of the command comes to this answer.
 abbrev pub ComesTo : Command → Given → Answer → Type 0
-ComesTo (monitor specs traces) given answer = monitoring.Monitors (monitor specs traces) given answer
+ComesTo (monitor specs traces lengths) given answer = monitoring.Monitors lengths (monitor specs traces lengths) given answer
 ComesTo (judge formula list) given answer = judging.Judges (judge formula list) given answer
 ComesTo (decide formula states proof) given answer = deciding.Determines (decide formula states proof) given answer
 ComesTo (imply first second states proof) given answer = deciding.Determines (imply first second states proof) given answer
 ComesTo (compare first second states proof) given answer = deciding.Determines (compare first second states proof) given answer
+ComesTo (check circuit formula depth conflicts plain proof) given answer = ⊥
 
 -- The stage is met, and this answers it.
 abbrev pub Met : Command → Given → Stage → Answer → Type 0
