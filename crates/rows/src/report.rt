@@ -3,9 +3,9 @@
 use crate::case::{Case, shelf_files};
 use crate::escape::escaped;
 use crate::lassos::are_wanted;
+use crate::running::status_of;
 use anyhow::{Result, bail};
 use hy_base::{MemShelf, MemSink};
-use hy_top::run;
 use std::fmt;
 
 /// How many cases of a file were run, and how many gave another answer than the expected one.
@@ -41,7 +41,7 @@ pub fn report(rt: &HostRuntime, tally: &mut Tally, case: Case) -> Result<()> {
     let mut shelf = MemShelf::new(shelf_files(alloc, case.files)?, case.fail_shelf);
     let mut out = MemSink::new(alloc, case.room, case.most.get(), case.fail_out)?;
     let mut err = MemSink::new(alloc, case.room, case.most.get(), case.fail_err)?;
-    let done = run(
+    let given = status_of(
         alloc,
         tool,
         case.words.as_slice(),
@@ -50,7 +50,7 @@ pub fn report(rt: &HostRuntime, tally: &mut Tally, case: Case) -> Result<()> {
         &mut err,
     );
     let wanted = case.out.as_slice();
-    let same = status == done.status
+    let same = status == given
         && case.err.as_slice() == err.bytes()
         && match &case.lassos {
             None => wanted == out.bytes(),
@@ -61,7 +61,7 @@ pub fn report(rt: &HostRuntime, tally: &mut Tally, case: Case) -> Result<()> {
         return Ok(());
     }
     tally.differ = tally.differ.saturating_add(1);
-    println!(rt; "{name}: status {} for {status}", done.status)?;
+    println!(rt; "{name}: status {given} for {status}")?;
     print_part(rt, "out", case.out.as_slice(), out.bytes())?;
     print_part(rt, "err", case.err.as_slice(), err.bytes())
 }
