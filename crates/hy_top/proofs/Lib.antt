@@ -1,4 +1,5 @@
 pub mod Bodies
+pub mod Checking
 pub mod Deciding
 pub mod Ending
 pub mod EventLines

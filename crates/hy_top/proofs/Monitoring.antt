@@ -12,6 +12,7 @@ use Rattle.hy_top.specs.Contents.{specifications, events}
 use Rattle.hy_top.specs.Files.{Given, HasTexts, HasFormulas}
 use Rattle.hy_top.specs.Monitoring.{AreUniversal, SomePlain, EachPlain, SomeBody, IsOutcome, untaken, large_closure, many_atoms, large_table, done, spent}
 use Rattle.hy_top.specs.Runs.{Follows, extras_of}
+use Rattle.hy_top.specs.Stages.{names as names_stage}
 use Rattle.hy_top.specs.Stages.{First, here, later, count, closure, joint, atoms, table, work, stages_of_formulas}
 use Rattle.hy_top.specs.Steps.{Takes, TakesEvents, Ends}
 use Rattle.hy_top.proofs.Bodies.{closure_passed, atoms_passed, table_passed}
@@ -57,7 +58,7 @@ module _ {S : Type 0} (g : Ghosts S) (old mid new : S) (specs file : List ℕ) (
 
     -- Behind the classes and the instances the closures come.
     behind_class : (a : Answer) → AreUniversal formulas
-        → First (monitor specs file lengths) given (count closure ∷ count joint ∷ count atoms ∷ count table ∷ work ∷ []) a
+        → First (monitor specs file lengths) given (count closure ∷ count joint ∷ count atoms ∷ count table ∷ names_stage ∷ work ∷ []) a
         → Follows g old new (monitor specs file lengths) a (out_text (extras_of (monitor specs file lengths)) names a)
     behind_class a universal rest =
         behind a
@@ -65,13 +66,13 @@ module _ {S : Type 0} (g : Ghosts S) (old mid new : S) (specs file : List ℕ) (
         (later (instances_passed (monitor specs file lengths) given formulas all_of tt) rest))
 
     behind_closures : (a : Answer) → AreUniversal formulas → EachPlain HasSmallClosure formulas
-        → First (monitor specs file lengths) given (count atoms ∷ count table ∷ work ∷ []) a
+        → First (monitor specs file lengths) given (count atoms ∷ count table ∷ names_stage ∷ work ∷ []) a
         → Follows g old new (monitor specs file lengths) a (out_text (extras_of (monitor specs file lengths)) names a)
     behind_closures a universal small rest =
-        behind_class a universal (later (closure_passed (monitor specs file lengths) given formulas all_of tt small) (later (λ b met. met.0.judges) rest))
+        behind_class a universal (later (closure_passed (monitor specs file lengths) given formulas all_of tt small (λ past. past.checks)) (later (λ b met. met.0.judges) rest))
 
     behind_atoms : (a : Answer) → AreUniversal formulas → EachPlain HasSmallClosure formulas → EachPlain HasFewAtoms formulas
-        → First (monitor specs file lengths) given (count table ∷ work ∷ []) a
+        → First (monitor specs file lengths) given (count table ∷ names_stage ∷ work ∷ []) a
         → Follows g old new (monitor specs file lengths) a (out_text (extras_of (monitor specs file lengths)) names a)
     behind_atoms a universal small few rest =
         behind_closures a universal small
@@ -83,7 +84,7 @@ module _ {S : Type 0} (g : Ghosts S) (old mid new : S) (specs file : List ℕ) (
     outcome_follows _ (untaken place found is) =
         behind _ (here (record { formulas = formulas; has = all_of; place = place; class = found; first = is; answered = refl }))
     outcome_follows _ (large_closure universal some) =
-        behind_class _ universal (here (inr (some_body HasLargeClosure some), refl))
+        behind_class _ universal (here (inr (inl (some_body HasLargeClosure some)), refl))
     outcome_follows _ (many_atoms universal small some) =
         behind_closures _ universal small (here (some_body HasManyAtoms some, refl))
     outcome_follows _ (large_table universal small few some) =
@@ -92,8 +93,8 @@ module _ {S : Type 0} (g : Ghosts S) (old mid new : S) (specs file : List ℕ) (
         behind_atoms a universal (taken-closures formulas taken) (taken-atoms formulas taken)
         (later
         (table_passed (monitor specs file lengths) given formulas all_of (taken-tables formulas taken))
-        (here
-        (record { formulas = formulas; names = names; first = specs_first; bytes = bytes; came = refl; verdict = verdict })))
+        (later (λ b refuses. refuses.checks) (here
+        (record { formulas = formulas; names = names; first = specs_first; bytes = bytes; came = refl; verdict = verdict }))))
       where
         taken-closures : (fs : List Plain) → EachPlain IsTaken fs → EachPlain HasSmallClosure fs
         taken-closures [] all = tt

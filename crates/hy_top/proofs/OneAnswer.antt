@@ -20,11 +20,13 @@ use Rattle.hy_words.specs.Commands.{Command, monitor, judge, decide, imply, comp
 use Rattle.hy_top.specs.Classes.{takes, file_of, RefusesClass, FirstUntaken}
 use Rattle.hy_top.specs.Contents.{content_of, most_quantifiers, IsRefused}
 use Rattle.hy_top.specs.Deciding.{plan_of, plan_against, Determines, DecidesBy, DecidesOne, DecidesTwo, ComparesTwo, sat, unsat, implied, not_implied, beyond, equivalent, first_alone, second_alone, many_branches}
+use Rattle.mc_core.specs.declared.ask.Ask.{Ask}
+use Rattle.hy_top.specs.Checking.{RefusesName, Checks}
 use Rattle.hy_top.specs.Files.{Given, RefusesText}
 use Rattle.hy_top.specs.Judging.{Judges, holds, fails}
 use Rattle.hy_top.specs.Monitoring.{specs_of, IsViolation, Comes, IsVerdict, Monitors}
 use Rattle.hy_top.specs.Monitoring.{ComesTo as ComesToAnswer}
-use Rattle.hy_top.specs.Stages.{Stage, opening, reading, size, text, class, count, work, Met, First, here, later, ComesTo, Agree, same, other_tuple, other_model, other_proof, other_implied, other_proofs, other_witness, other_side}
+use Rattle.hy_top.specs.Stages.{Stage, opening, reading, size, text, class, count, names, work, Met, First, here, later, ComesTo, Agree, same, other_tuple, other_model, other_proof, other_implied, other_proofs, other_witness, other_side}
 use Rattle.hy_top.proofs.Formulas.{of_formulas, untaken_once}
 use Rattle.hy_top.proofs.Judging.{lassos_once}
 use Rattle.hy_top.proofs.Progress.{texts_once}
@@ -207,13 +209,20 @@ determined_agree command given a b one two =
     let P : List Plain → Type 0 = λ fs. DecidesBy command fs a in
     decided_agree command two.formulas a b (subst P (of_formulas command given two.formulas two.has one.formulas one.has) one.decides) two.decides
 
+names_agree : (command : Command) (given : Given) (a b : Answer) → RefusesName command given a → RefusesName command given b → a ≡ b
+names_agree command given a b one two = ?
+
+checks_agree : (command : Command) (given : Given) (ask : Ask) (a b : Answer) → Checks ask command given a → Checks ask command given b → Agree a b
+checks_agree command given ask a b one two = ?
+
 works_agree : (command : Command) (given : Given) (a b : Answer) → ComesTo command given a → ComesTo command given b → Agree a b
 works_agree (monitor specs traces lengths) given a b one two = monitors_agree (monitor specs traces lengths) given lengths a b one two
 works_agree (judge formula list) given a b one two = judgements_agree (judge formula list) given a b one two
 works_agree (decide formula states proof) given a b one two = determined_agree (decide formula states proof) given a b one two
 works_agree (imply first second states proof) given a b one two = determined_agree (imply first second states proof) given a b one two
 works_agree (compare first second states proof) given a b one two = determined_agree (compare first second states proof) given a b one two
-works_agree (check circuit formula depth conflicts plain proof) given a b one two = absurd one
+works_agree (check circuit formula depth conflicts plain proof) given a b one two =
+    checks_agree (check circuit formula depth conflicts plain proof) given _ a b one two
 
 one_stage : (command : Command) (given : Given) (stage : Stage) (a b : Answer) → Met command given stage a → Met command given stage b → Agree a b
 one_stage command given (opening k) a b e f = agree (e.1 ∙ sym f.1)
@@ -222,6 +231,7 @@ one_stage command given (size k) a b e f = agree (e.1 ∙ sym f.1)
 one_stage command given (text k) a b e f = agree (text_agrees command given k a b e f)
 one_stage command given class a b e f = agree (class_agrees command given a b e f)
 one_stage command given (count quantity) a b e f = agree (e.1 ∙ sym f.1)
+one_stage command given names a b e f = agree (names_agree command given a b e f)
 one_stage command given work a b e f = works_agree command given a b e f
 
 pub first_once : (command : Command) (given : Given) (stages : List Stage) (a b : Answer) → First command given stages a → First command given stages b → Agree a b

@@ -9,11 +9,12 @@ ghost use Rattle.hy_words.specs.Said.{said_by};
 ghost use Rattle.hy_words.specs.Words.{texts};
 ghost use Rattle.hy_top.specs.Runs.{Comes, IsWritten, Names};
 
-use crate::{eahyper, rvhyper};
+use crate::{eahyper, mchyper, rvhyper};
 use hy_answer::{Answer, Extras, out_text, status_of, write_error};
 use hy_base::{Memory, Shelf, Sink, SinkFailed, write_all};
 use hy_formula::NameTable;
 use hy_words::{Command, Tool, command_of};
+use mc_core::Ask;
 use std::alloc::Global;
 
 /// The end of a run: its exit status, and what it answered.
@@ -99,8 +100,22 @@ pub fn run<S: Shelf, O: Sink, E: Sink>(
             finish(alloc, due, extras, &names, &[first, second], out, err)
         }
         Command::Check {
-            circuit, formula, ..
-        } => finish(alloc, Answer::Memory, plain, &names, &[circuit, formula], out, err),
+            circuit,
+            formula,
+            depth,
+            conflicts,
+            plain: bare,
+            proof,
+        } => {
+            let ask = Ask {
+                depth,
+                conflicts,
+                plain: bare,
+            };
+            let due = mchyper::check(alloc, shelf, (circuit, formula), &ask, &mut names);
+            let extras = Extras { kept: false, proof };
+            finish(alloc, due, extras, &names, &[circuit, formula], out, err)
+        }
     }
 }
 

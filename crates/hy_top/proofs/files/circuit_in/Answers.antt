@@ -1,0 +1,8 @@
+use Rattle.hy_top.specs.Steps.{unread}
+use Rattle.hy_top.proofs.files.circuit_in.Goals as goal
+
+pub returns-in-Err-clause-ended : goal.returns-in-Err-clause-ended
+returns-in-Err-clause-ended g c = rw c.fault_answer.ensures (unread c.in-Err.error c.in-Err.ensures.read)
+
+pub returns-clause-ended : goal.returns-clause-ended
+returns-clause-ended g c = ?
