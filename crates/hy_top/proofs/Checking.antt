@@ -30,6 +30,9 @@ use Rattle.hy_top.specs.Runs.{Follows, extras_of}
 use Rattle.hy_top.specs.Stages.{First, here, later, count, closure, joint, atoms, table, work, Passed, stages_of_formulas}
 use Rattle.hy_top.specs.Stages.{names as names_stage}
 use Rattle.hy_top.specs.Steps.{Takes, TakesCircuit, Ends}
+use Rattle.std.specs.Bool.{IsTrue}
+use Rattle.std.specs.List.{Contains}
+use Rattle.aig_net.specs.Signals.{has_signal}
 use Rattle.hy_top.proofs.Bodies.{closure_passed, atoms_passed, table_passed}
 use Rattle.hy_top.proofs.Formulas.{class_passed, instances_passed}
 use Rattle.hy_top.proofs.Progress.{Progress, begun, goes_on, ends_here, answers_behind, runs_short, texts_once}
@@ -77,9 +80,20 @@ module _ (net : Net) (names : List (List ℕ)) (f : Plain) (ask : Ask) where
 
 -- ---- the run
 
+-- A name that stands for one literal is not bad.
+pub only-not-bad : (net : Net) (name : List ℕ) (l : ℕ) (twice : Bool) → IsOnly net name l → ¬ IsBadName net name twice
+only-not-bad net name l false only bad = bad l only.has
+only-not-bad net name l true only (m, n, one, two, other) = other (only.only m one ∙ sym (only.only n two))
+
+signal-there : (signals : List Signal) (name : ℕ) → IsTrue (has_signal signals name 0) → (s : Signal) × Contains signals s × (s.name ≡ name)
+signal-there signals name there = ?
+
 no-bad-name : (net : Net) (names : List (List ℕ)) (f : Plain) (signals : List Signal) → AreSignals net names f.body signals → (name : ℕ) (twice : Bool)
     → ¬ IsFirstBad net names f.body name twice
-no-bad-name net names f signals are name twice bad = ?
+no-bad-name net names f signals are name twice bad =
+    let (s, there, same) = signal-there signals name (are.every name bad.there) in
+    let P : ℕ → Type 0 = λ n. IsOnly net (name_at names n) s.literal in
+    only-not-bad net (name_at names name) s.literal twice (subst P same (are.each s there).1) bad.bad
 
 module _ (command : Command) (given : Given) (net other : Net) (f g : Plain) (names later : List (List ℕ)) where
   pub pair_once : HasPair command given net f names → HasPair command given other g later → (net ≡ other) × (f ≡ g) × (names ≡ later)

@@ -1,5 +1,5 @@
 -- The first stage that is met gives one answer.
-use Rattle.std.proofs.Common.{◌≡◌, ℕ, ◌⊎◌, Bool, true, false, List, [], ◌∷◌, inl, inr, sym, ap, subst, ◌∙◌, arith}
+use Rattle.std.proofs.Common.{◌≡◌, ℕ, ◌⊎◌, Bool, true, false, List, [], ◌∷◌, inl, inr, refl, sym, ap, subst, ◌∙◌, arith}
 use Rattle.std.proofs.lemmas.Bool.{cases_lt}
 use Rattle.hy_bits.specs.Letter.{Letter}
 use Rattle.hy_formula.specs.Lassos.{Lasso}
@@ -21,6 +21,9 @@ use Rattle.hy_top.specs.Classes.{takes, file_of, RefusesClass, FirstUntaken}
 use Rattle.hy_top.specs.Contents.{content_of, most_quantifiers, IsRefused}
 use Rattle.hy_top.specs.Deciding.{plan_of, plan_against, Determines, DecidesBy, DecidesOne, DecidesTwo, ComparesTwo, sat, unsat, implied, not_implied, beyond, equivalent, first_alone, second_alone, many_branches}
 use Rattle.mc_core.specs.declared.ask.Ask.{Ask}
+use Rattle.aig_net.specs.Nets.{Net}
+use Rattle.mc_core.specs.Names.{IsFirstBad, IsBadName, name_at}
+use Rattle.hy_top.proofs.Checking.{pair_once, only-not-bad}
 use Rattle.hy_top.specs.Checking.{RefusesName, Checks}
 use Rattle.hy_top.specs.Files.{Given, RefusesText}
 use Rattle.hy_top.specs.Judging.{Judges, holds, fails}
@@ -209,8 +212,33 @@ determined_agree command given a b one two =
     let P : List Plain → Type 0 = λ fs. DecidesBy command fs a in
     decided_agree command two.formulas a b (subst P (of_formulas command given two.formulas two.has one.formulas one.has) one.decides) two.decides
 
+bad_once : (net : Net) (name : List ℕ) (a b : Bool) → IsBadName net name a → IsBadName net name b → a ≡ b
+bad_once net name false false one two = refl
+bad_once net name true true one two = refl
+bad_once net name false true one (l, m, has, also, other) = absurd (one l has)
+bad_once net name true false (l, m, has, also, other) two = absurd (two l has)
+
+first_bad_once : (net : Net) (names : List (List ℕ)) (f : Plain) (j k : ℕ) (a b : Bool) → IsFirstBad net names f.body j a → IsFirstBad net names f.body k b → (j ≡ k) × (a ≡ b)
+first_bad_once net names f j k a b one two =
+    let same : j ≡ k = elim (cases_lt j k) [
+      | inl lt ↦ let (l, only) = two.first j lt one.there in absurd (only-not-bad net (name_at names j) l a only one.bad)
+      | inr from ↦
+          elim (cases_lt k j) [
+            | inl lt ↦ let (l, only) = one.first k lt two.there in absurd (only-not-bad net (name_at names k) l b only two.bad)
+            | inr to ↦ omega arith
+          ]
+    ] in
+    let P : ℕ → Type 0 = λ n. IsBadName net (name_at names n) a in
+    (same, bad_once net (name_at names k) a b (subst P same one.bad) two.bad)
+
 names_agree : (command : Command) (given : Given) (a b : Answer) → RefusesName command given a → RefusesName command given b → a ≡ b
-names_agree command given a b one two = ?
+names_agree command given a b one two =
+    let (nets, formulas, tables) = pair_once command given one.net two.net one.formula two.formula one.names two.names one.pair two.pair in
+    let P : Net → Type 0 = λ n. IsFirstBad n one.names one.formula.body one.name one.twice in
+    let Q : Plain → Type 0 = λ h. IsFirstBad two.net one.names h.body one.name one.twice in
+    let R : List (List ℕ) → Type 0 = λ t. IsFirstBad two.net t two.formula.body one.name one.twice in
+    let (name, twice) = first_bad_once two.net two.names two.formula one.name two.name one.twice two.twice (subst R tables (subst Q formulas (subst P nets one.bad))) two.bad in
+    one.answered ∙ (λ i. answers.Name (name_at (tables i) (name i)) (twice i)) ∙ sym two.answered
 
 checks_agree : (command : Command) (given : Given) (ask : Ask) (a b : Answer) → Checks ask command given a → Checks ask command given b → Agree a b
 checks_agree command given ask a b one two = ?
