@@ -1,5 +1,5 @@
 -- What checking a formula on a circuit comes to is the answer of the run.
-use Rattle.std.proofs.Common.{◌≡◌, ◌⊎◌, ◌<◌, ◌≤◌, ℕ, Bool, true, false, List, [], ◌∷◌, ◌++◌, length, Ok, Err, Result, inl, inr, refl, sym, ap, subst, ◌∙◌, arith}
+use Rattle.std.proofs.Common.{◌≡◌, ◌⊎◌, ◌<◌, ◌≤◌, ℕ, Bool, true, false, List, [], ◌∷◌, ◌++◌, length, Ok, Err, Result, inl, inr, refl, sym, ap, subst, ◌∙◌, arith, cond, ◌&&◌, nat_eq, Some, is_some, true≢false, eqb-true}
 use Rattle.hy_base.specs.Limits.{most}
 use Rattle.hy_base.specs.declared.limit.Kind.TheVariants.{Closure}
 use Rattle.hy_base.specs.declared.limit.Limit.{Limit as Past}
@@ -32,7 +32,8 @@ use Rattle.hy_top.specs.Stages.{names as names_stage}
 use Rattle.hy_top.specs.Steps.{Takes, TakesCircuit, Ends}
 use Rattle.std.specs.Bool.{IsTrue}
 use Rattle.std.specs.List.{Contains}
-use Rattle.aig_net.specs.Signals.{has_signal}
+use Rattle.aig_net.specs.Signals.{has_signal, literal_of}
+use Rattle.hy_formula.proofs.Tuples.{contains-here, contains-later}
 use Rattle.hy_top.proofs.Bodies.{closure_passed, atoms_passed, table_passed}
 use Rattle.hy_top.proofs.Formulas.{class_passed, instances_passed}
 use Rattle.hy_top.proofs.Progress.{Progress, begun, goes_on, ends_here, answers_behind, runs_short, texts_once}
@@ -86,7 +87,14 @@ only-not-bad net name l false only bad = bad l only.has
 only-not-bad net name l true only (m, n, one, two, other) = other (only.only m one ∙ sym (only.only n two))
 
 signal-there : (signals : List Signal) (name : ℕ) → IsTrue (has_signal signals name 0) → (s : Signal) × Contains signals s × (s.name ≡ name)
-signal-there signals name there = ?
+signal-there [] name there = absurd (true≢false (sym there))
+signal-there (s ∷ signals) name there = by (nat_eq s.name name) (nat_eq s.var 0) refl there (signal-there signals name)
+  where
+    by : (a b : Bool) → nat_eq s.name name ≡ a → IsTrue (is_some (cond (a && b) (Some s.literal) (literal_of signals name 0)))
+        → (IsTrue (has_signal signals name 0) → (r : Signal) × Contains signals r × (r.name ≡ name)) → (r : Signal) × Contains (s ∷ signals) r × (r.name ≡ name)
+    by true true e known behind = (s, contains-here s signals, eqb-true s.name name e)
+    by true false e known behind = let (r, later, same) = behind known in (r, contains-later s r signals later, same)
+    by false b e known behind = let (r, later, same) = behind known in (r, contains-later s r signals later, same)
 
 no-bad-name : (net : Net) (names : List (List ℕ)) (f : Plain) (signals : List Signal) → AreSignals net names f.body signals → (name : ℕ) (twice : Bool)
     → ¬ IsFirstBad net names f.body name twice
