@@ -15,6 +15,10 @@ use Rattle.mc_core.specs.Answers.{IsPosed, IsTaken, IsAnswer, IsRefused as IsUnc
 use Rattle.mc_core.specs.Names.{IsFirstBad, AreSignals, IsOnly, HasLiteral, IsBadName, has_name, name_at}
 use Rattle.mc_core.specs.declared.ask.Ask.{Ask}
 use Rattle.mc_core.specs.declared.checked.Checked.{Checked}
+use Rattle.mc_core.specs.declared.checked.Checked.TheVariants as checked
+use Rattle.mc_core.specs.Answers.{IsChecked}
+use Rattle.wit_lasso.specs.Satisfaction.{Satisfies}
+use Rattle.hy_top.specs.Stages.{IsOfCheck, Deny, Agree, other_check}
 use Rattle.mc_core.specs.declared.mc_error.McError.{McError}
 use Rattle.mc_core.specs.declared.mc_error.McError.TheVariants as errors
 use Rattle.hy_answer.specs.declared.answer.Answer.{Answer}
@@ -93,8 +97,8 @@ signal-there (s ∷ signals) name there = by (nat_eq s.name name) (nat_eq s.var 
     by : (a b : Bool) → nat_eq s.name name ≡ a → IsTrue (is_some (cond (a && b) (Some s.literal) (literal_of signals name 0)))
         → (IsTrue (has_signal signals name 0) → (r : Signal) × Contains signals r × (r.name ≡ name)) → (r : Signal) × Contains (s ∷ signals) r × (r.name ≡ name)
     by true true e known behind = (s, contains-here s signals, eqb-true s.name name e)
-    by true false e known behind = let (r, later, same) = behind known in (r, contains-later s r signals later, same)
-    by false b e known behind = let (r, later, same) = behind known in (r, contains-later s r signals later, same)
+    by true false e known behind = let (r, more, same) = behind known in (r, contains-later s r signals more, same)
+    by false b e known behind = let (r, more, same) = behind known in (r, contains-later s r signals more, same)
 
 no-bad-name : (net : Net) (names : List (List ℕ)) (f : Plain) (signals : List Signal) → AreSignals net names f.body signals → (name : ℕ) (twice : Bool)
     → ¬ IsFirstBad net names f.body name twice
@@ -181,3 +185,52 @@ module _ {S : Type 0} (g : Ghosts S) (old mid new : S) (file formula : List ℕ)
         no-bad-name net names f signals posed.signals_are refuses.name refuses.twice (subst R tables (subst Q formulas (subst P nets refuses.bad))))
         (here (record { net = net; formula = f; names = names; pair = pair; signals = signals; posed = posed; comes = comes })))
     check_follows _ spent = runs_short g command old new given (f ∷ []) names read_all
+
+-- ---- one check
+
+-- Signals of the same names say the same of the circuit.
+same_satisfaction : (net : Net) (names : List (List ℕ)) (f : Plain) (a b : List Signal) → AreSignals net names f.body a → AreSignals net names f.body b
+    → Satisfies net a f.prefix f.body → Satisfies net b f.prefix f.body
+same_satisfaction net names f a b one two is = ?
+
+of_checked : (c : Checked) → IsOfCheck (checked_answer c)
+of_checked (checked.Holds traces runs proof) = tt
+of_checked (checked.Violated traces runs proof) = tt
+of_checked (checked.UnknownDepth depth kept path) = tt
+of_checked (checked.UnknownConflicts conflicts k step kept log) = tt
+
+module _ (net : Net) (names : List (List ℕ)) (f : Plain) (ask : Ask) (s t : List Signal) (one : AreSignals net names f.body s) (two : AreSignals net names f.body t) where
+  not_denied : (c d : Checked) → IsChecked net s f.prefix f.body ask c → IsChecked net t f.prefix f.body ask d → ¬ Deny (checked_answer c) (checked_answer d)
+  not_denied (checked.Holds traces runs proof) (checked.Violated others walks evidence) is also deny = also.0 (same_satisfaction net names f s t one two is.0)
+  not_denied (checked.Violated traces runs proof) (checked.Holds others walks evidence) is also deny = is.0 (same_satisfaction net names f t s two one also.0)
+  not_denied (checked.Holds traces runs proof) (checked.Holds others walks evidence) is also deny = deny
+  not_denied (checked.Holds traces runs proof) (checked.UnknownDepth depth kept path) is also deny = deny
+  not_denied (checked.Holds traces runs proof) (checked.UnknownConflicts conflicts k step kept log) is also deny = deny
+  not_denied (checked.Violated traces runs proof) (checked.Violated others walks evidence) is also deny = deny
+  not_denied (checked.Violated traces runs proof) (checked.UnknownDepth depth kept path) is also deny = deny
+  not_denied (checked.Violated traces runs proof) (checked.UnknownConflicts conflicts k step kept log) is also deny = deny
+  not_denied (checked.UnknownDepth depth kept path) d is also deny = deny
+  not_denied (checked.UnknownConflicts conflicts k step kept log) d is also deny = deny
+
+  never_limit : (c : Checked) (kind : _) (limit : ℕ) → ¬ Deny (checked_answer c) (answers.Limit kind limit)
+  never_limit (checked.Holds traces runs proof) kind limit deny = deny
+  never_limit (checked.Violated traces runs proof) kind limit deny = deny
+  never_limit (checked.UnknownDepth depth kept path) kind limit deny = deny
+  never_limit (checked.UnknownConflicts conflicts k step kept log) kind limit deny = deny
+
+  never_cnf : (c : Checked) (kind : _) (limit : ℕ) (keeps : _) → ¬ Deny (checked_answer c) (answers.CnfLimit kind limit keeps)
+  never_cnf (checked.Holds traces runs proof) kind limit keeps deny = deny
+  never_cnf (checked.Violated traces runs proof) kind limit keeps deny = deny
+  never_cnf (checked.UnknownDepth depth kept path) kind limit keeps deny = deny
+  never_cnf (checked.UnknownConflicts conflicts k step kept log) kind limit keeps deny = deny
+
+  pub comes_agree : (a b : Answer) → ComesBy net s f ask a → ComesBy net t f ask b → Agree a b
+  comes_agree _ _ (found c is) (found d also) = other_check _ _ (of_checked c) (of_checked d) (not_denied c d is also)
+  comes_agree _ _ (found c is) (facts_stop limit p q) = other_check _ _ (of_checked c) tt (never_limit c limit.kind limit.limit)
+  comes_agree _ _ (found c is) (paths_stop kind limit kept p q) = other_check _ _ (of_checked c) tt (never_cnf c kind limit kept)
+  comes_agree _ _ (facts_stop limit p q) (found d also) = other_check _ _ tt (of_checked d) (λ deny. deny)
+  comes_agree _ _ (facts_stop limit p q) (facts_stop other r u) = other_check _ _ tt tt (λ deny. deny)
+  comes_agree _ _ (facts_stop limit p q) (paths_stop kind other kept r u) = other_check _ _ tt tt (λ deny. deny)
+  comes_agree _ _ (paths_stop kind limit kept p q) (found d also) = other_check _ _ tt (of_checked d) (λ deny. deny)
+  comes_agree _ _ (paths_stop kind limit kept p q) (facts_stop other r u) = other_check _ _ tt tt (λ deny. deny)
+  comes_agree _ _ (paths_stop kind limit kept p q) (paths_stop other more keeps r u) = other_check _ _ tt tt (λ deny. deny)

@@ -22,14 +22,15 @@ use Rattle.hy_top.specs.Contents.{content_of, most_quantifiers, IsRefused}
 use Rattle.hy_top.specs.Deciding.{plan_of, plan_against, Determines, DecidesBy, DecidesOne, DecidesTwo, ComparesTwo, sat, unsat, implied, not_implied, beyond, equivalent, first_alone, second_alone, many_branches}
 use Rattle.mc_core.specs.declared.ask.Ask.{Ask}
 use Rattle.aig_net.specs.Nets.{Net}
-use Rattle.mc_core.specs.Names.{IsFirstBad, IsBadName, name_at}
-use Rattle.hy_top.proofs.Checking.{pair_once, only-not-bad}
-use Rattle.hy_top.specs.Checking.{RefusesName, Checks}
+use Rattle.mc_core.specs.Names.{AreSignals, IsFirstBad, IsBadName, name_at}
+use Rattle.hy_top.proofs.Checking.{pair_once, only-not-bad, comes_agree}
+use Rattle.hy_top.specs.Checking.{RefusesName, Checks, ComesBy}
 use Rattle.hy_top.specs.Files.{Given, RefusesText}
 use Rattle.hy_top.specs.Judging.{Judges, holds, fails}
 use Rattle.hy_top.specs.Monitoring.{specs_of, IsViolation, Comes, IsVerdict, Monitors}
 use Rattle.hy_top.specs.Monitoring.{ComesTo as ComesToAnswer}
-use Rattle.hy_top.specs.Stages.{Stage, opening, reading, size, text, class, count, names, work, Met, First, here, later, ComesTo, Agree, same, other_tuple, other_model, other_proof, other_implied, other_proofs, other_witness, other_side}
+use Rattle.hy_top.specs.Stages.{names as names_stage}
+use Rattle.hy_top.specs.Stages.{Stage, opening, reading, size, text, class, count, work, Met, First, here, later, ComesTo, Agree, same, other_tuple, other_model, other_proof, other_implied, other_proofs, other_witness, other_side}
 use Rattle.hy_top.proofs.Formulas.{of_formulas, untaken_once}
 use Rattle.hy_top.proofs.Judging.{lassos_once}
 use Rattle.hy_top.proofs.Progress.{texts_once}
@@ -241,7 +242,15 @@ names_agree command given a b one two =
     one.answered ∙ (λ i. answers.Name (name_at (tables i) (name i)) (twice i)) ∙ sym two.answered
 
 checks_agree : (command : Command) (given : Given) (ask : Ask) (a b : Answer) → Checks ask command given a → Checks ask command given b → Agree a b
-checks_agree command given ask a b one two = ?
+checks_agree command given ask a b one two =
+    let (nets, formulas, tables) = pair_once command given one.net two.net one.formula two.formula one.names two.names one.pair two.pair in
+    let P : Net → Type 0 = λ n. AreSignals n one.names one.formula.body one.signals in
+    let Q : Plain → Type 0 = λ h. AreSignals two.net one.names h.body one.signals in
+    let R : List (List ℕ) → Type 0 = λ t. AreSignals two.net t two.formula.body one.signals in
+    let U : Net → Type 0 = λ n. ComesBy n one.signals one.formula ask a in
+    let V : Plain → Type 0 = λ h. ComesBy two.net one.signals h ask a in
+    comes_agree two.net two.names two.formula ask one.signals two.signals (subst R tables (subst Q formulas (subst P nets one.posed.signals_are))) two.posed.signals_are
+    a b (subst V formulas (subst U nets one.comes)) two.comes
 
 works_agree : (command : Command) (given : Given) (a b : Answer) → ComesTo command given a → ComesTo command given b → Agree a b
 works_agree (monitor specs traces lengths) given a b one two = monitors_agree (monitor specs traces lengths) given lengths a b one two
@@ -259,7 +268,7 @@ one_stage command given (size k) a b e f = agree (e.1 ∙ sym f.1)
 one_stage command given (text k) a b e f = agree (text_agrees command given k a b e f)
 one_stage command given class a b e f = agree (class_agrees command given a b e f)
 one_stage command given (count quantity) a b e f = agree (e.1 ∙ sym f.1)
-one_stage command given names a b e f = agree (names_agree command given a b e f)
+one_stage command given names_stage a b e f = agree (names_agree command given a b e f)
 one_stage command given work a b e f = works_agree command given a b e f
 
 pub first_once : (command : Command) (given : Given) (stages : List Stage) (a b : Answer) → First command given stages a → First command given stages b → Agree a b
