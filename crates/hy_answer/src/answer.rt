@@ -1,9 +1,15 @@
 //! The answers of all tools.
 
+use aig_net::RunList;
+use aiger_body::AigKind;
+use chain_check::Log;
+use cnf_frames::InductionProof;
 use ea_core::RankProof;
-use hy_base::{Kind, NumList};
+use hy_base::{Kind, NumList, Text};
 use hy_formula::Class;
 use hy_lasso::LassoList;
+use invar_find::Kept;
+use live_safe::Path;
 use tuple_walk::Tuple;
 
 /// What a run answers. `file` is 0 for the first file of the command, and 1 for the second.
@@ -53,6 +59,36 @@ pub enum Answer {
         trace: u32,
         tuple: Tuple,
     },
+    /// The circuit satisfies the formula: an existential one by these runs and what is seen of them,
+    /// one for each quantifier, a universal one by this proof. What is not the evidence is empty.
+    Holds {
+        traces: LassoList,
+        runs: RunList,
+        proof: Option<InductionProof>,
+    },
+    /// The circuit does not satisfy the formula: a universal one by these runs and what is seen of
+    /// them, one for each quantifier, an existential one by this proof.
+    Violated {
+        traces: LassoList,
+        runs: RunList,
+        proof: Option<InductionProof>,
+    },
+    /// No path of at most `depth` steps is an answer, and induction over so many steps, with the
+    /// facts that were kept, leaves this path of states.
+    UnknownDepth {
+        depth: u32,
+        kept: Kept,
+        path: Path,
+    },
+    /// A query learned as many clauses as `conflicts`: that for a path of `k` steps, or where `step`
+    /// that for one more step from any states, with the facts that were kept.
+    UnknownConflicts {
+        conflicts: u32,
+        k: u32,
+        step: bool,
+        kept: Kept,
+        log: Log,
+    },
     /// The words are no command.
     Words,
     /// A formula text is none: the number of tokens before the fault, and its byte.
@@ -80,6 +116,16 @@ pub enum Answer {
     Session {
         line: u32,
     },
+    /// The first file is no circuit: what is wrong, and at which byte.
+    Circuit {
+        kind: AigKind,
+        byte: u32,
+    },
+    /// A name of the formula stands for nothing in the circuit, or `twice` for different literals.
+    Name {
+        name: Text,
+        twice: bool,
+    },
     /// A file did not open.
     OpenFault {
         file: u8,
@@ -94,6 +140,12 @@ pub enum Answer {
     Limit {
         kind: Kind,
         limit: u64,
+    },
+    /// A query about paths of a circuit is past a limit; these facts were kept.
+    CnfLimit {
+        kind: Kind,
+        limit: u64,
+        kept: Kept,
     },
     /// More than `n` branches are reachable.
     States {

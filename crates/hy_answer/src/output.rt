@@ -3,14 +3,18 @@
 ghost use Rattle.std.specs.Prelude.{◌≡◌, ◌++◌, ◌∷◌, [], zero, IfOk, OnOk, map, decimal, codes, if◌then◌else◌};
 ghost use Rattle.std.specs.List.{join_with_byte};
 ghost use Rattle.hy_lasso.specs.Printed.{printed_lassos};
-ghost use Rattle.hy_answer.specs.Outputs.{out_text, spaced, kept_text, shown_proof, side_text, status_of, open_text};
+ghost use Rattle.hy_answer.specs.Outputs.{evidence_text, out_text, spaced, kept_text, shown_evidence, shown_proof, side_text, status_of, open_text};
 
 use crate::answer::{Answer, Extras};
+use crate::runs::runs_text;
+use aig_net::RunList;
+use cnf_frames::InductionProof;
 use ea_core::{RankProof, print_rank_proof};
 use hy_base::{M, Text};
 use hy_formula::NameTable;
 use hy_lasso::{LassoList, print_lassos};
 use itoa::Buffer;
+use mc_core::print_proof;
 use std::alloc::Global;
 
 /// Adds a number in decimal digits.
@@ -133,6 +137,46 @@ fn equivalent_text(alloc: Global, extras: Extras, first: &RankProof, second: &Ra
     Ok(text)
 }
 
+/// The text of a proof by induction, or else of runs.
+fn evidence_text(alloc: Global, runs: &RunList, proof: &Option<InductionProof>) -> M<Text>
+    ensures { IfOk result (λ t. t ≡ evidence_text runs.now proof.now) }
+{
+    match proof {
+        Some(proof) => print_proof(alloc, proof),
+        None => runs_text(alloc, runs.as_slice()),
+    }
+}
+
+/// The text of a verdict on a circuit: a line, the lassos, and the evidence, where proofs are shown.
+fn circuit_text(
+    alloc: Global,
+    extras: Extras,
+    line: &[u8],
+    traces: &LassoList,
+    runs: &RunList,
+    proof: &Option<InductionProof>,
+    names: &NameTable,
+) -> M<Text>
+    ensures { IfOk result (λ t. t ≡ line.now ++ printed_lassos names.now traces.now
+        ++ shown_evidence extras runs.now proof.now) }
+{
+    let mut text = with_lassos(alloc, line, traces, names)?;
+    if extras.proof {
+        text.extend(evidence_text(alloc, runs, proof)?.as_slice())?;
+    }
+    Ok(text)
+}
+
+/// A line that ends in a number.
+fn with_number(alloc: Global, front: &[u8], number: u32) -> M<Text>
+    ensures { IfOk result (λ t. t ≡ front.now ++ decimal number ++ codes "\n") }
+{
+    let mut text = line_text(alloc, front)?;
+    push_number(&mut text, number)?;
+    text.extend(b"\n")?;
+    Ok(text)
+}
+
 /// The line that names the formula which lassos satisfy alone.
 fn side_line(side: u8) -> &'static [u8]
     ensures { result.now ≡ codes "not equivalent " ++ side_text side ++ codes "\n" }
@@ -174,16 +218,33 @@ pub fn out_text(alloc: Global, extras: Extras, names: &NameTable, answer: &Answe
         Answer::Violation { spec, trace, tuple } => {
             violation_text(alloc, *spec, *trace, tuple.as_slice())
         }
+        Answer::Holds {
+            traces,
+            runs,
+            proof,
+        } => { circuit_text(alloc, extras, b"holds\n", traces, runs, proof, names) }
+        Answer::Violated {
+            traces,
+            runs,
+            proof,
+        } => { circuit_text(alloc, extras, b"violated\n", traces, runs, proof, names) }
+        Answer::UnknownDepth { depth, .. } => with_number(alloc, b"unknown depth ", *depth),
+        Answer::UnknownConflicts { conflicts, .. } => {
+            with_number(alloc, b"unknown conflicts ", *conflicts)
+        }
         Answer::Words
         | Answer::Syntax { .. }
         | Answer::Unbound { .. }
         | Answer::Prefix { .. }
         | Answer::Line { .. }
         | Answer::Session { .. }
+        | Answer::Circuit { .. }
+        | Answer::Name { .. }
         | Answer::OpenFault { .. }
         | Answer::ReadFault { .. }
         | Answer::WriteFault
         | Answer::Limit { .. }
+        | Answer::CnfLimit { .. }
         | Answer::States { .. }
         | Answer::Memory => Ok(Text::new(alloc)),
     }
@@ -198,20 +259,25 @@ pub fn status_of(answer: &Answer) -> u8
         | Answer::Implied { .. }
         | Answer::Equivalent { .. }
         | Answer::OnTrue
-        | Answer::NoViolation { .. } => 0,
+        | Answer::NoViolation { .. }
+        | Answer::Holds { .. } => 0,
         Answer::Unsat { .. }
         | Answer::NotImplied { .. }
         | Answer::NotEquivalent { .. }
         | Answer::OnFalse
-        | Answer::Violation { .. } => 1,
+        | Answer::Violation { .. }
+        | Answer::Violated { .. } => 1,
         Answer::Words
         | Answer::Syntax { .. }
         | Answer::Unbound { .. }
         | Answer::Prefix { .. }
         | Answer::Line { .. }
-        | Answer::Session { .. } => 2,
+        | Answer::Session { .. }
+        | Answer::Circuit { .. }
+        | Answer::Name { .. } => 2,
         Answer::OpenFault { .. } | Answer::ReadFault { .. } | Answer::WriteFault => 3,
-        Answer::Limit { .. } | Answer::States { .. } => 5,
+        Answer::UnknownDepth { .. } | Answer::UnknownConflicts { .. } => 4,
+        Answer::Limit { .. } | Answer::CnfLimit { .. } | Answer::States { .. } => 5,
         Answer::Memory => 6,
     }
 }

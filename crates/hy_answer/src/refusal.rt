@@ -5,9 +5,10 @@ ghost use Rattle.hy_base.specs.Counts.{Rose};
 ghost use Rattle.hy_base.specs.Sink.{KeepsSink, GivesWhole, FailsToGive};
 ghost use Rattle.hy_base.specs.Pieces.{GaveFront};
 ghost use Rattle.hy_answer.specs.Refusals.{IsTextAnswer, fault_answer, line_answer};
-ghost use Rattle.hy_answer.specs.Outputs.{error_line, kind_text, class_text, Received, plain, name_of_file};
+ghost use Rattle.hy_answer.specs.Outputs.{circuit_text, error_line, fault_of_name, kind_text, class_text, Received, plain, name_of_file};
 
 use crate::answer::Answer;
+use aiger_body::AigKind;
 use hy_base::{BYTES_LIMIT, FileError, Kind, Sink, SinkFailed, write_all, write_pieces};
 use hy_formula::Class;
 use hy_read::ReadError;
@@ -49,6 +50,29 @@ fn class_text(class: Class) -> &'static [u8]
         Class::ExistsForall => b"exists-forall",
         Class::Other => b"other",
     }
+}
+
+/// How a fault of a circuit is printed.
+fn circuit_text(kind: AigKind) -> &'static [u8]
+    ensures { result.now ≡ circuit_text kind }
+{
+    match kind {
+        AigKind::Header => b"header",
+        AigKind::Literal => b"literal",
+        AigKind::Redefined => b"redefined",
+        AigKind::Undefined => b"undefined",
+        AigKind::Cycle => b"cycle",
+        AigKind::Delta => b"delta",
+        AigKind::Truncated => b"truncated",
+        AigKind::Symbol => b"symbol",
+    }
+}
+
+/// How a fault of a name is printed.
+fn fault_of_name(twice: bool) -> &'static [u8]
+    ensures { result.now ≡ fault_of_name twice }
+{
+    if twice { b"twice" } else { b"none" }
 }
 
 /// Writes a line that ends in the name of a file.
@@ -97,6 +121,17 @@ fn write_syntax<E: Sink>(err: &mut E, name: &str, token: u32, byte: u32) -> Resu
     )
 }
 
+/// Writes the line of a fault of a name.
+fn write_name<E: Sink>(err: &mut E, name: &[u8], fault: &[u8]) -> Result<(), SinkFailed>
+    ensures keeps { KeepsSink E.Sink err.old err.new }
+    ensures given { OnOk result (GivesWhole E.Sink err.old err.new
+        (codes "error E12: " ++ name.now ++ codes " " ++ fault.now ++ codes "\n")) }
+    ensures refused { OnErr result (FailsToGive E.Sink err.old err.new
+        (codes "error E12: " ++ name.now ++ codes " " ++ fault.now ++ codes "\n")) }
+{
+    write_pieces(err, &[b"error E12: ", name, b" ", fault, b"\n"])
+}
+
 /// Writes a line about a file, of these pieces.
 fn write_about<E: Sink>(
     err: &mut E,
@@ -112,6 +147,60 @@ fn write_about<E: Sink>(
         (front.now ++ name.now ++ what.now ++ value.now ++ codes "\n")) }
 {
     write_pieces(err, &[front, name.as_bytes(), what, value, b"\n"])
+}
+
+/// Writes a line about a file that ends in a number.
+fn write_place<E: Sink>(
+    err: &mut E,
+    front: &[u8],
+    name: &str,
+    what: &[u8],
+    number: u32,
+) -> Result<(), SinkFailed>
+    ensures keeps { KeepsSink E.Sink err.old err.new }
+    ensures given { OnOk result (GivesWhole E.Sink err.old err.new
+        (front.now ++ name.now ++ what.now ++ decimal number ++ codes "\n")) }
+    ensures refused { OnErr result (FailsToGive E.Sink err.old err.new
+        (front.now ++ name.now ++ what.now ++ decimal number ++ codes "\n")) }
+{
+    let mut buffer = Buffer::new();
+    write_about(err, front, name, what, buffer.format(number).as_bytes())
+}
+
+/// Writes the line of a fault of a circuit.
+fn write_circuit<E: Sink>(err: &mut E, name: &str, kind: &[u8], byte: u32) -> Result<(), SinkFailed>
+    ensures keeps { KeepsSink E.Sink err.old err.new }
+    ensures given { OnOk result (GivesWhole E.Sink err.old err.new
+        (codes "error E11 " ++ name.now ++ codes ": " ++ kind.now ++ codes " byte " ++ decimal byte ++ codes "\n")) }
+    ensures refused { OnErr result (FailsToGive E.Sink err.old err.new
+        (codes "error E11 " ++ name.now ++ codes ": " ++ kind.now ++ codes " byte " ++ decimal byte ++ codes "\n")) }
+{
+    let mut buffer = Buffer::new();
+    let byte = buffer.format(byte).as_bytes();
+    write_pieces(
+        err,
+        &[
+            b"error E11 ",
+            name.as_bytes(),
+            b": ",
+            kind,
+            b" byte ",
+            byte,
+            b"\n",
+        ],
+    )
+}
+
+/// Writes a line that ends in a number.
+fn write_number<E: Sink>(err: &mut E, front: &[u8], number: u32) -> Result<(), SinkFailed>
+    ensures keeps { KeepsSink E.Sink err.old err.new }
+    ensures given { OnOk result (GivesWhole E.Sink err.old err.new
+        (front.now ++ decimal number ++ codes "\n")) }
+    ensures refused { OnErr result (FailsToGive E.Sink err.old err.new
+        (front.now ++ decimal number ++ codes "\n")) }
+{
+    let mut buffer = Buffer::new();
+    write_pieces(err, &[front, buffer.format(number).as_bytes(), b"\n"])
 }
 
 /// The name of file `file` of the command; no name where there is none of that number.
@@ -182,48 +271,41 @@ fn write_line<E: Sink>(answer: &Answer, names: &[&str], err: &mut E) -> Result<(
         | Answer::OnTrue
         | Answer::OnFalse
         | Answer::NoViolation { .. }
-        | Answer::Violation { .. } => write_all(err, b""),
+        | Answer::Violation { .. }
+        | Answer::Holds { .. }
+        | Answer::Violated { .. }
+        | Answer::UnknownDepth { .. }
+        | Answer::UnknownConflicts { .. } => write_all(err, b""),
         Answer::Words => write_all(err, b"error E1: words\n"),
         Answer::Syntax { file, token, byte } => {
             write_syntax(err, name_of_file(names, *file), *token, *byte)
         }
-        Answer::Unbound { file, byte } => {
-            let mut buffer = Buffer::new();
-            let byte = buffer.format(*byte).as_bytes();
-            write_about(
-                err,
-                b"error E3 ",
-                name_of_file(names, *file),
-                b": byte ",
-                byte,
-            )
+        Answer::Unbound { file, byte } => write_place(
+            err,
+            b"error E3 ",
+            name_of_file(names, *file),
+            b": byte ",
+            *byte,
+        ),
+        Answer::Prefix { file, class } => write_about(
+            err,
+            b"error E4 ",
+            name_of_file(names, *file),
+            b": prefix ",
+            class_text(*class),
+        ),
+        Answer::Line { file, line } => write_place(
+            err,
+            b"error E9 ",
+            name_of_file(names, *file),
+            b": line ",
+            *line,
+        ),
+        Answer::Session { line } => write_number(err, b"error E10: line ", *line),
+        Answer::Circuit { kind, byte } => {
+            write_circuit(err, name_of_file(names, 0), circuit_text(*kind), *byte)
         }
-        Answer::Prefix { file, class } => {
-            let class = class_text(*class);
-            write_about(
-                err,
-                b"error E4 ",
-                name_of_file(names, *file),
-                b": prefix ",
-                class,
-            )
-        }
-        Answer::Line { file, line } => {
-            let mut buffer = Buffer::new();
-            let line = buffer.format(*line).as_bytes();
-            write_about(
-                err,
-                b"error E9 ",
-                name_of_file(names, *file),
-                b": line ",
-                line,
-            )
-        }
-        Answer::Session { line } => {
-            let mut buffer = Buffer::new();
-            let line = buffer.format(*line).as_bytes();
-            write_pieces(err, &[b"error E10: line ", line, b"\n"])
-        }
+        Answer::Name { name, twice } => write_name(err, name.as_slice(), fault_of_name(*twice)),
         Answer::OpenFault { file } => write_with_name(
             err,
             b"error E7 ",
@@ -236,11 +318,8 @@ fn write_line<E: Sink>(answer: &Answer, names: &[&str], err: &mut E) -> Result<(
         ),
         Answer::WriteFault => write_all(err, b"error E8\n"),
         Answer::Limit { kind, limit } => write_limit(err, *kind, *limit),
-        Answer::States { n } => {
-            let mut buffer = Buffer::new();
-            let n = buffer.format(*n).as_bytes();
-            write_pieces(err, &[b"error E13: states ", n, b"\n"])
-        }
+        Answer::CnfLimit { kind, limit, .. } => write_limit(err, *kind, *limit),
+        Answer::States { n } => write_number(err, b"error E13: states ", *n),
         Answer::Memory => write_all(err, b"error: memory\n"),
     }
 }

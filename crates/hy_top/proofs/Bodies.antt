@@ -10,6 +10,7 @@ use Rattle.fin_monitor.proofs.Counting.{reached-most}
 use Rattle.ea_core.specs.Undecided.{HasFewMembers}
 use Rattle.hy_read.specs.Answers.{Plain}
 use Rattle.hy_words.specs.Commands.{Command}
+use Rattle.hy_top.specs.Checking.{HasManyMembers}
 use Rattle.hy_top.specs.Files.{Given, HasFormulas}
 use Rattle.hy_top.specs.Monitoring.{monitored, SomePlain, EachPlain, SomeBody}
 use Rattle.hy_top.specs.Deciding.{plans_of}
@@ -37,9 +38,10 @@ module _ (command : Command) (given : Given) (formulas : List Plain) (has : HasF
       apart f.body (each_contains (λ (g : Plain). R g.body) (monitored command formulas) f each there) is
 
   pub closure_passed : Each HasFewMembers (plans_of command formulas) → EachPlain HasSmallClosure (monitored command formulas)
-      → Passed command given (count closure)
-  closure_passed few small a (inl past, e) = few-members command given formulas has few past
-  closure_passed few small a (inr some, e) = no-body HasLargeClosure HasSmallClosure small_closures small some
+      → (¬ HasManyMembers command given) → Passed command given (count closure)
+  closure_passed few small unchecked a (inl past, e) = few-members command given formulas has few past
+  closure_passed few small unchecked a (inr (inr past), e) = unchecked past
+  closure_passed few small unchecked a (inr (inl some), e) = no-body HasLargeClosure HasSmallClosure small_closures small some
 
   pub atoms_passed : EachPlain HasFewAtoms (monitored command formulas) → Passed command given (count atoms)
   atoms_passed few a (some, e) = no-body HasManyAtoms HasFewAtoms few_atoms few some

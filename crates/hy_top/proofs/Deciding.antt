@@ -32,6 +32,7 @@ use Rattle.hy_top.specs.Contents.{one_formula}
 use Rattle.hy_top.specs.Deciding.{plan_of, plan_against, plans_of, sat, unsat, implied, not_implied, beyond, equivalent, first_alone, second_alone, many_branches}
 use Rattle.hy_top.specs.Deciding.{Determines, Outcome, untaken, many_instances, large_closure, done, spent, refusal_answer}
 use Rattle.hy_top.specs.Files.{Given, HasTexts, HasFormulas}
+use Rattle.hy_top.specs.Checking.{IsChecking}
 use Rattle.hy_top.specs.Judging.{IsJudging}
 use Rattle.hy_top.specs.Monitoring.{monitored, EachPlain}
 use Rattle.hy_top.specs.Runs.{Follows, extras_of}
@@ -51,7 +52,7 @@ few_members (p ∷ plans) (first, all) = (first.members, few_members plans all)
 
 module _ {S : Type 0} (g : Ghosts S) (command : Command) (old new : S) (given : Given) (formulas : List Plain) (names : List (List ℕ))
     (progress : Progress g command old new given formulas names) (all : length given ≡ length (files_of command))
-    (other : ¬ IsJudging command) (unwatched : (Q : Tree → Type 0) → EachPlain Q (monitored command formulas)) (works : (a : Answer) → Determines command given a → ComesTo command given a) where
+    (other : ¬ IsJudging command) (unchecked : ¬ IsChecking command) (unwatched : (Q : Tree → Type 0) → EachPlain Q (monitored command formulas)) (works : (a : Answer) → Determines command given a → ComesTo command given a) where
   has : HasFormulas command given formulas
   has = (names, let P : ℕ → Type 0 = λ n. HasTexts command given n formulas names in subst P all progress.texts)
 
@@ -75,10 +76,11 @@ module _ {S : Type 0} (g : Ghosts S) (command : Command) (old new : S) (given : 
       behind a
       (later (class_passed command given formulas has taken)
       (later (instances_passed command given formulas has (few_maps (plans_of command formulas) counted))
-      (later (closure_passed command given formulas has (few_members (plans_of command formulas) counted) (unwatched HasSmallClosure))
+      (later (closure_passed command given formulas has (few_members (plans_of command formulas) counted) (unwatched HasSmallClosure) (λ past. unchecked past.checks))
       (later (λ b met. other met.0.judges)
       (later (atoms_passed command given formulas has (unwatched HasFewAtoms))
-      (later (table_passed command given formulas has (unwatched HasSmallTable)) (here (works a (record { formulas = formulas; has = has; decides = decides })))))))))
+      (later (table_passed command given formulas has (unwatched HasSmallTable))
+      (later (λ b refuses. unchecked refuses.checks) (here (works a (record { formulas = formulas; has = has; decides = decides }))))))))))
   outcome_follows _ spent = runs_short g command old new given formulas names progress
 
 -- ---- what the calls of decisions say
@@ -224,7 +226,7 @@ module _ {S : Type 0} (g : Ghosts S) (old new : S) (names : List (List ℕ)) whe
   decide_follows formula states proof f first a outcome =
       outcome_follows g (decide formula states proof) old new (Ok first.bytes ∷ []) (f ∷ []) names
       (goes_on g (decide formula states proof) old old new [] [] (f ∷ []) [] names formula (begun g (decide formula states proof) old) refl first)
-      refl (λ judging. judging) (λ Q. tt) (λ b is. is) a outcome
+      refl (λ judging. judging) (λ checking. checking) (λ Q. tt) (λ b is. is) a outcome
 
 module _ {S : Type 0} (g : Ghosts S) (old mid new : S) (first second : List ℕ) (f : Plain) (names : List (List ℕ))
     (takes : Takes g old mid first 8 [] one_formula (f ∷ []) names) where
@@ -243,7 +245,7 @@ module _ {S : Type 0} (g : Ghosts S) (old mid new : S) (first second : List ℕ)
   imply_follows states proof h known next a outcome =
       outcome_follows g (imply first second states proof) old new (Ok takes.bytes ∷ Ok next.bytes ∷ []) (f ∷ h ∷ []) known
       (goes_on g (imply first second states proof) old mid new (Ok takes.bytes ∷ []) (f ∷ []) (h ∷ []) names known second (imply_first states proof) refl next)
-      refl (λ judging. judging) (λ Q. tt) (λ b is. is) a outcome
+      refl (λ judging. judging) (λ checking. checking) (λ Q. tt) (λ b is. is) a outcome
 
   compare_first : (states : ℕ) (proof : Bool) → Progress g (compare first second states proof) old mid (Ok takes.bytes ∷ []) (f ∷ []) names
   compare_first states proof = goes_on g (compare first second states proof) old old mid [] [] (f ∷ []) [] names first (begun g (compare first second states proof) old) refl takes
@@ -260,4 +262,4 @@ module _ {S : Type 0} (g : Ghosts S) (old mid new : S) (first second : List ℕ)
   compare_follows states proof h known next a outcome =
       outcome_follows g (compare first second states proof) old new (Ok takes.bytes ∷ Ok next.bytes ∷ []) (f ∷ h ∷ []) known
       (goes_on g (compare first second states proof) old mid new (Ok takes.bytes ∷ []) (f ∷ []) (h ∷ []) names known second (compare_first states proof) refl next)
-      refl (λ judging. judging) (λ Q. tt) (λ b is. is) a outcome
+      refl (λ judging. judging) (λ checking. checking) (λ Q. tt) (λ b is. is) a outcome

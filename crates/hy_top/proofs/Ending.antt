@@ -17,7 +17,9 @@ use Rattle.hy_read.specs.declared.error.ReadError.TheVariants as errors
 use Rattle.hy_answer.specs.declared.answer.Answer.{Answer}
 use Rattle.hy_answer.specs.declared.answer.Answer.TheVariants as answers
 use Rattle.hy_answer.specs.Refusals.{Refuses, IsTextAnswer, line_answer}
-use Rattle.hy_top.specs.Contents.{Content, specifications, one_formula, events, lassos, IsRefused}
+use Rattle.aiger_body.specs.Outcomes.{Refusal}
+use Rattle.hy_top.specs.Circuits.{IsNoCircuit, circuit_answer}
+use Rattle.hy_top.specs.Contents.{Content, specifications, one_formula, events, lassos, circuit, IsRefused}
 use Rattle.hy_top.specs.Steps.{Ends, TakesEvents, spent, refused}
 
 -- Memory ran out, or the fact holds.
@@ -68,3 +70,9 @@ module _ {S : Type 0} (g : Ghosts S) (old new : S) (name : List ℕ) (quantifier
 
   pub events-taken : Each IsGood (lines_of read) → TakesEvents g old new name bytes
   events-taken each = let P : List ℕ → Type 0 = λ b. Each IsGood (lines_of b) in record { read = came; lines = subst P same each }
+
+  -- A text that is no circuit, or memory ran out over it.
+  pub circuit-ends : (a : Answer) → (a ≡ answers.Memory) ⊎ ((refusal : Refusal) × IsNoCircuit read refusal × (a ≡ circuit_answer refusal))
+      → Ends g old new name quantifiers names k circuit a
+  circuit-ends a (inl e) = short-ends circuit a e
+  circuit-ends a (inr found) = refused-ends circuit a found

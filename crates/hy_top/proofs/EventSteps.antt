@@ -12,7 +12,6 @@ use Rattle.hy_finite.specs.declared.event.Event.{Event}
 use Rattle.hy_finite.specs.declared.event.Event.TheVariants as event
 use Rattle.hy_finite.specs.declared.event.Placed.{Placed}
 use Rattle.hy_finite.specs.declared.lengths.Lengths.{Lengths}
-use Rattle.hy_finite.specs.declared.lengths.Lengths.TheVariants.{Min}
 use Rattle.hy_finite.specs.EventLines.{IsGood, SaysNothing}
 use Rattle.hy_finite.specs.EventFiles.{SayEvents}
 use Rattle.hy_finite.specs.LinesLeft.{LinesLeft}
@@ -41,16 +40,16 @@ or-memory f (inr p) = inr (f p)
 
 -- ---- one event
 
-module _ (specs : List Spec) (line : ℕ) where
+module _ (lengths : Lengths) (specs : List Spec) (line : ℕ) where
   goes-comes : (arriving : Bool) (st : Step) (next : History) (Rest : History → Type 0) (a : Answer) → st ≡ goes next
-      → (arriving ≡ true → IsClean Min specs next.present.arrived) → Rest next → Comes specs line arriving st Rest a
+      → (arriving ≡ true → IsClean lengths specs next.present.arrived) → Rest next → Comes lengths specs line arriving st Rest a
   goes-comes false st next Rest a e clean rest =
-      let P : Step → Type 0 = λ s. Comes specs line false s Rest a in subst P (sym e) rest
+      let P : Step → Type 0 = λ s. Comes lengths specs line false s Rest a in subst P (sym e) rest
   goes-comes true st next Rest a e clean rest =
-      let P : Step → Type 0 = λ s. Comes specs line true s Rest a in subst P (sym e) (inr (clean refl, rest))
+      let P : Step → Type 0 = λ s. Comes lengths specs line true s Rest a in subst P (sym e) (inr (clean refl, rest))
 
-  stops-comes : (arriving : Bool) (st : Step) (Rest : History → Type 0) (a : Answer) → Comes specs line arriving st (λ next. ⊥) a
-      → Comes specs line arriving st Rest a
+  stops-comes : (arriving : Bool) (st : Step) (Rest : History → Type 0) (a : Answer) → Comes lengths specs line arriving st (λ next. ⊥) a
+      → Comes lengths specs line arriving st Rest a
   stops-comes arriving (refused r) Rest a is = is
   stops-comes false (goes h) Rest a is = absurd is
   stops-comes true (goes h) Rest a (inl violation) = inl violation
@@ -64,8 +63,8 @@ refusal-answered too_long line a is = is
 refusal-answered too_many_sessions line a is = is
 refusal-answered too_many_saves line a is = is
 
-module _ (old new : Held) (placed : Placed) (rule : old.rule ≡ Min) (same : specs_of new ≡ specs_of old) (rules : new.rule ≡ old.rule) (h : History) where
-  pub goes-quiet : (r : Result Reply RvError) → r ≡ Ok Quiet → IsAnswer old new placed.event h r → GoesOn (specs_of old) h placed new
+module _ (old new : Held) (placed : Placed) (lengths : Lengths) (rule : old.rule ≡ lengths) (same : specs_of new ≡ specs_of old) (rules : new.rule ≡ old.rule) (h : History) where
+  pub goes-quiet : (r : Result Reply RvError) → r ≡ Ok Quiet → IsAnswer old new placed.event h r → GoesOn lengths (specs_of old) h placed new
   goes-quiet _ e (quiet next steps silent stands) =
       record { next = next; steps = steps; stands = stands; clean = λ loud. absurd (let both : true ≡ false = sym loud ∙ silent in cc) }
   goes-quiet _ e (arrived next steps loud stands) = absurd (cc)
@@ -73,10 +72,10 @@ module _ (old new : Held) (placed : Placed) (rule : old.rule ≡ Min) (same : sp
   goes-quiet _ e (refused_by r steps stands) = absurd (cc)
   goes-quiet _ e (spent takes stands) = absurd (cc)
 
-  pub goes-arrived : (r : Result Reply RvError) (trace : ℕ) → r ≡ Ok (Arrived trace) → IsAnswer old new placed.event h r → GoesOn (specs_of old) h placed new
+  pub goes-arrived : (r : Result Reply RvError) (trace : ℕ) → r ≡ Ok (Arrived trace) → IsAnswer old new placed.event h r → GoesOn lengths (specs_of old) h placed new
   goes-arrived _ trace e (quiet next steps silent stands) = absurd (cc)
   goes-arrived _ trace e (arrived next steps loud stands) =
-      let P : List Spec → Type 0 = λ specs. IsClean Min specs next.present.arrived in
+      let P : List Spec → Type 0 = λ specs. IsClean lengths specs next.present.arrived in
       let Q : Lengths → Type 0 = λ l. IsClean l (specs_of new) next.present.arrived in
       record { next = next; steps = steps; stands = stands; clean = λ _. subst P same (subst Q (rules ∙ rule) stands.quiet.now) }
   goes-arrived _ trace e (violated next s t tuple steps loud found unclean) = absurd (cc)
@@ -84,12 +83,12 @@ module _ (old new : Held) (placed : Placed) (rule : old.rule ≡ Min) (same : sp
   goes-arrived _ trace e (spent takes stands) = absurd (cc)
 
   pub violation-stops : (r : Result Reply RvError) (s trace : ℕ) (tuple : List ℕ) → r ≡ Ok (Violation s trace tuple)
-      → IsAnswer old new placed.event h r → Stops (specs_of old) h placed (answers.Violation s trace tuple)
+      → IsAnswer old new placed.event h r → Stops lengths (specs_of old) h placed (answers.Violation s trace tuple)
   violation-stops _ s trace tuple e (quiet next steps silent stands) = absurd (cc)
   violation-stops _ s trace tuple e (arrived next steps loud stands) = absurd (cc)
   violation-stops _ s trace tuple e (violated next spec last found_tuple steps loud found unclean) =
-      let P : Step → Type 0 = λ st. Comes (specs_of old) placed.line (arrives placed.event) st (λ n. ⊥) (answers.Violation s trace tuple) in
-      let Q : Bool → Type 0 = λ b. Comes (specs_of old) placed.line b (goes next) (λ n. ⊥) (answers.Violation s trace tuple) in
+      let P : Step → Type 0 = λ st. Comes lengths (specs_of old) placed.line (arrives placed.event) st (λ n. ⊥) (answers.Violation s trace tuple) in
+      let Q : Bool → Type 0 = λ b. Comes lengths (specs_of old) placed.line b (goes next) (λ n. ⊥) (answers.Violation s trace tuple) in
       let R : Lengths → Type 0 = λ l. IsFound l (specs_of old) next.present.arrived spec last found_tuple in
       let answered : answers.Violation s trace tuple ≡ answers.Violation spec last found_tuple = cc in
       subst P (sym steps)
@@ -98,14 +97,14 @@ module _ (old new : Held) (placed : Placed) (rule : old.rule ≡ Min) (same : sp
   violation-stops _ s trace tuple e (spent takes stands) = absurd (cc)
 
   error-stops : (r : Result Reply RvError) (error : RvError) (a : Answer) → r ≡ Err error → IsEventAnswer error placed.line a
-      → IsAnswer old new placed.event h r → OrMemory a (Stops (specs_of old) h placed a)
+      → IsAnswer old new placed.event h r → OrMemory a (Stops lengths (specs_of old) h placed a)
   error-stops _ error a e is (quiet next steps silent stands) = absurd (cc)
   error-stops _ error a e is (arrived next steps loud stands) = absurd (cc)
   error-stops _ error a e is (violated next s trace tuple steps loud found unclean) = absurd (cc)
   error-stops _ error a e is (refused_by r steps stands) =
       let same_error : error ≡ error_of r = cc in
       let P : RvError → Type 0 = λ x. IsEventAnswer x placed.line a in
-      let Q : Step → Type 0 = λ st. Comes (specs_of old) placed.line (arrives placed.event) st (λ n. ⊥) a in
+      let Q : Step → Type 0 = λ st. Comes lengths (specs_of old) placed.line (arrives placed.event) st (λ n. ⊥) a in
       inr (subst Q (sym steps) (refusal-answered r placed.line a (subst P same_error is)))
   error-stops _ error a e is (spent takes stands) =
       let same_error : error ≡ errors.Memory = cc in
@@ -113,23 +112,23 @@ module _ (old new : Held) (placed : Placed) (rule : old.rule ≡ Min) (same : sp
       inl (subst P same_error is)
 
 -- An error is answered in one way for all histories that the monitor stood for.
-pub error-ends : (old new : Held) (placed : Placed) (error : RvError) (a : Answer) → Answers old new placed.event (Err error)
-    → old.rule ≡ Min → IsEventAnswer error placed.line a → OrMemory a ((h : History) → StandsFor old h → Stops (specs_of old) h placed a)
-error-ends old new placed errors.Memory a said rule is = inl is
-error-ends old new placed errors.NoLetter a said rule is =
-    inr (λ h stands. not-memory (error-stops old new placed rule said.specs said.rule h _ errors.NoLetter a refl is (said.right h stands)))
+pub error-ends : (old new : Held) (placed : Placed) (lengths : Lengths) (error : RvError) (a : Answer) → Answers old new placed.event (Err error)
+    → old.rule ≡ lengths → IsEventAnswer error placed.line a → OrMemory a ((h : History) → StandsFor old h → Stops lengths (specs_of old) h placed a)
+error-ends old new placed lengths errors.Memory a said rule is = inl is
+error-ends old new placed lengths errors.NoLetter a said rule is =
+    inr (λ h stands. not-memory (error-stops old new placed lengths rule said.specs said.rule h _ errors.NoLetter a refl is (said.right h stands)))
   where
     not-memory : {P : Type 0} → OrMemory a P → P
     not-memory (inl e) = absurd (let both : answers.Memory ≡ answers.Session placed.line = sym e ∙ is in cc)
     not-memory (inr p) = p
-error-ends old new placed errors.NoSave a said rule is =
-    inr (λ h stands. not-memory (error-stops old new placed rule said.specs said.rule h _ errors.NoSave a refl is (said.right h stands)))
+error-ends old new placed lengths errors.NoSave a said rule is =
+    inr (λ h stands. not-memory (error-stops old new placed lengths rule said.specs said.rule h _ errors.NoSave a refl is (said.right h stands)))
   where
     not-memory : {P : Type 0} → OrMemory a P → P
     not-memory (inl e) = absurd (let both : answers.Memory ≡ answers.Session placed.line = sym e ∙ is in cc)
     not-memory (inr p) = p
-error-ends old new placed (errors.Limit kind) a said rule is =
-    inr (λ h stands. not-memory (error-stops old new placed rule said.specs said.rule h _ (errors.Limit kind) a refl is (said.right h stands)))
+error-ends old new placed lengths (errors.Limit kind) a said rule is =
+    inr (λ h stands. not-memory (error-stops old new placed lengths rule said.specs said.rule h _ (errors.Limit kind) a refl is (said.right h stands)))
   where
     not-memory : {P : Type 0} → OrMemory a P → P
     not-memory (inl e) = absurd (let both : answers.Memory ≡ answers.Limit kind (most kind) = sym e ∙ is in cc)
@@ -184,20 +183,20 @@ one-more m h event.Back next stands e = by-saves h.saves stands.saves e
 -- ---- one line after another
 
 -- The lines before these were given to the monitor, and no event of them was refused or violated a formula.
-pub record Passed (specs : List Spec) (names : List (List ℕ)) (bytes : List ℕ) (left : LinesLeft) (m : Held) : Type 0 where
+pub record Passed (lengths : Lengths) (specs : List Spec) (names : List (List ℕ)) (bytes : List ℕ) (left : LinesLeft) (m : Held) : Type 0 where
   pub history : History
   pub stands : StandsFor m history
   pub specs_are : specs_of m ≡ specs
-  pub rule : m.rule ≡ Min
+  pub rule : m.rule ≡ lengths
   pub few : length history.present.arrived + length left.lines ≤ length (lines_of bytes)
   pub good : Each IsGood left.lines
-  pub back : (more : List Placed) (a : Answer) → SayEvents names left.first left.lines more → ComesTo specs history more a
-      → LinesCome specs names bytes a
+  pub back : (more : List Placed) (a : Answer) → SayEvents names left.first left.lines more → ComesTo lengths specs history more a
+      → LinesCome lengths specs names bytes a
 
-pub passed-none : (names : List (List ℕ)) (bytes : List ℕ) (left : LinesLeft) (m : Held) → left ≡ all_lines bytes
-    → StandsFor m empty_history → m.rule ≡ Min → Each IsGood (lines_of bytes) → Passed (specs_of m) names bytes left m
-passed-none names bytes left m e stands rule good =
-    let P : LinesLeft → Type 0 = λ l. Passed (specs_of m) names bytes l m in
+pub passed-none : (lengths : Lengths) (names : List (List ℕ)) (bytes : List ℕ) (left : LinesLeft) (m : Held) → left ≡ all_lines bytes
+    → StandsFor m empty_history → m.rule ≡ lengths → Each IsGood (lines_of bytes) → Passed lengths (specs_of m) names bytes left m
+passed-none lengths names bytes left m e stands rule good =
+    let P : LinesLeft → Type 0 = λ l. Passed lengths (specs_of m) names bytes l m in
     subst P (sym e)
     (record {
       history = empty_history;
@@ -209,15 +208,16 @@ passed-none names bytes left m e stands rule good =
       back = λ more a say comes. (more, say, comes);
     })
 
-module _ (specs : List Spec) (names : List (List ℕ)) (bytes : List ℕ) (old new : LinesLeft) (m : Held) (before : Passed specs names bytes old m) where
+module _ (lengths : Lengths) (specs : List Spec) (names : List (List ℕ)) (bytes : List ℕ) (old new : LinesLeft) (m : Held) (before : Passed lengths specs names bytes old m) where
   pub passed-more : (placed : Placed) (m' : Held) → IsNextAnswer names old new (Ok (Some placed)) → specs_of m' ≡ specs_of m
-      → m'.rule ≡ m.rule → GoesOn (specs_of m) before.history placed m' → Passed specs names bytes new m'
+      → m'.rule ≡ m.rule → GoesOn m.rule (specs_of m) before.history placed m' → Passed lengths specs names bytes new m'
   passed-more placed m' found same rules goes_on =
       let h = before.history in
       let more_traces = one-more m h placed.event goes_on.next before.stands goes_on.steps in
       let fewer = next-fewer names old new placed found in
       let few = before.few in
-      let Q : List Spec → Type 0 = λ s. IsClean Min s goes_on.next.present.arrived in
+      let Q : List Spec → Type 0 = λ s. IsClean m.rule s goes_on.next.present.arrived in
+      let R : Lengths → Type 0 = λ l. IsClean l specs goes_on.next.present.arrived in
       record {
         history = goes_on.next;
         stands = goes_on.stands;
@@ -227,22 +227,23 @@ module _ (specs : List Spec) (names : List (List ℕ)) (bytes : List ℕ) (old n
         good = next-good names old new placed found before.good;
         back = λ more a say comes.
             before.back (placed ∷ more) a (next-more names old new placed more found say)
-            (goes-comes specs placed.line (arrives placed.event) (step h placed.event) goes_on.next
-            (λ next. ComesTo specs next more a) a goes_on.steps
-            (λ loud. subst Q before.specs_are (goes_on.clean loud)) comes);
+            (goes-comes lengths specs placed.line (arrives placed.event) (step h placed.event) goes_on.next
+            (λ next. ComesTo lengths specs next more a) a goes_on.steps
+            (λ loud. subst R before.rule (subst Q before.specs_are (goes_on.clean loud))) comes);
       }
 
   pub passed-stops : (placed : Placed) (a : Answer) → IsNextAnswer names old new (Ok (Some placed))
-      → Stops (specs_of m) before.history placed a → LinesCome specs names bytes a
+      → Stops m.rule (specs_of m) before.history placed a → LinesCome lengths specs names bytes a
   passed-stops placed a found stops =
       let h = before.history in
       let (more, say) = good-say names new.first new.lines (next-good names old new placed found before.good) in
-      let P : List Spec → Type 0 = λ s. Comes s placed.line (arrives placed.event) (step h placed.event) (λ next. ⊥) a in
+      let P : List Spec → Type 0 = λ s. Comes m.rule s placed.line (arrives placed.event) (step h placed.event) (λ next. ⊥) a in
+      let R : Lengths → Type 0 = λ l. Comes l specs placed.line (arrives placed.event) (step h placed.event) (λ next. ⊥) a in
       before.back (placed ∷ more) a (next-more names old new placed more found say)
-      (stops-comes specs placed.line (arrives placed.event) (step h placed.event) (λ next. ComesTo specs next more a) a
-      (subst P before.specs_are stops))
+      (stops-comes lengths specs placed.line (arrives placed.event) (step h placed.event) (λ next. ComesTo lengths specs next more a) a
+      (subst R before.rule (subst P before.specs_are stops)))
 
-  pub passed-all : Each SaysNothing old.lines → IsThrough specs names bytes m
+  pub passed-all : Each SaysNothing old.lines → IsThrough lengths specs names bytes m
   passed-all silent = (
     before.history,
     before.stands,

@@ -20,6 +20,7 @@ use Rattle.hy_top.specs.Contents.{one_formula, lassos}
 use Rattle.hy_top.specs.Files.{Given, HasFormulas}
 use Rattle.hy_top.specs.Judging.{HasLassos, Judges, holds, fails, IsJudgement, satisfies, violates, too_joint, spent}
 use Rattle.hy_top.specs.Runs.{Follows, extras_of}
+use Rattle.hy_top.specs.Stages.{names as names_stage}
 use Rattle.hy_top.specs.Stages.{Passed, count, joint, atoms, table, work, First, here, later}
 use Rattle.hy_top.specs.Steps.{Takes, Ends, TakesLassos}
 use Rattle.hy_top.proofs.Bodies.{closure_passed, atoms_passed, table_passed}
@@ -75,13 +76,13 @@ module _ {S : Type 0} (g : Ghosts S) (old mid new : S) (formula file : List ℕ)
 
     -- What stands before the count of joint positions is passed.
     before_joint : (a : Answer)
-        → First (judge formula file) (Ok first.bytes ∷ Ok second.bytes ∷ []) (count joint ∷ count atoms ∷ count table ∷ work ∷ []) a
+        → First (judge formula file) (Ok first.bytes ∷ Ok second.bytes ∷ []) (count joint ∷ count atoms ∷ count table ∷ names_stage ∷ work ∷ []) a
         → Follows g old new (judge formula file) a (out_text (extras_of (judge formula file)) names a)
     before_joint a rest =
         answers_behind g (judge formula file) old new (Ok first.bytes ∷ Ok second.bytes ∷ []) (f ∷ []) names a read_all refl
         (later (class_passed (judge formula file) (Ok first.bytes ∷ Ok second.bytes ∷ []) (f ∷ []) formulas (refl, tt))
         (later (instances_passed (judge formula file) (Ok first.bytes ∷ Ok second.bytes ∷ []) (f ∷ []) formulas tt)
-        (later (closure_passed (judge formula file) (Ok first.bytes ∷ Ok second.bytes ∷ []) (f ∷ []) formulas tt tt) rest)))
+        (later (closure_passed (judge formula file) (Ok first.bytes ∷ Ok second.bytes ∷ []) (f ∷ []) formulas tt tt (λ past. past.checks)) rest)))
 
     judged : (a : Answer) → IsJudged list → Judges (judge formula file) (Ok first.bytes ∷ Ok second.bytes ∷ []) a
         → Follows g old new (judge formula file) a (out_text (extras_of (judge formula file)) names a)
@@ -89,7 +90,7 @@ module _ {S : Type 0} (g : Ghosts S) (old mid new : S) (formula file : List ℕ)
         before_joint a
         (later (joint_passed (judge formula file) (Ok first.bytes ∷ Ok second.bytes ∷ []) f list has fits)
         (later (atoms_passed (judge formula file) (Ok first.bytes ∷ Ok second.bytes ∷ []) (f ∷ []) formulas tt)
-        (later (table_passed (judge formula file) (Ok first.bytes ∷ Ok second.bytes ∷ []) (f ∷ []) formulas tt) (here judges))))
+        (later (table_passed (judge formula file) (Ok first.bytes ∷ Ok second.bytes ∷ []) (f ∷ []) formulas tt) (later (λ b refuses. refuses.checks) (here judges)))))
 
     -- The run follows the judgement.
     pub judgement_follows : (a : Answer) → IsJudgement f.prefix f.body list a

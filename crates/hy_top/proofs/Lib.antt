@@ -1,4 +1,5 @@
 pub mod Bodies
+pub mod Checking
 pub mod Deciding
 pub mod Ending
 pub mod EventLines
@@ -13,3 +14,4 @@ pub mod Reading
 pub mod Silence
 pub mod StageOrder
 pub mod Texts
+pub mod Worded

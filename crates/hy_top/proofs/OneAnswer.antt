@@ -1,11 +1,11 @@
 -- The first stage that is met gives one answer.
-use Rattle.std.proofs.Common.{◌≡◌, ℕ, ◌⊎◌, Bool, true, false, List, [], ◌∷◌, inl, inr, sym, ap, subst, ◌∙◌, arith}
+use Rattle.std.proofs.Common.{◌≡◌, ℕ, ◌⊎◌, Bool, true, false, List, [], ◌∷◌, inl, inr, refl, sym, ap, subst, ◌∙◌, arith}
 use Rattle.std.proofs.lemmas.Bool.{cases_lt}
 use Rattle.hy_bits.specs.Letter.{Letter}
 use Rattle.hy_formula.specs.Lassos.{Lasso}
 use Rattle.hy_text.specs.Lines.{lines_of}
 use Rattle.hy_finite.specs.declared.event.Placed.{Placed}
-use Rattle.hy_finite.specs.declared.lengths.Lengths.TheVariants.{Min}
+use Rattle.hy_finite.specs.declared.lengths.Lengths.{Lengths}
 use Rattle.hy_finite.specs.Traces.{Trace}
 use Rattle.rv_core.specs.Endings.{Spec, IsClean, FirstViolated}
 use Rattle.rv_core.specs.Histories.{History, empty_history, Step, refused, goes, step, arrives}
@@ -16,14 +16,20 @@ use Rattle.ea_core.specs.Undecided.{HasFewBranches, HasManyBranches}
 use Rattle.ea_core.proofs.Searching.{not-both}
 use Rattle.hy_answer.specs.declared.answer.Answer.{Answer}
 use Rattle.hy_answer.specs.declared.answer.Answer.TheVariants as answers
-use Rattle.hy_words.specs.Commands.{Command, monitor, judge, decide, imply, compare}
+use Rattle.hy_words.specs.Commands.{Command, monitor, judge, decide, imply, compare, check}
 use Rattle.hy_top.specs.Classes.{takes, file_of, RefusesClass, FirstUntaken}
 use Rattle.hy_top.specs.Contents.{content_of, most_quantifiers, IsRefused}
 use Rattle.hy_top.specs.Deciding.{plan_of, plan_against, Determines, DecidesBy, DecidesOne, DecidesTwo, ComparesTwo, sat, unsat, implied, not_implied, beyond, equivalent, first_alone, second_alone, many_branches}
+use Rattle.mc_core.specs.declared.ask.Ask.{Ask}
+use Rattle.aig_net.specs.Nets.{Net}
+use Rattle.mc_core.specs.Names.{AreSignals, IsFirstBad, IsBadName, name_at}
+use Rattle.hy_top.proofs.Checking.{pair_once, only-not-bad, comes_agree}
+use Rattle.hy_top.specs.Checking.{RefusesName, Checks, ComesBy}
 use Rattle.hy_top.specs.Files.{Given, RefusesText}
 use Rattle.hy_top.specs.Judging.{Judges, holds, fails}
 use Rattle.hy_top.specs.Monitoring.{specs_of, IsViolation, Comes, IsVerdict, Monitors}
 use Rattle.hy_top.specs.Monitoring.{ComesTo as ComesToAnswer}
+use Rattle.hy_top.specs.Stages.{names as names_stage}
 use Rattle.hy_top.specs.Stages.{Stage, opening, reading, size, text, class, count, work, Met, First, here, later, ComesTo, Agree, same, other_tuple, other_model, other_proof, other_implied, other_proofs, other_witness, other_side}
 use Rattle.hy_top.proofs.Formulas.{of_formulas, untaken_once}
 use Rattle.hy_top.proofs.Judging.{lassos_once}
@@ -37,11 +43,11 @@ agree {a} e = subst (Agree a) e (same a)
 
 -- ---- two verdicts on events
 
-same-clean : (specs : List Spec) (list : List Trace) (s : ℕ) → FirstViolated Min specs list s → ¬ IsClean Min specs list
-same-clean specs list s first clean = clean s first.there first.violated
+same-clean : (lengths : Lengths) (specs : List Spec) (list : List Trace) (s : ℕ) → FirstViolated lengths specs list s → ¬ IsClean lengths specs list
+same-clean lengths specs list s first clean = clean s first.there first.violated
 
-one-violated : (specs : List Spec) (list : List Trace) (s t : ℕ) → FirstViolated Min specs list s → FirstViolated Min specs list t → s ≡ t
-one-violated specs list s t one two =
+one-violated : (lengths : Lengths) (specs : List Spec) (list : List Trace) (s t : ℕ) → FirstViolated lengths specs list s → FirstViolated lengths specs list t → s ≡ t
+one-violated lengths specs list s t one two =
     elim (cases_lt s t) [
       | inl lt ↦ absurd (two.before s lt one.violated)
       | inr from ↦
@@ -51,9 +57,9 @@ one-violated specs list s t one two =
           ]
     ]
 
-violations-agree : (specs : List Spec) (list : List Trace) (a b : Answer) → IsViolation specs list a → IsViolation specs list b → Agree a b
-violations-agree specs list a b one two =
-    let spec = one-violated specs list one.spec two.spec one.found.first two.found.first in
+violations-agree : (lengths : Lengths) (specs : List Spec) (list : List Trace) (a b : Answer) → IsViolation lengths specs list a → IsViolation lengths specs list b → Agree a b
+violations-agree lengths specs list a b one two =
+    let spec = one-violated lengths specs list one.spec two.spec one.found.first two.found.first in
     let trace : one.trace ≡ two.trace = let p = one.found.last in let q = two.found.last in omega (arith, p, q) in
     let P : Answer → Type 0 = λ x. Agree x b in
     let Q : Answer → Type 0 = λ y. Agree (answers.Violation one.spec one.trace one.tuple) y in
@@ -61,31 +67,31 @@ violations-agree specs list a b one two =
     let T : ℕ → Type 0 = λ t. Agree (answers.Violation one.spec one.trace one.tuple) (answers.Violation two.spec t two.tuple) in
     subst P (sym one.answered) (subst Q (sym two.answered) (subst T trace (subst R spec (other_tuple one.spec one.trace one.tuple two.tuple))))
 
-step-agrees : (specs : List Spec) (line : ℕ) (arriving : Bool) (st : Step) (Rest : History → Answer → Type 0)
+step-agrees : (lengths : Lengths) (specs : List Spec) (line : ℕ) (arriving : Bool) (st : Step) (Rest : History → Answer → Type 0)
     → ((h : History) (a b : Answer) → Rest h a → Rest h b → Agree a b) → (a b : Answer)
-    → Comes specs line arriving st (λ h. Rest h a) a → Comes specs line arriving st (λ h. Rest h b) b → Agree a b
-step-agrees specs line arriving (refused r) Rest again a b one two = agree (one ∙ sym two)
-step-agrees specs line false (goes h) Rest again a b one two = again h a b one two
-step-agrees specs line true (goes h) Rest again a b (inl one) (inl two) = violations-agree specs h.present.arrived a b one two
-step-agrees specs line true (goes h) Rest again a b (inl one) (inr (clean, two)) =
-    absurd (same-clean specs h.present.arrived one.spec one.found.first clean)
-step-agrees specs line true (goes h) Rest again a b (inr (clean, one)) (inl two) =
-    absurd (same-clean specs h.present.arrived two.spec two.found.first clean)
-step-agrees specs line true (goes h) Rest again a b (inr (clean, one)) (inr (also, two)) = again h a b one two
+    → Comes lengths specs line arriving st (λ h. Rest h a) a → Comes lengths specs line arriving st (λ h. Rest h b) b → Agree a b
+step-agrees lengths specs line arriving (refused r) Rest again a b one two = agree (one ∙ sym two)
+step-agrees lengths specs line false (goes h) Rest again a b one two = again h a b one two
+step-agrees lengths specs line true (goes h) Rest again a b (inl one) (inl two) = violations-agree lengths specs h.present.arrived a b one two
+step-agrees lengths specs line true (goes h) Rest again a b (inl one) (inr (clean, two)) =
+    absurd (same-clean lengths specs h.present.arrived one.spec one.found.first clean)
+step-agrees lengths specs line true (goes h) Rest again a b (inr (clean, one)) (inl two) =
+    absurd (same-clean lengths specs h.present.arrived two.spec two.found.first clean)
+step-agrees lengths specs line true (goes h) Rest again a b (inr (clean, one)) (inr (also, two)) = again h a b one two
 
-events-agree : (specs : List Spec) (events : List Placed) (h : History) (a b : Answer) → ComesToAnswer specs h events a
-    → ComesToAnswer specs h events b → Agree a b
-events-agree specs [] h a b one two = agree (one ∙ sym two)
-events-agree specs (placed ∷ events) h a b one two =
-    step-agrees specs placed.line (arrives placed.event) (step h placed.event) (λ next x. ComesToAnswer specs next events x)
-    (λ next x y. events-agree specs events next x y) a b one two
+events-agree : (lengths : Lengths) (specs : List Spec) (events : List Placed) (h : History) (a b : Answer) → ComesToAnswer lengths specs h events a
+    → ComesToAnswer lengths specs h events b → Agree a b
+events-agree lengths specs [] h a b one two = agree (one ∙ sym two)
+events-agree lengths specs (placed ∷ events) h a b one two =
+    step-agrees lengths specs placed.line (arrives placed.event) (step h placed.event) (λ next x. ComesToAnswer lengths specs next events x)
+    (λ next x y. events-agree lengths specs events next x y) a b one two
 
-verdicts-agree : (formulas : List Plain) (names : List (List ℕ)) (bytes : List ℕ) (a b : Answer) → IsVerdict formulas names bytes a
-    → IsVerdict formulas names bytes b → Agree a b
-verdicts-agree formulas names bytes a b (events, said, one) (others, also, two) =
+verdicts-agree : (lengths : Lengths) (formulas : List Plain) (names : List (List ℕ)) (bytes : List ℕ) (a b : Answer) → IsVerdict lengths formulas names bytes a
+    → IsVerdict lengths formulas names bytes b → Agree a b
+verdicts-agree lengths formulas names bytes a b (events, said, one) (others, also, two) =
     let same = events-once names 1 (lines_of bytes) events others said also in
-    let P : List Placed → Type 0 = λ es. ComesToAnswer (specs_of formulas) empty_history es a in
-    events-agree (specs_of formulas) others empty_history a b (subst P same one) two
+    let P : List Placed → Type 0 = λ es. ComesToAnswer lengths (specs_of formulas) empty_history es a in
+    events-agree lengths (specs_of formulas) others empty_history a b (subst P same one) two
 
 -- ---- two decisions
 
@@ -187,14 +193,14 @@ module _ (command : Command) (given : Given) where
       absurd (one (subst Q lists (subst P formula two)))
   judgements_agree _ _ (fails f list has one) (fails g other also two) = same answers.OnFalse
 
-  monitors_agree : (a b : Answer) → Monitors command given a → Monitors command given b → Agree a b
-  monitors_agree a b one two =
+  monitors_agree : (lengths : Lengths) (a b : Answer) → Monitors lengths command given a → Monitors lengths command given b → Agree a b
+  monitors_agree lengths a b one two =
       let (formulas, names) = texts_once command given 1 one.formulas two.formulas one.names two.names one.first two.first in
       let bytes = bytes_once given 1 one.bytes two.bytes one.came two.came in
-      let P : List Plain → Type 0 = λ fs. IsVerdict fs one.names one.bytes a in
-      let Q : List (List ℕ) → Type 0 = λ ns. IsVerdict two.formulas ns one.bytes a in
-      let R : List ℕ → Type 0 = λ bs. IsVerdict two.formulas two.names bs a in
-      verdicts-agree two.formulas two.names two.bytes a b (subst R bytes (subst Q names (subst P formulas one.verdict))) two.verdict
+      let P : List Plain → Type 0 = λ fs. IsVerdict lengths fs one.names one.bytes a in
+      let Q : List (List ℕ) → Type 0 = λ ns. IsVerdict lengths two.formulas ns one.bytes a in
+      let R : List ℕ → Type 0 = λ bs. IsVerdict lengths two.formulas two.names bs a in
+      verdicts-agree lengths two.formulas two.names two.bytes a b (subst R bytes (subst Q names (subst P formulas one.verdict))) two.verdict
 
 decided_agree : (command : Command) (formulas : List Plain) (a b : Answer) → DecidesBy command formulas a → DecidesBy command formulas b → Agree a b
 decided_agree (decide formula states proof) (f ∷ []) a b one two = decisions_agree f states a b one two
@@ -207,12 +213,53 @@ determined_agree command given a b one two =
     let P : List Plain → Type 0 = λ fs. DecidesBy command fs a in
     decided_agree command two.formulas a b (subst P (of_formulas command given two.formulas two.has one.formulas one.has) one.decides) two.decides
 
+bad_once : (net : Net) (name : List ℕ) (a b : Bool) → IsBadName net name a → IsBadName net name b → a ≡ b
+bad_once net name false false one two = refl
+bad_once net name true true one two = refl
+bad_once net name false true one (l, m, has, also, other) = absurd (one l has)
+bad_once net name true false (l, m, has, also, other) two = absurd (two l has)
+
+first_bad_once : (net : Net) (names : List (List ℕ)) (f : Plain) (j k : ℕ) (a b : Bool) → IsFirstBad net names f.body j a → IsFirstBad net names f.body k b → (j ≡ k) × (a ≡ b)
+first_bad_once net names f j k a b one two =
+    let same : j ≡ k = elim (cases_lt j k) [
+      | inl lt ↦ let (l, only) = two.first j lt one.there in absurd (only-not-bad net (name_at names j) l a only one.bad)
+      | inr from ↦
+          elim (cases_lt k j) [
+            | inl lt ↦ let (l, only) = one.first k lt two.there in absurd (only-not-bad net (name_at names k) l b only two.bad)
+            | inr to ↦ omega arith
+          ]
+    ] in
+    let P : ℕ → Type 0 = λ n. IsBadName net (name_at names n) a in
+    (same, bad_once net (name_at names k) a b (subst P same one.bad) two.bad)
+
+names_agree : (command : Command) (given : Given) (a b : Answer) → RefusesName command given a → RefusesName command given b → a ≡ b
+names_agree command given a b one two =
+    let (nets, formulas, tables) = pair_once command given one.net two.net one.formula two.formula one.names two.names one.pair two.pair in
+    let P : Net → Type 0 = λ n. IsFirstBad n one.names one.formula.body one.name one.twice in
+    let Q : Plain → Type 0 = λ h. IsFirstBad two.net one.names h.body one.name one.twice in
+    let R : List (List ℕ) → Type 0 = λ t. IsFirstBad two.net t two.formula.body one.name one.twice in
+    let (name, twice) = first_bad_once two.net two.names two.formula one.name two.name one.twice two.twice (subst R tables (subst Q formulas (subst P nets one.bad))) two.bad in
+    one.answered ∙ (λ i. answers.Name (name_at (tables i) (name i)) (twice i)) ∙ sym two.answered
+
+checks_agree : (command : Command) (given : Given) (ask : Ask) (a b : Answer) → Checks ask command given a → Checks ask command given b → Agree a b
+checks_agree command given ask a b one two =
+    let (nets, formulas, tables) = pair_once command given one.net two.net one.formula two.formula one.names two.names one.pair two.pair in
+    let P : Net → Type 0 = λ n. AreSignals n one.names one.formula.body one.signals in
+    let Q : Plain → Type 0 = λ h. AreSignals two.net one.names h.body one.signals in
+    let R : List (List ℕ) → Type 0 = λ t. AreSignals two.net t two.formula.body one.signals in
+    let U : Net → Type 0 = λ n. ComesBy n one.signals one.formula ask a in
+    let V : Plain → Type 0 = λ h. ComesBy two.net one.signals h ask a in
+    comes_agree two.net two.names two.formula ask one.signals two.signals (subst R tables (subst Q formulas (subst P nets one.posed.signals_are))) two.posed.signals_are
+    a b (subst V formulas (subst U nets one.comes)) two.comes
+
 works_agree : (command : Command) (given : Given) (a b : Answer) → ComesTo command given a → ComesTo command given b → Agree a b
-works_agree (monitor specs traces) given a b one two = monitors_agree (monitor specs traces) given a b one two
+works_agree (monitor specs traces lengths) given a b one two = monitors_agree (monitor specs traces lengths) given lengths a b one two
 works_agree (judge formula list) given a b one two = judgements_agree (judge formula list) given a b one two
 works_agree (decide formula states proof) given a b one two = determined_agree (decide formula states proof) given a b one two
 works_agree (imply first second states proof) given a b one two = determined_agree (imply first second states proof) given a b one two
 works_agree (compare first second states proof) given a b one two = determined_agree (compare first second states proof) given a b one two
+works_agree (check circuit formula depth conflicts plain proof) given a b one two =
+    checks_agree (check circuit formula depth conflicts plain proof) given _ a b one two
 
 one_stage : (command : Command) (given : Given) (stage : Stage) (a b : Answer) → Met command given stage a → Met command given stage b → Agree a b
 one_stage command given (opening k) a b e f = agree (e.1 ∙ sym f.1)
@@ -221,6 +268,7 @@ one_stage command given (size k) a b e f = agree (e.1 ∙ sym f.1)
 one_stage command given (text k) a b e f = agree (text_agrees command given k a b e f)
 one_stage command given class a b e f = agree (class_agrees command given a b e f)
 one_stage command given (count quantity) a b e f = agree (e.1 ∙ sym f.1)
+one_stage command given names_stage a b e f = agree (names_agree command given a b e f)
 one_stage command given work a b e f = works_agree command given a b e f
 
 pub first_once : (command : Command) (given : Given) (stages : List Stage) (a b : Answer) → First command given stages a → First command given stages b → Agree a b

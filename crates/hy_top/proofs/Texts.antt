@@ -14,7 +14,11 @@ use Rattle.hy_read.specs.Answers.{Answer as Found, Answers, Plain, faulty, free,
 use Rattle.hy_read.proofs.Spanning.{answer-once}
 use Rattle.hy_answer.specs.declared.answer.Answer.{Answer}
 use Rattle.hy_answer.specs.Refusals.{Refuses, line_answer}
-use Rattle.hy_top.specs.Contents.{Content, specifications, one_formula, events, lassos, IsText, IsRefused}
+use Rattle.aig_net.specs.Nets.{Net}
+use Rattle.aiger_body.specs.Outcomes.{Outcome, Refusal, outcome}
+use Rattle.aiger_body.specs.Outcomes as outcomes
+use Rattle.hy_top.specs.Circuits.{circuit_answer}
+use Rattle.hy_top.specs.Contents.{Content, specifications, one_formula, events, lassos, circuit, IsText, IsRefused}
 
 -- ---- formula texts
 
@@ -71,6 +75,15 @@ one-refusal bytes (faults.Syntax j) faults.Memory one two = absurd two
 one-refusal bytes faults.Limit faults.Memory one two = absurd two
 one-refusal bytes faults.Memory b one two = absurd one
 
+no-circuit : (said : Outcome) (net : Net) (refusal : Refusal) → said ≡ outcomes.read net → said ≡ outcomes.refused refusal → ⊥
+no-circuit said net refusal e f = apart (sym e ∙ f)
+  where
+    apart : outcomes.read net ≡ outcomes.refused refusal → ⊥
+    apart g = cc
+
+one-refused : (said : Outcome) (a b : Refusal) → said ≡ outcomes.refused a → said ≡ outcomes.refused b → a ≡ b
+one-refused said a b e f = let both : outcomes.refused a ≡ outcomes.refused b = sym e ∙ f in cc
+
 -- ---- texts of each content
 
 pub text_once : (quantifiers : ℕ) (old : List (List ℕ)) (bytes : List ℕ) (content : Content) (formulas others : List Plain) (new later : List (List ℕ))
@@ -81,6 +94,7 @@ text_once quantifiers old bytes one_formula formulas others new later one two =
     formulas_once false quantifiers old bytes formulas others new later one two
 text_once quantifiers old bytes events formulas others new later (_, e, f) (_, g, h) = (e ∙ sym g, f ∙ sym h)
 text_once quantifiers old bytes lassos formulas others new later (_, e, f) (_, g, h) = (e ∙ sym g, f ∙ sym h)
+text_once quantifiers old bytes circuit formulas others new later (_, e, f) (_, g, h) = (e ∙ sym g, f ∙ sym h)
 
 pub text_not_refused : (quantifiers : ℕ) (old : List (List ℕ)) (k : ℕ) (bytes : List ℕ) (content : Content) (formulas : List Plain) (new : List (List ℕ)) (a : Answer)
     → IsText quantifiers old bytes content formulas new → ¬ IsRefused quantifiers old k bytes content a
@@ -92,6 +106,8 @@ text_not_refused quantifiers old k bytes events formulas new a (good, _, _) (fau
     good-not_refused bytes fault good refused
 text_not_refused quantifiers old k bytes lassos formulas new a ((list, read), _, _) (line, refused, e) =
     let same = one_answer old bytes (Ok list) (Err (faults.Syntax line)) (λ e. cc) (λ e. cc) read refused in cc
+text_not_refused quantifiers old k bytes circuit formulas new a ((net, is), _, _) (refusal, refused, e) =
+    no-circuit (outcome bytes) net refusal is refused
 
 pub refused_once : (quantifiers : ℕ) (old : List (List ℕ)) (k : ℕ) (bytes : List ℕ) (content : Content) (a b : Answer)
     → IsRefused quantifiers old k bytes content a → IsRefused quantifiers old k bytes content b → a ≡ b
@@ -103,3 +119,5 @@ refused_once quantifiers old k bytes events a b (fault, one, e) (other, two, f) 
     e ∙ ap (line_answer k) (one-refusal bytes fault other one two) ∙ sym f
 refused_once quantifiers old k bytes lassos a b (line, one, e) (other, two, f) =
     let same = one_answer old bytes (Err (faults.Syntax line)) (Err (faults.Syntax other)) (λ e. cc) (λ e. cc) one two in cc
+refused_once quantifiers old k bytes circuit a b (refusal, one, e) (other, two, f) =
+    e ∙ ap circuit_answer (one-refused (outcome bytes) refusal other one two) ∙ sym f

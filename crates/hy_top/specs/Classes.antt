@@ -7,7 +7,7 @@ use Rattle.hy_formula.specs.declared.classes.Class.TheVariants.{Exists, Forall, 
 use Rattle.hy_read.specs.Answers.{Plain}
 use Rattle.hy_answer.specs.declared.answer.Answer.{Answer}
 use Rattle.hy_answer.specs.declared.answer.Answer.TheVariants.{Prefix}
-use Rattle.hy_words.specs.Commands.{Command, monitor, judge, decide, imply, compare}
+use Rattle.hy_words.specs.Commands.{Command, monitor, judge, decide, imply, compare, check}
 use Rattle.hy_top.specs.Files.{Given, HasFormulas}
 
 abbrev pub is_universal : Class → Bool
@@ -31,19 +31,21 @@ is_decided ExistsForall = true
 is_decided Other = false
 
 abbrev pub takes : Command → Class → Bool
-takes (monitor specs traces) class = is_universal class
+takes (monitor specs traces lengths) class = is_universal class
 takes (judge formula list) class = true
 takes (decide formula states proof) class = is_decided class
 takes (imply first second states proof) class = is_of_one_kind class
 takes (compare first second states proof) class = is_of_one_kind class
+takes (check circuit formula depth conflicts plain proof) class = is_of_one_kind class
 
 -- the file of formula j
 abbrev pub file_of : Command → ℕ → ℕ
-file_of (monitor specs traces) j = 0
+file_of (monitor specs traces lengths) j = 0
 file_of (judge formula list) j = 0
 file_of (decide formula states proof) j = 0
 file_of (imply first second states proof) j = j
 file_of (compare first second states proof) j = j
+file_of (check circuit formula depth conflicts plain proof) j = 1
 
 -- Formula j is the first whose class is not taken: this one.
 abbrev pub FirstUntaken : (Class → Bool) → List Plain → ℕ → Class → Type 0

@@ -13,7 +13,10 @@ use Rattle.hy_read.specs.Answers.{Answer as Found, Answers, Plain, read_as}
 use Rattle.hy_answer.specs.declared.answer.Answer.{Answer}
 use Rattle.hy_answer.specs.declared.answer.Answer.TheVariants.{Line}
 use Rattle.hy_answer.specs.Refusals.{Refuses, line_answer}
-use Rattle.hy_words.specs.Commands.{Command, monitor, judge, decide, imply, compare}
+use Rattle.aig_net.specs.Nets.{Net}
+use Rattle.aiger_body.specs.Outcomes.{Refusal}
+use Rattle.hy_top.specs.Circuits.{IsCircuit, IsNoCircuit, circuit_answer}
+use Rattle.hy_words.specs.Commands.{Command, monitor, judge, decide, imply, compare, check}
 
 pub data Content : Type 0 where
   -- formulas, joined by semicolons
@@ -23,24 +26,28 @@ pub data Content : Type 0 where
   events : Content
   -- lassos, one on a line
   lassos : Content
+  circuit : Content
 
 -- what file k of the command is to be
 abbrev pub content_of : Command → ℕ → Content
-content_of (monitor specs traces) zero = specifications
-content_of (monitor specs traces) (suc k) = events
+content_of (monitor specs traces lengths) zero = specifications
+content_of (monitor specs traces lengths) (suc k) = events
 content_of (judge formula list) zero = one_formula
 content_of (judge formula list) (suc k) = lassos
 content_of (decide formula states proof) k = one_formula
 content_of (imply first second states proof) k = one_formula
 content_of (compare first second states proof) k = one_formula
+content_of (check file formula depth conflicts plain proof) zero = circuit
+content_of (check file formula depth conflicts plain proof) (suc k) = one_formula
 
 -- most quantifiers of a formula of the command
 abbrev pub most_quantifiers : Command → ℕ
-most_quantifiers (monitor specs traces) = 4
+most_quantifiers (monitor specs traces lengths) = 4
 most_quantifiers (judge formula list) = 8
 most_quantifiers (decide formula states proof) = 8
 most_quantifiers (imply first second states proof) = 8
 most_quantifiers (compare first second states proof) = 8
+most_quantifiers (check file formula depth conflicts plain proof) = 4
 
 -- The bytes are a text of this content, where `old` are the names of the files before: it has these formulas, and
 -- `new` are the names then.
@@ -51,6 +58,7 @@ IsText quantifiers old bytes events formulas new =
     Each event_line.IsGood (lines_of bytes) × (formulas ≡ []) × (new ≡ old)
 IsText quantifiers old bytes lassos formulas new =
     ((list : List (Lasso Letter)) × IsLassosAnswer old bytes (Ok list)) × (formulas ≡ []) × (new ≡ old)
+IsText quantifiers old bytes circuit formulas new = ((net : Net) × IsCircuit bytes net) × (formulas ≡ []) × (new ≡ old)
 
 -- The text of file k, which is to be of this content, is refused, and so is answered.
 abbrev pub IsRefused : ℕ → List (List ℕ) → ℕ → List ℕ → Content → Answer → Type 0
@@ -62,3 +70,5 @@ IsRefused quantifiers old k bytes events answer =
     (fault : LineError) × IsRefusal bytes fault × (answer ≡ line_answer k fault)
 IsRefused quantifiers old k bytes lassos answer =
     (line : ℕ) × IsLassosAnswer old bytes (Err (faults.Syntax line)) × (answer ≡ Line k line)
+IsRefused quantifiers old k bytes circuit answer =
+    (refusal : Refusal) × IsNoCircuit bytes refusal × (answer ≡ circuit_answer refusal)

@@ -12,7 +12,7 @@ use Rattle.hy_lasso.specs.Words.{Satisfies}
 use Rattle.hy_read.specs.Answers.{Plain}
 use Rattle.hy_answer.specs.declared.answer.Answer.{Answer}
 use Rattle.hy_answer.specs.declared.answer.Answer.TheVariants.{OnTrue, OnFalse, Limit, Memory}
-use Rattle.hy_words.specs.Commands.{Command, monitor, judge, decide, imply, compare}
+use Rattle.hy_words.specs.Commands.{Command, monitor, judge, decide, imply, compare, check}
 use Rattle.hy_top.specs.Files.{Given, Came, HasTexts}
 
 -- The first file is this formula, and the second has these lassos.
@@ -24,11 +24,12 @@ pub record HasLassos (command : Command) (given : Given) (formula : Plain) (list
   pub read : IsLassosAnswer names bytes (Ok list)
 
 abbrev pub IsJudging : Command → Type 0
-IsJudging (monitor specs traces) = ⊥
+IsJudging (monitor specs traces lengths) = ⊥
 IsJudging (judge formula list) = Unit {0}
 IsJudging (decide formula states proof) = ⊥
 IsJudging (imply first second states proof) = ⊥
 IsJudging (compare first second states proof) = ⊥
+IsJudging (check circuit formula depth conflicts plain proof) = ⊥
 
 -- All lassos of the command together repeat only after too many positions.
 pub record IsTooJoint (command : Command) (given : Given) : Type 0 where

@@ -1,3 +1,5 @@
+pub mod Checking
+pub mod Circuits
 pub mod Classes
 pub mod Contents
 pub mod Deciding

@@ -8,7 +8,7 @@ use Rattle.hy_formula.specs.declared.classes.Class.{Class}
 use Rattle.hy_formula.specs.Quantifiers.{Each}
 use Rattle.hy_formula.specs.Trees.{Tree}
 use Rattle.hy_finite.specs.declared.event.Placed.{Placed}
-use Rattle.hy_finite.specs.declared.lengths.Lengths.TheVariants.{Min}
+use Rattle.hy_finite.specs.declared.lengths.Lengths.{Lengths}
 use Rattle.hy_finite.specs.EventFiles.{IsEventFile}
 use Rattle.hy_finite.specs.Traces.{Trace}
 use Rattle.hy_read.specs.Answers.{Plain}
@@ -18,7 +18,7 @@ use Rattle.rv_core.specs.Histories.{History, empty_history, Refusal, no_session,
 use Rattle.rv_core.specs.Replies.{IsFound}
 use Rattle.hy_answer.specs.declared.answer.Answer.{Answer}
 use Rattle.hy_answer.specs.declared.answer.Answer.TheVariants.{NoViolation, Violation, Prefix, Session, Limit, Memory}
-use Rattle.hy_words.specs.Commands.{Command, monitor, judge, decide, imply, compare}
+use Rattle.hy_words.specs.Commands.{Command, monitor, judge, decide, imply, compare, check}
 use Rattle.hy_top.specs.Classes.{is_universal, FirstUntaken}
 use Rattle.hy_top.specs.Files.{Given, Came, HasTexts, HasFormulas}
 
@@ -37,11 +37,12 @@ EachPlain Q formulas = Each (λ (f : Plain). Q f.body) formulas
 
 -- the formulas that a command has monitors of
 abbrev pub monitored : Command → List Plain → List Plain
-monitored (monitor specs traces) formulas = formulas
+monitored (monitor specs traces lengths) formulas = formulas
 monitored (judge formula list) formulas = []
 monitored (decide formula states proof) formulas = []
 monitored (imply first second states proof) formulas = []
 monitored (compare first second states proof) formulas = []
+monitored (check circuit formula depth conflicts plain proof) formulas = []
 
 -- It holds of some body that the command has a monitor of.
 pub record SomeBody (Q : Tree → Type 0) (command : Command) (given : Given) : Type 0 where
@@ -67,11 +68,11 @@ refusal_answer line too_many_sessions = Limit Sessions (most Sessions)
 refusal_answer line too_many_saves = Limit Saves (most Saves)
 
 -- The traces that arrived violate a formula, and so is answered: by the first such one, the last trace, and a tuple.
-pub record IsViolation (specs : List Spec) (arrived : List Trace) (answer : Answer) : Type 0 where
+pub record IsViolation (lengths : Lengths) (specs : List Spec) (arrived : List Trace) (answer : Answer) : Type 0 where
   pub spec : ℕ
   pub trace : ℕ
   pub tuple : List ℕ
-  pub found : IsFound Min specs arrived spec trace tuple
+  pub found : IsFound lengths specs arrived spec trace tuple
   pub answered : answer ≡ Violation spec trace tuple
 
 -- that no event was refused or violated a formula: how many traces arrived, how many of them each of n formulas
@@ -81,44 +82,44 @@ clean_answer n h =
     NoViolation (length h.present.arrived) (replicate n (length h.present.arrived)) (length h.present.sessions)
 
 -- What comes of the event of a line, where `Rest` says what comes behind it.
-abbrev pub Comes : List Spec → ℕ → Bool → Step → (History → Type 0) → Answer → Type 0
-Comes specs line arriving (refused r) Rest answer = answer ≡ refusal_answer line r
-Comes specs line false (goes h) Rest answer = Rest h
-Comes specs line true (goes h) Rest answer =
-    IsViolation specs h.present.arrived answer ⊎ (IsClean Min specs h.present.arrived × Rest h)
+abbrev pub Comes : Lengths → List Spec → ℕ → Bool → Step → (History → Type 0) → Answer → Type 0
+Comes lengths specs line arriving (refused r) Rest answer = answer ≡ refusal_answer line r
+Comes lengths specs line false (goes h) Rest answer = Rest h
+Comes lengths specs line true (goes h) Rest answer =
+    IsViolation lengths specs h.present.arrived answer ⊎ (IsClean lengths specs h.present.arrived × Rest h)
 
 -- The events from a history on, one after another, come to this answer: the first that is refused or brings a violation
 -- gives it.
-abbrev pub ComesTo : List Spec → History → List Placed → Answer → Type 0
-ComesTo specs h [] answer = answer ≡ clean_answer (length specs) h
-ComesTo specs h (placed ∷ events) answer =
-    Comes specs placed.line (arrives placed.event) (step h placed.event)
-    (λ next. ComesTo specs next events answer) answer
+abbrev pub ComesTo : Lengths → List Spec → History → List Placed → Answer → Type 0
+ComesTo lengths specs h [] answer = answer ≡ clean_answer (length specs) h
+ComesTo lengths specs h (placed ∷ events) answer =
+    Comes lengths specs placed.line (arrives placed.event) (step h placed.event)
+    (λ next. ComesTo lengths specs next events answer) answer
 
 -- The lines of a file say events that come to this answer.
-abbrev pub IsVerdict : List Plain → List (List ℕ) → List ℕ → Answer → Type 0
-IsVerdict formulas names bytes answer =
-    (events : List Placed) × IsEventFile names bytes events × ComesTo (specs_of formulas) empty_history events answer
+abbrev pub IsVerdict : Lengths → List Plain → List (List ℕ) → List ℕ → Answer → Type 0
+IsVerdict lengths formulas names bytes answer =
+    (events : List Placed) × IsEventFile names bytes events × ComesTo lengths (specs_of formulas) empty_history events answer
 
 -- The files are formulas and events, and this is what they come to.
-pub record Monitors (command : Command) (given : Given) (answer : Answer) : Type 0 where
+pub record Monitors (lengths : Lengths) (command : Command) (given : Given) (answer : Answer) : Type 0 where
   pub formulas : List Plain
   pub names : List (List ℕ)
   pub first : HasTexts command given 1 formulas names
   pub bytes : List ℕ
   pub came : Came given 1 (Ok bytes)
-  pub verdict : IsVerdict formulas names bytes answer
+  pub verdict : IsVerdict lengths formulas names bytes answer
 
 -- What formulas come to on the events of a file: the first of these that is met, or memory ran out.
-pub data IsOutcome (formulas : List Plain) (names : List (List ℕ)) (bytes : List ℕ) : Answer → Type 0 where
+pub data IsOutcome (lengths : Lengths) (formulas : List Plain) (names : List (List ℕ)) (bytes : List ℕ) : Answer → Type 0 where
   untaken : (place : ℕ) (class : Class) → FirstUntaken is_universal formulas place class
-      → IsOutcome formulas names bytes (Prefix 0 class)
+      → IsOutcome lengths formulas names bytes (Prefix 0 class)
   large_closure : AreUniversal formulas → SomePlain HasLargeClosure formulas
-      → IsOutcome formulas names bytes (Limit Closure (most Closure))
+      → IsOutcome lengths formulas names bytes (Limit Closure (most Closure))
   many_atoms : AreUniversal formulas → EachPlain HasSmallClosure formulas → SomePlain HasManyAtoms formulas
-      → IsOutcome formulas names bytes (Limit Atoms (most Atoms))
+      → IsOutcome lengths formulas names bytes (Limit Atoms (most Atoms))
   large_table : AreUniversal formulas → EachPlain HasSmallClosure formulas → EachPlain HasFewAtoms formulas
-      → SomePlain HasLargeTable formulas → IsOutcome formulas names bytes (Limit Table (most Table))
-  done : (answer : Answer) → AreUniversal formulas → EachPlain IsTaken formulas → IsVerdict formulas names bytes answer
-      → IsOutcome formulas names bytes answer
-  spent : IsOutcome formulas names bytes Memory
+      → SomePlain HasLargeTable formulas → IsOutcome lengths formulas names bytes (Limit Table (most Table))
+  done : (answer : Answer) → AreUniversal formulas → EachPlain IsTaken formulas → IsVerdict lengths formulas names bytes answer
+      → IsOutcome lengths formulas names bytes answer
+  spent : IsOutcome lengths formulas names bytes Memory

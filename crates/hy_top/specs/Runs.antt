@@ -9,8 +9,8 @@ use Rattle.hy_answer.specs.declared.answer.Answer.{Answer}
 use Rattle.hy_answer.specs.declared.answer.Answer.TheVariants.{Words, WriteFault, Memory}
 use Rattle.hy_answer.specs.declared.answer.Extras.{Extras}
 use Rattle.hy_answer.specs.Outputs.{out_text}
-use Rattle.hy_words.specs.declared.item.Tool.{Tool}
-use Rattle.hy_words.specs.Commands.{Command, monitor, judge, decide, imply, compare, IsCommand, HasNoCommand, files_of}
+use Rattle.hy_words.specs.declared.tool.Tool.{Tool}
+use Rattle.hy_words.specs.Commands.{Command, monitor, judge, decide, imply, compare, check, IsCommand, HasNoCommand, files_of}
 use Rattle.hy_top.specs.Files.{Given, HasAll}
 use Rattle.hy_top.specs.Stages.{IsRight, InTurn}
 
@@ -21,11 +21,12 @@ pub record Reads {S : Type 0} (g : Ghosts S) (old new : S) (command : Command) (
 
 -- what the text of an answer shows beside the verdict
 abbrev pub extras_of : Command → Extras
-extras_of (monitor specs traces) = record { kept = false; proof = false }
+extras_of (monitor specs traces lengths) = record { kept = false; proof = false }
 extras_of (judge formula list) = record { kept = false; proof = false }
 extras_of (decide formula states proof) = record { kept = false; proof = proof }
 extras_of (imply first second states proof) = record { kept = false; proof = proof }
 extras_of (compare first second states proof) = record { kept = false; proof = proof }
+extras_of (check circuit formula depth conflicts plain proof) = record { kept = false; proof = proof }
 
 -- This text is due with the answer: lassos are printed by the names of the command's formulas.
 pub record IsTextDue (command : Command) (given : Given) (answer : Answer) (text : List ℕ) : Type 0 where
@@ -40,9 +41,11 @@ pub data Follows {S : Type 0} (g : Ghosts S) (old new : S) (command : Command) :
       → IsRight command given answer → IsTextDue command given answer text → Follows g old new command answer text
   short : (given : Given) → Reads g old new command given → Follows g old new command Memory []
 
--- How a run comes to its answer and its text: the words are no command, and no file is touched; or they are one.
+-- How a run comes to its answer and its text: the words are no command, or memory ran out over them, and no file is
+-- touched; or they are one.
 pub data Comes {S : Type 0} (g : Ghosts S) (tool : Tool) (words : List (List ℕ)) (old new : S) : Answer → List ℕ → Type 0 where
   unworded : HasNoCommand tool words → old ≡ new → Comes g tool words old new Words []
+  unread : old ≡ new → Comes g tool words old new Memory []
   worded : (command : Command) (answer : Answer) (text : List ℕ) → IsCommand tool words command
       → Follows g old new command answer text → Comes g tool words old new answer text
 
@@ -54,7 +57,9 @@ IsWritten g old new due text answer =
     ⊎ ((answer ≡ WriteFault) × (0 < length text) × FailsToGive g old new text)
     ⊎ ((answer ≡ Memory) × GivesWhole g old new [])
 
--- The names of the files that the words name: those of their command, or none.
-pub data Names (tool : Tool) (words : List (List ℕ)) : List (List ℕ) → Type 0 where
-  of_command : (command : Command) → IsCommand tool words command → Names tool words (files_of command)
-  of_none : HasNoCommand tool words → Names tool words []
+-- The names of the files that the words name: those of their command, or none; where memory ran out over the words no
+-- line needs them.
+pub data Names (tool : Tool) (words : List (List ℕ)) : Answer → List (List ℕ) → Type 0 where
+  of_command : (command : Command) (answer : Answer) → IsCommand tool words command → Names tool words answer (files_of command)
+  of_none : (answer : Answer) → HasNoCommand tool words → Names tool words answer []
+  of_memory : Names tool words Memory []

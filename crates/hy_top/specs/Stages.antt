@@ -10,10 +10,12 @@ use Rattle.hy_formula.specs.Lassos.{Lasso}
 use Rattle.ea_core.specs.declared.rank_proof.RankProof.{RankProof}
 use Rattle.fin_monitor.specs.Limits.{HasLargeClosure, HasManyAtoms, HasLargeTable}
 use Rattle.hy_answer.specs.declared.answer.Answer.{Answer}
+use Rattle.hy_answer.specs.declared.answer.Answer.TheVariants.{Holds, Violated, UnknownDepth, UnknownConflicts, CnfLimit}
 use Rattle.hy_answer.specs.declared.answer.Answer.TheVariants.{Sat, Unsat, Implied, NotImplied, Equivalent, NotEquivalent, Violation, OpenFault, ReadFault, Limit}
-use Rattle.hy_words.specs.Commands.{Command, monitor, judge, decide, imply, compare, files_of}
+use Rattle.hy_words.specs.Commands.{Command, monitor, judge, decide, imply, compare, check, files_of}
 use Rattle.hy_top.specs.Files.{Given, Came, RefusesText}
 use Rattle.hy_top.specs.Classes.{RefusesClass}
+use Rattle.hy_top.specs.Checking as checking
 use Rattle.hy_top.specs.Deciding as deciding
 use Rattle.hy_top.specs.Judging as judging
 use Rattle.hy_top.specs.Monitoring as monitoring
@@ -51,6 +53,8 @@ pub data Stage : Type 0 where
   class : Stage
   -- a count over all formulas is within its limit
   count : Quantity → Stage
+  -- each name of the formula stands for one literal of the circuit
+  names : Stage
   -- what the command asks for
   work : Stage
 
@@ -64,7 +68,7 @@ stages_of_files (suc n) = stages_of_files n ++ stages_of_file n
 
 -- the stages behind the files and before the work
 abbrev pub stages_of_formulas : List Stage
-stages_of_formulas = class ∷ count instances ∷ count closure ∷ count joint ∷ count atoms ∷ count table ∷ []
+stages_of_formulas = class ∷ count instances ∷ count closure ∷ count joint ∷ count atoms ∷ count table ∷ names ∷ []
 
 -- the stages that come before the work
 abbrev pub stages_before_work : Command → List Stage
@@ -77,18 +81,21 @@ stages_of command = stages_before_work command ++ work ∷ []
 -- The quantity is past its limit.
 abbrev pub IsPast : Command → Given → Quantity → Type 0
 IsPast command given instances = deciding.HasManyInstances command given
-IsPast command given closure = deciding.HasLargeClosure command given ⊎ monitoring.SomeBody HasLargeClosure command given
+IsPast command given closure =
+    deciding.HasLargeClosure command given ⊎ monitoring.SomeBody HasLargeClosure command given ⊎ checking.HasManyMembers command given
 IsPast command given joint = judging.IsTooJoint command given
 IsPast command given atoms = monitoring.SomeBody HasManyAtoms command given
 IsPast command given table = monitoring.SomeBody HasLargeTable command given
 
 -- The work of the command comes to this answer.
 abbrev pub ComesTo : Command → Given → Answer → Type 0
-ComesTo (monitor specs traces) given answer = monitoring.Monitors (monitor specs traces) given answer
+ComesTo (monitor specs traces lengths) given answer = monitoring.Monitors lengths (monitor specs traces lengths) given answer
 ComesTo (judge formula list) given answer = judging.Judges (judge formula list) given answer
 ComesTo (decide formula states proof) given answer = deciding.Determines (decide formula states proof) given answer
 ComesTo (imply first second states proof) given answer = deciding.Determines (imply first second states proof) given answer
 ComesTo (compare first second states proof) given answer = deciding.Determines (compare first second states proof) given answer
+ComesTo (check circuit formula depth conflicts plain proof) given answer =
+    checking.Checks (record { depth = depth; conflicts = conflicts; plain = plain }) (check circuit formula depth conflicts plain proof) given answer
 
 -- The stage is met, and this answers it.
 abbrev pub Met : Command → Given → Stage → Answer → Type 0
@@ -99,6 +106,7 @@ Met command given (text k) answer = RefusesText command given k answer
 Met command given class answer = RefusesClass command given answer
 Met command given (count quantity) answer =
     IsPast command given quantity × (answer ≡ Limit (kind_of quantity) (most (kind_of quantity)))
+Met command given names answer = checking.RefusesName command given answer
 Met command given work answer = ComesTo command given answer
 
 abbrev pub Passed : Command → Given → Stage → Type 0
@@ -123,8 +131,25 @@ IsRight command given answer = First command given (stages_of command) answer
 abbrev pub InTurn : Command → Given → Type 0
 InTurn command given = (k : ℕ) → k < length given → AllPassed command given (stages_of_files k)
 
+-- What a check answers, but for what it says of the circuit.
+abbrev pub IsOfCheck : Answer → Type 0
+IsOfCheck (Holds traces runs proof) = Unit {0}
+IsOfCheck (Violated traces runs proof) = Unit {0}
+IsOfCheck (UnknownDepth depth kept path) = Unit {0}
+IsOfCheck (UnknownConflicts conflicts k step kept log) = Unit {0}
+IsOfCheck (Limit kind limit) = Unit {0}
+IsOfCheck (CnfLimit kind limit kept) = Unit {0}
+IsOfCheck _ = ⊥
+
+-- One says that the formula holds, and the other that it does not.
+abbrev pub Deny : Answer → Answer → Type 0
+Deny (Holds traces runs proof) (Violated others walks evidence) = Unit {0}
+Deny (Violated traces runs proof) (Holds others walks evidence) = Unit {0}
+Deny _ _ = ⊥
+
 -- Two answers say the same. Two violations may name different tuples of the same arrival, and two answers that give
--- lassos or proofs as evidence may give different ones.
+-- lassos or proofs as evidence may give different ones. A check may give up where another goes on, but no two deny each
+-- other.
 pub data Agree : Answer → Answer → Type 0 where
   same : (answer : Answer) → Agree answer answer
   other_tuple : (spec trace : ℕ) (tuple other : List ℕ) → Agree (Violation spec trace tuple) (Violation spec trace other)
@@ -133,4 +158,5 @@ pub data Agree : Answer → Answer → Type 0 where
   other_implied : (proof other : RankProof) → Agree (Implied proof) (Implied other)
   other_proofs : (first second third fourth : RankProof) → Agree (Equivalent first second) (Equivalent third fourth)
   other_witness : (list other : List (Lasso Letter)) → Agree (NotImplied list) (NotImplied other)
+  other_check : (a b : Answer) → IsOfCheck a → IsOfCheck b → ¬ Deny a b → Agree a b
   other_side : (side : ℕ) (list other : List (Lasso Letter)) → Agree (NotEquivalent side list) (NotEquivalent side other)

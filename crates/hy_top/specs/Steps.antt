@@ -13,6 +13,8 @@ use Rattle.hy_read.specs.Answers.{Plain}
 use Rattle.hy_answer.specs.declared.answer.Answer.{Answer}
 use Rattle.hy_answer.specs.declared.answer.Answer.TheVariants.{Memory}
 use Rattle.hy_answer.specs.Refusals.{fault_answer}
+use Rattle.aig_net.specs.Nets.{Net}
+use Rattle.hy_top.specs.Circuits.{IsCircuit}
 use Rattle.hy_top.specs.Contents.{Content, IsText, IsRefused}
 
 -- The file was read, and is a text of this content.
@@ -31,6 +33,12 @@ pub record TakesLassos {S : Type 0} (g : Ghosts S) (old new : S) (name : List �
 pub record TakesEvents {S : Type 0} (g : Ghosts S) (old new : S) (name : List ℕ) (bytes : List ℕ) : Type 0 where
   pub read : ReadsFile g old new name (Ok bytes)
   pub lines : Each IsGood (lines_of bytes)
+
+-- The file was read, and is this circuit.
+pub record TakesCircuit {S : Type 0} (g : Ghosts S) (old new : S) (name : List ℕ) (net : Net) : Type 0 where
+  pub bytes : List ℕ
+  pub read : ReadsFile g old new name (Ok bytes)
+  pub is : IsCircuit bytes net
 
 -- The run ends at file k, which is to be of this content, with this answer: it was not read, memory ran out, or its
 -- text is refused.

@@ -2,7 +2,7 @@
 use Rattle.std.specs.Prelude.{◌≡◌, ◌⊎◌, ℕ, true, List, length}
 use Rattle.hy_base.specs.Limits.{most}
 use Rattle.hy_finite.specs.declared.event.Placed.{Placed}
-use Rattle.hy_finite.specs.declared.lengths.Lengths.TheVariants.{Min}
+use Rattle.hy_finite.specs.declared.lengths.Lengths.{Lengths}
 use Rattle.hy_finite.specs.EventFiles.{IsEventFile}
 use Rattle.rv_core.specs.Endings.{Spec, IsClean}
 use Rattle.rv_core.specs.Held.{Held, StandsFor}
@@ -25,24 +25,24 @@ IsEventAnswer (errors.Limit kind) line answer = answer ≡ Limit kind (most kind
 IsEventAnswer errors.Memory line answer = answer ≡ Memory
 
 -- The event of a line leads from a history to one that the monitor then stands for, and no formula is violated.
-pub record GoesOn (specs : List Spec) (h : History) (placed : Placed) (new : Held) : Type 0 where
+pub record GoesOn (lengths : Lengths) (specs : List Spec) (h : History) (placed : Placed) (new : Held) : Type 0 where
   pub next : History
   pub steps : step h placed.event ≡ goes next
   pub stands : StandsFor new next
-  pub clean : arrives placed.event ≡ true → IsClean Min specs next.present.arrived
+  pub clean : arrives placed.event ≡ true → IsClean lengths specs next.present.arrived
 
 -- The event of a line is refused, or violates a formula, and so is answered.
-abbrev pub Stops : List Spec → History → Placed → Answer → Type 0
-Stops specs h placed answer =
-    Comes specs placed.line (arrives placed.event) (step h placed.event) (λ next. ⊥) answer
+abbrev pub Stops : Lengths → List Spec → History → Placed → Answer → Type 0
+Stops lengths specs h placed answer =
+    Comes lengths specs placed.line (arrives placed.event) (step h placed.event) (λ next. ⊥) answer
 
 -- The lines of a file say events that come to this answer.
-abbrev pub LinesCome : List Spec → List (List ℕ) → List ℕ → Answer → Type 0
-LinesCome specs names bytes answer =
-    (events : List Placed) × IsEventFile names bytes events × ComesTo specs empty_history events answer
+abbrev pub LinesCome : Lengths → List Spec → List (List ℕ) → List ℕ → Answer → Type 0
+LinesCome lengths specs names bytes answer =
+    (events : List Placed) × IsEventFile names bytes events × ComesTo lengths specs empty_history events answer
 
 -- No event of the lines of a file was refused or violated a formula: the monitor stands for the history behind the last
 -- one, so that the lines come to its answer.
-abbrev pub IsThrough : List Spec → List (List ℕ) → List ℕ → Held → Type 0
-IsThrough specs names bytes new =
-    (h : History) × StandsFor new h × LinesCome specs names bytes (clean_answer (length specs) h)
+abbrev pub IsThrough : Lengths → List Spec → List (List ℕ) → List ℕ → Held → Type 0
+IsThrough lengths specs names bytes new =
+    (h : History) × StandsFor new h × LinesCome lengths specs names bytes (clean_answer (length specs) h)

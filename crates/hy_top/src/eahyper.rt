@@ -18,6 +18,9 @@ use hy_formula::{Formula, NameTable};
 use hy_lasso::{HoldsError, LassoList, holds};
 use std::alloc::Global;
 
+/// Most quantifiers of a formula.
+const MOST_QUANTIFIERS: u8 = 8;
+
 /// Whether the lassos of a file satisfy a formula, whose names are added to the empty table.
 pub fn judge<S: Shelf>(
     alloc: Global,
@@ -32,7 +35,7 @@ pub fn judge<S: Shelf>(
         Follows S.Shelf shelf.old shelf.new command result
         (out_text (extras_of command) names.new result) }
 {
-    let formula = match formula_in(alloc, shelf, formula, 0, names) {
+    let formula = match formula_in(alloc, shelf, formula, 0, MOST_QUANTIFIERS, names) {
         Ok(formula) => formula,
         Err(answer) => return answer,
     };
@@ -75,7 +78,7 @@ pub fn decide<S: Shelf>(
         Follows S.Shelf shelf.old shelf.new command result
         (out_text (extras_of command) names.new result) }
 {
-    match formula_in(alloc, shelf, formula, 0, names) {
+    match formula_in(alloc, shelf, formula, 0, MOST_QUANTIFIERS, names) {
         Ok(formula) => decide_formula(alloc, &formula, states),
         Err(answer) => answer,
     }
@@ -110,11 +113,11 @@ pub fn imply<S: Shelf>(
         Follows S.Shelf shelf.old shelf.new command result
         (out_text (extras_of command) names.new result) }
 {
-    let first = match formula_in(alloc, shelf, files.0, 0, names) {
+    let first = match formula_in(alloc, shelf, files.0, 0, MOST_QUANTIFIERS, names) {
         Ok(formula) => formula,
         Err(answer) => return answer,
     };
-    match formula_in(alloc, shelf, files.1, 1, names) {
+    match formula_in(alloc, shelf, files.1, 1, MOST_QUANTIFIERS, names) {
         Ok(second) => imply_formula(alloc, &first, &second, states),
         Err(answer) => answer,
     }
@@ -149,11 +152,11 @@ pub fn compare<S: Shelf>(
         Follows S.Shelf shelf.old shelf.new command result
         (out_text (extras_of command) names.new result) }
 {
-    let first = match formula_in(alloc, shelf, files.0, 0, names) {
+    let first = match formula_in(alloc, shelf, files.0, 0, MOST_QUANTIFIERS, names) {
         Ok(formula) => formula,
         Err(answer) => return answer,
     };
-    match formula_in(alloc, shelf, files.1, 1, names) {
+    match formula_in(alloc, shelf, files.1, 1, MOST_QUANTIFIERS, names) {
         Ok(second) => compare_formulas(alloc, &first, &second, states),
         Err(answer) => answer,
     }

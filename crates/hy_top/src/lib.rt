@@ -5,6 +5,7 @@ mod eahyper;
 mod files;
 mod host;
 mod laws;
+mod mchyper;
 mod runs;
 mod rvhyper;
 mod watching;

@@ -1,17 +1,20 @@
 //! A run: from words and files to an answer, a text and a status.
 
-ghost use Rattle.std.specs.Prelude.{◌≡◌, ◌⊎◌, ◌∷◌, List, [], ℕ};
+ghost use Rattle.std.specs.Prelude.{◌≡◌, ◌⊎◌, ◌∷◌, List, [], ℕ, IfOk, IfErr};
 ghost use Rattle.hy_base.specs.Shelf.{KeepsShelf};
 ghost use Rattle.hy_base.specs.Sink.{KeepsSink};
 ghost use Rattle.hy_answer.specs.Outputs.{error_line, out_text, status_of, Received, plain};
+ghost use Rattle.hy_words.specs.Commands.{IsCommand, HasNoCommand};
+ghost use Rattle.hy_words.specs.Said.{said_by};
 ghost use Rattle.hy_words.specs.Words.{texts};
 ghost use Rattle.hy_top.specs.Runs.{Comes, IsWritten, Names};
 
-use crate::{eahyper, rvhyper};
+use crate::{eahyper, mchyper, rvhyper};
 use hy_answer::{Answer, Extras, out_text, status_of, write_error};
 use hy_base::{Memory, Shelf, Sink, SinkFailed, write_all};
 use hy_formula::NameTable;
 use hy_words::{Command, Tool, command_of};
+use mc_core::Ask;
 use std::alloc::Global;
 
 /// The end of a run: its exit status, and what it answered.
@@ -37,7 +40,7 @@ pub fn run<S: Shelf, O: Sink, E: Sink>(
         × Comes S.Shelf tool (texts words.now) shelf.old shelf.new due text
         × IsWritten O.Sink out.old out.new due text result.answer }
     ensures status { result.status ≡ status_of result.answer }
-    ensures err { (names : List (List ℕ)) × Names tool (texts words.now) names
+    ensures err { (names : List (List ℕ)) × Names tool (texts words.now) result.answer names
         × Received E.Sink err.old err.new (error_line names result.answer) }
     ensures keeps_shelf { KeepsShelf S.Shelf shelf.old shelf.new }
     ensures keeps_out { KeepsSink O.Sink out.old out.new }
@@ -50,13 +53,17 @@ pub fn run<S: Shelf, O: Sink, E: Sink>(
     let Ok(mut names) = NameTable::new(alloc) else {
         unreachable!()
     };
-    let command = match command_of(tool, words) {
-        Some(command) => command,
-        None => return finish(alloc, Answer::Words, plain, &names, &[], out, err),
+    let command = match command_in(alloc, tool, words) {
+        Ok(command) => command,
+        Err(due) => return finish(alloc, due, plain, &names, &[], out, err),
     };
     match command {
-        Command::Monitor { specs, traces } => {
-            let due = rvhyper::monitor(alloc, shelf, specs, traces, &mut names);
+        Command::Monitor {
+            specs,
+            traces,
+            lengths,
+        } => {
+            let due = rvhyper::monitor(alloc, shelf, specs, traces, lengths, &mut names);
             finish(alloc, due, plain, &names, &[specs, traces], out, err)
         }
         Command::Judge { formula, lassos } => {
@@ -92,6 +99,36 @@ pub fn run<S: Shelf, O: Sink, E: Sink>(
             let extras = Extras { kept: false, proof };
             finish(alloc, due, extras, &names, &[first, second], out, err)
         }
+        Command::Check {
+            circuit,
+            formula,
+            depth,
+            conflicts,
+            plain: bare,
+            proof,
+        } => {
+            let ask = Ask {
+                depth,
+                conflicts,
+                plain: bare,
+            };
+            let due = mchyper::check(alloc, shelf, (circuit, formula), &ask, &mut names);
+            let extras = Extras { kept: false, proof };
+            finish(alloc, due, extras, &names, &[circuit, formula], out, err)
+        }
+    }
+}
+
+/// The command of the words, or what is answered where they are none or memory ran out.
+fn command_in<'a>(alloc: Global, tool: Tool, words: &'a [String]) -> Result<Command<'a>, Answer>
+    ensures some { IfOk result (λ c. IsCommand tool (texts words.entry.now) (said_by c)) }
+    ensures none { IfErr result (λ due. ((due ≡ Answer.Words)
+        × HasNoCommand tool (texts words.entry.now)) ⊎ (due ≡ Answer.Memory)) }
+{
+    match command_of(alloc, tool, words) {
+        Ok(Some(command)) => Ok(command),
+        Ok(None) => Err(Answer::Words),
+        Err(Memory) => Err(Answer::Memory),
     }
 }
 

@@ -24,18 +24,19 @@ use hy_read::SpecList;
 use rv_core::{Rv, RvNewError};
 use std::alloc::Global;
 
-/// Whether the traces of a file violate the formulas of another, whose names are added to the empty
+/// Whether the traces of a file violate the formulas of another under a rule of lengths. Their names are added to the empty
 /// table.
 pub fn monitor<S: Shelf>(
     alloc: Global,
     shelf: &mut S,
     specs: &str,
     traces: &str,
+    lengths: Lengths,
     names: &mut NameTable,
 ) -> Answer
     requires { names.old ≡ [] }
     ensures keeps { KeepsShelf S.Shelf shelf.old shelf.new }
-    ensures follows { let command = monitor specs.now traces.now in
+    ensures follows { let command = monitor specs.now traces.now lengths in
         Follows S.Shelf shelf.old shelf.new command result
         (out_text (extras_of command) names.new result) }
 {
@@ -44,20 +45,26 @@ pub fn monitor<S: Shelf>(
         Err(answer) => return answer,
     };
     match events_in(alloc, shelf, traces) {
-        Ok(bytes) => judge(alloc, &specs, bytes.as_slice(), names),
+        Ok(bytes) => judge(alloc, &specs, lengths, bytes.as_slice(), names),
         Err(answer) => answer,
     }
 }
 
 /// What formulas come to on the events of lines that are taken.
-fn judge(alloc: Global, specs: &SpecList, bytes: &[u8], names: &NameTable) -> Answer
+fn judge(
+    alloc: Global,
+    specs: &SpecList,
+    lengths: Lengths,
+    bytes: &[u8],
+    names: &NameTable,
+) -> Answer
     requires quantifiers { All HasFewQuantifiers specs.now }
     requires countable { length specs.now < 2 ^ 32 }
     requires few { length bytes.now ≤ BYTES_LIMIT }
     requires good { Each IsGood (lines_of bytes.now) }
-    ensures { IsOutcome (plain_formulas specs.now) names.now bytes.now result }
+    ensures { IsOutcome lengths (plain_formulas specs.now) names.now bytes.now result }
 {
-    match Rv::new(alloc, specs.as_slice(), Lengths::Min) {
+    match Rv::new(alloc, specs.as_slice(), lengths) {
         Ok(mut rv) => watch(alloc, &mut rv, specs.len() as u32, bytes, names),
         Err(error) => new_answer(error),
     }
@@ -65,9 +72,9 @@ fn judge(alloc: Global, specs: &SpecList, bytes: &[u8], names: &NameTable) -> An
 
 /// The answer for formulas that are not monitored.
 fn new_answer(error: RvNewError) -> Answer
-    ensures { (formulas : List Formula) → IsNewRefusal formulas error
+    ensures { (lengths : Lengths) (formulas : List Formula) → IsNewRefusal formulas error
         → (names : List (List ℕ)) (bytes : List ℕ)
-        → IsOutcome (plain_formulas formulas) names bytes result }
+        → IsOutcome lengths (plain_formulas formulas) names bytes result }
 {
     match error {
         RvNewError::Prefix { class, .. } => Answer::Prefix { file: 0, class },

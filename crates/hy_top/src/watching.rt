@@ -4,7 +4,6 @@ ghost use Rattle.std.specs.Prelude.{◌≡◌, ◌+◌, ◌<◌, ◌≤◌, ◌^
 ghost use Rattle.hy_base.specs.declared.reading.TheConstants.{BYTES_LIMIT};
 ghost use Rattle.hy_formula.specs.Quantifiers.{Each};
 ghost use Rattle.hy_text.specs.Lines.{lines_of};
-ghost use Rattle.hy_finite.specs.declared.lengths.Lengths.TheVariants.{Min};
 ghost use Rattle.hy_finite.specs.EventLines.{IsGood};
 ghost use Rattle.hy_finite.specs.NextEvents.{IsNextAnswer};
 ghost use Rattle.hy_finite.specs.Remaining.{remaining};
@@ -28,11 +27,10 @@ use std::sync::ledger::{Blank, Ledger};
 /// which nothing has come yet.
 pub fn watch(alloc: Global, rv: &mut Rv, specs: u32, bytes: &[u8], names: &NameTable) -> Answer
     requires stands { StandsFor (held rv.old) empty_history }
-    requires rule { (held rv.old).rule ≡ Min }
     requires specs { specs ≡ length (specs_of (held rv.old)) }
     requires few { length bytes.now ≤ BYTES_LIMIT }
     requires good { Each IsGood (lines_of bytes.now) }
-    ensures { OrMemory result (LinesCome (specs_of (held rv.old)) names.now bytes.now result) }
+    ensures { OrMemory result (LinesCome (held rv.old).rule (specs_of (held rv.old)) names.now bytes.now result) }
 {
     match watch_on::<Brand>(alloc, rv, bytes, names, Blank::new(1)) {
         Ok(()) => clean_answer(alloc, rv, specs),
@@ -49,17 +47,16 @@ fn watch_on<L: Ledger>(
     blank: Blank,
 ) -> Result<(), Answer>
     requires stands { StandsFor (held rv.old) empty_history }
-    requires rule { (held rv.old).rule ≡ Min }
     requires few { length bytes.now ≤ BYTES_LIMIT }
     requires good { Each IsGood (lines_of bytes.now) }
     requires name { blank.name ≡ L.name }
     requires parts { blank.parts ≡ L.parts }
     requires some { 0 < blank.parts }
     ensures specs { specs_of (held rv.new) ≡ specs_of (held rv.old) }
-    ensures through { OnOk result (IsThrough (specs_of (held rv.old)) names.now bytes.now
+    ensures through { OnOk result (IsThrough (held rv.old).rule (specs_of (held rv.old)) names.now bytes.now
         (held rv.new)) }
     ensures ended { IfErr result (λ answer. OrMemory answer
-        (LinesCome (specs_of (held rv.old)) names.now bytes.now answer)) }
+        (LinesCome (held rv.old).rule (specs_of (held rv.old)) names.now bytes.now answer)) }
 {
     let mut steps = Steps::<L>::new(blank);
     watch_lines(alloc, rv, bytes, names, &mut steps)
@@ -75,13 +72,12 @@ fn watch_lines<L: Ledger>(
     steps: &mut Steps<L>,
 ) -> Result<(), Answer>
     requires stands { StandsFor (held rv.old) empty_history }
-    requires rule { (held rv.old).rule ≡ Min }
     requires few { length bytes.now ≤ BYTES_LIMIT }
     requires good { Each IsGood (lines_of bytes.now) }
     ensures specs { specs_of (held rv.new) ≡ specs_of (held rv.old) }
-    ensures through { OnOk result (IsThrough (specs_of (held rv.old)) names.now bytes.now (held rv.new)) }
+    ensures through { OnOk result (IsThrough (held rv.old).rule (specs_of (held rv.old)) names.now bytes.now (held rv.new)) }
     ensures ended { IfErr result (λ answer. OrMemory answer
-        (LinesCome (specs_of (held rv.old)) names.now bytes.now answer)) }
+        (LinesCome (held rv.old).rule (specs_of (held rv.old)) names.now bytes.now answer)) }
 {
     let mut lines = EventLines::new(bytes);
     let mut letters = Letters::new(alloc);
@@ -117,14 +113,13 @@ fn take<L: Ledger>(
     steps: &mut Steps<L>,
 ) -> Result<(), Answer>
     requires clean { IsTrue (held rv.old).clean }
-    requires rule { (held rv.old).rule ≡ Min }
     requires few { (held rv.old).arrived < 2 ^ 31 }
     ensures specs { specs_of (held rv.new) ≡ specs_of (held rv.old) }
     ensures rule { (held rv.new).rule ≡ (held rv.old).rule }
     ensures went { OnOk result ((h : History) → StandsFor (held rv.old) h
-        → GoesOn (specs_of (held rv.old)) h placed.now (held rv.new)) }
+        → GoesOn (held rv.old).rule (specs_of (held rv.old)) h placed.now (held rv.new)) }
     ensures ended { IfErr result (λ answer. OrMemory answer ((h : History) → StandsFor (held rv.old) h
-        → Stops (specs_of (held rv.old)) h placed.now answer)) }
+        → Stops (held rv.old).rule (specs_of (held rv.old)) h placed.now answer)) }
 {
     match rv.event(alloc, &placed.event, steps) {
         Ok(Reply::Quiet) => Ok(()),

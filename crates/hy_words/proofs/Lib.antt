@@ -1,4 +1,10 @@
-pub mod Asking
-pub mod Gathering
-pub mod Items
-pub mod OneCommand
+pub mod Commanding
+pub mod Giving
+pub mod Holding
+pub mod Ordering
+pub mod Lookups
+pub mod Reading
+pub mod Splitting
+pub mod Steps
+pub mod Telling
+pub mod Walking

@@ -1,75 +1,105 @@
 -- Which words are a command of which tool, and which files a command names.
-use Rattle.std.specs.Prelude.{◌≡◌, ◌≤◌, ℕ, Bool, true, false, List, [], ◌∷◌, Some}
-use Rattle.hy_finite.specs.EventLines.{number_at}
-use Rattle.hy_words.specs.declared.item.Tool.{Tool}
-use Rattle.hy_words.specs.declared.item.Tool.TheVariants.{EaHyper, RvHyper}
-use Rattle.hy_words.specs.declared.item.Flag.{Flag}
-use Rattle.hy_words.specs.declared.item.Flag.TheVariants.{Proof}
-use Rattle.hy_words.specs.declared.item.ValueOption.TheVariants.{On, Implies, Equivalent, States}
-use Rattle.hy_words.specs.Words.{Item, Says, IsProper, files_in, flags_in, values_in}
+use Rattle.std.specs.Prelude.{◌≡◌, ◌≤◌, ◌==◌, ℕ, Bool, not, List, [], ◌∷◌, length, codes, decimal}
+use Rattle.hy_finite.specs.declared.lengths.Lengths.{Lengths}
+use Rattle.hy_finite.specs.declared.lengths.Lengths.TheVariants.{Min, Pad}
+use Rattle.hy_words.specs.declared.tool.Tool.{Tool}
+use Rattle.hy_words.specs.declared.tool.Tool.TheVariants.{EaHyper, RvHyper, McHyper}
+use Rattle.hy_words.specs.Words.{Text, Item, Says, IsProper, files_in, given_in}
 
 pub data Command : Type 0 where
   -- Monitor the traces of a file against the specifications of another.
-  monitor : (specs traces : List ℕ) → Command
+  monitor : (specs traces : Text) (lengths : Lengths) → Command
   -- Check a formula on the lassos of a file.
-  judge : (formula lassos : List ℕ) → Command
+  judge : (formula lassos : Text) → Command
   -- Decide whether a formula is satisfiable.
-  decide : (formula : List ℕ) (states : ℕ) (proof : Bool) → Command
+  decide : (formula : Text) (states : ℕ) (proof : Bool) → Command
   -- Decide whether a formula implies another.
-  imply : (first second : List ℕ) (states : ℕ) (proof : Bool) → Command
+  imply : (first second : Text) (states : ℕ) (proof : Bool) → Command
   -- Decide whether two formulas are equivalent.
-  compare : (first second : List ℕ) (states : ℕ) (proof : Bool) → Command
+  compare : (first second : Text) (states : ℕ) (proof : Bool) → Command
+  -- Check a formula on the executions of a circuit.
+  check : (circuit formula : Text) (depth conflicts : ℕ) (plain proof : Bool) → Command
 
 -- the names of its files, in the order in which they are read
-abbrev pub files_of : Command → List (List ℕ)
-files_of (monitor specs traces) = specs ∷ traces ∷ []
+abbrev pub files_of : Command → List Text
+files_of (monitor specs traces lengths) = specs ∷ traces ∷ []
 files_of (judge formula lassos) = formula ∷ lassos ∷ []
 files_of (decide formula states proof) = formula ∷ []
 files_of (imply first second states proof) = first ∷ second ∷ []
 files_of (compare first second states proof) = first ∷ second ∷ []
+files_of (check circuit formula depth conflicts plain proof) = circuit ∷ formula ∷ []
 
--- the budget of states where no option gives one
-abbrev pub usual_states : ℕ
-usual_states = 100000
+-- The text is this number, in digits without a sign and without a leading zero, and within the range.
+abbrev pub IsNumber : Text → ℕ → ℕ → ℕ → Type 0
+IsNumber text least most n = (text ≡ decimal n) × (least ≤ n) × (n ≤ most)
 
--- the greatest budget of states
-abbrev pub most_states : ℕ
-most_states = 4194304
+-- What an option is given is this number, or nothing is and it is the usual one.
+abbrev pub IsNumberOr : ℕ → List Text → ℕ → ℕ → ℕ → Type 0
+IsNumberOr usual [] least most n = n ≡ usual
+IsNumberOr usual (value ∷ _) least most n = IsNumber value least most n
 
--- The values of the option are a budget of this many states.
-abbrev pub AreStates : List (List ℕ) → ℕ → Type 0
-AreStates [] n = n ≡ usual_states
-AreStates (v ∷ _) n = (number_at v ≡ Some (n, [])) × (1 ≤ n) × (n ≤ most_states)
+-- What the option is given is a number of states of a decision, from 1 to 4,194,304; or it is 100,000.
+abbrev pub AreStates : List Text → ℕ → Type 0
+AreStates given n = IsNumberOr 100000 given 1 4194304 n
+
+-- What the option is given is a depth, from 0 to 100,000; or it is 64.
+abbrev pub IsDepth : List Text → ℕ → Type 0
+IsDepth given n = IsNumberOr 64 given 0 100000 n
+
+-- What the option is given is a number of conflicts of a query, from 0 to 1,000,000,000; or it is 100,000.
+abbrev pub AreConflicts : List Text → ℕ → Type 0
+AreConflicts given n = IsNumberOr 100000 given 0 1000000000 n
+
+-- What the option is given is the rule of lengths; without it tuples are judged on the least length.
+abbrev pub IsRule : List Text → Lengths → Type 0
+IsRule [] rule = rule ≡ Min
+IsRule (value ∷ _) Min = value ≡ codes "min"
+IsRule (value ∷ _) Pad = value ≡ codes "pad"
 
 -- whether a flag is given
-abbrev pub is_given : List Flag → Bool
-is_given [] = false
-is_given (_ ∷ _) = true
+abbrev pub is_given : List Text → Bool
+is_given given = not (length given == 0)
 
--- The items have one file, these values of each option that chooses the question, and this budget and flag.
-pub record Asks (items : List Item) (formula : List ℕ) (lassos implied equal : List (List ℕ)) (states : ℕ) (proof : Bool) : Type 0 where
+-- The items ask a question about one formula, with these values of the options that choose the question, and this
+-- budget and flag.
+pub record Asks (items : List Item) (formula : Text) (lassos implied equal : List Text) (states : ℕ) (proof : Bool) : Type 0 where
   pub files : files_in items ≡ formula ∷ []
-  pub on : values_in On items ≡ lassos
-  pub implies : values_in Implies items ≡ implied
-  pub equivalent : values_in Equivalent items ≡ equal
-  pub budget : AreStates (values_in States items) states
-  pub proves : proof ≡ is_given (flags_in Proof items)
+  pub on : given_in (codes "on") items ≡ lassos
+  pub implies : given_in (codes "implies") items ≡ implied
+  pub equivalent : given_in (codes "equivalent") items ≡ equal
+  pub budget : AreStates (given_in (codes "states") items) states
+  pub proves : proof ≡ is_given (given_in (codes "proof") items)
+
+-- The items ask for traces to be monitored, under this rule.
+pub record Monitors (items : List Item) (specs traces : Text) (lengths : Lengths) : Type 0 where
+  pub files : files_in items ≡ specs ∷ traces ∷ []
+  pub rule : IsRule (given_in (codes "lengths") items) lengths
+
+-- The items ask for a check of a circuit.
+pub record Checks (items : List Item) (circuit formula : Text) (depth conflicts : ℕ) (plain proof : Bool) : Type 0 where
+  pub files : files_in items ≡ circuit ∷ formula ∷ []
+  pub deep : IsDepth (given_in (codes "depth") items) depth
+  pub budget : AreConflicts (given_in (codes "conflicts") items) conflicts
+  pub bare : plain ≡ is_given (given_in (codes "plain") items)
+  pub proves : proof ≡ is_given (given_in (codes "proof") items)
 
 -- The items stand for the command of the tool.
 abbrev pub Orders : Tool → List Item → Command → Type 0
-Orders RvHyper items (monitor specs traces) = files_in items ≡ specs ∷ traces ∷ []
+Orders RvHyper items (monitor specs traces lengths) = Monitors items specs traces lengths
 Orders EaHyper items (judge formula lassos) =
     (states : ℕ) × (proof : Bool) × Asks items formula (lassos ∷ []) [] [] states proof
 Orders EaHyper items (decide formula states proof) = Asks items formula [] [] [] states proof
 Orders EaHyper items (imply first second states proof) = Asks items first [] (second ∷ []) [] states proof
 Orders EaHyper items (compare first second states proof) = Asks items first [] [] (second ∷ []) states proof
+Orders McHyper items (check circuit formula depth conflicts plain proof) =
+    Checks items circuit formula depth conflicts plain proof
 Orders _ _ _ = ⊥
 
 -- The words stand for this command of the tool.
-abbrev pub IsCommand : Tool → List (List ℕ) → Command → Type 0
+abbrev pub IsCommand : Tool → List Text → Command → Type 0
 IsCommand tool words command =
-    (items : List Item) × Says tool words items × IsProper items × Orders tool items command
+    (items : List Item) × Says tool words items × IsProper tool items × Orders tool items command
 
 -- The words stand for no command of the tool.
-abbrev pub HasNoCommand : Tool → List (List ℕ) → Type 0
+abbrev pub HasNoCommand : Tool → List Text → Type 0
 HasNoCommand tool words = (command : Command) → ¬ IsCommand tool words command

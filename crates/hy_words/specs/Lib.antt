@@ -1,4 +1,5 @@
 pub mod Commands
-pub mod Given
+pub mod Found
+pub mod Parsers
 pub mod Said
 pub mod Words

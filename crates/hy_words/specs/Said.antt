@@ -1,11 +1,13 @@
 -- The command of the logic that a command of the code stands for.
 use Rattle.hy_words.specs.declared.command.Command.{Command as Told}
-use Rattle.hy_words.specs.declared.command.Command.TheVariants.{Monitor, Judge, Decide, Imply, Compare}
-use Rattle.hy_words.specs.Commands.{Command, monitor, judge, decide, imply, compare}
+use Rattle.hy_words.specs.declared.command.Command.TheVariants.{Monitor, Judge, Decide, Imply, Compare, Check}
+use Rattle.hy_words.specs.Commands.{Command, monitor, judge, decide, imply, compare, check}
 
 abbrev pub said_by : Told → Command
-said_by (Monitor specs traces) = monitor specs.now traces.now
+said_by (Monitor specs traces lengths) = monitor specs.now traces.now lengths
 said_by (Judge formula lassos) = judge formula.now lassos.now
 said_by (Decide formula states proof) = decide formula.now states proof
 said_by (Imply first second states proof) = imply first.now second.now states proof
 said_by (Compare first second states proof) = compare first.now second.now states proof
+said_by (Check circuit formula depth conflicts plain proof) =
+    check circuit.now formula.now depth conflicts plain proof

@@ -1,104 +1,97 @@
--- What words say, one behind another: the name of a file, a flag, or an option with its value.
+-- What words say, from the first to the last: names of files, flags, and options with their values.
 --
 --     eahyper    [--on FILE | --implies FILE | --equivalent FILE] [--proof] [--states N] FORMULA
---     rvhyper    SPECS TRACES
+--     rvhyper    [--lengths min|pad] SPECS TRACES
+--     mchyper    [--depth K] [--conflicts N] [--plain] [--proof] CIRCUIT FORMULA
 --
--- Flags and options stand anywhere among the names of files.
-use Rattle.std.specs.Prelude.{◌≡◌, ◌≤◌, ◌+◌, ℕ, Bool, true, false, not, ◌||◌, nat_eq, List, [], ◌∷◌, IsTrue, length, map, codes, String}
+-- Flags and options stand anywhere among the names of files, but not behind a word `--`, behind which every word is the
+-- name of a file. The value of an option is the word behind it, or stands behind an equals sign in the same word.
+use Rattle.std.specs.Prelude.{◌≤◌, ◌||◌, ◌&&◌, ◌==◌, ℕ, Bool, true, not, if◌then◌else◌, List, [], ◌∷◌, ◌++◌, IsTrue, length, map, codes, String}
+use Rattle.std.specs.List.{list_any, list_all, flat_map}
+use Rattle.std.specs.Str.{bytes_eq}
 use Rattle.std.specs.String.{string_bytes}
-use Rattle.std.specs.List.{All, flat_map}
-use Rattle.hy_words.specs.declared.item.Tool.{Tool}
-use Rattle.hy_words.specs.declared.item.Tool.TheVariants.{EaHyper, RvHyper}
-use Rattle.hy_words.specs.declared.item.Flag.{Flag}
-use Rattle.hy_words.specs.declared.item.Flag.TheVariants.{Proof}
-use Rattle.hy_words.specs.declared.item.ValueOption.{ValueOption}
-use Rattle.hy_words.specs.declared.item.ValueOption.TheVariants.{On, Implies, Equivalent, States}
+use Rattle.hy_words.specs.declared.tool.Tool.{Tool}
+use Rattle.hy_words.specs.declared.tool.Tool.TheVariants.{EaHyper, RvHyper, McHyper}
+
+abbrev pub Text : Type 0
+Text = List ℕ
 
 -- the words as bytes
-abbrev pub texts : {Z : Type 0} → List (String Z) → List (List ℕ)
+abbrev pub texts : {Z : Type 0} → List (String Z) → List Text
 texts words = map string_bytes words
 
--- A word names a file, or is a value, where it is not empty, and begins with a dash only where it is one.
-abbrev pub is_file_word : List ℕ → Bool
-is_file_word [] = false
-is_file_word (b ∷ bs) = not (nat_eq b 45) || nat_eq (length bs) 0
+-- the flags of a tool, without their dashes
+abbrev pub flags_of : Tool → List Text
+flags_of EaHyper = codes "proof" ∷ []
+flags_of RvHyper = []
+flags_of McHyper = codes "plain" ∷ codes "proof" ∷ []
 
--- the word of a flag
-abbrev pub flag_word : Flag → List ℕ
-flag_word Proof = codes "--proof"
+-- the options of a tool that have a value, without their dashes
+abbrev pub options_of : Tool → List Text
+options_of EaHyper = codes "on" ∷ codes "implies" ∷ codes "equivalent" ∷ codes "states" ∷ []
+options_of RvHyper = codes "lengths" ∷ []
+options_of McHyper = codes "depth" ∷ codes "conflicts" ∷ []
 
--- the word of an option
-abbrev pub option_word : ValueOption → List ℕ
-option_word On = codes "--on"
-option_word Implies = codes "--implies"
-option_word Equivalent = codes "--equivalent"
-option_word States = codes "--states"
+-- whether the name is one of these
+abbrev pub has : List Text → Text → Bool
+has names name = list_any (λ other. bytes_eq other name) names
 
--- whether the tool has the flag
-abbrev pub has_flag : Tool → Flag → Bool
-has_flag EaHyper Proof = true
-has_flag RvHyper Proof = false
+-- The word does not begin with a dash, or is one.
+abbrev pub is_bare : Text → Bool
+is_bare [] = true
+is_bare (b ∷ bs) = not (b == 45) || length bs == 0
 
--- whether the tool has the option
-abbrev pub has_option : Tool → ValueOption → Bool
-has_option EaHyper On = true
-has_option EaHyper Implies = true
-has_option EaHyper Equivalent = true
-has_option EaHyper States = true
-has_option RvHyper _ = false
+-- the word is not empty
+abbrev pub is_filled : Text → Bool
+is_filled word = not (length word == 0)
+
+-- A value is not empty, and begins with a dash only where it is one.
+abbrev pub is_value : Text → Bool
+is_value word = is_filled word && is_bare word
+
+-- a name behind its two dashes
+abbrev pub dashed : Text → Text
+dashed name = 45 ∷ 45 ∷ name
 
 pub data Item : Type 0 where
-  file : (name : List ℕ) → Item
-  flag : Flag → Item
-  value : (option : ValueOption) (given : List ℕ) → Item
+  file : (name : Text) → Item
+  flag : (name : Text) → Item
+  option : (name value : Text) → Item
 
--- The item is one of the tool.
-abbrev pub IsItem : Tool → Item → Type 0
-IsItem tool (file name) = IsTrue (is_file_word name)
-IsItem tool (flag f) = IsTrue (has_flag tool f)
-IsItem tool (value o v) = IsTrue (has_option tool o) × IsTrue (is_file_word v)
+-- The words are these items of the tool, from the first to the last.
+pub data Says (tool : Tool) : List Text → List Item → Type 0 where
+  nothing : Says tool [] []
+  behind_dashes : (names : List Text) → Says tool (dashed [] ∷ names) (map file names)
+  a_file : (name : Text) (words : List Text) (items : List Item) → IsTrue (is_bare name)
+      → Says tool words items → Says tool (name ∷ words) (file name ∷ items)
+  a_flag : (name : Text) (words : List Text) (items : List Item) → IsTrue (has (flags_of tool) name)
+      → Says tool words items → Says tool (dashed name ∷ words) (flag name ∷ items)
+  an_option : (name value : Text) (words : List Text) (items : List Item) → IsTrue (has (options_of tool) name)
+      → Says tool words items → Says tool (dashed name ∷ value ∷ words) (option name value ∷ items)
+  joined : (name value : Text) (words : List Text) (items : List Item) → IsTrue (has (options_of tool) name)
+      → Says tool words items → Says tool (dashed (name ++ 61 ∷ value) ∷ words) (option name value ∷ items)
 
--- the words of an item
-abbrev pub item_words : Item → List (List ℕ)
-item_words (file name) = name ∷ []
-item_words (flag f) = flag_word f ∷ []
-item_words (value o v) = option_word o ∷ v ∷ []
-
--- The words are these items of the tool, one behind another.
-pub record Says (tool : Tool) (words : List (List ℕ)) (items : List Item) : Type 0 where
-  pub spelled : words ≡ flat_map item_words items
-  pub known : All (IsItem tool) items
-
-abbrev pub item_files : Item → List (List ℕ)
+abbrev pub item_files : Item → List Text
 item_files (file name) = name ∷ []
 item_files _ = []
 
-abbrev pub item_flags : Flag → Item → List Flag
-item_flags Proof (flag Proof) = Proof ∷ []
-item_flags _ _ = []
-
-abbrev pub item_values : ValueOption → Item → List (List ℕ)
-item_values On (value On v) = v ∷ []
-item_values Implies (value Implies v) = v ∷ []
-item_values Equivalent (value Equivalent v) = v ∷ []
-item_values States (value States v) = v ∷ []
-item_values _ _ = []
+-- what an item gives the flag or option of this name: an option its value, a flag `true`
+abbrev pub item_gives : Text → Item → List Text
+item_gives name (file _) = []
+item_gives name (flag other) = if bytes_eq other name then codes "true" ∷ [] else []
+item_gives name (option other value) = if bytes_eq other name then value ∷ [] else []
 
 -- the names of files among the items, in order
-abbrev pub files_in : List Item → List (List ℕ)
+abbrev pub files_in : List Item → List Text
 files_in items = flat_map item_files items
 
--- a flag, as often as the items have it
-abbrev pub flags_in : Flag → List Item → List Flag
-flags_in f items = flat_map (item_flags f) items
+-- what the items give the flag or option of this name, in order
+abbrev pub given_in : Text → List Item → List Text
+given_in name items = flat_map (item_gives name) items
 
--- the values of an option among the items, in order
-abbrev pub values_in : ValueOption → List Item → List (List ℕ)
-values_in o items = flat_map (item_values o) items
-
--- Each flag and each option stands at most once, and of options that exclude each other at most one.
-pub record IsProper (items : List Item) : Type 0 where
-  pub flags : (f : Flag) → length (flags_in f items) ≤ 1
-  pub options : (o : ValueOption) → length (values_in o items) ≤ 1
-  pub modes :
-      length (values_in On items) + length (values_in Implies items) + length (values_in Equivalent items) ≤ 1
+-- Nothing is refused among the items: each flag and each option stands at most once, no name of a file is empty, and
+-- what an option is given is a value.
+pub record IsProper (tool : Tool) (items : List Item) : Type 0 where
+  pub once : (name : Text) → length (given_in name items) ≤ 1
+  pub files : IsTrue (list_all is_filled (files_in items))
+  pub values : IsTrue (list_all (λ name. list_all is_value (given_in name items)) (options_of tool))

@@ -1,21 +1,18 @@
 //! Which words are a command of which tool.
 
-ghost use Rattle.std.specs.Prelude.{◌≡◌, ℕ, List, IfSome, IfNone};
-ghost use Rattle.hy_words.specs.Commands.{Command as Meant, IsCommand, HasNoCommand, Orders, AreStates};
-ghost use Rattle.hy_words.specs.Given.{Holds, given_value};
+ghost use Rattle.std.specs.Prelude.{◌≡◌, ◌≢◌, None, IfOk, IfSome, IfNone};
+ghost use Rattle.clap.specs.declared.error.kind.ErrorKind.TheVariants.{OutOfMemory};
+ghost use Rattle.hy_words.specs.Commands.{IsCommand, HasNoCommand};
 ghost use Rattle.hy_words.specs.Said.{said_by};
-ghost use Rattle.hy_words.specs.Words.{Item, texts};
-ghost use Rattle.hy_words.specs.declared.item.Tool.TheVariants.{EaHyper, RvHyper};
+ghost use Rattle.hy_words.specs.Words.{texts};
 
-use crate::given::{Files, Given, Mode, given_by};
-use crate::item::Tool;
-use hy_finite::read_number;
-
-/// Most states of a decision where the words say nothing of them.
-const USUAL_STATES: u32 = 100_000;
-
-/// The greatest number of states that the words may give.
-const MOST_STATES: u32 = 4_194_304;
+use crate::orders::ordered;
+use crate::parser::parser_of;
+use crate::tool::Tool;
+use clap::error::ErrorKind;
+use hy_base::{M, Memory};
+use hy_finite::Lengths;
+use std::alloc::Global;
 
 /// A command, by the names of its files, in the order in which they are read; `states` is the most
 /// states that a decision may visit, from 1 to 4,194,304, and `proof` asks for a proof beside the
@@ -26,6 +23,7 @@ pub enum Command<'a> {
     Monitor {
         specs: &'a str,
         traces: &'a str,
+        lengths: Lengths,
     },
     /// Checks a formula on the lassos of a file.
     Judge {
@@ -52,85 +50,52 @@ pub enum Command<'a> {
         states: u32,
         proof: bool,
     },
+    /// Checks a formula on the executions of a circuit, by paths of at most `depth` steps, up to
+    /// 100,000, and queries of at most `conflicts` conflicts, up to 1,000,000,000; without facts
+    /// where `plain`.
+    Check {
+        circuit: &'a str,
+        formula: &'a str,
+        depth: u32,
+        conflicts: u32,
+        plain: bool,
+        proof: bool,
+    },
 }
 
 /// The command of the tool that the words stand for, if any. In time linear in the words.
 ///
 /// ```text
 /// eahyper    [--on FILE | --implies FILE | --equivalent FILE] [--proof] [--states N] FORMULA
-/// rvhyper    SPECS TRACES
+/// rvhyper    [--lengths min|pad] SPECS TRACES
+/// mchyper    [--depth K] [--conflicts N] [--plain] [--proof] CIRCUIT FORMULA
 /// ```
-/// Flags and options stand anywhere among the names of files, each at most once. A name or a value
-/// is not empty, and begins with a dash only where it is one. N is from 1 to 4,194,304, and 100,000
-/// where it is not given; beside `--on` neither it nor `--proof` changes anything.
-pub fn command_of(tool: Tool, words: &[String]) -> Option<Command<'_>>
-    ensures some { IfSome result (λ c. IsCommand tool (texts words.now) (said_by c)) }
-    ensures none { IfNone result (HasNoCommand tool (texts words.now)) }
+/// Flags and options stand anywhere among the names of files, each at most once, and not behind a
+/// word `--`, behind which every word is the name of a file. A value is the word behind its option,
+/// or stands behind an equals sign in the same word; it is not empty, and begins with a dash only
+/// where it is one. The numbers of states, of steps and of conflicts are in the
+/// ranges that `Command` gives, and 100,000, 64 and 100,000 where they are not given; beside
+/// `--on` neither `--states` nor `--proof` changes anything.
+///
+/// `Memory` where memory ran out.
+pub fn command_of<'a>(alloc: Global, tool: Tool, words: &'a [String]) -> M<Option<Command<'a>>>
+    ensures some { IfOk result (λ found. IfSome found (λ c.
+        IsCommand tool (texts words.entry.now) (said_by c))) }
+    ensures none { IfOk result (λ found. IfNone found (HasNoCommand tool (texts words.entry.now))) }
 {
-    let given = given_by(tool, words)?;
-    match tool {
-        Tool::EaHyper => decision(given),
-        Tool::RvHyper => monitoring(given),
+    let parser = parser_of(alloc, tool)?;
+    match parser.try_get_matches_from(words) {
+        Ok(matches) => Ok(ordered(tool, &matches)),
+        Err(error) => refused(error.kind()),
     }
 }
 
-/// The command of `rvhyper` for what its words give.
-fn monitoring(given: Given<'_>) -> Option<Command<'_>>
-    ensures some { IfSome result (λ c. (items : List Item)
-        → Holds given.entry items → Orders RvHyper items (said_by c)) }
-    ensures none { IfNone result ((items : List Item) (command : Meant)
-        → Holds given.entry items → ¬ Orders RvHyper items command) }
+/// No command, unless the parser wanted memory.
+fn refused<'a>(kind: ErrorKind) -> M<Option<Command<'a>>>
+    ensures { IfOk result (λ found. (found ≡ None) × (kind ≢ OutOfMemory)) }
 {
-    match given.files {
-        Files::Two(specs, traces) => Some(Command::Monitor { specs, traces }),
-        _ => None,
-    }
-}
-
-/// The command of `eahyper` for what its words give.
-fn decision(given: Given<'_>) -> Option<Command<'_>>
-    ensures some { IfSome result (λ c. (items : List Item)
-        → Holds given.entry items → Orders EaHyper items (said_by c)) }
-    ensures none { IfNone result ((items : List Item) (command : Meant)
-        → Holds given.entry items → ¬ Orders EaHyper items command) }
-{
-    let Files::One(formula) = given.files else {
-        return None;
-    };
-    let states = states_of(given.states)?;
-    let proof = given.proof;
-    Some(match given.mode {
-        Mode::Alone => Command::Decide {
-            formula,
-            states,
-            proof,
-        },
-        Mode::On(lassos) => Command::Judge { formula, lassos },
-        Mode::Implies(second) => Command::Imply {
-            first: formula,
-            second,
-            states,
-            proof,
-        },
-        Mode::Equivalent(second) => Command::Compare {
-            first: formula,
-            second,
-            states,
-            proof,
-        },
-    })
-}
-
-/// The number of states that the value of the option says, if it is a number in range.
-fn states_of(value: Option<&str>) -> Option<u32>
-    ensures some { IfSome result (AreStates (given_value value.entry)) }
-    ensures none { IfNone result ((n : ℕ) → ¬ AreStates (given_value value.entry) n) }
-{
-    let Some(text) = value else {
-        return Some(USUAL_STATES);
-    };
-    match read_number(text.as_bytes())? {
-        (n, []) if 1 <= n && n <= MOST_STATES => Some(n),
-        _ => None,
+    match kind {
+        ErrorKind::OutOfMemory => Err(Memory),
+        _ => Ok(None),
     }
 }

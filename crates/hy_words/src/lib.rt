@@ -2,11 +2,13 @@
 #![tactic(auto)]
 
 mod command;
-mod given;
-mod item;
 pub mod laws;
+mod orders;
+mod parser;
 #[cfg(test)]
 mod tests;
+mod tool;
+mod value;
 
 pub use command::{Command, command_of};
-pub use item::Tool;
+pub use tool::Tool;

@@ -1,6 +1,7 @@
 //! Words of command lines and the commands that they are, worked out by hand.
 
 use crate::{Command, Tool, command_of};
+use hy_finite::Lengths;
 use std::alloc::{AllocError, Global};
 
 /// The words, which stand one space apart; a word `''` is empty.
@@ -16,44 +17,48 @@ fn words_of(alloc: Global, line: &str) -> Result<Vec<String>, AllocError> {
 /// Whether the words are no command.
 fn is_refused(alloc: Global, tool: Tool, line: &str) -> Result<bool, AllocError> {
     let words = words_of(alloc, line)?;
-    Ok(command_of(tool, words.as_slice()).is_none())
+    Ok(matches!(&command_of(alloc, tool, words.as_slice()), Ok(None)))
 }
 
 #[test]
 fn commands_by_their_words(rt: HostRuntime) -> Result<(), AllocError> {
     let alloc = rt.alloc();
-    let words = words_of(alloc, "spec -")?;
-    let command = command_of(Tool::RvHyper, words.as_slice());
+    let words = words_of(alloc, "spec --lengths=pad -")?;
+    let command = command_of(alloc, Tool::RvHyper, words.as_slice());
     assert!(rt;
         matches!(
             &command,
-            Some(Command::Monitor {
+            Ok(Some(Command::Monitor {
                 specs: "spec",
-                traces: "-"
-            })
+                traces: "-",
+                lengths: Lengths::Pad
+            }))
         )
     );
     let words = words_of(alloc, "--proof --on lassos formula")?;
-    let command = command_of(Tool::EaHyper, words.as_slice());
+    let command = command_of(alloc, Tool::EaHyper, words.as_slice());
     assert!(rt;
         matches!(
             &command,
-            Some(Command::Judge {
+            Ok(Some(Command::Judge {
                 formula: "formula",
                 lassos: "lassos"
-            })
+            }))
         )
     );
-    let words = words_of(alloc, "formula --states 4194304")?;
-    let command = command_of(Tool::EaHyper, words.as_slice());
+    let words = words_of(alloc, "--depth=0 --conflicts 1000000000 -- -C --proof")?;
+    let command = command_of(alloc, Tool::McHyper, words.as_slice());
     assert!(rt;
         matches!(
             &command,
-            Some(Command::Decide {
-                formula: "formula",
-                states: 4_194_304,
+            Ok(Some(Command::Check {
+                circuit: "-C",
+                formula: "--proof",
+                depth: 0,
+                conflicts: 1_000_000_000,
+                plain: false,
                 proof: false
-            })
+            }))
         )
     );
     Ok(())
@@ -68,6 +73,8 @@ fn words_that_are_no_command(rt: HostRuntime) -> Result<(), AllocError> {
         "spec ''",
         "-x spec traces",
         "--proof spec traces",
+        "--lengths max spec traces",
+        "--make 3 spec",
     ] {
         assert!(rt; is_refused(alloc, Tool::RvHyper, line)?);
     }
@@ -76,16 +83,22 @@ fn words_that_are_no_command(rt: HostRuntime) -> Result<(), AllocError> {
         "formula --on",
         "--on lassos --on lassos formula",
         "--on -lassos formula",
+        "--on= formula",
+        "--proof=1 formula",
+        "--states 05 formula",
+        "--states +5 formula",
+        "--states 4194305 formula",
+        "--help",
     ] {
         assert!(rt; is_refused(alloc, Tool::EaHyper, line)?);
     }
     for line in [
-        "--states 0 formula",
-        "--states 4194305 formula",
-        "--states 05 formula",
-        "--states ٥ formula",
+        "--depth 0 --depth 1 C F",
+        "--depth 00 C F",
+        "-d C F",
+        "C F -- ''",
     ] {
-        assert!(rt; is_refused(alloc, Tool::EaHyper, line)?);
+        assert!(rt; is_refused(alloc, Tool::McHyper, line)?);
     }
     Ok(())
 }

@@ -93,6 +93,7 @@ impl Case {
         self.tool = match text {
             "eahyper" => Some(Tool::EaHyper),
             "rvhyper" => Some(Tool::RvHyper),
+            "mchyper" => Some(Tool::McHyper),
             _ => bail!("no tool is {text:?}"),
         };
         Ok(())

@@ -11,7 +11,7 @@ use Rattle.hy_top.proofs.watching.watch_lines.Goals as goal
 
 pub take-requires-clause-few : goal.take-requires-clause-few
 take-requires-clause-few g c =
-    few-arrived (specs_of (held c.args.rv.now)) c.args.names.now c.args.bytes.now (remaining c.loop-placed.lines) (remaining c.next_event.new.lines) (held c.loop-placed.rv)
+    few-arrived (held c.args.rv.now).rule (specs_of (held c.args.rv.now)) c.args.names.now c.args.bytes.now (remaining c.loop-placed.lines) (remaining c.next_event.new.lines) (held c.loop-placed.rv)
     c.loop-placed.invariant c.requires.few
 
 pub loop-placed-smaller : goal.loop-placed-smaller
@@ -27,7 +27,7 @@ loop-placed-preserved g c =
     let new = remaining c.next_event.new.lines in
     let P : Option Placed → Type 0 = λ o. IsNextAnswer c.args.names.now old new (Ok o) in
     let before = c.loop-placed.invariant in
-    passed-more (specs_of (held c.args.rv.now)) c.args.names.now c.args.bytes.now old new (held c.loop-placed.rv) before c.in-Some.placed (held c.take.new.rv)
+    passed-more (held c.args.rv.now).rule (specs_of (held c.args.rv.now)) c.args.names.now c.args.bytes.now old new (held c.loop-placed.rv) before c.in-Some.placed (held c.take.new.rv)
     (subst P c.in-Some.is c.in_ok-placed.ensures.next) c.take.ensures.specs c.take.ensures.rule
     (c.in_ok-take.ensures.went before.history before.stands)
 
@@ -36,7 +36,7 @@ returns-clause-through g c =
     let old = remaining c.loop-placed.lines in
     let new = remaining c.next_event.new.lines in
     let P : Option Placed → Type 0 = λ o. IsNextAnswer c.args.names.now old new (Ok o) in
-    passed-all (specs_of (held c.args.rv.now)) c.args.names.now c.args.bytes.now old new (held c.loop-placed.rv) c.loop-placed.invariant
+    passed-all (held c.args.rv.now).rule (specs_of (held c.args.rv.now)) c.args.names.now c.args.bytes.now old new (held c.loop-placed.rv) c.loop-placed.invariant
     (subst P c.in_default.is c.in_ok-placed.ensures.next)
 
 pub returns-in_err-placed-clause-ended : goal.returns-in_err-placed-clause-ended
@@ -52,6 +52,6 @@ returns-in_err-take-clause-ended g c =
     let p = err_from_is_err_and c.from_residual-in_err-take.result c.from_residual-in_err-take.ensures.1 in
     rw (p.1, p.2)
     (or-memory
-    (λ stops. passed-stops (specs_of (held c.args.rv.now)) c.args.names.now c.args.bytes.now old new (held c.loop-placed.rv) before c.in-Some.placed _
+    (λ stops. passed-stops (held c.args.rv.now).rule (specs_of (held c.args.rv.now)) c.args.names.now c.args.bytes.now old new (held c.loop-placed.rv) before c.in-Some.placed _
     (subst P c.in-Some.is c.in_ok-placed.ensures.next) (stops before.history before.stands))
     c.in_err-take.ensures.ended)

@@ -1,0 +1,7 @@
+use Rattle.std.proofs.Common.{append_assoc}
+use Rattle.hy_answer.proofs.Texts.{joined_rows}
+use Rattle.hy_answer.proofs.runs.push_rows.Goals as goal
+
+pub returns : goal.returns
+returns c =
+    rw (c.in-Some.ensures.cases.0, joined_rows c.in-Some.first.now c.in-Some.others.now, ← append_assoc, ← c.in_ok-push_row.ensures) c.push_more_rows.ensures

@@ -1,0 +1,10 @@
+use Rattle.std.proofs.Common.{◌≡◌, ◌++◌, take, length, codes, decimal}
+use Rattle.std.specs.List.{flat_map}
+use Rattle.hy_answer.specs.RunTexts.{run_text}
+use Rattle.hy_answer.proofs.runs.runs_text.Given as goal
+
+-- the lines of the runs so far have been added
+abbrev pub invariant-loop-run : goal.invariant-loop-run
+invariant-loop-run l =
+    l.text ≡ codes "proof runs " ++ decimal (length l.runs) ++ codes "\n"
+    ++ flat_map run_text (take l.run-index l.runs)

@@ -1,0 +1,236 @@
+-- What checking a formula on a circuit comes to is the answer of the run.
+use Rattle.std.proofs.Common.{◌≡◌, ◌⊎◌, ◌<◌, ◌≤◌, ℕ, Bool, true, false, List, [], ◌∷◌, ◌++◌, length, Ok, Err, Result, inl, inr, refl, sym, ap, subst, ◌∙◌, arith, cond, ◌&&◌, nat_eq, Some, is_some, true≢false, eqb-true}
+use Rattle.hy_base.specs.Limits.{most}
+use Rattle.hy_base.specs.declared.limit.Kind.TheVariants.{Closure}
+use Rattle.hy_base.specs.declared.limit.Limit.{Limit as Past}
+use Rattle.hy_base.specs.declared.shelf.Shelf.{Ghosts}
+use Rattle.hy_formula.specs.Classes.{class_of}
+use Rattle.hy_formula.specs.declared.classes.Class.{Class}
+use Rattle.hy_formula.specs.declared.classes.Class.TheVariants as classes
+use Rattle.hy_read.specs.Answers.{Plain}
+use Rattle.aig_net.specs.Nets.{Net}
+use Rattle.aig_net.specs.declared.signals.Signal.{Signal}
+use Rattle.aiger_body.specs.Outcomes as outcomes
+use Rattle.mc_core.specs.Answers.{IsPosed, IsTaken, IsAnswer, IsRefused as IsUnchecked, members}
+use Rattle.mc_core.specs.Names.{IsFirstBad, AreSignals, IsOnly, HasLiteral, IsBadName, has_name, name_at}
+use Rattle.mc_core.specs.declared.ask.Ask.{Ask}
+use Rattle.mc_core.specs.declared.checked.Checked.{Checked}
+use Rattle.mc_core.specs.declared.checked.Checked.TheVariants as checked
+use Rattle.mc_core.specs.Answers.{IsChecked}
+use Rattle.wit_lasso.specs.Satisfaction.{Satisfies}
+use Rattle.hy_top.specs.Stages.{IsOfCheck, Deny, Agree, other_check}
+use Rattle.mc_core.specs.declared.mc_error.McError.{McError}
+use Rattle.mc_core.specs.declared.mc_error.McError.TheVariants as errors
+use Rattle.hy_answer.specs.declared.answer.Answer.{Answer}
+use Rattle.hy_answer.specs.declared.answer.Answer.TheVariants as answers
+use Rattle.hy_answer.specs.Outputs.{out_text}
+use Rattle.hy_words.specs.Commands.{Command, check}
+use Rattle.hy_top.specs.Checking.{IsChecking, HasPair, HasManyMembers, RefusesName, Checks, ComesBy, found, facts_stop, paths_stop, checked_answer, IsCheck, untaken, large_closure, bad_name, done, spent}
+use Rattle.hy_top.specs.Circuits.{IsCircuit}
+use Rattle.hy_top.specs.Classes.{is_of_one_kind}
+use Rattle.hy_top.specs.Contents.{one_formula, circuit}
+use Rattle.hy_top.specs.Files.{Given, HasTexts, HasFormulas, HasAll}
+use Rattle.hy_top.specs.Runs.{Follows, extras_of}
+use Rattle.hy_top.specs.Stages.{First, here, later, count, closure, joint, atoms, table, work, Passed, stages_of_formulas}
+use Rattle.hy_top.specs.Stages.{names as names_stage}
+use Rattle.hy_top.specs.Steps.{Takes, TakesCircuit, Ends}
+use Rattle.std.specs.Bool.{IsTrue}
+use Rattle.std.specs.List.{Contains}
+use Rattle.aig_net.specs.Signals.{has_signal, literal_of}
+use Rattle.hy_formula.proofs.Tuples.{contains-here, contains-later}
+use Rattle.hy_top.proofs.Bodies.{closure_passed, atoms_passed, table_passed}
+use Rattle.hy_top.proofs.Formulas.{class_passed, instances_passed}
+use Rattle.hy_top.proofs.Progress.{Progress, begun, goes_on, ends_here, answers_behind, runs_short, texts_once}
+use Rattle.hy_top.proofs.Reading.{bytes_once}
+
+-- ---- classes
+
+taken-kind : (c : Class) → (c ≡ classes.Exists) ⊎ (c ≡ classes.Forall) → is_of_one_kind c ≡ true
+taken-kind c (inl e) = ap is_of_one_kind e
+taken-kind c (inr e) = ap is_of_one_kind e
+
+untaken-kind : (c : Class) → ¬ ((c ≡ classes.Exists) ⊎ (c ≡ classes.Forall)) → is_of_one_kind c ≡ false
+untaken-kind classes.Exists other = absurd (other (inl refl))
+untaken-kind classes.Forall other = absurd (other (inr refl))
+untaken-kind classes.ExistsForall other = refl
+untaken-kind classes.Other other = refl
+
+-- ---- what the check says
+
+module _ (net : Net) (names : List (List ℕ)) (f : Plain) (ask : Ask) where
+  pub check-found : (c : Checked) → IsAnswer net names f.prefix f.body ask (Ok c) → IsCheck net names f ask (checked_answer c)
+  check-found c (signals, posed, is) = done (checked_answer c) (taken-kind (class_of f.prefix) posed.taken) signals posed (found c is)
+
+  pub check-prefix : (c : Class) → IsUnchecked net names f.prefix f.body ask (errors.Prefix c) → IsCheck net names f ask (answers.Prefix 1 c)
+  check-prefix c (e, other) = untaken c (sym e) (ap is_of_one_kind e ∙ untaken-kind (class_of f.prefix) other)
+
+  pub check-limit : (limit : Past) → IsUnchecked net names f.prefix f.body ask (errors.Limit limit) → IsCheck net names f ask (answers.Limit limit.kind limit.limit)
+  check-limit limit (inl (taken, many, kind, number)) =
+      rw (kind, number) (large_closure (taken-kind (class_of f.prefix) taken) many)
+  check-limit limit (inr (signals, posed, facts, stopped)) =
+      done _ (taken-kind (class_of f.prefix) posed.taken) signals posed (facts_stop limit facts stopped)
+
+  pub check-cnf : (error : McError) (kind : _) (limit : ℕ) (kept : _) → error ≡ errors.CnfLimit kind limit kept → IsUnchecked net names f.prefix f.body ask error
+      → IsCheck net names f ask (answers.CnfLimit kind limit kept)
+  check-cnf error kind limit kept e is =
+      let P : McError → Type 0 = λ x. IsUnchecked net names f.prefix f.body ask x in
+      let (signals, posed, keeps, stopped) = subst P e is in
+      done _ (taken-kind (class_of f.prefix) posed.taken) signals posed (paths_stop kind limit kept keeps stopped)
+
+  pub check-name : (name : ℕ) (twice : Bool) (text : List ℕ) → IsUnchecked net names f.prefix f.body ask (errors.Name name twice) → text ≡ name_at names name
+      → IsCheck net names f ask (answers.Name text twice)
+  check-name name twice text (taken, few, bad) same =
+      let P : List ℕ → Type 0 = λ t. IsCheck net names f ask (answers.Name t twice) in
+      subst P (sym same) (bad_name (taken-kind (class_of f.prefix) taken) few name twice bad)
+
+-- ---- the run
+
+-- A name that stands for one literal is not bad.
+pub only-not-bad : (net : Net) (name : List ℕ) (l : ℕ) (twice : Bool) → IsOnly net name l → ¬ IsBadName net name twice
+only-not-bad net name l false only bad = bad l only.has
+only-not-bad net name l true only (m, n, one, two, other) = other (only.only m one ∙ sym (only.only n two))
+
+signal-there : (signals : List Signal) (name : ℕ) → IsTrue (has_signal signals name 0) → (s : Signal) × Contains signals s × (s.name ≡ name)
+signal-there [] name there = absurd (true≢false (sym there))
+signal-there (s ∷ signals) name there = by (nat_eq s.name name) (nat_eq s.var 0) refl there (signal-there signals name)
+  where
+    by : (a b : Bool) → nat_eq s.name name ≡ a → IsTrue (is_some (cond (a && b) (Some s.literal) (literal_of signals name 0)))
+        → (IsTrue (has_signal signals name 0) → (r : Signal) × Contains signals r × (r.name ≡ name)) → (r : Signal) × Contains (s ∷ signals) r × (r.name ≡ name)
+    by true true e known behind = (s, contains-here s signals, eqb-true s.name name e)
+    by true false e known behind = let (r, more, same) = behind known in (r, contains-later s r signals more, same)
+    by false b e known behind = let (r, more, same) = behind known in (r, contains-later s r signals more, same)
+
+no-bad-name : (net : Net) (names : List (List ℕ)) (f : Plain) (signals : List Signal) → AreSignals net names f.body signals → (name : ℕ) (twice : Bool)
+    → ¬ IsFirstBad net names f.body name twice
+no-bad-name net names f signals are name twice bad =
+    let (s, there, same) = signal-there signals name (are.every name bad.there) in
+    let P : ℕ → Type 0 = λ n. IsOnly net (name_at names n) s.literal in
+    only-not-bad net (name_at names name) s.literal twice (subst P same (are.each s there).1) bad.bad
+
+module _ (command : Command) (given : Given) (net other : Net) (f g : Plain) (names later : List (List ℕ)) where
+  pub pair_once : HasPair command given net f names → HasPair command given other g later → (net ≡ other) × (f ≡ g) × (names ≡ later)
+  pair_once one two =
+      let bytes = bytes_once given 0 one.bytes two.bytes one.came two.came in
+      let P : List ℕ → Type 0 = λ b. IsCircuit b net in
+      let texts = texts_once command given _ (f ∷ []) (g ∷ []) names later one.has two.has in
+      let nets : outcomes.read net ≡ outcomes.read other = sym (subst P bytes one.circuit) ∙ two.circuit in
+      let formulas = texts.0 in
+      (cc, cc, texts.1)
+
+module _ {S : Type 0} (g : Ghosts S) (old mid new : S) (file formula : List ℕ) (ask : Ask) (proof : Bool) (net : Net) (first : TakesCircuit g old mid file net) where
+  abbrev pub command : Command
+  command = check file formula ask.depth ask.conflicts ask.plain proof
+
+  abbrev pub as_text : Takes g old mid file 4 [] circuit [] []
+  as_text = record { bytes = first.bytes; read = first.read; is = ((net, first.is), refl, refl) }
+
+  read_first : Progress g command old mid (Ok first.bytes ∷ []) [] []
+  read_first = goes_on g command old old mid [] [] [] [] [] file (begun g command old) refl as_text
+
+  -- The run ends at the formula.
+  pub ends_at_formula : (shown : List (List ℕ)) (a : Answer) → Ends g mid new formula 4 [] 1 one_formula a
+      → Follows g old new command a (out_text (extras_of command) shown a)
+  ends_at_formula shown a ends = ends_here g command old mid new (Ok first.bytes ∷ []) [] [] shown formula a read_first refl ends
+
+  module _ (f : Plain) (names : List (List ℕ)) (second : Takes g mid new formula 4 [] one_formula (f ∷ []) names) where
+    abbrev given : Given
+    given = Ok first.bytes ∷ Ok second.bytes ∷ []
+
+    read_all : Progress g command old new given (f ∷ []) names
+    read_all = goes_on g command old mid new (Ok first.bytes ∷ []) [] (f ∷ []) [] names formula read_first refl second
+
+    pair : HasPair command given net f names
+    pair = record { bytes = first.bytes; came = refl; circuit = first.is; has = read_all.texts }
+
+    has : HasFormulas command given (f ∷ [])
+    has = (names, read_all.texts)
+
+    behind : (a : Answer) → First command given (stages_of_formulas ++ work ∷ []) a → Follows g old new command a (out_text (extras_of command) names a)
+    behind a rest = answers_behind g command old new given (f ∷ []) names a read_all refl rest
+
+    few-passed : members f.prefix f.body ≤ most Closure → Passed command given (count closure)
+    few-passed few = closure_passed command given (f ∷ []) has tt tt (λ past.
+        let (nets, formulas, tables) = pair_once command given past.net net past.formula f past.names names past.pair pair in
+        let P : Plain → Type 0 = λ h. most Closure < members h.prefix h.body in
+        let many = subst P formulas past.many in omega (arith, few, many))
+
+    behind_class : (a : Answer) → is_of_one_kind (class_of f.prefix) ≡ true
+        → First command given (count closure ∷ count joint ∷ count atoms ∷ count table ∷ names_stage ∷ work ∷ []) a → Follows g old new command a (out_text (extras_of command) names a)
+    behind_class a taken rest =
+        behind a (later (class_passed command given (f ∷ []) has (taken, tt)) (later (instances_passed command given (f ∷ []) has tt) rest))
+
+    behind_counts : (a : Answer) → is_of_one_kind (class_of f.prefix) ≡ true → members f.prefix f.body ≤ most Closure
+        → First command given (names_stage ∷ work ∷ []) a → Follows g old new command a (out_text (extras_of command) names a)
+    behind_counts a taken few rest =
+        behind_class a taken
+        (later (few-passed few)
+        (later (λ b met. met.0.judges)
+        (later (atoms_passed command given (f ∷ []) has tt) (later (table_passed command given (f ∷ []) has tt) rest))))
+
+    -- The run follows what the check comes to.
+    pub check_follows : (a : Answer) → IsCheck net names f ask a → Follows g old new command a (out_text (extras_of command) names a)
+    check_follows _ (untaken class is other) =
+        behind _ (here (record { formulas = f ∷ []; has = has; place = 0; class = class; first = (is, other); answered = refl }))
+    check_follows _ (large_closure taken many) =
+        behind_class _ taken (here (inr (inr (record { checks = tt; net = net; formula = f; names = names; pair = pair; many = many })), refl))
+    check_follows _ (bad_name taken few name twice bad) =
+        behind_counts _ taken few (here (record { checks = tt; net = net; formula = f; names = names; pair = pair; name = name; twice = twice; bad = bad; answered = refl }))
+    check_follows a (done _ taken signals posed comes) =
+        behind_counts a taken posed.few
+        (later (λ b refuses.
+        let (nets, formulas, tables) = pair_once command given refuses.net net refuses.formula f refuses.names names refuses.pair pair in
+        let P : Net → Type 0 = λ n. IsFirstBad n refuses.names refuses.formula.body refuses.name refuses.twice in
+        let Q : Plain → Type 0 = λ h. IsFirstBad net refuses.names h.body refuses.name refuses.twice in
+        let R : List (List ℕ) → Type 0 = λ t. IsFirstBad net t f.body refuses.name refuses.twice in
+        no-bad-name net names f signals posed.signals_are refuses.name refuses.twice (subst R tables (subst Q formulas (subst P nets refuses.bad))))
+        (here (record { net = net; formula = f; names = names; pair = pair; signals = signals; posed = posed; comes = comes })))
+    check_follows _ spent = runs_short g command old new given (f ∷ []) names read_all
+
+-- ---- one check
+
+-- Signals of the same names say the same of the circuit.
+same_satisfaction : (net : Net) (names : List (List ℕ)) (f : Plain) (a b : List Signal) → AreSignals net names f.body a → AreSignals net names f.body b
+    → Satisfies net a f.prefix f.body → Satisfies net b f.prefix f.body
+same_satisfaction net names f a b one two is = ?
+
+of_checked : (c : Checked) → IsOfCheck (checked_answer c)
+of_checked (checked.Holds traces runs proof) = tt
+of_checked (checked.Violated traces runs proof) = tt
+of_checked (checked.UnknownDepth depth kept path) = tt
+of_checked (checked.UnknownConflicts conflicts k step kept log) = tt
+
+module _ (net : Net) (names : List (List ℕ)) (f : Plain) (ask : Ask) (s t : List Signal) (one : AreSignals net names f.body s) (two : AreSignals net names f.body t) where
+  not_denied : (c d : Checked) → IsChecked net s f.prefix f.body ask c → IsChecked net t f.prefix f.body ask d → ¬ Deny (checked_answer c) (checked_answer d)
+  not_denied (checked.Holds traces runs proof) (checked.Violated others walks evidence) is also deny = also.0 (same_satisfaction net names f s t one two is.0)
+  not_denied (checked.Violated traces runs proof) (checked.Holds others walks evidence) is also deny = is.0 (same_satisfaction net names f t s two one also.0)
+  not_denied (checked.Holds traces runs proof) (checked.Holds others walks evidence) is also deny = deny
+  not_denied (checked.Holds traces runs proof) (checked.UnknownDepth depth kept path) is also deny = deny
+  not_denied (checked.Holds traces runs proof) (checked.UnknownConflicts conflicts k step kept log) is also deny = deny
+  not_denied (checked.Violated traces runs proof) (checked.Violated others walks evidence) is also deny = deny
+  not_denied (checked.Violated traces runs proof) (checked.UnknownDepth depth kept path) is also deny = deny
+  not_denied (checked.Violated traces runs proof) (checked.UnknownConflicts conflicts k step kept log) is also deny = deny
+  not_denied (checked.UnknownDepth depth kept path) d is also deny = deny
+  not_denied (checked.UnknownConflicts conflicts k step kept log) d is also deny = deny
+
+  never_limit : (c : Checked) (kind : _) (limit : ℕ) → ¬ Deny (checked_answer c) (answers.Limit kind limit)
+  never_limit (checked.Holds traces runs proof) kind limit deny = deny
+  never_limit (checked.Violated traces runs proof) kind limit deny = deny
+  never_limit (checked.UnknownDepth depth kept path) kind limit deny = deny
+  never_limit (checked.UnknownConflicts conflicts k step kept log) kind limit deny = deny
+
+  never_cnf : (c : Checked) (kind : _) (limit : ℕ) (keeps : _) → ¬ Deny (checked_answer c) (answers.CnfLimit kind limit keeps)
+  never_cnf (checked.Holds traces runs proof) kind limit keeps deny = deny
+  never_cnf (checked.Violated traces runs proof) kind limit keeps deny = deny
+  never_cnf (checked.UnknownDepth depth kept path) kind limit keeps deny = deny
+  never_cnf (checked.UnknownConflicts conflicts k step kept log) kind limit keeps deny = deny
+
+  pub comes_agree : (a b : Answer) → ComesBy net s f ask a → ComesBy net t f ask b → Agree a b
+  comes_agree _ _ (found c is) (found d also) = other_check _ _ (of_checked c) (of_checked d) (not_denied c d is also)
+  comes_agree _ _ (found c is) (facts_stop limit p q) = other_check _ _ (of_checked c) tt (never_limit c limit.kind limit.limit)
+  comes_agree _ _ (found c is) (paths_stop kind limit kept p q) = other_check _ _ (of_checked c) tt (never_cnf c kind limit kept)
+  comes_agree _ _ (facts_stop limit p q) (found d also) = other_check _ _ tt (of_checked d) (λ deny. deny)
+  comes_agree _ _ (facts_stop limit p q) (facts_stop other r u) = other_check _ _ tt tt (λ deny. deny)
+  comes_agree _ _ (facts_stop limit p q) (paths_stop kind other kept r u) = other_check _ _ tt tt (λ deny. deny)
+  comes_agree _ _ (paths_stop kind limit kept p q) (found d also) = other_check _ _ tt (of_checked d) (λ deny. deny)
+  comes_agree _ _ (paths_stop kind limit kept p q) (facts_stop other r u) = other_check _ _ tt tt (λ deny. deny)
+  comes_agree _ _ (paths_stop kind limit kept p q) (paths_stop other more keeps r u) = other_check _ _ tt tt (λ deny. deny)

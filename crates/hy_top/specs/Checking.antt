@@ -1,0 +1,104 @@
+-- What `mchyper` answers: how a formula that is checked is counted, what its names stand for, and what the check comes to.
+use Rattle.std.specs.Prelude.{◌≡◌, ◌<◌, ◌≤◌, ℕ, Bool, true, false, List, [], ◌∷◌, length, Ok}
+use Rattle.hy_base.specs.Limits.{most}
+use Rattle.hy_base.specs.declared.limit.Kind.{Kind}
+use Rattle.hy_base.specs.declared.limit.Kind.TheVariants.{Closure}
+use Rattle.hy_base.specs.declared.limit.Limit.{Limit as Past}
+use Rattle.hy_bits.specs.Letter.{Letter}
+use Rattle.hy_formula.specs.Classes.{class_of}
+use Rattle.hy_formula.specs.Lassos.{Lasso}
+use Rattle.hy_formula.specs.declared.classes.Class.{Class}
+use Rattle.hy_read.specs.Answers.{Plain}
+use Rattle.aig_net.specs.Nets.{Net}
+use Rattle.aig_net.specs.declared.run.Run.{Run}
+use Rattle.aig_net.specs.declared.signals.Signal.{Signal}
+use Rattle.cnf_frames.specs.declared.inductions.InductionProof.{InductionProof}
+use Rattle.cnf_frames.specs.declared.queries.FrameError.TheVariants as frame
+use Rattle.invar_find.specs.Kepts as kepts
+use Rattle.invar_find.specs.declared.kept.Kept.{Kept}
+use Rattle.k_induct.specs.Verdicts.{IsStopped}
+use Rattle.mc_core.specs.Answers.{IsPosed, IsChecked, IsKept, checked_safe, members}
+use Rattle.mc_core.specs.Names.{IsFirstBad, name_at}
+use Rattle.mc_core.specs.declared.ask.Ask.{Ask}
+use Rattle.mc_core.specs.declared.checked.Checked.{Checked}
+use Rattle.mc_core.specs.declared.checked.Checked.TheVariants as checked
+use Rattle.hy_answer.specs.declared.answer.Answer.{Answer}
+use Rattle.hy_answer.specs.declared.answer.Answer.TheVariants.{Holds, Violated, UnknownDepth, UnknownConflicts, Name, Prefix, Limit, CnfLimit, Memory}
+use Rattle.hy_words.specs.Commands.{Command, monitor, judge, decide, imply, compare, check}
+use Rattle.hy_top.specs.Circuits.{IsCircuit}
+use Rattle.hy_top.specs.Classes.{is_of_one_kind}
+use Rattle.hy_top.specs.Files.{Given, Came, HasAll}
+
+abbrev pub IsChecking : Command → Type 0
+IsChecking (check circuit formula depth conflicts plain proof) = Unit {0}
+IsChecking (monitor specs traces lengths) = ⊥
+IsChecking (judge formula list) = ⊥
+IsChecking (decide formula states proof) = ⊥
+IsChecking (imply first second states proof) = ⊥
+IsChecking (compare first second states proof) = ⊥
+
+-- The files are this circuit and this formula, whose names have these numbers.
+pub record HasPair (command : Command) (given : Given) (net : Net) (formula : Plain) (names : List (List ℕ)) : Type 0 where
+  pub bytes : List ℕ
+  pub came : Came given 0 (Ok bytes)
+  pub circuit : IsCircuit bytes net
+  pub has : HasAll command given (formula ∷ []) names
+
+-- The closure of the formula that is checked has too many members.
+pub record HasManyMembers (command : Command) (given : Given) : Type 0 where
+  pub checks : IsChecking command
+  pub net : Net
+  pub formula : Plain
+  pub names : List (List ℕ)
+  pub pair : HasPair command given net formula names
+  pub many : most Closure < members formula.prefix formula.body
+
+-- A name of the formula stands for nothing in the circuit, or for different literals: the first such name.
+pub record RefusesName (command : Command) (given : Given) (answer : Answer) : Type 0 where
+  pub checks : IsChecking command
+  pub net : Net
+  pub formula : Plain
+  pub names : List (List ℕ)
+  pub pair : HasPair command given net formula names
+  pub name : ℕ
+  pub twice : Bool
+  pub bad : IsFirstBad net names formula.body name twice
+  pub answered : answer ≡ Name (name_at names name) twice
+
+-- the answer for what a check comes to
+abbrev pub checked_answer : Checked → Answer
+checked_answer (checked.Holds traces runs proof) = Holds traces runs proof
+checked_answer (checked.Violated traces runs proof) = Violated traces runs proof
+checked_answer (checked.UnknownDepth depth kept path) = UnknownDepth depth kept path
+checked_answer (checked.UnknownConflicts conflicts k step kept log) = UnknownConflicts conflicts k step kept log
+
+-- What the work of a check comes to: what is found, or a query that is past a limit.
+pub data ComesBy (net : Net) (signals : List Signal) (f : Plain) (ask : Ask) : Answer → Type 0 where
+  found : (c : Checked) → IsChecked net signals f.prefix f.body ask c → ComesBy net signals f ask (checked_answer c)
+  facts_stop : (limit : Past) → ask.plain ≡ false
+      → kepts.IsStopped (checked_safe net signals f.prefix f.body) (frame.Limit limit)
+      → ComesBy net signals f ask (Limit limit.kind limit.limit)
+  paths_stop : (kind : Kind) (limit : ℕ) (kept : Kept) → IsKept ask.plain (checked_safe net signals f.prefix f.body) ask.conflicts kept
+      → IsStopped (checked_safe net signals f.prefix f.body) kept.inv ask.depth (frame.Limit (record { kind = kind; limit = limit }))
+      → ComesBy net signals f ask (CnfLimit kind limit kept)
+
+-- The files are a circuit and a formula, the names of the formula stand for signals, and this is what the check comes to.
+pub record Checks (ask : Ask) (command : Command) (given : Given) (answer : Answer) : Type 0 where
+  pub net : Net
+  pub formula : Plain
+  pub names : List (List ℕ)
+  pub pair : HasPair command given net formula names
+  pub signals : List Signal
+  pub posed : IsPosed net names formula.prefix formula.body signals
+  pub comes : ComesBy net signals formula ask answer
+
+-- What checking a formula on a circuit comes to: the first of these that is met, or memory ran out.
+pub data IsCheck (net : Net) (names : List (List ℕ)) (f : Plain) (ask : Ask) : Answer → Type 0 where
+  untaken : (class : Class) → class_of f.prefix ≡ class → is_of_one_kind class ≡ false → IsCheck net names f ask (Prefix 1 class)
+  large_closure : is_of_one_kind (class_of f.prefix) ≡ true → most Closure < members f.prefix f.body
+      → IsCheck net names f ask (Limit Closure (most Closure))
+  bad_name : is_of_one_kind (class_of f.prefix) ≡ true → members f.prefix f.body ≤ most Closure → (name : ℕ) (twice : Bool)
+      → IsFirstBad net names f.body name twice → IsCheck net names f ask (Name (name_at names name) twice)
+  done : (answer : Answer) → is_of_one_kind (class_of f.prefix) ≡ true → (signals : List Signal)
+      → IsPosed net names f.prefix f.body signals → ComesBy net signals f ask answer → IsCheck net names f ask answer
+  spent : IsCheck net names f ask Memory

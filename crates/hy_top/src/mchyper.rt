@@ -1,0 +1,127 @@
+//! `mchyper`: from its files to its answers.
+
+ghost use Rattle.std.specs.Prelude.{◌≡◌, ◌<◌, ◌^◌, [], List, ℕ, Bool, slice_index_or, IfOk};
+ghost use Rattle.hy_base.specs.Shelf.{KeepsShelf};
+ghost use Rattle.hy_formula.specs.Trees.{tree_of};
+ghost use Rattle.hy_read.specs.Builds.{plain_formula};
+ghost use Rattle.mc_core.specs.Answers.{HasRoom};
+ghost use Rattle.hy_answer.specs.Outputs.{out_text};
+ghost use Rattle.hy_words.specs.Commands.{check};
+ghost use Rattle.hy_top.specs.Checking.{IsCheck, checked_answer};
+ghost use Rattle.hy_top.specs.Runs.{Follows, extras_of};
+
+use crate::files::{circuit_in, formula_in};
+use aig_net::Net;
+use hy_answer::Answer;
+use hy_base::{M, Memory, Shelf, Text};
+use hy_formula::{Formula, NameTable};
+use mc_core::{Ask, Checked, McError};
+use std::alloc::Global;
+
+/// Most quantifiers of a formula.
+const MOST_QUANTIFIERS: u8 = 4;
+
+/// Whether a circuit satisfies a formula, whose names are added to the empty table.
+pub fn check<S: Shelf>(
+    alloc: Global,
+    shelf: &mut S,
+    files: (&str, &str),
+    ask: &Ask,
+    names: &mut NameTable,
+) -> Answer
+    requires empty { names.old ≡ [] }
+    requires conflicts { ask.now.conflicts < 2 ^ 31 }
+    ensures keeps { KeepsShelf S.Shelf shelf.old shelf.new }
+    ensures follows { (proof : Bool) → let command = check files.entry.0.now files.entry.1.now
+        ask.now.depth ask.now.conflicts ask.now.plain proof in
+        Follows S.Shelf shelf.old shelf.new command result
+        (out_text (extras_of command) names.new result) }
+{
+    let net = match circuit_in(alloc, shelf, files.0) {
+        Ok(net) => net,
+        Err(answer) => return answer,
+    };
+    match formula_in(alloc, shelf, files.1, 1, MOST_QUANTIFIERS, names) {
+        Ok(formula) => check_formula(alloc, &net, &formula, names, ask),
+        Err(answer) => answer,
+    }
+}
+
+/// Whether the circuit satisfies the formula, by the names of the table.
+fn check_formula(
+    alloc: Global,
+    net: &Net,
+    formula: &Formula,
+    names: &NameTable,
+    ask: &Ask,
+) -> Answer
+    requires conflicts { ask.now.conflicts < 2 ^ 31 }
+    requires room { HasRoom net.now names.now formula.now.prefix (tree_of formula.now.body) }
+    ensures { IsCheck net.now names.now (plain_formula formula.now) ask.now result }
+{
+    match mc_core::check(alloc, net, formula, names, ask) {
+        Ok(checked) => checked_answer(checked),
+        Err(McError::Prefix(class)) => Answer::Prefix { file: 1, class },
+        Err(McError::Limit(limit)) => Answer::Limit {
+            kind: limit.kind,
+            limit: limit.limit,
+        },
+        Err(McError::CnfLimit { kind, limit, kept }) => Answer::CnfLimit { kind, limit, kept },
+        Err(McError::Name { name, twice }) => match name_text(alloc, names, name) {
+            Ok(name) => Answer::Name { name, twice },
+            Err(Memory) => Answer::Memory,
+        },
+        Err(McError::Memory) => Answer::Memory,
+    }
+}
+
+/// The answer for what a check comes to.
+fn checked_answer(checked: Checked) -> Answer
+    ensures { result ≡ checked_answer checked.entry }
+{
+    match checked {
+        Checked::Holds {
+            traces,
+            runs,
+            proof,
+        } => Answer::Holds {
+            traces,
+            runs,
+            proof,
+        },
+        Checked::Violated {
+            traces,
+            runs,
+            proof,
+        } => Answer::Violated {
+            traces,
+            runs,
+            proof,
+        },
+        Checked::UnknownDepth { depth, kept, path } => Answer::UnknownDepth { depth, kept, path },
+        Checked::UnknownConflicts {
+            conflicts,
+            k,
+            step,
+            kept,
+            log,
+        } => Answer::UnknownConflicts {
+            conflicts,
+            k,
+            step,
+            kept,
+            log,
+        },
+    }
+}
+
+/// The name with a number.
+fn name_text(alloc: Global, names: &NameTable, name: u8) -> M<Text>
+    ensures { IfOk result (λ text. text ≡ slice_index_or names.now name []) }
+{
+    let mut text = Text::new(alloc);
+    if (name as usize) < names.len() {
+        text.extend(names.at(name))?;
+    }
+    Ok(text)
+}

@@ -1,0 +1,100 @@
+-- What the getters of matches give, and the commands that this makes.
+use Rattle.std.proofs.Common.{◌≡◌, ℕ, ◌<◌, ◌≤◌, ◌^◌, ◌==◌, Bool, true, false, not, if◌then◌else◌, List, [], ◌∷◌, map, length, codes, Option, Some, None, Bor, slice_index_or, decimal, refl, sym, ap, subst, ◌∙◌, arith, eqb-true, ne_eqb}
+use Rattle.std.specs.Bool.{IsTrue}
+use Rattle.std.specs.List.{list_all}
+use Rattle.std.specs.Option.{option_map}
+use Rattle.std.specs.Char.{digit_value}
+use Rattle.std.specs.Str.Parse.{AllDigits}
+use Rattle.std.proofs.lemmas.Fmt.{decimal_is_IsNumeral, decimal_nonempty}
+use Rattle.hy_finite.specs.declared.lengths.Lengths.{Lengths}
+use Rattle.hy_finite.specs.declared.lengths.Lengths.TheVariants.{Min, Pad}
+use Rattle.hy_words.specs.Words.{Text, Item, is_value, is_filled, given_in}
+use Rattle.hy_words.specs.Commands.{IsNumberOr, IsRule, Asks}
+use Rattle.hy_words.specs.Found.{listed, listed_slice, found_value, found_files, Tells, IsFit, AreFilled}
+use Rattle.clap.specs.Matches.{found_of, first_value}
+use Rattle.clap.specs.declared.parser.matches.ArgMatches.{ArgMatches}
+use Rattle.hy_words.specs.declared.tool.Tool.TheVariants.{EaHyper}
+
+pub seen : (given : List Text) (o : Option (Bor Text)) (v : Option Text) → given ≡ listed v → option_map (λ s. s.now) o ≡ v → given ≡ listed_slice o
+seen given None v e f = e ∙ ap listed (sym f)
+seen given (Some s) v e f = e ∙ ap listed (sym f)
+
+pub flag_read : (g : Bool) (o : Option Text) (r : Bool) → o ≡ Some (if g then codes "true" else codes "false") → (o ≡ Some (codes "true") → r ≡ true)
+    → (o ≡ Some (codes "false") → r ≡ false) → r ≡ g
+flag_read true o r e on_true on_false = on_true e
+flag_read false o r e on_true on_false = on_false e
+
+pub one_file : (files : List (Bor Text)) (d : Bor Text) → 1 ≤ length files → length files < 2 → map (λ n. n.now) files ≡ (slice_index_or files 0 d).now ∷ []
+one_file [] d some few = absurd (omega arith)
+one_file (a ∷ []) d some few = refl
+one_file (a ∷ b ∷ files) d some few = absurd (omega arith)
+
+pub two_files : (files : List (Bor Text)) (d : Bor Text) → 2 ≤ length files → length files < 3
+    → map (λ n. n.now) files ≡ (slice_index_or files 0 d).now ∷ (slice_index_or files 1 d).now ∷ []
+two_files [] d some few = absurd (omega arith)
+two_files (a ∷ []) d some few = absurd (omega arith)
+two_files (a ∷ b ∷ []) d some few = refl
+two_files (a ∷ b ∷ c ∷ files) d some few = absurd (omega arith)
+
+-- A number is a value.
+number-value : (v : Text) (n : ℕ) → n < 2 ^ 64 → v ≡ decimal n → IsTrue (is_value v)
+number-value [] n small e = absurd (omega (arith, decimal_nonempty n small, ap length e))
+number-value (b ∷ bs) n small e = by (b == 45) refl
+  where
+    digits : AllDigits 10 (b ∷ bs)
+    digits = subst (AllDigits 10) (sym e) (decimal_is_IsNumeral n small).0.1
+
+    by : (t : Bool) → (b == 45) ≡ t → IsTrue (is_value (b ∷ bs))
+    by false f =
+        let some : (length (b ∷ bs) == 0) ≡ false = ne_eqb (length (b ∷ bs)) 0 (λ z. omega (arith, z)) in
+        let filled : is_filled (b ∷ bs) ≡ true = ap not some in
+        rw (filled, f) refl
+    by true f =
+        let P : ℕ → Type 0 = λ c. digit_value c < 10 in
+        let dash : digit_value 45 < 10 = subst P (eqb-true b 45 f) digits.0 in absurd (omega (arith, dash))
+
+pub number_values : (usual : ℕ) (o : Option (Bor Text)) (least most n : ℕ) → most < 2 ^ 32 → IsNumberOr usual (listed_slice o) least most n → IsTrue (list_all is_value (listed_slice o))
+number_values usual None least most n small is = refl
+number_values usual (Some v) least most n small (e, from, to) = rw (number-value v.now n (omega arith) e) refl
+
+pub rule_values : (o : Option (Bor Text)) (rule : Lengths) → IsRule (listed_slice o) rule → IsTrue (list_all is_value (listed_slice o))
+rule_values None rule is = refl
+rule_values (Some v) Min is = rw is refl
+rule_values (Some v) Pad is = rw is refl
+
+-- What matches give asks a question.
+module _ (items : List Item) (m : ArgMatches) (tells : Tells EaHyper items m) (filled : AreFilled items) (files : List (Bor Text)) (d : Bor Text)
+    (same : map (λ n. n.now) files ≡ found_files m) (some : 1 ≤ length files) (few : length files < 2) where
+  pub asks_of : (on implies equivalent states : Option (Bor Text)) → (found_value m (codes "on") ≡ listed_slice on) × IsTrue (list_all is_value (listed_slice on))
+      → (found_value m (codes "implies") ≡ listed_slice implies) × IsTrue (list_all is_value (listed_slice implies))
+      → (found_value m (codes "equivalent") ≡ listed_slice equivalent) × IsTrue (list_all is_value (listed_slice equivalent))
+      → option_map (λ s. s.now) states ≡ first_value (found_of m) (codes "states") → (n : ℕ) → IsNumberOr 100000 (listed_slice states) 1 4194304 n
+      → (proof : Bool) → (first_value (found_of m) (codes "proof") ≡ Some (codes "true") → proof ≡ true) → (first_value (found_of m) (codes "proof") ≡ Some (codes "false") → proof ≡ false)
+      → IsFit EaHyper items × Asks items (slice_index_or files 0 d).now (listed_slice on) (listed_slice implies) (listed_slice equivalent) n proof
+  asks_of on implies equivalent states (a, av) (b, bv) (c, cv) e n number proof at_true at_false =
+      let one = tells.options.0 ∙ a in
+      let two = tells.options.1.0 ∙ b in
+      let three = tells.options.1.1.0 ∙ c in
+      let four = seen (given_in (codes "states") items) states _ tells.options.1.1.1.0 e in
+      let number_is = number_values 100000 states 1 4194304 n (omega arith) number in
+      let P : List Text → Type 0 = λ vs. IsNumberOr 100000 vs 1 4194304 n in (
+        (filled, rw (one, two, three, four, av, bv, cv, number_is) refl),
+        record {
+          files = tells.files ∙ sym same ∙ one_file files d some few;
+          on = one;
+          implies = two;
+          equivalent = three;
+          budget = subst P (sym four) number;
+          proves = flag_read _ _ proof tells.flags.0 at_true at_false;
+        },
+      )
+
+pub asks_as : (items : List Item) (formula : Text) (a b c x y z : List Text) (n : ℕ) (p : Bool) → a ≡ x → b ≡ y → c ≡ z → Asks items formula a b c n p → Asks items formula x y z n p
+asks_as items formula a b c x y z n p e f g asks = record {
+  files = asks.files;
+  on = asks.on ∙ e;
+  implies = asks.implies ∙ f;
+  equivalent = asks.equivalent ∙ g;
+  budget = asks.budget;
+  proves = asks.proves;
+}

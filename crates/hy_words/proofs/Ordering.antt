@@ -1,0 +1,119 @@
+-- Items that give the same order the same command.
+use Rattle.std.proofs.Common.{◌≡◌, ℕ, ◌<◌, ◌^◌, ◌⊎◌, inl, inr, codes, true≢false, Bool, List, [], ◌∷◌, refl, sym, ap, subst, ◌∙◌, arith}
+use Rattle.std.specs.Str.{bytes_eq}
+use Rattle.std.proofs.lemmas.Fmt.{decimal_injective}
+use Rattle.hy_finite.specs.declared.lengths.Lengths.{Lengths}
+use Rattle.hy_finite.specs.declared.lengths.Lengths.TheVariants.{Min, Pad}
+use Rattle.hy_words.specs.declared.tool.Tool.{Tool}
+use Rattle.hy_words.specs.declared.tool.Tool.TheVariants.{EaHyper, RvHyper, McHyper}
+use Rattle.hy_words.specs.Words.{Text, Item, given_in}
+use Rattle.hy_words.specs.Commands.{Command, monitor, judge, decide, imply, compare, check, IsNumber, IsNumberOr, IsRule, Asks, Monitors, Checks, Orders, IsCommand}
+use Rattle.hy_words.proofs.Telling.{Same, same_items}
+
+same-number : (text : Text) (least most n m : ℕ) → most < 2 ^ 32 → IsNumber text least most n → IsNumber text least most m → n ≡ m
+same-number text least most n m small (e, from, to) (f, also, too) = decimal_injective n m (omega arith) (omega arith) (sym e ∙ f)
+
+same-number-or : (usual : ℕ) (given : List Text) (least most n m : ℕ) → most < 2 ^ 32 → IsNumberOr usual given least most n → IsNumberOr usual given least most m → n ≡ m
+same-number-or usual [] least most n m small e f = e ∙ sym f
+same-number-or usual (v ∷ vs) least most n m small one two = same-number v least most n m small one two
+
+same-rule : (given : List Text) (a b : Lengths) → IsRule given a → IsRule given b → a ≡ b
+same-rule [] a b e f = e ∙ sym f
+same-rule (v ∷ vs) Min Min e f = refl
+same-rule (v ∷ vs) Pad Pad e f = refl
+same-rule (v ∷ vs) Min Pad e f = absurd (true≢false (ap (bytes_eq (codes "min")) (sym e ∙ f)))
+same-rule (v ∷ vs) Pad Min e f = absurd (true≢false (ap (bytes_eq (codes "pad")) (sym e ∙ f)))
+
+-- ---- eahyper
+
+-- the command that a question is
+abbrev asked : Text → List Text → List Text → List Text → ℕ → Bool → Command
+asked formula (lassos ∷ _) _ _ states proof = judge formula lassos
+asked formula [] (second ∷ _) _ states proof = imply formula second states proof
+asked formula [] [] (second ∷ _) states proof = compare formula second states proof
+asked formula [] [] [] states proof = decide formula states proof
+
+question_of : (items : List Item) (command : Command) → Orders EaHyper items command
+    → (f : Text) × (on : List Text) × (implied : List Text) × (equal : List Text) × (n : ℕ) × (b : Bool)
+    × Asks items f on implied equal n b × (command ≡ asked f on implied equal n b)
+question_of items (judge f l) (n, b, asks) = (f, l ∷ [], [], [], n, b, asks, refl)
+question_of items (decide f n b) asks = (f, [], [], [], n, b, asks, refl)
+question_of items (imply f g n b) asks = (f, [], g ∷ [], [], n, b, asks, refl)
+question_of items (compare f g n b) asks = (f, [], [], g ∷ [], n, b, asks, refl)
+question_of items (monitor s t l) e = absurd e
+question_of items (check c f d n p q) e = absurd e
+
+one_decision : (items others : List Item) → Same EaHyper items others → (a b : Command) → Orders EaHyper items a → Orders EaHyper others b → a ≡ b
+one_decision items others same a b one two =
+    let (f, o, i, e, n, p, asks, is_a) = question_of items a one in
+    let (g, l, j, d, m, q, also, is_b) = question_of others b two in
+    let (on, (implies, (equivalent, (states, nil)))) = same.options in
+    let formulas : f ∷ [] ≡ g ∷ [] = sym asks.files ∙ same.files ∙ also.files in
+    let formula : f ≡ g = cc in
+    let ons : o ≡ l = sym asks.on ∙ on ∙ also.on in
+    let implied : i ≡ j = sym asks.implies ∙ implies ∙ also.implies in
+    let equals : e ≡ d = sym asks.equivalent ∙ equivalent ∙ also.equivalent in
+    let P : List Text → Type 0 = λ vs. IsNumberOr 100000 vs 1 4194304 n in
+    let budgets : n ≡ m = same-number-or 100000 (given_in (codes "states") others) 1 4194304 n m (omega arith) (subst P states asks.budget) also.budget in
+    let proofs : p ≡ q = asks.proves ∙ same.flags.0 ∙ sym also.proves in
+    is_a ∙ (λ t. asked (formula t) (ons t) (implied t) (equals t) (budgets t) (proofs t)) ∙ sym is_b
+
+-- ---- rvhyper
+
+monitoring_of : (items : List Item) (command : Command) → Orders RvHyper items command
+    → (s : Text) × (t : Text) × (l : Lengths) × Monitors items s t l × (command ≡ monitor s t l)
+monitoring_of items (monitor s t l) monitors = (s, t, l, monitors, refl)
+monitoring_of items (judge f l) e = absurd e
+monitoring_of items (decide f n b) e = absurd e
+monitoring_of items (imply f g n b) e = absurd e
+monitoring_of items (compare f g n b) e = absurd e
+monitoring_of items (check c f d n p q) e = absurd e
+
+one_monitoring : (items others : List Item) → Same RvHyper items others → (a b : Command) → Orders RvHyper items a → Orders RvHyper others b → a ≡ b
+one_monitoring items others same a b one two =
+    let (s, t, l, monitors, is_a) = monitoring_of items a one in
+    let (u, v, k, also, is_b) = monitoring_of others b two in
+    let (lengths, nil) = same.options in
+    let files : s ∷ t ∷ [] ≡ u ∷ v ∷ [] = sym monitors.files ∙ same.files ∙ also.files in
+    let rule : l ≡ k = same-rule (given_in (codes "lengths") others) l k (subst (λ vs. IsRule vs l) lengths monitors.rule) also.rule in
+    let specs : s ≡ u = cc in
+    let traces : t ≡ v = cc in
+    is_a ∙ (λ i. monitor (specs i) (traces i) (rule i)) ∙ sym is_b
+
+-- ---- mchyper
+
+checking_of : (items : List Item) (command : Command) → Orders McHyper items command
+    → (c : Text) × (f : Text) × (d : ℕ) × (n : ℕ) × (p : Bool) × (q : Bool) × Checks items c f d n p q × (command ≡ check c f d n p q)
+checking_of items (check c f d n p q) checks = (c, f, d, n, p, q, checks, refl)
+checking_of items (judge f l) e = absurd e
+checking_of items (decide f n b) e = absurd e
+checking_of items (imply f g n b) e = absurd e
+checking_of items (compare f g n b) e = absurd e
+checking_of items (monitor s t l) e = absurd e
+
+one_checking : (items others : List Item) → Same McHyper items others → (a b : Command) → Orders McHyper items a → Orders McHyper others b → a ≡ b
+one_checking items others same a b one two =
+    let (c, f, d, n, p, q, checks, is_a) = checking_of items a one in
+    let (e, g, k, m, r, s, also, is_b) = checking_of others b two in
+    let (depths, (budgets, nil)) = same.options in
+    let (plains, (proofs, nil)) = same.flags in
+    let files : c ∷ f ∷ [] ≡ e ∷ g ∷ [] = sym checks.files ∙ same.files ∙ also.files in
+    let circuit : c ≡ e = cc in
+    let formula : f ≡ g = cc in
+    let depth : d ≡ k = same-number-or 64 (given_in (codes "depth") others) 0 100000 d k (omega arith)
+    (subst (λ vs. IsNumberOr 64 vs 0 100000 d) depths checks.deep) also.deep in
+    let conflicts : n ≡ m = same-number-or 100000 (given_in (codes "conflicts") others) 0 1000000000 n m (omega arith)
+    (subst (λ vs. IsNumberOr 100000 vs 0 1000000000 n) budgets checks.budget) also.budget in
+    let plain : p ≡ r = checks.bare ∙ plains ∙ sym also.bare in
+    let proof : q ≡ s = checks.proves ∙ proofs ∙ sym also.proves in
+    is_a ∙ (λ i. check (circuit i) (formula i) (depth i) (conflicts i) (plain i) (proof i)) ∙ sym is_b
+
+one_order : (tool : Tool) (items others : List Item) → Same tool items others → (a b : Command) → Orders tool items a → Orders tool others b → a ≡ b
+one_order EaHyper = one_decision
+one_order RvHyper = one_monitoring
+one_order McHyper = one_checking
+
+-- Words are at most one command of a tool.
+pub one_command : (tool : Tool) (words : List Text) (a b : Command) → IsCommand tool words a → IsCommand tool words b → a ≡ b
+one_command tool words a b (items, says, proper, orders) (others, also, fit, further) =
+    one_order tool items others (same_items tool words items others says proper also fit) a b orders further
