@@ -1,6 +1,6 @@
 -- A circuit and a formula: paths to bad of the formula's safe net are tuples of executions that
 -- satisfy the body, or its negation.
-use Rattle.std.proofs.Common.{◌≡◌, ℕ, zero, suc, ◌+◌, ◌-◌, ◌/◌, ◌<◌, ◌≤◌, ◌↔◌, Bool, true, false, List, [], ◌∷◌, length, get_or, IsTrue, Some, inl, inr, refl, sym, ap, ◌∙◌, subst, arith}
+use Rattle.std.proofs.Common.{◌≡◌, ℕ, zero, suc, ◌+◌, ◌-◌, ◌/◌, ◌<◌, ◌↔◌, Bool, true, false, List, [], ◌∷◌, length, get_or, IsTrue, inl, inr, refl, sym, ap, ◌∙◌, subst, arith}
 use Rattle.std.proofs.lemmas.List.{length-map}
 use Rattle.hy_formula.specs.Trees.{Tree, vars_below}
 use Rattle.hy_formula.specs.Temporal.{endless, Words, SatisfiesAt, Decided, Repeats, IsDecided}
@@ -18,15 +18,15 @@ use Rattle.ltl_closure.proofs.Closing.{closure-numbers, number-found}
 use Rattle.ltl_closure.proofs.Tasks.{forms-there, none-closed}
 use Rattle.ltl_closure.proofs.Roots.{root-right}
 use Rattle.aig_net.specs.declared.signals.Signal.{Signal}
-use Rattle.aig_net.specs.Nets.{Net, Valuation, Below, variables, literal_value, literal_at, IsNet}
+use Rattle.aig_net.specs.Nets.{Net, Below, variables, literal_value, literal_at, IsNet}
 use Rattle.aig_net.specs.Executions.{Word, Lasso, IsExecution, IsLassoExecution, gone, no_lasso, lasso_of, part, Recurs}
 use Rattle.aig_net.specs.Signals.{visible}
 use Rattle.aig_net.proofs.Literals.{value-same}
 use Rattle.aig_net.proofs.Listed.{length-listed, at-listed}
-use Rattle.aig_net.proofs.Rounds.{gone-recurs, length-part, recurring}
+use Rattle.aig_net.proofs.Rounds.{gone-recurs, recurring}
 use Rattle.aig_net.proofs.Closings.{gone-execution, recurring-execution}
 use Rattle.aig_net.specs.Wires.{listed}
-use Rattle.self_compose.specs.Copies.{compose, copy, copy_literal, place}
+use Rattle.self_compose.specs.Copies.{compose, copy}
 use Rattle.self_compose.proofs.Tuples.{composed-net, copy-execution, copy-recurs, copy-value}
 use Rattle.self_compose.proofs.Periods.{join-lasso}
 use Rattle.sym_tableau.specs.Oracles.{read, signal_in, unmoved, moved}

@@ -1,14 +1,14 @@
 -- The signals of the copies: that of a name and a copy.
-use Rattle.std.proofs.Common.{◌≡◌, ℕ, zero, suc, ◌+◌, ◌*◌, ◌/◌, ◌<◌, ◌≤◌, Bool, true, false, ◌&&◌, cond, nat_eq, List, [], ◌∷◌, ◌++◌, length, Option, Some, None, unwrap_or, All, inl, inr, refl, sym, ap, ◌∙◌, subst, arith}
+use Rattle.std.proofs.Common.{◌≡◌, ℕ, zero, suc, ◌+◌, ◌<◌, ◌≤◌, Bool, true, false, ◌&&◌, cond, nat_eq, List, [], ◌∷◌, ◌++◌, Option, Some, None, unwrap_or, All, inl, inr, refl, sym, ap, ◌∙◌, subst, arith}
 use Rattle.std.specs.Option.{option_map}
 use Rattle.std.proofs.lemmas.Bool.{cases_eq}
 use Rattle.std.proofs.lemmas.Bool.Decides.{Decides-eqb}
 use Rattle.aig_net.specs.declared.signals.Signal.{Signal}
-use Rattle.aig_net.specs.Nets.{Net, IsNet, Below, variables}
+use Rattle.aig_net.specs.Nets.{Net, Below, variables}
 use Rattle.aig_net.specs.Signals.{literal_of}
 use Rattle.aig_net.specs.Wires.{listed}
 use Rattle.aig_net.proofs.Listed.{not_true}
-use Rattle.self_compose.specs.Copies.{compose, copied, copy_literal}
+use Rattle.self_compose.specs.Copies.{compose, copy_literal}
 use Rattle.self_compose.proofs.Copying.{each-copied}
 use Rattle.self_compose.proofs.Tuples.{copy-below}
 use Rattle.sym_tableau.specs.Oracles.{signal_in}

@@ -1,15 +1,13 @@
 -- The free latches of copies of a net with oracles.
-use Rattle.std.proofs.Common.{◌≡◌, ℕ, zero, suc, ◌+◌, ◌*◌, ◌<◌, ◌≤◌, Bool, true, false, cond, List, length, refl, sym, ap, ◌∙◌, arith, inl, inr}
-use Rattle.std.proofs.lemmas.Bool.{cases_eq, cases_lt}
-use Rattle.ltl_closure.specs.Nodes.{Node}
-use Rattle.aig_net.specs.declared.parts.Reset.{Reset}
+use Rattle.std.proofs.Common.{◌≡◌, ℕ, zero, suc, ◌+◌, ◌*◌, ◌<◌, ◌≤◌, Bool, true, false, cond, length, refl, sym, ap, ◌∙◌, arith, inl, inr}
+use Rattle.std.proofs.lemmas.Bool.{cases_eq}
 use Rattle.aig_net.specs.declared.parts.Reset.TheVariants.{Zero}
 use Rattle.aig_net.specs.Nets.{Net, IsNet, reset_at}
-use Rattle.self_compose.specs.Copies.{compose, copied, copy_reset}
+use Rattle.self_compose.specs.Copies.{compose, copy_reset}
 use Rattle.self_compose.proofs.Copying.{at-copied, length-copied}
-use Rattle.sym_tableau.specs.Oracles.{attach, attached_resets, oracles}
+use Rattle.sym_tableau.specs.Oracles.{oracles}
 use Rattle.sym_tableau.proofs.Parts.{many-latches, reset-oracle, reset-old, reset-started}
-use Rattle.live_safe.specs.Safe.{count_below, free_at, is_free, safe_inputs, take}
+use Rattle.live_safe.specs.Safe.{count_below, free_at, is_free, safe_inputs}
 use Rattle.wit_lasso.specs.FormulaNets.{Tableau, tableau_net}
 use Rattle.wit_lasso.specs.PathParts.{free_before, is_free_at, take_place}
 

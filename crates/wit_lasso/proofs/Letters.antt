@@ -1,5 +1,5 @@
 -- What is seen of a valuation, one signal more at a time; and of rows and of a run.
-use Rattle.std.proofs.Common.{◌≡◌, ◌≢◌, ℕ, zero, suc, ◌+◌, ◌-◌, ◌%◌, ◌<◌, ◌≤◌, Bool, true, false, not, ◌&&◌, cond, nat_eq, nat_lt, List, [], ◌∷◌, ◌++◌, length, drop, take, map, get_or, slice_get, IsTrue, Option, Some, None, unwrap_or, inl, inr, refl, sym, ap, ◌∙◌, subst, arith, length-append}
+use Rattle.std.proofs.Common.{◌≡◌, ◌≢◌, ℕ, zero, suc, ◌+◌, ◌-◌, ◌%◌, ◌<◌, ◌≤◌, Bool, true, false, ◌&&◌, cond, List, [], ◌∷◌, ◌++◌, length, drop, take, map, get_or, slice_get, IsTrue, Some, unwrap_or, inl, inr, refl, sym, ap, ◌∙◌, subst, arith, length-append}
 use Rattle.std.proofs.Math.Nat.{mod-lt}
 use Rattle.std.proofs.Math.Seq.{drop-cons}
 use Rattle.std.proofs.lemmas.Bool.{cases_eq, cases_lt, ltb-true}
@@ -10,15 +10,14 @@ use Rattle.std.specs.Ordering.{nat_cmp}
 use Rattle.hy_bits.specs.BinaryLaws.{contains-insert_other, contains-insert_same, contains-remove_other, contains-remove_same}
 use Rattle.hy_bits.specs.Letter.{Letter}
 use Rattle.hy_formula.specs.Lassos as letters
-use Rattle.hy_lasso.specs.Words.{letter_at}
 use Rattle.hy_lasso.proofs.LassoWords as words
 use Rattle.aig_net.specs.declared.run.Run.{Run}
 use Rattle.aig_net.specs.declared.run.ValueLasso.{ValueLasso}
 use Rattle.aig_net.specs.declared.signals.Signal.{Signal}
-use Rattle.aig_net.specs.Executions.{gone, no_values, step_at, steps, value_in}
-use Rattle.aig_net.specs.Following.{AreFull, row_at}
-use Rattle.aig_net.specs.Nets.{Net, Below, Valuation, literal_value, row, variables}
-use Rattle.aig_net.specs.Signals.{are_signals, has_signal, is_for, literal_of, shown, visible}
+use Rattle.aig_net.specs.Executions.{gone, no_values, step_at, value_in}
+use Rattle.aig_net.specs.Following.{row_at}
+use Rattle.aig_net.specs.Nets.{Net, Valuation, literal_value, row, variables}
+use Rattle.aig_net.specs.Signals.{are_signals, is_for, literal_of, shown}
 use Rattle.aig_net.specs.Simulations.{IsExecutionOf, valuations}
 use Rattle.aig_net.proofs.Listed.{at-map, not_true}
 use Rattle.aig_net.proofs.Rounds as rounds
@@ -129,8 +128,11 @@ seen-more signals v i k s letter later e at seen counts name =
 
 pub letters_none : (signals : List Signal) (rows : List (List Bool)) →
     AreSeen signals (take 0 rows) []
-letters_none signals rows = record { many = none rows; each = λ i lt. absurd
-    (let n = none rows in omega (arith, n, lt)) }
+letters_none signals rows = record {
+  many = none rows;
+  each = λ i lt. absurd
+      (let n = none rows in omega (arith, n, lt));
+}
   where
     none : (rows : List (List Bool)) → 0 ≡ length (take 0 rows)
     none [] = refl

@@ -1,8 +1,7 @@
 -- The lassos of the copies for which a path stands, and what their visible traces say.
-use Rattle.std.proofs.Common.{◌≡◌, ℕ, suc, ◌+◌, ◌-◌, ◌/◌, ◌<◌, ◌≤◌, Bool, true, false, List, length, get_or, IsTrue, inl, inr, sym, ap, ◌∙◌, subst, arith}
+use Rattle.std.proofs.Common.{◌≡◌, ℕ, ◌-◌, ◌/◌, ◌<◌, Bool, List, length, get_or, IsTrue, inl, inr, sym, ap, ◌∙◌, subst, arith}
 use Rattle.std.proofs.Math.Path.{fun_ext}
 use Rattle.std.proofs.lemmas.Bool.{cases_eq, cases_lt}
-use Rattle.std.specs.FinSet.{contains}
 use Rattle.hy_bits.specs.Letter.{Letter}
 use Rattle.hy_formula.specs.Trees.{Tree, vars_below}
 use Rattle.hy_formula.specs.Normals.{Signed}
@@ -12,7 +11,7 @@ use Rattle.hy_lasso.specs.Words.{letter_at, lasso_words, no_lasso}
 use Rattle.aig_net.specs.declared.run.Run.{Run}
 use Rattle.aig_net.specs.declared.run.ValueLasso.{ValueLasso}
 use Rattle.aig_net.specs.declared.signals.Signal.{Signal}
-use Rattle.aig_net.specs.Nets.{Net, IsNet, Valuation, variables, literal_value}
+use Rattle.aig_net.specs.Nets.{Net, IsNet, Valuation, variables}
 use Rattle.aig_net.specs.Executions.{Word, Lasso, IsLassoExecution, gone, lasso_of}
 use Rattle.aig_net.specs.Signals.{visible}
 use Rattle.aig_net.specs.Simulations.{IsExecutionOf, valuations}
@@ -21,7 +20,7 @@ use Rattle.aig_net.proofs.Rounds.{length-part}
 use Rattle.self_compose.specs.Copies.{compose, copy, place}
 use Rattle.sym_tableau.specs.Oracles.{moved, signal_in}
 use Rattle.live_safe.specs.Paths.{IsBadPath}
-use Rattle.live_safe.specs.Safe.{saved, shown_word, to_safe}
+use Rattle.live_safe.specs.Safe.{shown_word, to_safe}
 use Rattle.live_safe.proofs.Unfolding.{unfolding-path}
 use Rattle.wit_lasso.specs.FormulaNets.{AreOwn, Tableau, formula_net, formula_safe, formula_tableau, tableau_net}
 use Rattle.wit_lasso.specs.Seeing.{IsTraceOf}

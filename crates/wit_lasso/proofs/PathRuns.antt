@@ -1,20 +1,20 @@
 -- The runs that are read off the rows of a path are those of the lassos for which it stands.
-use Rattle.std.proofs.Common.{◌≡◌, ℕ, zero, suc, ◌+◌, ◌-◌, ◌*◌, ◌^◌, ◌<◌, ◌≤◌, Bool, true, false, not, ◌&&◌, cond, List, [], ◌∷◌, map, take, drop, length, get_or, inl, inr, refl, sym, ap, ◌∙◌, subst, arith}
+use Rattle.std.proofs.Common.{◌≡◌, ℕ, zero, suc, ◌+◌, ◌-◌, ◌*◌, ◌^◌, ◌<◌, ◌≤◌, Bool, true, false, not, ◌&&◌, cond, List, [], ◌∷◌, map, take, drop, length, inl, inr, refl, sym, ap, ◌∙◌, subst, arith}
 use Rattle.std.proofs.Math.Nat.{mul-le-mul_left}
-use Rattle.std.proofs.lemmas.Bool.{cases_eq, cases_lt}
+use Rattle.std.proofs.lemmas.Bool.{cases_lt}
 use Rattle.std.proofs.lemmas.List.{get_or-drop, get_or-take, length-drop, length-take-le}
 use Rattle.aig_net.specs.declared.parts.Reset.{Reset}
 use Rattle.aig_net.specs.declared.parts.Reset.TheVariants.{Zero, One, Free}
 use Rattle.aig_net.specs.declared.run.Run.{Run}
-use Rattle.aig_net.specs.Nets.{Net, IsNet, IsRight, Valuation, latch_variable, literal_value, reset_at, row}
-use Rattle.aig_net.specs.Executions.{Word, Lasso, gone, lasso_of, part, step_at, value_in}
+use Rattle.aig_net.specs.Nets.{Net, IsNet, Valuation, latch_variable, literal_value, reset_at, row}
+use Rattle.aig_net.specs.Executions.{Word, lasso_of, part, step_at}
 use Rattle.aig_net.specs.Following.{row_at}
 use Rattle.aig_net.specs.Wires.{listed, wire_value}
 use Rattle.aig_net.proofs.Listed.{at-listed, length-listed}
 use Rattle.aig_net.proofs.Literals.{value-even}
-use Rattle.self_compose.specs.Copies.{compose, copy, place}
+use Rattle.self_compose.specs.Copies.{compose, place}
 use Rattle.self_compose.proofs.Copying.{length-copied}
-use Rattle.sym_tableau.specs.Oracles.{moved, oracles, unmoved}
+use Rattle.sym_tableau.specs.Oracles.{moved, oracles}
 use Rattle.sym_tableau.proofs.Parts.{latch-moved, many-latches, moved-early}
 use Rattle.live_safe.specs.declared.safe_net.Path.{Path}
 use Rattle.live_safe.specs.declared.safe_net.SafeNet.{SafeNet}
@@ -26,9 +26,9 @@ use Rattle.live_safe.proofs.Starts.{start-false}
 use Rattle.live_safe.proofs.Unfolding.{is-set-begun, on-first}
 use Rattle.wit_lasso.specs.FormulaNets.{Tableau, tableau_net}
 use Rattle.wit_lasso.specs.PathParts.{AreRows, free_before, is_free_at, own_inputs, own_latches, own_run, start_value, take_place}
-use Rattle.wit_lasso.specs.Unfoldings.{AreUnfolded, IsRunOf, IsSafeOf, GoesToBad, IsUnfolding, Saves, ShowsInputs, copy_lasso, copy_word, inputs_of, latches_of, run_at}
+use Rattle.wit_lasso.specs.Unfoldings.{AreUnfolded, IsRunOf, IsSafeOf, GoesToBad, IsUnfolding, Saves, ShowsInputs, copy_lasso, copy_word, inputs_of, latches_of}
 use Rattle.wit_lasso.proofs.Counting.{count-less, free-there, inputs-are, place-is, reset-there}
-use Rattle.wit_lasso.proofs.PathLassos.{copy-is, lasso-at, saves-once, some-saves}
+use Rattle.wit_lasso.proofs.PathLassos.{copy-is, lasso-at, some-saves}
 use Rattle.wit_lasso.proofs.Steps.{listed-same}
 
 -- ---- the step that saves, by the input `take`
@@ -99,11 +99,11 @@ module _ (tab : Net) (k : ℕ) (word : Word) (bad : IsBadPath (to_safe tab) k wo
               ∙ from-then start lt (on lt) (i - suc start) (omega arith);
         }
         | inr ge ↦ absurd (
-          let e : start ≡ k = omega arith in
-          let w = others.within in
-          let x = others.later start (omega (arith, w, ge)) le in
-          let y = not-yet start le off in
-          cc)
+            let e : start ≡ k = omega arith in
+            let w = others.within in
+            let x = others.later start (omega (arith, w, ge)) le in
+            let y = not-yet start le off in
+            cc)
       ]
 
 -- ---- rows
@@ -156,8 +156,10 @@ module _ (net : Net) (good : IsNet net) (n : ℕ) (some : 0 < n) (t : Tableau) (
       let early = moved-early all t.nodes (suc (j * n + c)) (omega (arith, small)) in
       shows.rows i (j * n + c) lt (omega (arith, f, small))
       ∙ sym (value-even (word i) (suc (j * n + c)))
-      ∙ ap (literal_value (word i)) (sym (variable-early tab (suc (j * n + c)) (omega (arith,
-      small))))
+      ∙ ap (literal_value (word i)) (sym (variable-early tab (suc (j * n + c)) (omega (
+        arith,
+        small,
+      ))))
       ∙ ap (shown tab (word i)) (sym early)
 
   own-row : (i c : ℕ) → i < k → c < n →
@@ -310,8 +312,10 @@ module _ (net : Net) (good : IsNet net) (n : ℕ) (some : 0 < n) (t : Tableau) (
     run-is : (c : ℕ) → c < n → IsRunOf net (copy_lasso net n t word k start c) (run c)
     run-is c few = record {
       first = own-start (omega (arith, saves.within)) c few
-          ∙ ap (latches_of net) (sym (first-step start (k - start) (own c) (omega (arith,
-          saves.within))));
+          ∙ ap (latches_of net) (sym (first-step start (k - start) (own c) (omega (
+            arith,
+            saves.within,
+          ))));
       stem =
           rows-part (own_inputs net.inputs n c) (inputs_of net) (own c) (take start rows) 0
           (λ i lt.

@@ -62,8 +62,7 @@ fn letter_of(values: &[bool], signals: &Signals) -> LetterMask
 
 /// The letter with the name of a signal where its literal is true, and else without it. A signal of
 /// another variable than 0 changes nothing.
-#[tactic(auto, using(crate::proofs::Letters::counts_true, crate::proofs::Letters::counts_false,
-    crate::proofs::Letters::counts_none))]
+#[tactic(auto, using(crate::proofs::Letters::counts_true, crate::proofs::Letters::counts_false, crate::proofs::Letters::counts_none))]
 fn with_signal(letter: LetterMask, signal: Signal, values: &[bool]) -> LetterMask
     requires name { signal.name < 64 }
     requires within { Below (length values.now) signal.literal }

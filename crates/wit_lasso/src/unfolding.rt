@@ -34,14 +34,7 @@ pub fn unfold(alloc: Global, net: &Net, n: u8, safe: &SafeNet, path: &Path) -> M
 
 /// The runs of the copies, where the step `start` is the first that saves, by the input at `place`.
 #[tactic(auto, using(crate::proofs::Steps::listed_next))]
-fn runs_of(
-    alloc: Global,
-    net: &Net,
-    n: u8,
-    rows: &[Row],
-    place: usize,
-    start: usize,
-) -> M<RunList>
+fn runs_of(alloc: Global, net: &Net, n: u8, rows: &[Row], place: usize, start: usize) -> M<RunList>
     requires fit { AreRows net.now n place rows.now }
     requires start { start ≤ length rows.now }
     ensures { IfOk result (λ runs. runs ≡ listed 0 n (own_run net.now n place rows.now start)) }
@@ -139,8 +132,7 @@ fn own_row(alloc: Global, given: &[bool], inputs: u32, n: u8, c: u8) -> M<Row>
 }
 
 /// The latches of copy `c` of `n` at the start, by the inputs of the uninitialised ones.
-#[tactic(auto, using(live_safe::proofs::Counting::count_more, crate::proofs::Places::free_place,
-    crate::proofs::Steps::listed_next))]
+#[tactic(auto, using(live_safe::proofs::Counting::count_more, crate::proofs::Places::free_place, crate::proofs::Steps::listed_next))]
 fn start_latches(alloc: Global, resets: &[Reset], n: u8, c: u8, free: &[bool]) -> M<Row>
     requires copy { c < n }
     requires long { free_before resets.now (length resets.now) * n ≤ length free.now }

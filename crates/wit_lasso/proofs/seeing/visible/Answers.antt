@@ -6,7 +6,7 @@ use Rattle.aig_net.specs.Following.{row_at}
 use Rattle.aig_net.specs.Nets.{row}
 use Rattle.aig_net.specs.Simulations.{IsExecutionOf}
 use Rattle.sym_tableau.specs.Places.{AreWithin}
-use Rattle.wit_lasso.specs.Seeing.{AreSeen, IsTraceOf}
+use Rattle.wit_lasso.specs.Seeing.{AreSeen}
 use Rattle.wit_lasso.proofs.Letters.{shows-rows, sound-cycle, sound-stem}
 use Rattle.wit_lasso.proofs.seeing.visible.Goals as goal
 
