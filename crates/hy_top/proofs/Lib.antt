@@ -11,6 +11,7 @@ pub mod Monitoring
 pub mod OneAnswer
 pub mod Progress
 pub mod Reading
+pub mod Rooms
 pub mod Silence
 pub mod StageOrder
 pub mod Texts

@@ -1,10 +1,9 @@
 //! `mchyper`: from its files to its answers.
 
-ghost use Rattle.std.specs.Prelude.{◌≡◌, ◌<◌, ◌^◌, [], List, ℕ, Bool, slice_index_or, IfOk};
+ghost use Rattle.std.specs.Prelude.{◌≡◌, ◌+◌, ◌<◌, ◌≤◌, ◌^◌, [], List, ℕ, Bool, length, slice_index_or, IfOk};
 ghost use Rattle.hy_base.specs.Shelf.{KeepsShelf};
-ghost use Rattle.hy_formula.specs.Trees.{tree_of};
+ghost use Rattle.hy_base.specs.declared.reading.TheConstants.{BYTES_LIMIT};
 ghost use Rattle.hy_read.specs.Builds.{plain_formula};
-ghost use Rattle.mc_core.specs.Answers.{HasRoom};
 ghost use Rattle.hy_answer.specs.Outputs.{out_text};
 ghost use Rattle.hy_words.specs.Commands.{check};
 ghost use Rattle.hy_top.specs.Checking.{IsCheck, checked_answer};
@@ -15,8 +14,11 @@ use aig_net::Net;
 use hy_answer::Answer;
 use hy_base::{M, Memory, Shelf, Text};
 use hy_formula::{Formula, NameTable};
+use live_safe::safe_nets_are_small;
 use mc_core::{Ask, Checked, McError};
+use self_compose::copies_are_as_large;
 use std::alloc::Global;
+use sym_tableau::attached_nets_are_small;
 
 /// Most quantifiers of a formula.
 const MOST_QUANTIFIERS: u8 = 4;
@@ -56,9 +58,16 @@ fn check_formula(
     ask: &Ask,
 ) -> Answer
     requires conflicts { ask.now.conflicts < 2 ^ 31 }
-    requires room { HasRoom net.now names.now formula.now.prefix (tree_of formula.now.body) }
+    requires variables { net.now.inputs + length net.now.latches + length net.now.ands ≤ 1048576 }
+    requires literals { length net.now.outputs + length net.now.constraints + length net.now.fairs
+        ≤ BYTES_LIMIT }
+    requires quantifiers { length formula.now.prefix ≤ 4 }
     ensures { IsCheck net.now names.now (plain_formula formula.now) ask.now result }
 {
+    formula.prefix.len(); // what each prefix keeps
+    safe_nets_are_small(); // and so there is room for the safe net
+    attached_nets_are_small();
+    copies_are_as_large();
     match mc_core::check(alloc, net, formula, names, ask) {
         Ok(checked) => checked_answer(checked),
         Err(McError::Prefix(class)) => Answer::Prefix { file: 1, class },
