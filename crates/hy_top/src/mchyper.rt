@@ -86,7 +86,7 @@ fn check_formula(
 
 /// The answer for what a check comes to.
 fn checked_answer(checked: Checked) -> Answer
-    ensures { result ≡ checked_answer checked.entry }
+    ensures { result ≡ checked_answer checked }
 {
     match checked {
         Checked::Holds {

@@ -1,0 +1,23 @@
+use Rattle.std.proofs.Common.{refl}
+use Rattle.hy_words.specs.Commands.{check}
+use Rattle.hy_top.proofs.Progress.{ends_first}
+use Rattle.hy_top.proofs.Checking.{ends_at_formula, check_follows}
+use Rattle.hy_top.proofs.mchyper.check.Goals as goal
+
+pub returns-in-Err-clause-follows : goal.returns-in-Err-clause-follows
+returns-in-Err-clause-follows g c proof =
+    ends_first g.S.Shelf (check c.args.files.0.now c.args.files.1.now c.args.ask.now.depth c.args.ask.now.conflicts c.args.ask.now.plain proof) _ _ _ _ _ refl
+    c.in-Err.ensures.ended
+
+pub check_formula-requires-clause-room : goal.check_formula-requires-clause-room
+check_formula-requires-clause-room g c = ?
+
+pub returns-in-Ok-formula_in-clause-follows : goal.returns-in-Ok-formula_in-clause-follows
+returns-in-Ok-formula_in-clause-follows g c proof =
+    check_follows g.S.Shelf _ _ _ c.args.files.0.now c.args.files.1.now c.args.ask.now proof c.in-Ok.net c.in-Ok.ensures.taken _ _
+    (rw c.requires.empty at c.in-Ok-formula_in.ensures.taken) _ c.check_formula.ensures
+
+pub returns-clause-follows : goal.returns-clause-follows
+returns-clause-follows g c proof =
+    ends_at_formula g.S.Shelf _ _ _ c.args.files.0.now c.args.files.1.now c.args.ask.now proof c.in-Ok.net c.in-Ok.ensures.taken _ _
+    (rw c.requires.empty at c.in-Err-formula_in.ensures.ended)

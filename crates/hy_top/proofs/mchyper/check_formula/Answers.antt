@@ -1,0 +1,32 @@
+use Rattle.std.proofs.Common.{refl}
+use Rattle.hy_read.specs.Builds.{plain_formula}
+use Rattle.hy_top.specs.Checking.{spent}
+use Rattle.hy_top.proofs.Checking.{check-found, check-prefix, check-limit, check-cnf, check-name}
+use Rattle.hy_top.proofs.mchyper.check_formula.Goals as goal
+
+pub returns-in-Ok : goal.returns-in-Ok
+returns-in-Ok c =
+    rw c.checked_answer.ensures (check-found c.args.net.now c.args.names.now (plain_formula c.args.formula.now) c.args.ask.now c.in-Ok.checked c.in-Ok.ensures)
+
+pub returns-in-Err-Prefix : goal.returns-in-Err-Prefix
+returns-in-Err-Prefix c =
+    check-prefix c.args.net.now c.args.names.now (plain_formula c.args.formula.now) c.args.ask.now c.in-Err-Prefix.class (rw c.in-Err-Prefix.field-0-is at c.in-Err-Prefix.ensures)
+
+pub returns-in-Err-Limit : goal.returns-in-Err-Limit
+returns-in-Err-Limit c =
+    check-limit c.args.net.now c.args.names.now (plain_formula c.args.formula.now) c.args.ask.now c.in-Err-Limit.limit (rw c.in-Err-Limit.field-0-is at c.in-Err-Limit.ensures)
+
+pub returns-in-Err-CnfLimit : goal.returns-in-Err-CnfLimit
+returns-in-Err-CnfLimit c =
+    check-cnf c.args.net.now c.args.names.now (plain_formula c.args.formula.now) c.args.ask.now _ _ _ _ c.in-Err-CnfLimit.field-0-is c.in-Err-CnfLimit.ensures
+
+pub returns-in-Ok-name_text : goal.returns-in-Ok-name_text
+returns-in-Ok-name_text c =
+    check-name c.args.net.now c.args.names.now (plain_formula c.args.formula.now) c.args.ask.now c.in-Err-Name.name c.in-Err-Name.twice _
+    (rw c.in-Err-Name.field-0-is at c.in-Err-Name.ensures) c.in-Ok-name_text.ensures
+
+pub returns-in-Err : goal.returns-in-Err
+returns-in-Err c = spent
+
+pub returns-in-Err-Memory : goal.returns-in-Err-Memory
+returns-in-Err-Memory c = spent
