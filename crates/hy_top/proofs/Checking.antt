@@ -18,6 +18,7 @@ use Rattle.mc_core.specs.declared.checked.Checked.{Checked}
 use Rattle.mc_core.specs.declared.checked.Checked.TheVariants as checked
 use Rattle.mc_core.specs.Answers.{IsChecked}
 use Rattle.wit_lasso.specs.Satisfaction.{Satisfies}
+use Rattle.mc_core.proofs.SameSignals.{same-satisfaction}
 use Rattle.hy_top.specs.Stages.{IsOfCheck, Deny, Agree, other_check}
 use Rattle.mc_core.specs.declared.mc_error.McError.{McError}
 use Rattle.mc_core.specs.declared.mc_error.McError.TheVariants as errors
@@ -188,11 +189,6 @@ module _ {S : Type 0} (g : Ghosts S) (old mid new : S) (file formula : List ℕ)
 
 -- ---- one check
 
--- Signals of the same names say the same of the circuit.
-same_satisfaction : (net : Net) (names : List (List ℕ)) (f : Plain) (a b : List Signal) → AreSignals net names f.body a → AreSignals net names f.body b
-    → Satisfies net a f.prefix f.body → Satisfies net b f.prefix f.body
-same_satisfaction net names f a b one two is = ?
-
 of_checked : (c : Checked) → IsOfCheck (checked_answer c)
 of_checked (checked.Holds traces runs proof) = tt
 of_checked (checked.Violated traces runs proof) = tt
@@ -201,8 +197,8 @@ of_checked (checked.UnknownConflicts conflicts k step kept log) = tt
 
 module _ (net : Net) (names : List (List ℕ)) (f : Plain) (ask : Ask) (s t : List Signal) (one : AreSignals net names f.body s) (two : AreSignals net names f.body t) where
   not_denied : (c d : Checked) → IsChecked net s f.prefix f.body ask c → IsChecked net t f.prefix f.body ask d → ¬ Deny (checked_answer c) (checked_answer d)
-  not_denied (checked.Holds traces runs proof) (checked.Violated others walks evidence) is also deny = also.0 (same_satisfaction net names f s t one two is.0)
-  not_denied (checked.Violated traces runs proof) (checked.Holds others walks evidence) is also deny = is.0 (same_satisfaction net names f t s two one also.0)
+  not_denied (checked.Holds traces runs proof) (checked.Violated others walks evidence) is also deny = also.0 (same-satisfaction net names f.prefix f.body s t one two is.0)
+  not_denied (checked.Violated traces runs proof) (checked.Holds others walks evidence) is also deny = is.0 (same-satisfaction net names f.prefix f.body t s two one also.0)
   not_denied (checked.Holds traces runs proof) (checked.Holds others walks evidence) is also deny = deny
   not_denied (checked.Holds traces runs proof) (checked.UnknownDepth depth kept path) is also deny = deny
   not_denied (checked.Holds traces runs proof) (checked.UnknownConflicts conflicts k step kept log) is also deny = deny

@@ -1,5 +1,5 @@
 -- There is room for the safe net of a formula of at most four quantifiers on a circuit that was read.
-use Rattle.std.proofs.Common.{◌≡◌, ℕ, ◌+◌, ◌*◌, ◌<◌, ◌≤◌, Bool, List, [], ◌∷◌, length, arith}
+use Rattle.std.proofs.Common.{◌≡◌, ℕ, ◌+◌, ◌*◌, ◌<◌, ◌≤◌, Bool, false, List, [], ◌∷◌, length, arith}
 use Rattle.std.proofs.Math.Nat.{mul-le-mul_right}
 use Rattle.hy_base.specs.declared.reading.TheConstants.{BYTES_LIMIT}
 use Rattle.hy_base.specs.Limits.{most}
@@ -13,6 +13,11 @@ use Rattle.self_compose.specs.Copies.{compose}
 use Rattle.sym_tableau.specs.Oracles.{attach, signal_in}
 use Rattle.live_safe.specs.Safe.{to_safe}
 use Rattle.wit_lasso.specs.FormulaNets.{body_nodes, body_roots, copy_signals, formula_net}
+use Rattle.hy_base.specs.declared.shelf.Shelf.{Ghosts}
+use Rattle.hy_read.specs.Answers.{Plain}
+use Rattle.hy_top.specs.Contents.{one_formula}
+use Rattle.hy_top.specs.Steps.{Takes}
+use Rattle.hy_top.proofs.FirstSpecs.{read-few}
 use Rattle.mc_core.specs.Answers.{HasRoom, IsPosed, is_existential, members}
 
 -- what is known of the sizes of safe nets, of nets with oracles, and of copies
@@ -44,3 +49,8 @@ has-room small net names prefix body few literals some short signals posed =
     let w : n * length net.fairs ≤ 4 * length net.fairs = mul-le-mul_right (length net.fairs) short in
     let m : length nodes ≤ 1024 = posed.few in
     omega (arith, s, a, f, c, g, v, w, m, few, literals)
+
+-- A formula that was read by a command of at most four quantifiers has no more.
+pub few-read : {S : Type 0} (g : Ghosts S) (old new : S) (name : List ℕ) (names : List (List ℕ)) (f : Plain)
+    (later : List (List ℕ)) → Takes g old new name 4 names one_formula (f ∷ []) later → length f.prefix ≤ 4
+few-read g old new name names f later takes = (read-few false 4 names takes.bytes (f ∷ []) later takes.is).1.0

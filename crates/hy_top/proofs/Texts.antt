@@ -1,5 +1,7 @@
 -- The bytes of a file are one text, or are refused by one answer, and never both.
-use Rattle.std.proofs.Common.{◌≡◌, ℕ, Bool, List, [], ◌∷◌, Ok, Err, inl, inr, refl, sym, ap, subst, ◌∙◌, true, false}
+use Rattle.std.proofs.Common.{◌≡◌, ◌≤◌, ℕ, Bool, List, [], ◌∷◌, Ok, Err, Some, length, slice_get, slice_index_or, inl, inr, refl, sym, ap, subst, ◌∙◌, true, false}
+use Rattle.std.proofs.lemmas.Option.{get_or_from_slice_get}
+use Rattle.std.proofs.lemmas.List.{get_or_past}
 use Rattle.hy_formula.specs.Quantifiers.{Each}
 use Rattle.hy_text.specs.Lines.{lines_of}
 use Rattle.hy_text.proofs.FirstFaults.{one_fault, texts_no_fault}
@@ -121,3 +123,11 @@ refused_once quantifiers old k bytes lassos a b (line, one, e) (other, two, f) =
     let same = one_answer old bytes (Err (faults.Syntax line)) (Err (faults.Syntax other)) (λ e. cc) (λ e. cc) one two in cc
 refused_once quantifiers old k bytes circuit a b (refusal, one, e) (other, two, f) =
     e ∙ ap circuit_answer (one-refused (outcome bytes) refusal other one two) ∙ sym f
+
+-- the name with a number, where it is in the table, and none past its end
+pub name_found : (names : List (List ℕ)) (i : ℕ) (name : List ℕ) → slice_get names i ≡ Some name
+    → name ≡ slice_index_or names i []
+name_found names i name e = sym (get_or_from_slice_get names i name [] e)
+
+pub name_past : (names : List (List ℕ)) (i : ℕ) → length names ≤ i → [] ≡ slice_index_or names i []
+name_past names i le = sym (get_or_past names i [] le)

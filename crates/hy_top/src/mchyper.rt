@@ -125,6 +125,7 @@ fn checked_answer(checked: Checked) -> Answer
 }
 
 /// The name with a number.
+#[tactic(auto, using(crate::proofs::Texts::name_found, crate::proofs::Texts::name_past))]
 fn name_text(alloc: Global, names: &NameTable, name: u8) -> M<Text>
     ensures { IfOk result (λ text. text ≡ slice_index_or names.now name []) }
 {

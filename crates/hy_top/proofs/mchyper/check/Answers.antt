@@ -2,6 +2,7 @@ use Rattle.std.proofs.Common.{refl}
 use Rattle.hy_words.specs.Commands.{check}
 use Rattle.hy_top.proofs.Progress.{ends_first}
 use Rattle.hy_top.proofs.Checking.{ends_at_formula, check_follows}
+use Rattle.hy_top.proofs.Rooms.{few-read}
 use Rattle.hy_top.proofs.mchyper.check.Goals as goal
 
 pub returns-in-Err-clause-follows : goal.returns-in-Err-clause-follows
@@ -9,8 +10,8 @@ returns-in-Err-clause-follows g c proof =
     ends_first g.S.Shelf (check c.args.files.0.now c.args.files.1.now c.args.ask.now.depth c.args.ask.now.conflicts c.args.ask.now.plain proof) _ _ _ _ _ refl
     c.in-Err.ensures.ended
 
-pub check_formula-requires-clause-room : goal.check_formula-requires-clause-room
-check_formula-requires-clause-room g c = ?
+pub check_formula-requires-clause-quantifiers : goal.check_formula-requires-clause-quantifiers
+check_formula-requires-clause-quantifiers g c = few-read g.S.Shelf _ _ _ _ _ _ c.in-Ok-formula_in.ensures.taken
 
 pub returns-in-Ok-formula_in-clause-follows : goal.returns-in-Ok-formula_in-clause-follows
 returns-in-Ok-formula_in-clause-follows g c proof =

@@ -1,7 +1,6 @@
-use Rattle.std.proofs.Common.{[], true, false}
+use Rattle.std.proofs.Common.{true, false}
 use Rattle.hy_words.specs.Commands.{monitor, judge, decide, imply, compare, check}
 use Rattle.hy_top.proofs.Worded.{unworded_comes, unworded_names}
-use Rattle.hy_top.proofs.Progress.{begun, runs_short}
 use Rattle.hy_top.specs.Runs.{worded, of_command}
 use Rattle.hy_top.proofs.runs.run.Goals as goal
 
@@ -92,14 +91,13 @@ returns-in-Compare-clause-err g c = (
 )
 
 pub returns-clause-right : goal.returns-clause-right
-returns-clause-right g c =
-    let command = check c.in-Check.circuit.now c.in-Check.formula.now c.in-Check.depth c.in-Check.conflicts c.in-Check.plain c.in-Check.proof in (
-      _,
-      _,
-      worded command _ _ (rw c.in-Check.is at c.in-Ok-command_in.ensures.some)
-          (runs_short g.S.Shelf command _ _ [] [] [] (begun g.S.Shelf command _)),
-      c.finish-in-Check.ensures.written,
-    )
+returns-clause-right g c = (
+  _,
+  _,
+  worded (check c.in-Check.circuit.now c.in-Check.formula.now c.in-Check.depth c.in-Check.conflicts c.in-Check.plain c.in-Check.proof) _ _
+      (rw c.in-Check.is at c.in-Ok-command_in.ensures.some) (c.check-due.ensures.follows c.in-Check.proof),
+  c.finish-in-Check.ensures.written,
+)
 
 pub returns-clause-err : goal.returns-clause-err
 returns-clause-err g c = (
