@@ -4,5 +4,6 @@ pub mod Growing
 pub mod MeaningLemmas
 pub mod NameSets
 pub mod Posing
+pub mod SameSignals
 pub mod SignalTables
 pub mod Verdicts
