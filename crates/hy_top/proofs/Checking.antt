@@ -66,16 +66,16 @@ module _ (net : Net) (names : List (List ℕ)) (f : Plain) (ask : Ask) where
   check-prefix c (e, other) = untaken c (sym e) (ap is_of_one_kind e ∙ untaken-kind (class_of f.prefix) other)
 
   pub check-limit : (limit : Past) → IsUnchecked net names f.prefix f.body ask (errors.Limit limit) → IsCheck net names f ask (answers.Limit limit.kind limit.limit)
-  check-limit limit (inl (taken, many, kind, number)) =
+  check-limit limit (inl (taken, (many, kind, number))) =
       rw (kind, number) (large_closure (taken-kind (class_of f.prefix) taken) many)
-  check-limit limit (inr (signals, posed, facts, stopped)) =
+  check-limit limit (inr (signals, posed, (facts, stopped))) =
       done _ (taken-kind (class_of f.prefix) posed.taken) signals posed (facts_stop limit facts stopped)
 
   pub check-cnf : (error : McError) (kind : _) (limit : ℕ) (kept : _) → error ≡ errors.CnfLimit kind limit kept → IsUnchecked net names f.prefix f.body ask error
       → IsCheck net names f ask (answers.CnfLimit kind limit kept)
   check-cnf error kind limit kept e is =
       let P : McError → Type 0 = λ x. IsUnchecked net names f.prefix f.body ask x in
-      let (signals, posed, keeps, stopped) = subst P e is in
+      let (signals, posed, (keeps, stopped)) = subst P e is in
       done _ (taken-kind (class_of f.prefix) posed.taken) signals posed (paths_stop kind limit kept keeps stopped)
 
   pub check-name : (name : ℕ) (twice : Bool) (text : List ℕ) → IsUnchecked net names f.prefix f.body ask (errors.Name name twice) → text ≡ name_at names name

@@ -7,9 +7,13 @@ use Rattle.hy_top.proofs.mchyper.check_formula.Goals as goal
 
 pub check-requires-clause-room : goal.check-requires-clause-room
 check-requires-clause-room c =
-    has-room (record { safe = c.safe_nets_are_small.ensures; attached = c.attached_nets_are_small.ensures.variables;
-        fairs = c.attached_nets_are_small.ensures.fairs; copies = c.copies_are_as_large.ensures.variables;
-        copied_fairs = c.copies_are_as_large.ensures.fairs; })
+    has-room (record {
+      safe = c.safe_nets_are_small.ensures;
+      attached = c.attached_nets_are_small.ensures.variables;
+      fairs = c.attached_nets_are_small.ensures.fairs;
+      copies = c.copies_are_as_large.ensures.variables;
+      copied_fairs = c.copies_are_as_large.ensures.fairs;
+    })
     c.args.net.now c.args.names.now c.args.formula.now.prefix _ c.requires.variables c.requires.literals
     (let e = c.len.ensures.len in let s = c.len.ensures.some in omega (arith, e, s)) c.requires.quantifiers
 

@@ -94,7 +94,7 @@ pub returns-clause-right : goal.returns-clause-right
 returns-clause-right g c = (
   _,
   _,
-  worded (check c.in-Check.circuit.now c.in-Check.formula.now c.in-Check.depth c.in-Check.conflicts c.in-Check.plain c.in-Check.proof) _ _
+  worded (check c.in-Check.circuit.now c.in-Check.formula.now c.in-Check.depth c.in-Check.conflicts c.in-Check.bare c.in-Check.proof) _ _
       (rw c.in-Check.is at c.in-Ok-command_in.ensures.some) (c.check-due.ensures.follows c.in-Check.proof),
   c.finish-in-Check.ensures.written,
 )
@@ -102,7 +102,7 @@ returns-clause-right g c = (
 pub returns-clause-err : goal.returns-clause-err
 returns-clause-err g c = (
   _,
-  of_command (check c.in-Check.circuit.now c.in-Check.formula.now c.in-Check.depth c.in-Check.conflicts c.in-Check.plain c.in-Check.proof) _
+  of_command (check c.in-Check.circuit.now c.in-Check.formula.now c.in-Check.depth c.in-Check.conflicts c.in-Check.bare c.in-Check.proof) _
       (rw c.in-Check.is at c.in-Ok-command_in.ensures.some),
   c.finish-in-Check.ensures.err,
 )
