@@ -1,0 +1,5 @@
+pub mod Dominance
+pub mod Answers
+pub mod Leaders
+pub mod Choices
+pub mod Runs

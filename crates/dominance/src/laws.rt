@@ -1,0 +1,1 @@
+//! Laws of dominance and of what is kept where dominated traces are dropped.
