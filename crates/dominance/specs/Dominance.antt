@@ -24,7 +24,7 @@ with_at place t others = take place others ++ t ∷ drop place others
 -- The others show that t does not dominate u: with u at the place the tuple violates the body, and with t it does not.
 pub record Refutes (rule : Lengths) (n : ℕ) (body : Tree) (t u : Trace) (place : ℕ)
     (others : List Trace) : Type 0 where
-  pub place : place < n
+  pub inside : place < n
   pub count : suc (length others) ≡ n
   pub words : Each IsTrace others
   pub violates : ¬ Meets rule body (with_at place u others)

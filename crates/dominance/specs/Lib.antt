@@ -3,3 +3,5 @@ pub mod Answers
 pub mod Leaders
 pub mod Choices
 pub mod Runs
+pub mod Seen
+pub mod Trails

@@ -6,7 +6,7 @@ use Rattle.hy_formula.specs.Quantifiers.{Each}
 use Rattle.hy_finite.specs.declared.lengths.Lengths.{Lengths}
 use Rattle.hy_finite.specs.declared.lengths.Lengths.TheVariants.{Min, Pad}
 use Rattle.hy_finite.specs.Traces.{of_two}
-use Rattle.fin_monitor.specs.Machines.{Machine, codes, next_state, is_accepting}
+use Rattle.fin_monitor.specs.Machines.{Machine, codes, states_of, next_state, is_accepting}
 use Rattle.dominance.specs.declared.reached.Node.{Node}
 
 -- the state after the first codes
@@ -79,6 +79,12 @@ next_node s x choice = record {
   lower = moved s.machine s.rule s.lower x.at x.lower (slice_index s.lower_codes choice);
 }
 
+-- The node is one of states at positions.
+pub record IsInside (s : Pairing) (x : Node) : Type 0 where
+  pub at : x.at ≤ longest s
+  pub upper : x.upper < states_of s.machine
+  pub lower : x.lower < states_of s.machine
+
 -- The node is where the runs stand after n choices.
 pub record Stands (s : Pairing) (choice : ℕ → ℕ) (n : ℕ) (x : Node) : Type 0 where
   pub at : x.at ≡ min n (longest s)
@@ -111,3 +117,8 @@ IsFound s (Some path) =
 IsFound s None =
     (choice : ℕ → ℕ) → ((i : ℕ) → choice i < length s.upper_codes) → (n : ℕ) → first_told s ≤ n
     → ¬ Differ s choice n
+
+-- From the state of a run at its position, where the rest has n positions, the run ends in the other state.
+abbrev pub EndsIn : Machine → Lengths → List ℕ → (ℕ → ℕ) → (n most at q end : ℕ) → Type 0
+EndsIn m rule column code n most at q end =
+    at ≡ min n most → q ≡ state_beside m rule column code n → end ≡ judged_state m rule column code n

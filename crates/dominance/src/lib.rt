@@ -8,9 +8,9 @@ mod others;
 mod pairing;
 mod reached;
 mod rows;
-mod symmetric;
+mod symmetry;
 #[cfg(test)]
 mod tests;
 
 pub use compare::{dominates, Compare, WordList};
-pub use symmetric::symmetric;
+pub use symmetry::symmetric;

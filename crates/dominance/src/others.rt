@@ -2,7 +2,7 @@
 
 use crate::compare::WordList;
 use crate::rows::Row;
-use hy_base::{List, M, NumList};
+use hy_base::{List, M};
 use hy_bits::Letters;
 use std::alloc::Global;
 
@@ -13,7 +13,7 @@ pub(crate) fn others(
     vars: u8,
     place: u8,
     rows: &[Row],
-    path: &NumList,
+    path: &List<usize>,
 ) -> M<WordList> {
     let mut words = List::new(alloc);
     for variable in 0..place {
@@ -26,10 +26,10 @@ pub(crate) fn others(
 }
 
 /// The letters of a variable in the rows of a path.
-fn word(alloc: Global, variable: u8, rows: &[Row], path: &NumList) -> M<Letters> {
+fn word(alloc: Global, variable: u8, rows: &[Row], path: &List<usize>) -> M<Letters> {
     let mut word = List::new(alloc);
     for k in path.as_slice() {
-        word.push(rows[*k as usize][variable as usize])?;
+        word.push(rows[*k][variable as usize])?;
     }
     Ok(word)
 }

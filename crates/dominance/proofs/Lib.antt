@@ -1,0 +1,5 @@
+pub mod Elements
+pub mod Items
+pub mod Leaderships
+pub mod Ascending
+pub mod Replacements
