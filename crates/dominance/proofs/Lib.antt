@@ -3,3 +3,5 @@ pub mod Items
 pub mod Leaderships
 pub mod Ascending
 pub mod Replacements
+pub mod Reaching
+pub mod Standing
