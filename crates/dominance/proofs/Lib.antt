@@ -5,3 +5,4 @@ pub mod Ascending
 pub mod Replacements
 pub mod Reaching
 pub mod Standing
+pub mod Searching

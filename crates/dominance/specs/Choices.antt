@@ -1,7 +1,7 @@
 -- Joint letters that tell all that the atoms of a body ask, and their codes.
-use Rattle.std.specs.Prelude.{◌≡◌, ℕ, ◌<◌, Bool, not, ◌&&◌, nat_eq, List, [], ◌∷◌, take, map, slice_index_or}
+use Rattle.std.specs.Prelude.{◌≡◌, ℕ, ◌<◌, Bool, true, false, not, ◌&&◌, nat_eq, List, [], ◌∷◌, ◌++◌, length, take, map, slice_index_or, slice_set}
 use Rattle.std.specs.List.{Contains, list_any}
-use Rattle.std.specs.FinSet.{empty, contains}
+use Rattle.std.specs.FinSet.{empty, contains, insert}
 use Rattle.hy_bits.specs.Letter.{Letter}
 use Rattle.fin_monitor.specs.Codes.{IndexedAtom, is_atom, code_of, joint_letter}
 use Rattle.fin_monitor.specs.Machines.{Machine}
@@ -14,6 +14,10 @@ Row = List Letter
 abbrev pub says : Row → ℕ → ℕ → Bool
 says row name variable = contains (slice_index_or row variable empty) name
 
+-- the row with a name for a variable besides
+abbrev pub with_name : ℕ → ℕ → Row → Row
+with_name name variable row = slice_set row variable (insert (slice_index_or row variable empty) name)
+
 -- whether some atom asks for the name of the variable, and the place is another one
 abbrev pub is_asked : List IndexedAtom → ℕ → ℕ → ℕ → Bool
 is_asked atoms place name variable = list_any (is_atom name variable) atoms && not (nat_eq variable place)
@@ -21,12 +25,13 @@ is_asked atoms place name variable = list_any (is_atom name variable) atoms && n
 -- Of what is asked the row says what the joint letter does, and nothing else.
 abbrev pub IsAnswer : List IndexedAtom → ℕ → (ℕ → ℕ → Bool) → Row → Type 0
 IsAnswer atoms place letter row =
-    (name variable : ℕ) → variable < 4 → says row name variable ≡ (is_asked atoms place name variable && letter name variable)
+    (name variable : ℕ) → says row name variable ≡ (is_asked atoms place name variable && letter name variable)
 
--- The rows have an answer to each joint letter, and each is one of a joint letter.
+-- The rows have an answer to each joint letter, and say nothing of the place.
 pub record AreRows (atoms : List IndexedAtom) (place : ℕ) (rows : List Row) : Type 0 where
+  pub long : (row : Row) → Contains rows row → length row ≡ 4
   pub answers : (letter : ℕ → ℕ → Bool) → (row : Row) × Contains rows row × IsAnswer atoms place letter row
-  pub only : (row : Row) → Contains rows row → IsAnswer atoms place (says row) row
+  pub silent : (row : Row) → Contains rows row → (name : ℕ) → says row name place ≡ false
 
 -- the code of what a row says for the variables
 abbrev pub row_code : Machine → Row → ℕ

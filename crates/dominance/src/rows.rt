@@ -2,7 +2,7 @@
 
 ghost use Rattle.std.specs.Prelude.{◌≡◌, ◌<◌, ◌≤◌, ◌++◌, map, length, IfOk, OnOk, List as Sequence};
 ghost use Rattle.fin_monitor.specs.Seen.{machine_of};
-ghost use Rattle.dominance.specs.Choices.{AreRows, row_code, turned_code};
+ghost use Rattle.dominance.specs.Choices.{AreRows, with_name, row_code, turned_code};
 
 use fin_monitor::Monitor;
 use hy_base::{List, M, NumList};
@@ -29,7 +29,10 @@ pub(crate) fn rows(alloc: Global, m: &Monitor, place: u8) -> M<List<Row>>
 }
 
 /// Adds to the rows each of them with the name of an atom besides.
-fn double(rows: &mut List<Row>, a: Atom) -> M<()> {
+fn double(rows: &mut List<Row>, a: Atom) -> M<()>
+    requires { a.var < 4 }
+    ensures { OnOk result (rows.new ≡ rows.old ++ map (with_name a.name a.var) rows.old) }
+{
     for k in 0..rows.len() {
         let row = with_atom(rows.at(k), a);
         rows.push(row)?;
@@ -38,11 +41,13 @@ fn double(rows: &mut List<Row>, a: Atom) -> M<()> {
 }
 
 /// The row with the name of an atom besides.
-fn with_atom(row: &Row, a: Atom) -> Row {
+fn with_atom(row: &Row, a: Atom) -> Row
+    requires { a.var < 4 }
+    ensures { result ≡ with_name a.name a.var row.now }
+{
     let mut row = *row;
-    if let Some(letter) = row.get_mut(a.var as usize) {
-        *letter = letter.with(a.name as usize);
-    }
+    let variable = a.var as usize;
+    row[variable] = row[variable].with(a.name as usize);
     row
 }
 
