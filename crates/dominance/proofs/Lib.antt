@@ -6,3 +6,4 @@ pub mod Replacements
 pub mod Reaching
 pub mod Standing
 pub mod Searching
+pub mod Asking
