@@ -7,3 +7,5 @@ pub mod Reaching
 pub mod Standing
 pub mod Searching
 pub mod Asking
+pub mod Meaning
+pub mod Exchanging

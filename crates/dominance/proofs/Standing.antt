@@ -87,10 +87,10 @@ module _ (s : Pairing) (choice : ℕ → ℕ) where
 
 -- ---- the end
 
-ended-before : (code : ℕ → ℕ) (n i : ℕ) → i < n → ended code n i ≡ code i
+pub ended-before : (code : ℕ → ℕ) (n i : ℕ) → i < n → ended code n i ≡ code i
 ended-before code n i lt = ap (λ b. cond b (code i) 0) (lt-ltb i n lt)
 
-ended-past : (code : ℕ → ℕ) (n i : ℕ) → n ≤ i → ended code n i ≡ 0
+pub ended-past : (code : ℕ → ℕ) (n i : ℕ) → n ≤ i → ended code n i ≡ 0
 ended-past code n i le = ap (λ b. cond b (code i) 0) (le-ltb i n le)
 
 module _ (m : Machine) (column : List ℕ) (code : ℕ → ℕ) (n most at q : ℕ) (short : length column ≤ most) where

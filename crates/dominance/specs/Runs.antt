@@ -50,6 +50,10 @@ pub record Pairing : Type 0 where
   pub upper_codes : List ℕ
   pub lower_codes : List ℕ
 
+-- two runs with no column, over all lengths of the rest
+abbrev pub even_pairing : Machine → List ℕ → List ℕ → Pairing
+even_pairing m upper lower = record { machine = m; rule = Pad; upper = []; lower = []; upper_codes = upper; lower_codes = lower }
+
 -- Each is the code of a joint letter.
 abbrev pub AreCodesOf : Machine → List ℕ → Type 0
 AreCodesOf m list = (i : ℕ) → slice_index list i < codes m
@@ -122,3 +126,8 @@ IsFound s None =
 abbrev pub EndsIn : Machine → Lengths → List ℕ → (ℕ → ℕ) → (n most at q end : ℕ) → Type 0
 EndsIn m rule column code n most at q end =
     at ≡ min n most → q ≡ state_beside m rule column code n → end ≡ judged_state m rule column code n
+
+-- Whether some choices are found by which the runs differ.
+abbrev pub IsFoundOrNot : Pairing → Bool → Type 0
+IsFoundOrNot s true = (path : List ℕ) × IsFound s (Some path)
+IsFoundOrNot s false = IsFound s None

@@ -1,9 +1,10 @@
 //! Whether the order of two traces matters.
 
-ghost use Rattle.std.specs.Prelude.{◌≡◌, ◌↔◌, ◌<◌, IfOk, IsTrue};
+ghost use Rattle.std.specs.Prelude.{◌≡◌, ◌↔◌, ◌<◌, length, IfOk, IsTrue};
 ghost use Rattle.hy_finite.specs.declared.lengths.Lengths.{Lengths as Rule};
 ghost use Rattle.fin_monitor.specs.Seen.{machine_of};
 ghost use Rattle.dominance.specs.Dominance.{IsSymmetric};
+ghost use Rattle.dominance.specs.Runs.{AreCodesOf, IsFoundOrNot, even_pairing};
 
 use crate::pairing::Pairing;
 use crate::rows::{row_codes, rows, turned_codes};
@@ -41,21 +42,36 @@ fn symmetric_on<L: Ledger>(alloc: Global, m: &Monitor, blank: Blank) -> M<bool>
     let rows = rows(alloc, m, 2)?;
     let codes = row_codes(alloc, m, rows.as_slice())?;
     let turned = turned_codes(alloc, m, rows.as_slice())?;
-    let there = Pairing {
+    let there = apart(alloc, m, codes.as_slice(), turned.as_slice(), &mut steps)?;
+    let back = apart(alloc, m, turned.as_slice(), codes.as_slice(), &mut steps)?;
+    Ok(!there && !back)
+}
+
+/// Whether there are choices, of any number, after whose upper codes the monitor accepts, and after
+/// whose lower codes it does not.
+fn apart<L: Ledger>(
+    alloc: Global,
+    m: &Monitor,
+    upper_codes: &[u32],
+    lower_codes: &[u32],
+    steps: &mut Steps<L>,
+) -> M<bool>
+    requires upper { AreCodesOf (machine_of m.now) upper_codes.now }
+    requires lower { AreCodesOf (machine_of m.now) lower_codes.now }
+    requires same { length lower_codes.now ≡ length upper_codes.now }
+    ensures { IfOk result (IsFoundOrNot
+        (even_pairing (machine_of m.now) upper_codes.now lower_codes.now)) }
+{
+    let pairing = Pairing {
         monitor: m,
         lengths: Lengths::Pad,
         upper: &[],
         lower: &[],
-        upper_codes: codes.as_slice(),
-        lower_codes: turned.as_slice(),
+        upper_codes,
+        lower_codes,
     };
-    if there.search(alloc, &mut steps)?.is_some() {
-        return Ok(false);
+    match pairing.search(alloc, steps)? {
+        Some(_path) => Ok(true),
+        None => Ok(false),
     }
-    let back = Pairing {
-        upper_codes: turned.as_slice(),
-        lower_codes: codes.as_slice(),
-        ..there
-    };
-    Ok(back.search(alloc, &mut steps)?.is_none())
 }
