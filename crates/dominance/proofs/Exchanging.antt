@@ -282,9 +282,3 @@ symmetric-answer m is two rows are upper lower lower' upper' up low low' up' the
         let some = first-some m _ _ (length path) d.upper d.lower in
         (λ f. absurd (cc), λ s. absurd (back-differs m is two rows are path (below' path each) some rule d s))
     step false false h k = (λ _. none-symmetric m is two rows are h k rule, λ _. refl)
-
--- codes of rows are codes
-pub codes-of-rows : (f : Row → ℕ) (n : ℕ) → 0 < n → ((row : Row) → f row < n) → (rows : List Row) (i : ℕ) → slice_index (map f rows) i < n
-codes-of-rows f n some h [] i = some
-codes-of-rows f n some h (row ∷ rows) zero = h row
-codes-of-rows f n some h (row ∷ rows) (suc i) = codes-of-rows f n some h rows i

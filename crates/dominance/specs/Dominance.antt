@@ -17,6 +17,13 @@ Dominates rule n body t u =
     → length before + suc (length after) ≡ n
     → ¬ Meets rule body (before ++ u ∷ after) → ¬ Meets rule body (before ++ t ∷ after)
 
+-- The same at one place alone.
+abbrev pub DominatesAt : Lengths → ℕ → Tree → ℕ → Trace → Trace → Type 0
+DominatesAt rule n body place t u =
+    (before after : List Trace) → Each IsTrace before → Each IsTrace after → length before ≡ place
+    → length before + suc (length after) ≡ n
+    → ¬ Meets rule body (before ++ u ∷ after) → ¬ Meets rule body (before ++ t ∷ after)
+
 -- the tuple with a trace at a place, and the others at the other places, in order
 abbrev pub with_at : ℕ → Trace → List Trace → List Trace
 with_at place t others = take place others ++ t ∷ drop place others

@@ -1,8 +1,10 @@
 //! Whether a trace dominates another.
 
-ghost use Rattle.std.specs.Prelude.{◌≡◌, ◌<◌, IfOk};
+ghost use Rattle.std.specs.Prelude.{◌≡◌, ◌↔◌, ◌<◌, ◌≤◌, ◌∷◌, [], length, IfOk, IsTrue};
+ghost use Rattle.hy_finite.specs.declared.lengths.Lengths.{Lengths as Rule};
+ghost use Rattle.hy_finite.specs.Traces.{Meets};
 ghost use Rattle.fin_monitor.specs.Seen.{machine_of};
-ghost use Rattle.dominance.specs.Answers.{IsComparison};
+ghost use Rattle.dominance.specs.Answers.{IsComparison, IsAnswerAt};
 
 use crate::column::column;
 use crate::others::others;
@@ -10,7 +12,7 @@ use crate::pairing::Pairing;
 use crate::rows::{row_codes, rows};
 use fin_monitor::Monitor;
 use hy_base::{List, M, Steps};
-use hy_bits::Letters;
+use hy_bits::{LetterMask, Letters};
 use hy_finite::{Lengths, Trace};
 use std::alloc::Global;
 use std::marker::Brand;
@@ -64,6 +66,8 @@ fn compare_on<L: Ledger>(
         (machine_of m.now).body t.now u.now) }
 {
     let mut steps = Steps::<L>::new(blank);
+    prove!(t.len() > 0 && u.len() > 0);
+    let (t, u) = (t.as_slice(), u.as_slice());
     if m.vars() == 1 {
         return Ok(alone(alloc, m, t, u, &mut steps));
     }
@@ -79,16 +83,23 @@ fn compare_on<L: Ledger>(
 fn refuting<L: Ledger>(
     alloc: Global,
     m: &Monitor,
-    t: &Trace,
-    u: &Trace,
+    t: &[LetterMask],
+    u: &[LetterMask],
     lengths: Lengths,
     place: u8,
     steps: &mut Steps<L>,
-) -> M<Option<WordList>> {
+) -> M<Option<WordList>>
+    requires some_t { 1 ≤ length t.now }
+    requires some_u { 1 ≤ length u.now }
+    requires two { 2 ≤ (machine_of m.now).variables }
+    requires place { place < (machine_of m.now).variables }
+    ensures { IfOk result (IsAnswerAt lengths (machine_of m.now).variables
+        (machine_of m.now).body place t.now u.now) }
+{
     let rows = rows(alloc, m, place)?;
     let codes = row_codes(alloc, m, rows.as_slice())?;
-    let upper = column(alloc, m, place, t.as_slice())?;
-    let lower = column(alloc, m, place, u.as_slice())?;
+    let upper = column(alloc, m, place, t)?;
+    let lower = column(alloc, m, place, u)?;
     let pairing = Pairing {
         monitor: m,
         lengths,
@@ -107,11 +118,14 @@ fn refuting<L: Ledger>(
 fn alone<L: Ledger>(
     alloc: Global,
     m: &Monitor,
-    t: &Trace,
-    u: &Trace,
+    t: &[LetterMask],
+    u: &[LetterMask],
     steps: &mut Steps<L>,
 ) -> Compare
-    requires { (machine_of m.now).variables ≡ 1 }
+    requires one { (machine_of m.now).variables ≡ 1 }
+    requires some_t { 1 ≤ length t.now }
+    requires some_u { 1 ≤ length u.now }
+    ensures { (rule : Rule) → IsComparison rule 1 (machine_of m.now).body t.now u.now result }
 {
     if satisfies(m, t, steps) && !satisfies(m, u, steps) {
         Compare::No {
@@ -124,11 +138,13 @@ fn alone<L: Ledger>(
 }
 
 /// Whether a trace alone satisfies the body.
-fn satisfies<L: Ledger>(m: &Monitor, t: &Trace, steps: &mut Steps<L>) -> bool
-    requires { (machine_of m.now).variables ≡ 1 }
+fn satisfies<L: Ledger>(m: &Monitor, t: &[LetterMask], steps: &mut Steps<L>) -> bool
+    requires one { (machine_of m.now).variables ≡ 1 }
+    requires some { 1 ≤ length t.now }
+    ensures { (rule : Rule) → IsTrue result ↔ Meets rule (machine_of m.now).body (t.now ∷ []) }
 {
     let mut q = m.start();
-    for letter in t.as_slice() {
+    for letter in t {
         q = m.step(q, m.joint(&[*letter]), steps);
     }
     m.accepts(q)

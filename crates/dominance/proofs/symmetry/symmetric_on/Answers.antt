@@ -7,15 +7,16 @@ use Rattle.fin_monitor.specs.Seen.{machine_of}
 use Rattle.fin_monitor.proofs.CodeBits.{code-lt}
 use Rattle.dominance.specs.Choices.{Row, row_code, turned, turned_code}
 use Rattle.dominance.specs.Runs.{AreCodesOf}
-use Rattle.dominance.proofs.Exchanging.{symmetric-answer, codes-of-rows}
+use Rattle.dominance.proofs.Exchanging.{symmetric-answer}
+use Rattle.dominance.proofs.Meaning.{codes-of}
 use Rattle.dominance.proofs.symmetry.symmetric_on.Goals as goal
 use Rattle.dominance.proofs.symmetry.symmetric_on.Goals.{then-not-there, else-not-there}
 
 rows-below : (m : Machine) (rows : List Row) (list : List ℕ) → list ≡ map (row_code m) rows → AreCodesOf m list
-rows-below m rows list is = let P : List ℕ → Type 0 = AreCodesOf m in subst P (sym is) (codes-of-rows (row_code m) (codes m) (pow_pos (length m.atoms)) (λ row. code-lt _ m.atoms) rows)
+rows-below m rows list is = let P : List ℕ → Type 0 = AreCodesOf m in subst P (sym is) (codes-of (row_code m) (codes m) (pow_pos (length m.atoms)) (λ row. code-lt _ m.atoms) rows)
 
 turned-below : (m : Machine) (rows : List Row) (list : List ℕ) → list ≡ map (turned_code m) rows → AreCodesOf m list
-turned-below m rows list is = let P : List ℕ → Type 0 = AreCodesOf m in subst P (sym is) (codes-of-rows (turned_code m) (codes m) (pow_pos (length m.atoms)) (λ row. code-lt _ m.atoms) rows)
+turned-below m rows list is = let P : List ℕ → Type 0 = AreCodesOf m in subst P (sym is) (codes-of (turned_code m) (codes m) (pow_pos (length m.atoms)) (λ row. code-lt _ m.atoms) rows)
 
 pub apart-requires-clause-upper : goal.apart-requires-clause-upper
 apart-requires-clause-upper g c = rows-below (machine_of c.args.m.now) c.as_slice.result.now c.as_slice-3.result.now (c.as_slice-3.ensures ∙ c.in_ok-codes.ensures)
