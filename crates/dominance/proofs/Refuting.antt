@@ -1,5 +1,5 @@
 -- What a search at a place says of dominance there.
-use Rattle.std.proofs.Common.{◌≡◌, ◌↔◌, ℕ, zero, suc, ◌+◌, ◌-◌, ◌<◌, ◌≤◌, min, max, Bool, true, false, not, ◌&&◌, nat_eq, List, [], ◌∷◌, ◌++◌, length, take, drop, map, Some, None, inl, inr, refl, sym, ap, ◌∙◌, subst, arith, get_or, length-append}
+use Rattle.std.proofs.Common.{◌≡◌, ◌↔◌, ℕ, zero, suc, ◌+◌, ◌-◌, ◌<◌, ◌≤◌, min, max, Bool, true, false, not, ◌&&◌, nat_eq, List, [], ◌∷◌, ◌++◌, length, take, drop, map, Option, Some, None, inl, inr, refl, sym, ap, ◌∙◌, subst, arith, get_or, length-append}
 use Rattle.std.specs.List.{Contains}
 use Rattle.std.specs.FinSet.{empty, contains}
 use Rattle.std.proofs.lemmas.Bool.{cases_lt, eqb-true, eq-eqb, ne_eqb}
@@ -235,3 +235,16 @@ module _ (m : Machine) (is : IsMonitor m) (rule : Lengths) (rows : List Row) (t 
           violates = subst T (sym (with-left before after place u at)) (λ meets. let e = low.1 meets in let d = differ.lower in cc);
           satisfies = subst S (sym (with-left before after place t at)) (up.0 differ.upper);
         }
+
+-- the pairing of a place, by lists that are equal to its own
+pub found-at : (m : Machine) (rule : Lengths) (place : ℕ) (rows : List Row) (t u : Trace) (upper lower codes codes' : List ℕ) (found : Option (List ℕ))
+    → upper ≡ map (part_of m.atoms place) t → lower ≡ map (part_of m.atoms place) u → codes ≡ map (row_code m) rows → codes' ≡ map (row_code m) rows
+    → IsFound (record { machine = m; rule = rule; upper = upper; lower = lower; upper_codes = codes; lower_codes = codes' }) found
+    → IsFound (pairing_at m rule place rows t u) found
+found-at m rule place rows t u upper lower codes codes' found a b c d h =
+    let P : List ℕ → List ℕ → List ℕ → List ℕ → Type 0 = λ w x y z. IsFound (record { machine = m; rule = rule; upper = w; lower = x; upper_codes = y; lower_codes = z }) found in
+    let Q : List ℕ → Type 0 = λ w. P w lower codes codes' in
+    let R : List ℕ → Type 0 = λ x. P (map (part_of m.atoms place) t) x codes codes' in
+    let S : List ℕ → Type 0 = λ y. P (map (part_of m.atoms place) t) (map (part_of m.atoms place) u) y codes' in
+    let T : List ℕ → Type 0 = λ z. P (map (part_of m.atoms place) t) (map (part_of m.atoms place) u) (map (row_code m) rows) z in
+    subst T d (subst S c (subst R b (subst Q a h)))
