@@ -9,5 +9,3 @@ pub mod Searching
 pub mod Asking
 pub mod Meaning
 pub mod Exchanging
-pub mod Beside
-pub mod Refuting

@@ -1,5 +1,4 @@
 pub mod Dominance
-pub mod Answers
 pub mod Leaders
 pub mod Choices
 pub mod Runs

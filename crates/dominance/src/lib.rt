@@ -1,10 +1,8 @@
-//! Which finite traces dominate which, and what is kept of traces where dominated ones are dropped.
+//! Whether the order of two finite traces matters, and when one dominates another: what is kept of a
+//! list of traces where dominated ones are dropped, and that by this no verdict changes.
 #![tactic(auto)]
 
-mod column;
-mod compare;
 pub mod laws;
-mod others;
 mod pairing;
 mod reached;
 mod rows;
@@ -12,5 +10,4 @@ mod symmetry;
 #[cfg(test)]
 mod tests;
 
-pub use compare::{dominates, Compare, WordList};
 pub use symmetry::symmetric;
