@@ -1,10 +1,10 @@
 -- The leaders of a list are one list.
-use Rattle.std.proofs.Common.{◌≡◌, ℕ, suc, ◌+◌, ◌<◌, ◌⊎◌, Bool, true, false, List, [], ◌∷◌, ◌++◌, length, Some, inl, inr, refl, sym, ap, ◌∙◌, subst, arith}
+use Rattle.std.proofs.Common.{◌≡◌, ◌<◌, ◌⊎◌, List, [], ◌∷◌, inl, inr, refl, sym, ap, ◌∙◌, arith}
 use Rattle.std.specs.List.{Contains}
 use Rattle.hy_formula.specs.Quantifiers.{Each}
-use Rattle.dominance.specs.Leaders.{Numbered, numbered, IsAscending, AreLeaders}
+use Rattle.dominance.specs.Leaders.{Numbered, IsAscending, AreLeaders}
 use Rattle.dominance.proofs.Elements.{contains-here, contains-later, contains-cases, contains-none}
-use Rattle.dominance.proofs.Elements.{each-from, each-at}
+use Rattle.dominance.proofs.Elements.{each-at}
 
 not-below : {A : Type 0} (x : Numbered A) (xs : List (Numbered A)) → Each (λ (y : Numbered A). x.number < y.number) xs → (y : Numbered A) → y.number ≡ x.number → ¬ Contains xs y
 not-below {A} x xs below y e c = let lt : x.number < y.number = each-at (λ (y : Numbered A). x.number < y.number) xs y below c in omega arith
@@ -31,4 +31,3 @@ ascending-same {A} (x ∷ xs) (y ∷ ys) (bx, p) (by, q) f g = joined (contains-
 pub leaders-one : {A : Type 0} (Over : A → A → Type 0) (list : List A) (xs ys : List (Numbered A)) → AreLeaders Over list xs → AreLeaders Over list ys → xs ≡ ys
 leaders-one Over list xs ys p q =
     ascending-same xs ys p.ascending q.ascending (λ x c. (q.exact x.number x.item).1 ((p.exact x.number x.item).0 c)) (λ x c. (p.exact x.number x.item).1 ((q.exact x.number x.item).0 c))
-

@@ -1,6 +1,6 @@
 -- Rows that answer each joint letter, as atom after atom is taken in.
-use Rattle.std.proofs.Common.{◌≡◌, ◌⊎◌, ℕ, zero, suc, ◌+◌, ◌*◌, ◌<◌, ◌≤◌, Bool, true, false, not, ◌&&◌, ◌||◌, nat_eq, cond, List, [], ◌∷◌, ◌++◌, length, take, map, set, inl, inr, refl, sym, ap, ◌∙◌, subst, arith, get_or, length-append}
-use Rattle.std.specs.Prelude.{replicate, nat_lt}
+use Rattle.std.proofs.Common.{◌≡◌, ◌⊎◌, ℕ, zero, suc, ◌+◌, ◌*◌, ◌<◌, ◌≤◌, Bool, true, false, not, ◌&&◌, ◌||◌, nat_eq, cond, List, [], ◌∷◌, ◌++◌, length, take, map, inl, inr, refl, sym, ap, ◌∙◌, subst, arith, get_or}
+use Rattle.std.specs.Prelude.{replicate}
 use Rattle.std.specs.List.{Contains, list_any}
 use Rattle.std.specs.FinSet.{empty, contains, insert, contains-empty}
 use Rattle.std.specs.Ordering.{nat_cmp}
@@ -9,7 +9,6 @@ use Rattle.std.proofs.lemmas.List.{take_more, get_or_append_left, get_or-set_sam
 use Rattle.std.proofs.lemmas.List.Folds.{list_any-append}
 use Rattle.std.proofs.lemmas.List.Elements.{Contains-append_left, Contains-append_right, Contains-append_cases}
 use Rattle.hy_bits.specs.BinaryLaws.{contains-insert_same, contains-insert_other}
-use Rattle.hy_bits.specs.Letter.{Letter}
 use Rattle.hy_formula.specs.Quantifiers.{Each}
 use Rattle.hy_formula.specs.Trees as tree
 use Rattle.hy_formula.specs.Trees.{Tree, vars_below}
@@ -207,29 +206,33 @@ rows-double atoms a place rows are apart lt = record { long = long; answers = an
         step true is =
             let (row, c, h) = are.answers letter in
             let four = are.long row c in
-            let inside : a.variable < length row = omega arith in
-            (with_name a.name a.variable row, Contains-append_right rows (map (with_name a.name a.variable) rows) _ (contains-map (with_name a.name a.variable) rows row c),
-            λ name variable. elim (same-atom a name variable) [
-              | inl (e, f) ↦
-                  let P : ℕ → ℕ → Type 0 = λ n v. says (with_name a.name a.variable row) n v ≡ (is_asked (atoms ++ a ∷ []) place n v && letter n v) in
-                  let Q : ℕ → Type 0 = λ n. P n a.variable in
-                  let R : ℕ → Type 0 = P name in
-                  subst R (sym f) (subst Q (sym e) (and-of _ _ _ (asked-now atoms a place apart) (says-now row a.name a.variable inside ∙ sym is)))
-              | inr other ↦
-                  says-other row a.name a.variable name variable (λ (e, f). let g : is_atom name variable a ≡ true = ap (λ n. is_atom n variable a) e ∙ ap (λ v. is_atom a.name v a) f ∙ is-atom-itself a in absurd (cc)) inside
-                  ∙ h name variable ∙ ap (λ b. b && letter name variable) (sym (asked-other atoms a place name variable other))
-            ])
+            let inside : a.variable < length row = omega arith in (
+              with_name a.name a.variable row,
+              Contains-append_right rows (map (with_name a.name a.variable) rows) _ (contains-map (with_name a.name a.variable) rows row c),
+              λ name variable. elim (same-atom a name variable) [
+                | inl (e, f) ↦
+                    let P : ℕ → ℕ → Type 0 = λ n v. says (with_name a.name a.variable row) n v ≡ (is_asked (atoms ++ a ∷ []) place n v && letter n v) in
+                    let Q : ℕ → Type 0 = λ n. P n a.variable in
+                    let R : ℕ → Type 0 = P name in
+                    subst R (sym f) (subst Q (sym e) (and-of _ _ _ (asked-now atoms a place apart) (says-now row a.name a.variable inside ∙ sym is)))
+                | inr other ↦
+                    says-other row a.name a.variable name variable (λ (e, f). let g : is_atom name variable a ≡ true = ap (λ n. is_atom n variable a) e ∙ ap (λ v. is_atom a.name v a) f ∙ is-atom-itself a in absurd (cc)) inside
+                    ∙ h name variable ∙ ap (λ b. b && letter name variable) (sym (asked-other atoms a place name variable other))
+              ],
+            )
         step false is =
-            let (row, c, h) = are.answers letter in
-            (row, Contains-append_left rows (map (with_name a.name a.variable) rows) row c,
-            λ name variable. elim (same-atom a name variable) [
-              | inl (e, f) ↦
-                  let P : ℕ → ℕ → Type 0 = λ n v. says row n v ≡ (is_asked (atoms ++ a ∷ []) place n v && letter n v) in
-                  let Q : ℕ → Type 0 = λ n. P n a.variable in
-                  let R : ℕ → Type 0 = P name in
-                  subst R (sym f) (subst Q (sym e) (h a.name a.variable ∙ no-of _ _ is ∙ sym (no-of _ _ is)))
-              | inr other ↦ h name variable ∙ ap (λ b. b && letter name variable) (sym (asked-other atoms a place name variable other))
-            ])
+            let (row, c, h) = are.answers letter in (
+              row,
+              Contains-append_left rows (map (with_name a.name a.variable) rows) row c,
+              λ name variable. elim (same-atom a name variable) [
+                | inl (e, f) ↦
+                    let P : ℕ → ℕ → Type 0 = λ n v. says row n v ≡ (is_asked (atoms ++ a ∷ []) place n v && letter n v) in
+                    let Q : ℕ → Type 0 = λ n. P n a.variable in
+                    let R : ℕ → Type 0 = P name in
+                    subst R (sym f) (subst Q (sym e) (h a.name a.variable ∙ no-of _ _ is ∙ sym (no-of _ _ is)))
+                | inr other ↦ h name variable ∙ ap (λ b. b && letter name variable) (sym (asked-other atoms a place name variable other))
+              ],
+            )
 
 -- no atom yet
 pub rows-none : (place : ℕ) (row : Row) → row ≡ replicate 4 empty → AreRows [] place (row ∷ [])

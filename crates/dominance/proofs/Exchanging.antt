@@ -1,5 +1,5 @@
 -- When the order of two traces does not matter: traces of one length tell it, and letters of which the atoms ask.
-use Rattle.std.proofs.Common.{◌≡◌, ◌↔◌, ℕ, zero, suc, ◌+◌, ◌<◌, ◌≤◌, max, Bool, true, false, not, ◌&&◌, ◌||◌, nat_eq, List, [], ◌∷◌, length, map, take, Some, None, refl, sym, ap, ◌∙◌, subst, arith, get_or, bit_or}
+use Rattle.std.proofs.Common.{◌≡◌, ◌↔◌, ℕ, zero, suc, ◌<◌, max, Bool, true, false, not, ◌&&◌, nat_eq, List, [], ◌∷◌, length, map, None, refl, sym, ap, ◌∙◌, subst, arith, get_or}
 use Rattle.std.specs.Prelude.{slice_index, IsTrue}
 use Rattle.std.specs.List.{Contains, list_any}
 use Rattle.std.specs.FinSet.{empty, contains}
@@ -16,8 +16,8 @@ use Rattle.hy_finite.proofs.Agreeing.{fitted, length-fit}
 use Rattle.fin_monitor.specs.Codes.{IndexedAtom, is_atom, code_of, joint_letter}
 use Rattle.fin_monitor.specs.Machines.{Machine, IsMonitor, is_accepting}
 use Rattle.dominance.specs.Dominance.{IsTrace, IsSymmetric}
-use Rattle.dominance.specs.Choices.{Row, says, is_asked, IsAnswer, AreRows, row_code, turned, turned_code}
-use Rattle.dominance.specs.Runs.{Pairing, even_pairing, state_on, joint, ended, judged_state, codes_by, chosen, Differ, IsFound, IsFoundOrNot}
+use Rattle.dominance.specs.Choices.{Row, says, IsAnswer, AreRows, row_code, turned, turned_code}
+use Rattle.dominance.specs.Runs.{even_pairing, state_on, joint, ended, judged_state, codes_by, chosen, Differ, IsFound, IsFoundOrNot}
 use Rattle.dominance.proofs.Standing.{state_on-same, ended-before}
 use Rattle.dominance.proofs.Meaning.{meets-state}
 use Rattle.dominance.proofs.Asking.{codes-agree, answer-code, asked-atom, machine-below, atom-below, row-says}

@@ -1,18 +1,17 @@
 -- Nodes that are added last, and the choices that lead to a node.
-use Rattle.std.proofs.Common.{◌≡◌, ℕ, zero, suc, ◌+◌, ◌<◌, ◌≤◌, Bool, true, false, not, ◌&&◌, nat_eq, if◌then◌else◌, List, [], ◌∷◌, ◌++◌, length, inl, inr, refl, sym, ap, ◌∙◌, subst, arith, length-append, append_assoc, append-nil, get_or, slice_get, Some}
+use Rattle.std.proofs.Common.{◌≡◌, ℕ, ◌+◌, ◌<◌, ◌≤◌, Bool, true, false, not, ◌&&◌, nat_eq, if◌then◌else◌, List, [], ◌∷◌, ◌++◌, length, inl, inr, refl, sym, ap, ◌∙◌, subst, arith, length-append, append_assoc, append-nil}
 use Rattle.std.specs.Prelude.{reverse}
 use Rattle.std.specs.List.{Contains}
 use Rattle.std.proofs.lemmas.Bool.{cases_lt, eqb-true}
 use Rattle.std.proofs.lemmas.List.{get_or_append_left, reverse-append}
 use Rattle.std.proofs.lemmas.List.Elements.{Contains-append_left}
-use Rattle.std.proofs.lemmas.Option.{slice_get-get_or}
 use Rattle.std.proofs.Math.Seq.{get_or-append_seam}
 use Rattle.hy_formula.specs.Quantifiers.{Each}
 use Rattle.dominance.specs.declared.reached.Node.{Node}
 use Rattle.dominance.specs.contracts.reached.NodePartialEq.TheImpl.{ghosts}
 use Rattle.dominance.specs.declared.reached.Link.{Link}
 use Rattle.dominance.specs.Runs.{Pairing, IsInside, start_node, next_node}
-use Rattle.dominance.specs.Trails.{node_at, link_at, AreLinked, FollowsBy, AreReached, Grows, led, IsPath, LeadsOn}
+use Rattle.dominance.specs.Trails.{node_at, link_at, AreLinked, FollowsBy, AreReached, Grows, led, LeadsOn}
 
 both : (a b : Bool) → (a && b) ≡ true → (a ≡ true) × (b ≡ true)
 both true true e = (refl, refl)
@@ -75,7 +74,7 @@ reached-more s nodes links x link linked are inside from choice is = record {
         subst P (sym e) (record {
           choice = f.choice;
           next = get_or_append_left nodes (x ∷ []) start_node k old ∙ f.next
-          ∙ ap (λ y. next_node s y (link_at links k).choice) (sym (get_or_append_left nodes (x ∷ []) start_node (link_at links k).from (omega arith)));
+              ∙ ap (λ y. next_node s y (link_at links k).choice) (sym (get_or_append_left nodes (x ∷ []) start_node (link_at links k).from (omega arith)));
         })
     | inr ge ↦
         let P : Link → Type 0 = FollowsBy s (nodes ++ x ∷ []) k in

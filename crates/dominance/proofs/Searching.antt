@@ -1,13 +1,13 @@
 -- What a search over pairs of states has shown.
-use Rattle.std.proofs.Common.{◌≡◌, ℕ, zero, suc, ◌+◌, ◌<◌, ◌≤◌, List, [], ◌∷◌, length, Some, None, inl, inr, refl, sym, ap, ◌∙◌, subst, arith, get_or}
+use Rattle.std.proofs.Common.{◌≡◌, ℕ, zero, suc, ◌+◌, ◌<◌, ◌≤◌, List, length, Some, None, inl, inr, sym, ap, ◌∙◌, subst, arith}
 use Rattle.std.specs.Prelude.{slice_index}
 use Rattle.std.specs.List.{Contains}
 use Rattle.std.proofs.lemmas.Bool.{cases_lt}
 use Rattle.std.proofs.lemmas.Option.{slice_get-get_or, get_or_from_slice_get}
 use Rattle.dominance.specs.declared.reached.Node.{Node}
 use Rattle.dominance.specs.declared.reached.Link.{Link}
-use Rattle.dominance.specs.Runs.{Pairing, IsInside, start_node, next_node, Stands, Differ, first_told, chosen, IsFound}
-use Rattle.dominance.specs.Trails.{node_at, AreLinked, AreReached, Grows, led, IsPath, LeadsOn}
+use Rattle.dominance.specs.Runs.{Pairing, start_node, Stands, Differ, first_told, chosen, IsFound}
+use Rattle.dominance.specs.Trails.{node_at, AreReached, Grows, led, IsPath, LeadsOn}
 use Rattle.dominance.proofs.Reaching.{leads-on, grows-at, grows-length}
 use Rattle.dominance.proofs.Standing.{stands-start, stands-next, stands-led}
 

@@ -1,15 +1,14 @@
 -- Where two runs stand after choices, and how they end.
-use Rattle.std.proofs.Common.{◌≡◌, ℕ, zero, suc, ◌+◌, ◌<◌, ◌≤◌, min, max, Bool, true, false, cond, nat_lt, List, [], ◌∷◌, length, inl, inr, refl, sym, ap, ◌∙◌, subst, arith, get_or, bit_or}
+use Rattle.std.proofs.Common.{◌≡◌, ℕ, zero, suc, ◌+◌, ◌<◌, ◌≤◌, min, max, cond, List, [], ◌∷◌, length, inl, inr, refl, sym, ap, ◌∙◌, subst, arith, bit_or}
 use Rattle.std.specs.Prelude.{slice_index}
-use Rattle.std.specs.List.{Contains}
 use Rattle.std.proofs.lemmas.Bool.{cases_lt, lt-ltb, le-ltb}
 use Rattle.std.proofs.lemmas.List.{get_or_past}
-use Rattle.std.specs.Int.Bits.{or_zero_l, or_zero_r}
+use Rattle.std.specs.Int.Bits.{or_zero_r}
 use Rattle.hy_finite.specs.declared.lengths.Lengths.{Lengths}
 use Rattle.hy_finite.specs.declared.lengths.Lengths.TheVariants.{Min, Pad}
 use Rattle.fin_monitor.specs.Machines.{Machine, next_state}
 use Rattle.dominance.specs.declared.reached.Node.{Node}
-use Rattle.dominance.specs.Runs.{state_on, joint, ended, judged_state, made, state_beside, moved, Pairing, longest, codes_by, start_node, next_node, Stands, EndsIn}
+use Rattle.dominance.specs.Runs.{state_on, joint, ended, state_beside, moved, Pairing, longest, codes_by, start_node, next_node, Stands, EndsIn}
 use Rattle.dominance.specs.Trails.{led}
 
 -- a state depends on the first codes alone

@@ -1,7 +1,6 @@
 -- Two runs of a monitor side by side: one beside each of two columns of codes, with the same choices for the rest.
-use Rattle.std.specs.Prelude.{◌≡◌, ℕ, zero, suc, ◌<◌, ◌≤◌, min, max, Bool, true, false, cond, nat_lt, List, [], ◌∷◌, length, slice_index, Option, Some, None}
+use Rattle.std.specs.Prelude.{◌≡◌, ℕ, zero, suc, ◌<◌, ◌≤◌, min, max, Bool, true, false, cond, nat_lt, List, [], length, slice_index, Option, Some, None}
 use Rattle.std.specs.Int.RustNames.{bit_or}
-use Rattle.std.specs.List.{Contains}
 use Rattle.hy_formula.specs.Quantifiers.{Each}
 use Rattle.hy_finite.specs.declared.lengths.Lengths.{Lengths}
 use Rattle.hy_finite.specs.declared.lengths.Lengths.TheVariants.{Min, Pad}

@@ -95,8 +95,20 @@ impl Pairing<'_> {
         ensures next { result ≡ next_node (pairing_of self.now) node choice }
         ensures inside { IsInside (pairing_of self.now) result }
     {
-        let upper = self.moved(self.upper, node.at, node.upper, self.upper_codes[choice], steps);
-        let lower = self.moved(self.lower, node.at, node.lower, self.lower_codes[choice], steps);
+        let upper = self.moved(
+            self.upper,
+            node.at,
+            node.upper,
+            self.upper_codes[choice],
+            steps,
+        );
+        let lower = self.moved(
+            self.lower,
+            node.at,
+            node.lower,
+            self.lower_codes[choice],
+            steps,
+        );
         Node {
             at: (node.at + 1).min(self.longest()),
             upper,

@@ -1,9 +1,9 @@
-use Rattle.std.proofs.Common.{◌≡◌, ℕ, List, ◌++◌, ◌∷◌, [], map, take, sym, ap, ◌∙◌, subst, arith}
+use Rattle.std.proofs.Common.{List, ◌++◌, ◌∷◌, [], map, take, sym, ap, ◌∙◌, subst}
 use Rattle.std.specs.Prelude.{replicate}
 use Rattle.std.proofs.lemmas.Bool.{ne_eqb}
 use Rattle.fin_monitor.specs.Codes.{IndexedAtom, plain_atom}
 use Rattle.fin_monitor.specs.Seen.{machine_of}
-use Rattle.dominance.specs.Choices.{Row, AreRows, with_name}
+use Rattle.dominance.specs.Choices.{Row, AreRows}
 use Rattle.dominance.proofs.Asking.{rows-none, rows-same, rows-double, taken-all, atom-taken, atom-small}
 use Rattle.dominance.proofs.rows.rows.Goals as goal
 use Rattle.dominance.proofs.rows.rows.Goals.{then-a-place+in_ok-double, else-a-place}

@@ -1,4 +1,4 @@
-use Rattle.std.proofs.Common.{◌≡◌, map, take}
+use Rattle.std.proofs.Common.{map, take}
 use Rattle.fin_monitor.specs.Codes.{plain_atom}
 use Rattle.dominance.specs.Choices.{AreRows}
 use Rattle.dominance.proofs.rows.rows.Given as goal

@@ -1,11 +1,9 @@
-use Rattle.std.proofs.Common.{refl, ◌≡◌, ◌<◌, ℕ, Bool, true, false, List, not, ◌&&◌, length, map, sym, ap, ◌∙◌, subst}
+use Rattle.std.proofs.Common.{refl, ◌≡◌, ℕ, Bool, true, false, List, not, ◌&&◌, length, map, sym, ap, ◌∙◌, subst}
 use Rattle.std.proofs.lemmas.Nat.{pow_pos}
-use Rattle.std.specs.Prelude.{slice_index}
-use Rattle.fin_monitor.specs.Codes.{joint_letter}
 use Rattle.fin_monitor.specs.Machines.{Machine, codes}
 use Rattle.fin_monitor.specs.Seen.{machine_of}
 use Rattle.fin_monitor.proofs.CodeBits.{code-lt}
-use Rattle.dominance.specs.Choices.{Row, row_code, turned, turned_code}
+use Rattle.dominance.specs.Choices.{Row, row_code, turned_code}
 use Rattle.dominance.specs.Runs.{AreCodesOf}
 use Rattle.dominance.proofs.Exchanging.{symmetric-answer}
 use Rattle.dominance.proofs.Meaning.{codes-of}

@@ -1,4 +1,4 @@
-use Rattle.std.proofs.Common.{◌≡◌, ℕ, subst, sym}
+use Rattle.std.proofs.Common.{subst, sym}
 use Rattle.hy_finite.specs.declared.lengths.Lengths.{Lengths}
 use Rattle.fin_monitor.specs.Seen.{machine_of}
 use Rattle.dominance.specs.Runs.{EndsIn}

@@ -1,4 +1,3 @@
-use Rattle.std.proofs.Common.{◌≡◌, ℕ, ◌<◌, ◌≤◌, length}
 use Rattle.dominance.specs.Seen.{pairing_of}
 use Rattle.dominance.specs.Trails.{AreLinked, AreReached, Grows, LeadsOn}
 use Rattle.dominance.proofs.pairing.Pairing.follow.Given as goal

@@ -1,8 +1,7 @@
-use Rattle.std.proofs.Common.{◌≡◌, ℕ, ◌<◌, ◌≤◌, List, length, sym, ap, ◌∙◌, subst, arith}
+use Rattle.std.proofs.Common.{ℕ, ◌≤◌, subst, arith}
 use Rattle.dominance.specs.declared.reached.Node.{Node}
 use Rattle.dominance.specs.Runs.{Pairing, Stands, Differ, first_told}
 use Rattle.dominance.specs.Seen.{pairing_of}
-use Rattle.dominance.specs.Trails.{node_at}
 use Rattle.dominance.proofs.Searching.{done-more, none-differ, path-differs}
 use Rattle.dominance.proofs.pairing.Pairing.search.Goals as goal
 

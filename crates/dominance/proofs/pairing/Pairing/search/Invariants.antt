@@ -1,4 +1,4 @@
-use Rattle.std.proofs.Common.{◌≡◌, ℕ, ◌<◌, ◌≤◌, length}
+use Rattle.std.proofs.Common.{ℕ, ◌<◌}
 use Rattle.dominance.specs.Seen.{pairing_of}
 use Rattle.dominance.specs.Trails.{AreLinked, AreReached}
 use Rattle.dominance.proofs.Searching.{IsDone}

@@ -1,4 +1,4 @@
-use Rattle.std.proofs.Common.{◌≡◌, ℕ, List, ◌++◌, ◌∷◌, [], subst, sym, ap, ◌∙◌}
+use Rattle.std.proofs.Common.{List, ◌++◌, ◌∷◌, [], subst, sym}
 use Rattle.std.specs.List.{Contains}
 use Rattle.indexmap.proofs.CallerLemmas.{Contains-insert_key}
 use Rattle.dominance.specs.declared.reached.Node.{Node}

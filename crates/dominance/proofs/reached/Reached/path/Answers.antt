@@ -1,9 +1,8 @@
-use Rattle.std.proofs.Common.{◌≡◌, ℕ, ◌<◌, ◌++◌, ◌∷◌, [], List, length, sym, ap, ◌∙◌, subst, arith}
+use Rattle.std.proofs.Common.{◌≡◌, ℕ, ◌<◌, List, sym, ap, ◌∙◌, subst, arith}
 use Rattle.std.specs.Prelude.{reverse}
 use Rattle.std.proofs.lemmas.Option.{get_or_from_slice_get}
 use Rattle.dominance.specs.declared.reached.Link.{Link}
 use Rattle.dominance.specs.declared.reached.Node.{Node}
-use Rattle.dominance.specs.Runs.{start_node}
 use Rattle.dominance.specs.Trails.{link_at, led}
 use Rattle.dominance.proofs.Reaching.{Leads, path-back}
 use Rattle.dominance.proofs.reached.Reached.path.Goals as goal

@@ -1,4 +1,4 @@
-use Rattle.std.proofs.Common.{◌≡◌, ◌<◌, length}
+use Rattle.std.proofs.Common.{◌<◌, length}
 use Rattle.std.specs.Prelude.{reverse}
 use Rattle.dominance.specs.Runs.{Pairing}
 use Rattle.dominance.specs.Trails.{AreReached}
