@@ -1,5 +1,5 @@
 -- Elements of lists by their places, and what a filter and a test of all find.
-use Rattle.std.proofs.Common.{◌≡◌, ℕ, zero, suc, ◌<◌, ◌⊎◌, Bool, true, false, not, ◌||◌, cond, List, [], ◌∷◌, ◌++◌, length, inl, inr, refl, sym, ap, ◌∙◌, subst, arith, get_or, length-append}
+use Rattle.std.proofs.Common.{◌≡◌, ℕ, zero, suc, ◌⊎◌, Bool, true, false, not, ◌||◌, cond, List, [], ◌∷◌, ◌++◌, length, inl, inr, refl, sym, ap, ◌∙◌, subst, arith, get_or, length-append}
 use Rattle.std.specs.List.{Contains, list_any, filter}
 use Rattle.std.proofs.lemmas.Bool.{cases_lt}
 use Rattle.std.proofs.lemmas.List.{get_or_append_left}
@@ -26,11 +26,6 @@ at-one [] k x y (lt, e) q = absurd (omega arith)
 at-one (z ∷ zs) zero x y (lt, e) (lt', e') = sym e ∙ e'
 at-one (z ∷ zs) (suc k) x y (lt, e) (lt', e') = at-one zs k x y (omega arith, e) (omega arith, e')
 
-pub at-some : {A : Type 0} (list : List A) (k : ℕ) → k < length list → (x : A) × IsAt list k x
-at-some [] k lt = absurd (omega arith)
-at-some (z ∷ zs) zero lt = (z, (lt, refl))
-at-some (z ∷ zs) (suc k) lt = let (x, (l, e)) = at-some zs k (omega arith) in (x, (lt, e))
-
 pub at-push_old : {A : Type 0} (list : List A) (t : A) (k : ℕ) (x : A) → IsAt list k x → IsAt (list ++ t ∷ []) k x
 at-push_old list t k x (lt, e) = let l = length-append list (t ∷ []) in (omega (arith, l), get_or_append_left list (t ∷ []) x k lt ∙ e)
 
@@ -50,10 +45,6 @@ at-push_cases list t k x (lt, e) =
 pub false-or-true : (b : Bool) → (b ≡ true) ⊎ (b ≡ false)
 false-or-true true = inl refl
 false-or-true false = inr refl
-
-pub is-false : (b : Bool) → ¬ (b ≡ true) → b ≡ false
-is-false true n = absurd (n refl)
-is-false false n = refl
 
 pub not-true : (b : Bool) → not b ≡ true → ¬ (b ≡ true)
 not-true true e f = cc

@@ -1,5 +1,5 @@
 -- What the arrivals leave kept are the leaders.
-use Rattle.std.proofs.Common.{◌≡◌, ℕ, suc, ◌+◌, ◌<◌, Bool, true, false, not, cond, List, [], ◌∷◌, ◌++◌, length, inl, inr, refl, sym, ap, ◌∙◌, subst, arith, length-append, append_assoc, append-nil}
+use Rattle.std.proofs.Common.{◌≡◌, ℕ, suc, ◌<◌, Bool, true, false, not, cond, List, [], ◌∷◌, ◌++◌, length, inl, inr, refl, sym, ap, ◌∙◌, subst, arith, length-append, append_assoc, append-nil}
 use Rattle.std.specs.List.{Contains, list_any, filter}
 use Rattle.std.proofs.lemmas.Bool.{cases_lt}
 use Rattle.std.proofs.lemmas.List.Elements.{Contains-push_cases, Contains-append_left, Contains-push}
@@ -174,14 +174,3 @@ module _ {A : Type 0} (Over : A → A → Type 0) (itself : (t : A) → Over t t
 
     pub are-leaders : (list : List A) → AreLeaders Over list (leaders over list)
     are-leaders list = kept-all list [] [] none-kept
-
--- what is kept after one more
-pub kept-more : {A : Type 0} (over : A → A → Bool) (kept : List (Numbered A)) (k : ℕ) (list : List A) (t : A)
-    → kept_from over kept k (list ++ t ∷ []) ≡ kept_with over (kept_from over kept k list) (numbered (k + length list) t)
-kept-more over kept k [] t = ap (λ q. kept_with over kept (numbered q t)) (let e : k ≡ k + 0 = omega arith in e)
-kept-more over kept k (x ∷ xs) t =
-    kept-more over (kept_with over kept (numbered k x)) (suc k) xs t
-    ∙ ap (λ q. kept_with over (kept_from over (kept_with over kept (numbered k x)) (suc k) xs) (numbered q t)) (let e : suc k + length xs ≡ k + suc (length xs) = omega arith in e)
-
-pub leaders-more : {A : Type 0} (over : A → A → Bool) (list : List A) (t : A) → leaders over (list ++ t ∷ []) ≡ kept_with over (leaders over list) (numbered (length list) t)
-leaders-more over list t = kept-more over [] 0 list t ∙ ap (λ q. kept_with over (leaders over list) (numbered q t)) (let e : 0 + length list ≡ length list = omega arith in e)

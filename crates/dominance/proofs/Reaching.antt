@@ -1,5 +1,5 @@
 -- Nodes that are added last, and the choices that lead to a node.
-use Rattle.std.proofs.Common.{◌≡◌, ℕ, ◌+◌, ◌<◌, ◌≤◌, Bool, true, false, not, ◌&&◌, nat_eq, if◌then◌else◌, List, [], ◌∷◌, ◌++◌, length, inl, inr, refl, sym, ap, ◌∙◌, subst, arith, length-append, append_assoc, append-nil}
+use Rattle.std.proofs.Common.{◌≡◌, ℕ, ◌+◌, ◌<◌, ◌≤◌, Bool, true, false, not, ◌&&◌, nat_eq, if◌then◌else◌, List, [], ◌∷◌, ◌++◌, length, inl, inr, refl, sym, ap, ◌∙◌, subst, arith, length-append, append_assoc}
 use Rattle.std.specs.Prelude.{reverse}
 use Rattle.std.specs.List.{Contains}
 use Rattle.std.proofs.lemmas.Bool.{cases_lt, eqb-true}
@@ -25,9 +25,6 @@ equal-nodes x y e =
     ap (λ k. record { at = k; upper = x.upper; lower = x.lower }) (eqb-true _ _ at)
     ∙ ap (λ k. record { at = y.at; upper = k; lower = x.lower }) (eqb-true _ _ upper)
     ∙ ap (λ k. record { at = y.at; upper = y.upper; lower = k }) (eqb-true _ _ lower)
-
-pub grows-itself : (nodes : List Node) → Grows nodes nodes
-grows-itself nodes = ([], sym (append-nil nodes))
 
 pub grows-through : (a b c : List Node) → Grows a b → Grows b c → Grows a c
 grows-through a b c (m, e) (n, f) = (m ++ n, f ∙ ap (λ l. l ++ n) e ∙ append_assoc a m n)

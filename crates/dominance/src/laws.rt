@@ -16,8 +16,8 @@ pub fn dominance_order()
         → Dominates rule n body t u → Dominates rule n body u v → Dominates rule n body t v }
 {}
 
-/// The leaders after an arrival, from those before and tests of what is kept; by a test of all pairs
-/// those of a whole list. They are one list, and no one dominates another.
+/// The leaders after an arrival, from those before and tests of what is kept; by a test of all
+/// pairs those of a whole list. They are one list, and no one dominates another.
 pub fn leading()
     ensures none { (rule : Rule) (n : ℕ) (body : Tree)
         → AreLeaders (Dominates rule n body) [] [] }
@@ -43,7 +43,8 @@ pub fn leading()
 pub fn replacing()
     ensures any { (rule : Rule) (n : ℕ) (body : Tree) (kept list : List Trace)
         → Each IsTrace list → Each (Contains list) kept
-        → ((t : Trace) → Contains list t → (u : Trace) × Contains kept u × Dominates rule n body u t)
+        → ((t : Trace) → Contains list t
+        → (u : Trace) × Contains kept u × Dominates rule n body u t)
         → Violates rule n body list ↔ Violates rule n body kept }
     ensures leaders { (rule : Rule) (n : ℕ) (body : Tree) (list : List Trace)
         (kept : List (Numbered Trace)) → AreLeaders (Dominates rule n body) list kept

@@ -1,5 +1,5 @@
-//! Whether the order of two finite traces matters, and when one dominates another: what is kept of a
-//! list of traces where dominated ones are dropped, and that by this no verdict changes.
+//! Whether a body minds the order of two finite traces; when a trace dominates another, and what is
+//! kept where dominated ones are dropped.
 #![tactic(auto)]
 
 pub mod laws;

@@ -28,8 +28,8 @@ pub(crate) struct Pairing<'a> {
 }
 
 impl Pairing<'_> {
-    /// Choices, of any number, by which the upper run ends in a state that accepts and the lower one
-    /// in a state that does not; none where there are no such choices.
+    /// Choices, of any number, by which the upper run ends in a state that accepts and the lower
+    /// one in a state that does not; none where there are no such choices.
     ///
     /// Each pair of states is followed once at each position of the longer column: in time at most
     /// the positions, times the pairs that are reached, times the choices.
@@ -148,7 +148,8 @@ impl Pairing<'_> {
         }
     }
 
-    /// Whether from here, if the other places end, the upper run accepts and the lower one does not.
+    /// Whether from here, if the other places end, the upper run accepts and the lower one does
+    /// not.
     fn differ<L: Ledger>(&self, node: Node, steps: &mut Steps<L>) -> bool
         requires pairing { IsPairing (pairing_of self.now) }
         requires node { IsInside (pairing_of self.now) node }
@@ -178,8 +179,8 @@ impl Pairing<'_> {
         }
     }
 
-    /// The state at the end of the tuple, if the other places end at position `at`: under the rule pad
-    /// the column goes on alone.
+    /// The state at the end of the tuple, if the other places end at position `at`: under the rule
+    /// pad the column goes on alone.
     fn at_end<L: Ledger>(&self, column: &[u32], at: usize, q: u32, steps: &mut Steps<L>) -> u32
         requires column { AreCodesOf (machine_of self.now.monitor.now) column.now }
         requires state { q < states_of (machine_of self.now.monitor.now) }

@@ -15,8 +15,8 @@ use std::alloc::Global;
 use std::marker::Brand;
 use std::sync::ledger::{Blank, Ledger};
 
-/// Whether the body of a monitor has two variables, and exchanging two traces never changes whether it
-/// holds of them; the rule for lengths does not matter.
+/// Whether the body of a monitor has two variables, and exchanging two traces never changes whether
+/// it holds of them; the rule for lengths does not matter.
 ///
 /// In time at most the pairs of states, times 2 to the number of atoms.
 pub fn symmetric(alloc: Global, m: &Monitor) -> M<bool>
