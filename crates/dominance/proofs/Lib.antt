@@ -1,0 +1,11 @@
+pub mod Elements
+pub mod Items
+pub mod Leaderships
+pub mod Ascending
+pub mod Replacements
+pub mod Reaching
+pub mod Standing
+pub mod Searching
+pub mod Asking
+pub mod Meaning
+pub mod Exchanging

@@ -1,0 +1,27 @@
+-- What the state after the codes of a tuple says of the body.
+use Rattle.std.proofs.Common.{◌≡◌, ◌↔◌, ℕ, zero, suc, ◌<◌, true, List, [], ◌∷◌, map, get_or, ap, ◌∙◌, refl, arith}
+use Rattle.hy_formula.specs.Temporal.{Words}
+use Rattle.hy_finite.specs.declared.lengths.Lengths.{Lengths}
+use Rattle.hy_finite.specs.Traces.{Trace, judged, trace_words, Meets}
+use Rattle.fin_monitor.specs.Machines.{Machine, IsMonitor, is_accepting, next_state, code_at, state_after}
+use Rattle.fin_monitor.proofs.Running.{accepts-meets}
+use Rattle.dominance.specs.Runs.{state_on}
+use Rattle.dominance.proofs.Standing.{state_on-same}
+
+state-words : (m : Machine) (words : Words) (n : ℕ) → state_on m (λ i. code_at m words i) n ≡ state_after m words n
+state-words m words zero = refl
+state-words m words (suc n) = ap (λ q. next_state m q (code_at m words n)) (state-words m words n)
+
+-- the state after the codes of the joint letters of a tuple accepts exactly where the tuple satisfies the body
+pub meets-state : (m : Machine) → IsMonitor m → (rule : Lengths) (tuple : List Trace) (code : ℕ → ℕ) (n : ℕ) → 0 < n → n ≡ judged rule tuple
+    → ((i : ℕ) → i < n → code i ≡ code_at m (trace_words tuple) i)
+    → (is_accepting m (state_on m code n) ≡ true) ↔ Meets rule m.body tuple
+meets-state m is rule tuple code n some long same =
+    accepts-meets m is rule tuple (omega arith) (state_on m code n) (is_accepting m (state_on m code n)) refl
+    (state_on-same m code (λ i. code_at m (trace_words tuple) i) n same ∙ state-words m (trace_words tuple) n ∙ ap (state_after m (trace_words tuple)) long)
+
+-- numbers that are made of the members of a list
+pub codes-of : {A : Type 0} (f : A → ℕ) (n : ℕ) → 0 < n → ((x : A) → f x < n) → (xs : List A) (i : ℕ) → get_or (map f xs) i 0 < n
+codes-of f n some h [] i = some
+codes-of f n some h (x ∷ xs) zero = h x
+codes-of f n some h (x ∷ xs) (suc i) = codes-of f n some h xs i

@@ -1,0 +1,7 @@
+use Rattle.std.proofs.Common.{map, take}
+use Rattle.fin_monitor.specs.Codes.{plain_atom}
+use Rattle.dominance.specs.Choices.{AreRows}
+use Rattle.dominance.proofs.rows.rows.Given as goal
+
+abbrev pub invariant-loop-a : goal.invariant-loop-a
+invariant-loop-a l = AreRows (map plain_atom (take l.a-index l.a-items)) l.place l.rows

@@ -1,0 +1,6 @@
+pub mod Dominance
+pub mod Leaders
+pub mod Choices
+pub mod Runs
+pub mod Seen
+pub mod Trails
