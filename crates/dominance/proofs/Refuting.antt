@@ -7,12 +7,13 @@ use Rattle.std.proofs.lemmas.List.{get_or-map, length-map, get_or_append_left}
 use Rattle.std.proofs.Math.Seq.{get_or-append_seam}
 use Rattle.hy_bits.specs.Letter.{Letter}
 use Rattle.hy_formula.specs.Quantifiers.{Each}
+use Rattle.hy_formula.specs.Trees.{Tree}
 use Rattle.hy_finite.specs.declared.lengths.Lengths.{Lengths}
 use Rattle.hy_finite.specs.declared.lengths.Lengths.TheVariants.{Min, Pad}
 use Rattle.hy_finite.specs.Traces.{Trace, of_two, judged, trace_words, Meets}
 use Rattle.fin_monitor.specs.Codes.{IndexedAtom, code_of, part_of, joint_letter}
 use Rattle.fin_monitor.specs.Machines.{Machine, IsMonitor, is_accepting}
-use Rattle.dominance.specs.Dominance.{IsTrace, DominatesAt, with_at, Refutes}
+use Rattle.dominance.specs.Dominance.{IsTrace, Dominates, DominatesAt, with_at, Refutes}
 use Rattle.dominance.specs.Choices.{Row, says, IsAnswer, AreRows, row_code, word_of, words_from, other_words}
 use Rattle.dominance.specs.Runs.{Pairing, state_on, joint, ended, judged_state, codes_by, chosen, told_from, Differ, IsFound}
 use Rattle.dominance.proofs.Elements.{each-append, contains-here}
@@ -236,15 +237,49 @@ module _ (m : Machine) (is : IsMonitor m) (rule : Lengths) (rows : List Row) (t 
           satisfies = subst S (sym (with-left before after place t at)) (up.0 differ.upper);
         }
 
--- the pairing of a place, by lists that are equal to its own
-pub found-at : (m : Machine) (rule : Lengths) (place : ℕ) (rows : List Row) (t u : Trace) (upper lower codes codes' : List ℕ) (found : Option (List ℕ))
-    → upper ≡ map (part_of m.atoms place) t → lower ≡ map (part_of m.atoms place) u → codes ≡ map (row_code m) rows → codes' ≡ map (row_code m) rows
-    → IsFound (record { machine = m; rule = rule; upper = upper; lower = lower; upper_codes = codes; lower_codes = codes' }) found
-    → IsFound (pairing_at m rule place rows t u) found
-found-at m rule place rows t u upper lower codes codes' found a b c d h =
-    let P : List ℕ → List ℕ → List ℕ → List ℕ → Type 0 = λ w x y z. IsFound (record { machine = m; rule = rule; upper = w; lower = x; upper_codes = y; lower_codes = z }) found in
-    let Q : List ℕ → Type 0 = λ w. P w lower codes codes' in
-    let R : List ℕ → Type 0 = λ x. P (map (part_of m.atoms place) t) x codes codes' in
-    let S : List ℕ → Type 0 = λ y. P (map (part_of m.atoms place) t) (map (part_of m.atoms place) u) y codes' in
-    let T : List ℕ → Type 0 = λ z. P (map (part_of m.atoms place) t) (map (part_of m.atoms place) u) (map (row_code m) rows) z in
-    subst T d (subst S c (subst R b (subst Q a h)))
+  -- what is found refutes that the one dominates the other there
+  pub found-refutes : IsFound (pairing_at m rule place rows t u) (Some path)
+      → Refutes rule m.variables m.body t u place (other_words rows path m.variables place)
+  found-refutes (each, told, differ) =
+      let P : ℕ → Type 0 = λ n. Each (λ (k : ℕ). k < n) path in
+      path-refutes (subst P (length-map rows (row_code m)) each) told differ
+
+-- what is found by the pairing of a place, by lists that are equal to its own
+pub found-at : (m : Machine) (rule : Lengths) (place : ℕ) (rows : List Row) (t u : Trace)
+    (upper lower codes codes' : List ℕ) (found wanted : Option (List ℕ))
+    → upper ≡ map (part_of m.atoms place) t → lower ≡ map (part_of m.atoms place) u
+    → codes ≡ map (row_code m) rows → codes' ≡ map (row_code m) rows → found ≡ wanted
+    → IsFound (record {
+      machine = m;
+      rule = rule;
+      upper = upper;
+      lower = lower;
+      upper_codes = codes;
+      lower_codes = codes';
+    }) found
+    → IsFound (pairing_at m rule place rows t u) wanted
+found-at m rule place rows t u upper lower codes codes' found wanted a b c d e h =
+    let P : List ℕ → List ℕ → List ℕ → List ℕ → Option (List ℕ) → Type 0 = λ w x y z o.
+        IsFound (record {
+          machine = m;
+          rule = rule;
+          upper = w;
+          lower = x;
+          upper_codes = y;
+          lower_codes = z;
+        }) o in
+    let Q : List ℕ → Type 0 = λ w. P w lower codes codes' found in
+    let R : List ℕ → Type 0 = λ x. P (map (part_of m.atoms place) t) x codes codes' found in
+    let S : List ℕ → Type 0 = λ y.
+        P (map (part_of m.atoms place) t) (map (part_of m.atoms place) u) y codes' found in
+    let T : List ℕ → Type 0 = λ z.
+        P (map (part_of m.atoms place) t) (map (part_of m.atoms place) u) (map (row_code m) rows) z
+        found in
+    let F : Option (List ℕ) → Type 0 = IsFound (pairing_at m rule place rows t u) in
+    subst F e (subst T d (subst S c (subst R b (subst Q a h))))
+
+-- where it does so at each place, the one dominates the other
+pub everywhere : (rule : Lengths) (n : ℕ) (body : Tree) (t u : Trace)
+    → ((p : ℕ) → p < n → DominatesAt rule n body p t u) → Dominates rule n body t u
+everywhere rule n body t u h before after b a count =
+    h (length before) (omega (arith, count)) before after b a refl count
