@@ -1,24 +1,22 @@
 -- A trace at a place, beside others: the codes of the tuple, and what the state where it is judged
 -- says.
-use Rattle.std.proofs.Common.{◌≡◌, ◌↔◌, ℕ, zero, suc, ◌+◌, ◌-◌, ◌*◌, ◌<◌, ◌≤◌, min, max, Bool, true, false, not, ◌&&◌, ◌||◌, nat_eq, List, [], ◌∷◌, ◌++◌, length, take, drop, map, Some, None, inl, inr, refl, sym, ap, ◌∙◌, subst, arith, get_or, bit_or, length-append}
+use Rattle.std.proofs.Common.{◌≡◌, ◌↔◌, ℕ, zero, suc, ◌+◌, ◌*◌, ◌<◌, ◌≤◌, max, Bool, true, false, not, ◌&&◌, ◌||◌, nat_eq, List, [], ◌∷◌, ◌++◌, length, map, inl, inr, refl, sym, ap, ◌∙◌, subst, arith, get_or, bit_or}
 use Rattle.std.specs.Prelude.{slice_index}
-use Rattle.std.specs.List.{Contains, list_any}
 use Rattle.std.specs.Ordering.{nat_cmp}
 use Rattle.std.specs.FinSet.{empty, contains, contains-empty}
-use Rattle.std.specs.Int.Bits.{or_zero_l}
-use Rattle.std.proofs.lemmas.Bool.{cases_lt, eqb-true, eq-eqb, ne_eqb}
-use Rattle.std.proofs.lemmas.List.{get_or-map, length-map, get_or_past, get_or_append_left}
+use Rattle.std.proofs.lemmas.Bool.{cases_lt, eqb-true, eq-eqb}
+use Rattle.std.proofs.lemmas.List.{get_or-map, length-map, get_or_past}
 use Rattle.std.proofs.Math.Seq.{get_or-append_seam}
 use Rattle.hy_bits.specs.Letter.{Letter}
 use Rattle.hy_formula.specs.Quantifiers.{Each}
 use Rattle.hy_finite.specs.declared.lengths.Lengths.{Lengths}
 use Rattle.hy_finite.specs.declared.lengths.Lengths.TheVariants.{Min, Pad}
 use Rattle.hy_finite.specs.Traces.{Trace, of_two, judged, trace_words, Meets}
-use Rattle.fin_monitor.specs.Codes.{IndexedAtom, code_of, one_if, part_of, joint_letter}
+use Rattle.fin_monitor.specs.Codes.{IndexedAtom, code_of, one_if, part_of}
 use Rattle.fin_monitor.specs.Machines.{Machine, IsMonitor, is_accepting, code_at}
 use Rattle.fin_monitor.proofs.CodeBits.{code-or}
-use Rattle.dominance.specs.Dominance.{IsTrace, DominatesAt}
-use Rattle.dominance.specs.Runs.{Pairing, joint, ended, judged_state, codes_by, chosen, told_from, Differ, IsFound}
+use Rattle.dominance.specs.Dominance.{IsTrace}
+use Rattle.dominance.specs.Runs.{joint, ended, judged_state}
 use Rattle.dominance.proofs.Elements.{each-append}
 use Rattle.dominance.proofs.Asking.{codes-agree}
 use Rattle.dominance.proofs.Standing.{ended-before, ended-past}

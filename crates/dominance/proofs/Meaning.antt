@@ -1,5 +1,5 @@
 -- What the state after the codes of a tuple says of the body.
-use Rattle.std.proofs.Common.{◌≡◌, ◌↔◌, ℕ, zero, suc, ◌<◌, ◌≤◌, Bool, true, List, [], ◌∷◌, map, get_or, length, sym, ap, ◌∙◌, refl, subst, arith}
+use Rattle.std.proofs.Common.{◌≡◌, ◌↔◌, ℕ, zero, suc, ◌<◌, true, List, [], ◌∷◌, map, get_or, length, ap, ◌∙◌, refl, arith}
 use Rattle.std.specs.FinSet.{empty, contains}
 use Rattle.hy_bits.specs.Letter.{Letter}
 use Rattle.hy_formula.specs.Trees.{Tree}

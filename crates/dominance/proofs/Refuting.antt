@@ -2,7 +2,7 @@
 use Rattle.std.proofs.Common.{◌≡◌, ◌↔◌, ℕ, zero, suc, ◌+◌, ◌-◌, ◌<◌, ◌≤◌, min, max, Bool, true, false, not, ◌&&◌, nat_eq, List, [], ◌∷◌, ◌++◌, length, take, drop, map, Option, Some, None, inl, inr, refl, sym, ap, ◌∙◌, subst, arith, get_or, length-append}
 use Rattle.std.specs.List.{Contains}
 use Rattle.std.specs.FinSet.{empty, contains}
-use Rattle.std.proofs.lemmas.Bool.{cases_lt, eqb-true, eq-eqb, ne_eqb}
+use Rattle.std.proofs.lemmas.Bool.{cases_lt, eqb-true, eq-eqb}
 use Rattle.std.proofs.lemmas.List.{get_or-map, length-map, get_or_append_left}
 use Rattle.std.proofs.Math.Seq.{get_or-append_seam}
 use Rattle.hy_bits.specs.Letter.{Letter}
@@ -10,11 +10,11 @@ use Rattle.hy_formula.specs.Quantifiers.{Each}
 use Rattle.hy_formula.specs.Trees.{Tree}
 use Rattle.hy_finite.specs.declared.lengths.Lengths.{Lengths}
 use Rattle.hy_finite.specs.declared.lengths.Lengths.TheVariants.{Min, Pad}
-use Rattle.hy_finite.specs.Traces.{Trace, of_two, judged, trace_words, Meets}
-use Rattle.fin_monitor.specs.Codes.{IndexedAtom, code_of, part_of, joint_letter}
+use Rattle.hy_finite.specs.Traces.{Trace, judged, trace_words, Meets}
+use Rattle.fin_monitor.specs.Codes.{code_of, part_of}
 use Rattle.fin_monitor.specs.Machines.{Machine, IsMonitor, is_accepting}
 use Rattle.dominance.specs.Dominance.{IsTrace, Dominates, DominatesAt, with_at, Refutes}
-use Rattle.dominance.specs.Choices.{Row, says, IsAnswer, AreRows, row_code, word_of, words_from, other_words}
+use Rattle.dominance.specs.Choices.{Row, says, AreRows, row_code, word_of, words_from, other_words}
 use Rattle.dominance.specs.Runs.{Pairing, state_on, joint, ended, judged_state, codes_by, chosen, told_from, Differ, IsFound}
 use Rattle.dominance.proofs.Elements.{each-append, each-below}
 use Rattle.dominance.proofs.Asking.{codes-agree, answer-code, row-says, machine-below, atom-below}

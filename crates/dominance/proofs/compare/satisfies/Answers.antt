@@ -1,8 +1,8 @@
-use Rattle.std.proofs.Common.{◌≡◌, ◌+◌, ◌<◌, ℕ, suc, ◌∷◌, [], length, sym, ap, ◌∙◌, subst, arith}
+use Rattle.std.proofs.Common.{◌≡◌, ◌+◌, ℕ, suc, ◌∷◌, [], length, ap, ◌∙◌, arith}
 use Rattle.std.specs.FinSet.{empty}
 use Rattle.hy_formula.specs.Temporal.{Words}
 use Rattle.hy_finite.specs.Traces.{trace_words}
-use Rattle.fin_monitor.specs.Machines.{Machine, next_state, state_after, code_at}
+use Rattle.fin_monitor.specs.Machines.{Machine, next_state, state_after}
 use Rattle.fin_monitor.specs.Seen.{machine_of}
 use Rattle.dominance.proofs.Meaning.{one-code, other-default}
 use Rattle.dominance.proofs.compare.satisfies.Goals as goal
