@@ -10,6 +10,7 @@ use Rattle.aig_net.specs.Executions.{Word}
 use Rattle.chain_check.specs.declared.logs.Learned.{Learned}
 use Rattle.chain_check.specs.Clauses.{Clause, SatisfiesAll}
 use Rattle.live_safe.specs.declared.safe_net.SafeNet.{SafeNet}
+use Rattle.live_safe.specs.Paths.{IsPath}
 use Rattle.sat_core.specs.declared.solving.Outcome.TheVariants.{Satisfied, Spent as SpentOutcome}
 use Rattle.sat_core.specs.Outcomes.{IsOutcome}
 use Rattle.cnf_frames.specs.declared.facts.Fact.{Fact}
@@ -17,7 +18,7 @@ use Rattle.cnf_frames.specs.declared.queries.Asked.TheVariants.{Keep}
 use Rattle.cnf_frames.specs.declared.queries.Query.{Query}
 use Rattle.cnf_frames.specs.declared.queries.FrameError.{FrameError}
 use Rattle.cnf_frames.specs.declared.queries.FrameError.TheVariants.{Limit, Memory}
-use Rattle.cnf_frames.specs.Facts.{AllIn, IsSafe, fact_at}
+use Rattle.cnf_frames.specs.Facts.{AllHold, AllIn, IsSafe, fact_at}
 use Rattle.cnf_frames.specs.Queries.{IsQuery, IsRefusal, clauses_of, group_of, groups, variables_of}
 use Rattle.cnf_frames.specs.QueryPaths.{IsKeepPath, word_of}
 use Rattle.cnf_frames.specs.Proofs.{AreKept, IsRefuted, log_at}
@@ -29,7 +30,7 @@ use Rattle.invar_find.specs.declared.kept.SpentGroup.{SpentGroup}
 use Rattle.invar_find.specs.Kepts.{AreStarting, IsKept, IsSpentGroup, IsStopped}
 use Rattle.invar_find.specs.Parts.{AreThose, HoldsIn, IsOutside, IsSublist}
 use Rattle.invar_find.specs.Searches.{IsSearching}
-use Rattle.invar_find.proofs.Sublists.{sublist-among, sublist-length, sublist-shorter, sublist-trans}
+use Rattle.invar_find.proofs.Sublists.{sublist-among, sublist-length, sublist-shorter, sublist-trans, those-all}
 use Rattle.invar_find.proofs.Starting.{candidate-in, holds-alike}
 use Rattle.invar_find.proofs.Settled.{AreSettled}
 
@@ -66,6 +67,28 @@ part-spent safe conflicts facts left s part was = record {
 
 -- ---- facts that a step breaks
 
+-- A step from a state with all facts.
+step-left : (safe : SafeNet) (conflicts : ℕ) (facts left : List Fact) (gone : List SpentGroup)
+    (state : List Bool) (word : Word) → IsSearching safe conflicts facts gone →
+    IsPath safe.net 1 word → AllHold safe.net facts (word 0) →
+    ((j : ℕ) → j < length safe.net.latches → row state j ≡ word 1 (latch_variable safe.net j)) →
+    AreThose (HoldsIn (row state)) facts left → IsSearching safe conflicts left gone
+step-left safe conflicts facts left gone state word search along known same those = record {
+  starting = part-starting safe facts left search.starting those.sublist;
+  unspent = λ f has. search.unspent f (sublist-among _ _ those.sublist f has);
+  greatest = λ some inductive opens f has.
+      let among = search.greatest some inductive opens in
+      those.whole f (among f has)
+      ((holds-alike safe.net (word 1) (length safe.net.latches) (row state) same f
+      (all-in safe facts search.starting f (among f has))).1
+      (survives safe.net facts some inductive among word along known f has));
+  spent = λ s has. part-spent safe conflicts facts left s those.sublist (search.spent s has);
+  few =
+      let less = sublist-length those.sublist in
+      let few = search.few in
+      omega (arith, less, few);
+}
+
 pub broken-left : (safe : SafeNet) (conflicts group : ℕ) (facts left : List Fact)
     (gone : List SpentGroup) (state : List Bool) (word : Word) →
     IsSearching safe conflicts facts gone →
@@ -74,21 +97,7 @@ pub broken-left : (safe : SafeNet) (conflicts group : ℕ) (facts left : List Fa
     AreThose (HoldsIn (row state)) facts left →
     IsSearching safe conflicts left gone × (length left < length facts)
 broken-left safe conflicts group facts left gone state word search path same those = (
-  record {
-    starting = part-starting safe facts left search.starting those.sublist;
-    unspent = λ f has. search.unspent f (sublist-among _ _ those.sublist f has);
-    greatest = λ some inductive opens f has.
-        let among = search.greatest some inductive opens in
-        those.whole f (among f has)
-        ((holds-alike safe.net (word 1) (length safe.net.latches) (row state) same f
-        (all-in safe facts search.starting f (among f has))).1
-        (survives safe.net facts some inductive among word path.along path.known f has));
-    spent = λ s has. part-spent safe conflicts facts left s those.sublist (search.spent s has);
-    few =
-        let less = sublist-length those.sublist in
-        let few = search.few in
-        omega (arith, less, few);
-  },
+  step-left safe conflicts facts left gone state word search path.along path.known same those,
   let (f, among, fails) = path.fails in
       let here = of-group facts group f among in
       sublist-shorter left facts f those.sublist here (λ has. fails
@@ -110,6 +119,27 @@ satisfied-left safe conflicts group facts left gone state values query is search
     let C : List Clause → Type 0 = SatisfiesAll values in
     broken-left safe conflicts group facts left gone state (word_of safe values) search
     (answered safe (Keep facts group) values is (subst C right.clauses outcome.1)) same those
+
+-- An assignment of a query of other facts is such a step where all facts hold before it.
+pub sifted-left : (safe : SafeNet) (conflicts group : ℕ) (basis facts known left : List Fact)
+    (gone : List SpentGroup) (before state values : List Bool) (query : Query) → IsSafe safe →
+    IsSearching safe conflicts facts gone → IsQuery safe (Keep basis group) query →
+    IsOutcome query.cnf.variables query.cnf.clauses conflicts (Satisfied values) →
+    ((j : ℕ) → j < length safe.net.latches →
+    row before j ≡ word_of safe values 0 (latch_variable safe.net j)) →
+    AreThose (HoldsIn (row before)) facts known → length facts ≤ length known →
+    ((j : ℕ) → j < length safe.net.latches →
+    row state j ≡ word_of safe values 1 (latch_variable safe.net j)) →
+    AreThose (HoldsIn (row state)) facts left → IsSearching safe conflicts left gone
+sifted-left safe conflicts group basis facts known left gone before state values query is search
+    right outcome first holds le same those =
+    let C : List Clause → Type 0 = SatisfiesAll values in
+    let path : IsKeepPath safe.net basis (group_of basis group) (word_of safe values) =
+    answered safe (Keep basis group) values is (subst C right.clauses outcome.1) in
+    step-left safe conflicts facts left gone state (word_of safe values) search path.along
+    (λ f has. (holds-alike safe.net (word_of safe values 0) (length safe.net.latches) (row before)
+    first f (all-in safe facts search.starting f has)).0
+    (those-all (HoldsIn (row before)) facts known holds le f has)) same those
 
 -- ---- groups that were spent
 

@@ -2,10 +2,10 @@
 use Rattle.std.proofs.Common.{◌≡◌, ℕ, ◌+◌, ◌<◌, ◌≤◌, List, [], ◌∷◌, ◌++◌, length, inl, inr, sym, ◌∙◌, subst, arith, take}
 use Rattle.std.specs.Prelude.{Contains, ◌⊎◌}
 use Rattle.std.proofs.lemmas.List.{append-nil, take_all, take_more}
-use Rattle.std.proofs.lemmas.List.Elements.{Contains-append_left, Contains-append_right, Contains-append_cases, Contains-push, Contains-push_cases}
+use Rattle.std.proofs.lemmas.List.Elements.{Contains-append_left, Contains-append_right, Contains-append_cases, Contains-get_or, Contains-push, Contains-push_cases}
 use Rattle.cnf_frames.specs.declared.facts.Fact.{Fact}
 use Rattle.cnf_frames.specs.declared.facts.Fact.TheVariants.{Zero}
-use Rattle.cnf_frames.specs.Facts.{fact_at}
+use Rattle.cnf_frames.specs.Facts.{AllIn, IsIn, fact_at}
 use Rattle.invar_find.specs.Parts.{IsSublist, none, leaves, takes, AreThose}
 
 pub contains-none : {A : Type 0} (x : A) → ¬ Contains [] x
@@ -110,6 +110,26 @@ those-less P all some f those fails = record {
   ];
 }
 
+-- ---- none of which is missing
+
+sublist-whole : (some all : List Fact) → IsSublist some all → length all ≤ length some →
+    (f : Fact) → Contains all f → Contains some f
+sublist-whole some all none le f has = has
+sublist-whole some (g ∷ all) (leaves s) le f has =
+    let h = sublist-length s in absurd (omega (arith, h, le))
+sublist-whole (g ∷ some) (g' ∷ all) (takes s) le f has = elim (contains-cases g f all has) [
+  | inl same ↦
+      let P : Fact → Type 0 = λ x. Contains (g ∷ some) x in
+      subst P same (Contains-append_left (g ∷ []) some g (Contains-push [] g))
+  | inr later ↦
+      Contains-append_right (g ∷ []) some f (sublist-whole some all s (omega (arith, le)) f later)
+]
+
+pub those-all : (P : Fact → Type 0) (all some : List Fact) → AreThose P all some →
+    length all ≤ length some → (f : Fact) → Contains all f → P f
+those-all P all some those le f has =
+    those.right f (sublist-whole some all those.sublist le f has)
+
 -- ---- along a list
 
 pub those-taken : (P : Fact → Type 0) (all some left : List Fact) (i : ℕ) →
@@ -135,3 +155,16 @@ pub those-whole : (P : Fact → Type 0) (all items some : List Fact) (n : ℕ) �
 those-whole P all items some n those e le =
     let A : List Fact → Type 0 = λ all. AreThose P all some in
     subst A (take_all n items le ∙ e) those
+
+pub in-more : (n : ℕ) (facts items basis left : List Fact) (i : ℕ) → AllIn n facts →
+    items ≡ facts → AllIn n basis → i < length items → left ≡ basis ++ fact_at items i ∷ [] →
+    AllIn n left
+in-more n facts items basis left i inside e before lt made f has =
+    let M : List Fact → Type 0 = λ left. Contains left f in
+    elim (Contains-push_cases basis (fact_at items i) f (subst M made has)) [
+      | inl old ↦ before f old
+      | inr same ↦
+          let C : List Fact → Type 0 = λ facts. Contains facts (fact_at items i) in
+          let P : Fact → Type 0 = IsIn n in
+          subst P same (inside (fact_at items i) (subst C e (Contains-get_or items i _ lt)))
+    ]

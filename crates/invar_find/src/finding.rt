@@ -11,6 +11,7 @@ ghost use Rattle.invar_find.specs.Searches.{IsSearching};
 use crate::candidates::candidates;
 use crate::kept::{Kept, SpentGroup, SpentList};
 use crate::left::{held, outside, state_after};
+use crate::sifting::sift;
 use chain_check::Log;
 use cnf_frames::{FrameError, Inv, LogList, keep_query};
 use hy_base::{List, M};
@@ -101,9 +102,10 @@ fn ask_all(
 
 /// Inductive facts: of the candidates (for each latch that it is 0, and that it is 1, and for each
 /// two of the first 512 latches that they are equal, and that they differ) those of the greatest
-/// inductive list, but for groups on whose query `conflicts` clauses were learned in vain. Each
-/// round asks one query for each 64 facts, over clauses linear in the net and in all facts; a
-/// further round is needed only where one left facts out.
+/// inductive list, but for groups on whose query `conflicts` clauses were learned in vain. First
+/// come queries over clauses linear in the net, some for each latch at most, until they leave no
+/// more facts out. Each round then asks one query for each 64 facts, over clauses linear in the net
+/// and in all facts; a further round is needed only where one left facts out.
 ///
 /// # Errors
 ///
@@ -115,6 +117,7 @@ pub fn invariants(alloc: Global, safe: &SafeNet, conflicts: u32) -> Result<Kept,
     ensures refused { IfErr result (IsStopped safe.now) }
 {
     let mut facts = starting(alloc, safe)?;
+    sift(alloc, safe, &mut facts, conflicts)?;
     let mut spent = List::new(alloc);
     'rounds: loop {
         let before = facts.len();

@@ -24,6 +24,18 @@ pub fn state_after<'a>(safe: &SafeNet, values: &'a [bool]) -> &'a [bool]
     &values[first..first + safe.net.latches().len()]
 }
 
+/// The latch values before the step of an assignment.
+pub fn state_before<'a>(safe: &SafeNet, values: &'a [bool]) -> &'a [bool]
+    requires { 2 * variables safe.now.net ≤ length values.now }
+    ensures many { length result.now ≡ length safe.now.net.latches }
+    ensures state { (j : ℕ) → j < length safe.now.net.latches →
+        row result.now j ≡ word_of safe.now values.now 0 (latch_variable safe.now.net j) }
+{
+    safe.net.variables(); // what each net keeps
+    let first = 1 + safe.net.inputs() as usize;
+    &values[first..first + safe.net.latches().len()]
+}
+
 /// Whether the fact holds in a state.
 fn holds(state: &[bool], fact: Fact) -> bool
     requires { IsIn (length state.now) fact }

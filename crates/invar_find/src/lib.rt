@@ -5,6 +5,7 @@ mod candidates;
 mod finding;
 mod kept;
 mod left;
+mod sifting;
 #[cfg(test)]
 mod tests;
 

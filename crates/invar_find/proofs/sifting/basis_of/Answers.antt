@@ -1,0 +1,23 @@
+use Rattle.std.proofs.Common.{List, [], sym, subst, ◌∙◌}
+use Rattle.cnf_frames.specs.declared.facts.Fact.{Fact}
+use Rattle.cnf_frames.specs.Facts.{AllIn}
+use Rattle.invar_find.proofs.Sublists.{contains-none, in-more}
+use Rattle.invar_find.proofs.sifting.basis_of.Goals as goal
+use Rattle.invar_find.proofs.sifting.basis_of.Goals.{then-mark_last+in_ok-push, else-mark_last}
+
+pub loop-fact-init : goal.loop-fact-init
+loop-fact-init c =
+    let A : List Fact → Type 0 = AllIn c.args.latches in
+    subst A (sym c.new-basis.ensures) (λ f has. absurd (contains-none f has))
+
+pub loop-fact-preserved : goal.loop-fact-preserved
+loop-fact-preserved c =
+    elim c.if-mark_last.branch [
+      | then-mark_last+in_ok-push w ↦
+          in-more c.args.latches c.args.facts.now c.as_slice-fact-items.result.now
+          c.loop-fact.basis _ c.loop-fact.fact-index c.requires c.as_slice-fact-items.ensures
+          c.loop-fact.invariant c.loop-fact-test.true (w.basis-is ∙ w.in_ok-push.ensures.added)
+      | else-mark_last w ↦
+          let A : List Fact → Type 0 = AllIn c.args.latches in
+          subst A (sym w.basis-is) c.loop-fact.invariant
+    ]

@@ -1,0 +1,6 @@
+use Rattle.std.proofs.Common.{[]}
+use Rattle.invar_find.specs.Searches.{IsSearching}
+use Rattle.invar_find.proofs.sifting.sift.Given as goal
+
+abbrev pub invariant-loop-step : goal.invariant-loop-step
+invariant-loop-step l = IsSearching l.safe l.conflicts l.facts []

@@ -1,0 +1,6 @@
+use Rattle.std.proofs.Common.{[]}
+use Rattle.invar_find.specs.Searches.{IsSearching}
+use Rattle.invar_find.proofs.sifting.sift_between.Given as goal
+
+abbrev pub invariant-loop-group : goal.invariant-loop-group
+invariant-loop-group l = IsSearching l.safe l.conflicts l.facts []

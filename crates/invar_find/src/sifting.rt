@@ -1,0 +1,153 @@
+//! A search by small queries, before each fact is asked for: those of a few facts that imply the
+//! others.
+
+ghost use Rattle.std.specs.Prelude.{◌≡◌, ℕ, ◌<◌, ◌^◌, [], length, OnOk, IfOk};
+ghost use Rattle.cnf_frames.specs.Facts.{AllIn, IsSafe};
+ghost use Rattle.cnf_frames.specs.Queries.{groups};
+ghost use Rattle.invar_find.specs.Searches.{IsSearching};
+
+use crate::left::{held, state_after, state_before};
+use cnf_frames::{Fact, FrameError, Inv, keep_query};
+use hy_base::{List, M, Memory};
+use live_safe::SafeNet;
+use sat_core::{Outcome, solve};
+use std::alloc::Global;
+use std::mem;
+
+/// The last latch that a fact names.
+fn last_latch(fact: Fact) -> u32 {
+    match fact {
+        Fact::Zero(j) | Fact::One(j) => j,
+        Fact::Same(_, j) | Fact::Differ(_, j) => j,
+    }
+}
+
+/// Marks the last latch that a fact names. Whether it is there and was not marked yet.
+fn mark_last(marks: &mut [bool], fact: Fact) -> bool {
+    match marks.get_mut(last_latch(fact) as usize) {
+        Some(mark) => !mem::replace(mark, true),
+        None => false,
+    }
+}
+
+/// For each latch the first fact that names no later one, in time linear in the facts. Of the facts
+/// that some states have in common these imply all others, since a latch that is no constant is
+/// compared with each that it equals.
+fn basis_of(alloc: Global, facts: &Inv, latches: usize) -> M<Inv>
+    requires { AllIn latches facts.now }
+    ensures { IfOk result (AllIn latches) }
+{
+    let mut marks = vec![in alloc; false; latches]?;
+    let mut basis = List::new(alloc);
+    for fact in facts.as_slice() {
+        if mark_last(marks.as_mut_slice(), *fact) {
+            basis.push(*fact)?;
+        }
+    }
+    Ok(basis)
+}
+
+/// Asks whether a step breaks a fact of a group of the basis. Whether facts were left out: all that
+/// the step breaks, where it goes from a state that has all facts.
+fn sift_group(
+    alloc: Global,
+    safe: &SafeNet,
+    facts: &mut Inv,
+    basis: &Inv,
+    group: u32,
+    conflicts: u32,
+) -> M<bool>
+    requires safe { IsSafe safe.now }
+    requires searching { IsSearching safe.now conflicts facts.old [] }
+    requires inside { AllIn (length safe.now.net.latches) basis.now }
+    requires group { group < groups basis.now }
+    requires conflicts { conflicts < 2 ^ 31 }
+    ensures { OnOk result (IsSearching safe.now conflicts facts.new []) }
+{
+    let query = match keep_query(alloc, safe, basis, group) {
+        Ok(query) => query,
+        Err(FrameError::Limit(_)) => return Ok(false),
+        Err(FrameError::Memory) => return Err(Memory),
+    };
+    let Outcome::Satisfied(values) = solve(alloc, &query.cnf, conflicts)? else {
+        return Ok(false);
+    };
+    let before = facts.len();
+    let known = held(alloc, state_before(safe, values.as_slice()), facts)?;
+    if known.len() < before {
+        return Ok(false);
+    }
+    *facts = held(alloc, state_after(safe, values.as_slice()), facts)?;
+    Ok(true)
+}
+
+/// Asks for the groups of the basis from `first` on and before `end`: the first where facts were left
+/// out.
+fn sift_between(
+    alloc: Global,
+    safe: &SafeNet,
+    facts: &mut Inv,
+    basis: &Inv,
+    first: u32,
+    end: u32,
+    conflicts: u32,
+) -> M<Option<u32>>
+    requires safe { IsSafe safe.now }
+    requires searching { IsSearching safe.now conflicts facts.old [] }
+    requires inside { AllIn (length safe.now.net.latches) basis.now }
+    requires conflicts { conflicts < 2 ^ 31 }
+    ensures { OnOk result (IsSearching safe.now conflicts facts.new []) }
+{
+    for group in first..end {
+        if basis.len() <= 64 * (group as usize) {
+            return Ok(None);
+        }
+        if sift_group(alloc, safe, facts, basis, group, conflicts)? {
+            return Ok(Some(group));
+        }
+    }
+    Ok(None)
+}
+
+/// Asks for the groups of a basis, from group `from` on and then before it: the first where facts
+/// were left out.
+fn sift_once(
+    alloc: Global,
+    safe: &SafeNet,
+    facts: &mut Inv,
+    from: u32,
+    conflicts: u32,
+) -> M<Option<u32>>
+    requires safe { IsSafe safe.now }
+    requires searching { IsSearching safe.now conflicts facts.old [] }
+    requires conflicts { conflicts < 2 ^ 31 }
+    ensures { OnOk result (IsSearching safe.now conflicts facts.new []) }
+{
+    safe.net.variables(); // what each net keeps
+    let latches = safe.net.latches().len();
+    let basis = basis_of(alloc, facts, latches)?;
+    match sift_between(alloc, safe, facts, &basis, from, latches as u32, conflicts)? {
+        Some(group) => Ok(Some(group)),
+        None => sift_between(alloc, safe, facts, &basis, 0, from, conflicts),
+    }
+}
+
+/// Leaves out facts that steps from states with all facts break, as far as small queries find such
+/// steps: mostly all of them. Each query has a basis of the facts, with one fact a latch at most, and
+/// there are at most as many steps as latches, since after each there is one class more of latches
+/// that are equal.
+pub fn sift(alloc: Global, safe: &SafeNet, facts: &mut Inv, conflicts: u32) -> M<()>
+    requires safe { IsSafe safe.now }
+    requires searching { IsSearching safe.now conflicts facts.old [] }
+    requires conflicts { conflicts < 2 ^ 31 }
+    ensures { OnOk result (IsSearching safe.now conflicts facts.new []) }
+{
+    let mut from = 0;
+    for _step in 0..safe.net.latches().len() {
+        match sift_once(alloc, safe, facts, from, conflicts)? {
+            Some(group) => from = group,
+            None => return Ok(()),
+        }
+    }
+    Ok(())
+}
