@@ -24,7 +24,7 @@ use Rattle.mc_core.specs.declared.checked.Checked.{Checked}
 use Rattle.mc_core.specs.declared.checked.Checked.TheVariants as checked
 use Rattle.hy_answer.specs.declared.answer.Answer.{Answer}
 use Rattle.hy_answer.specs.declared.answer.Answer.TheVariants.{Holds, Violated, UnknownDepth, UnknownConflicts, Name, Prefix, Limit, CnfLimit, Memory}
-use Rattle.hy_words.specs.Commands.{Command, monitor, judge, decide, imply, compare, check}
+use Rattle.hy_words.specs.Commands.{Command, monitor, monitor_made, judge, decide, imply, compare, check}
 use Rattle.hy_top.specs.Circuits.{IsCircuit}
 use Rattle.hy_top.specs.Classes.{is_of_one_kind}
 use Rattle.hy_top.specs.Files.{Given, Came, HasAll}
@@ -32,6 +32,7 @@ use Rattle.hy_top.specs.Files.{Given, Came, HasAll}
 abbrev pub IsChecking : Command → Type 0
 IsChecking (check circuit formula depth conflicts plain proof) = Unit {0}
 IsChecking (monitor specs traces lengths) = ⊥
+IsChecking (monitor_made specs count lengths) = ⊥
 IsChecking (judge formula list) = ⊥
 IsChecking (decide formula states proof) = ⊥
 IsChecking (imply first second states proof) = ⊥

@@ -12,7 +12,7 @@ use Rattle.fin_monitor.specs.Limits.{HasLargeClosure, HasManyAtoms, HasLargeTabl
 use Rattle.hy_answer.specs.declared.answer.Answer.{Answer}
 use Rattle.hy_answer.specs.declared.answer.Answer.TheVariants.{Holds, Violated, UnknownDepth, UnknownConflicts, CnfLimit}
 use Rattle.hy_answer.specs.declared.answer.Answer.TheVariants.{Sat, Unsat, Implied, NotImplied, Equivalent, NotEquivalent, Violation, OpenFault, ReadFault, Limit}
-use Rattle.hy_words.specs.Commands.{Command, monitor, judge, decide, imply, compare, check, files_of}
+use Rattle.hy_words.specs.Commands.{Command, monitor, monitor_made, judge, decide, imply, compare, check, files_of}
 use Rattle.hy_top.specs.Files.{Given, Came, RefusesText}
 use Rattle.hy_top.specs.Classes.{RefusesClass}
 use Rattle.hy_top.specs.Checking as checking
@@ -90,6 +90,7 @@ IsPast command given table = monitoring.SomeBody HasLargeTable command given
 -- The work of the command comes to this answer.
 abbrev pub ComesTo : Command → Given → Answer → Type 0
 ComesTo (monitor specs traces lengths) given answer = monitoring.Monitors lengths (monitor specs traces lengths) given answer
+ComesTo (monitor_made specs count lengths) given answer = monitoring.Monitors lengths (monitor_made specs count lengths) given answer
 ComesTo (judge formula list) given answer = judging.Judges (judge formula list) given answer
 ComesTo (decide formula states proof) given answer = deciding.Determines (decide formula states proof) given answer
 ComesTo (imply first second states proof) given answer = deciding.Determines (imply first second states proof) given answer
