@@ -52,15 +52,15 @@ count_left (Lines lines names) = length (remaining lines).lines
 count_left (Made first traces) = length traces.now
 
 -- Each line that is left says nothing or an event; traces can be numbered.
-abbrev pub IsTaken : Source → Type 0
-IsTaken (Lines lines names) = Each IsGood (remaining lines).lines
-IsTaken (Made first traces) = first + length traces.now < 2 ^ 32
+abbrev pub IsReady : Source → Type 0
+IsReady (Lines lines names) = Each IsGood (remaining lines).lines
+IsReady (Made first traces) = first + length traces.now < 2 ^ 32
 
 -- The event is the next of a source, and then the new source is left.
 pub record IsAhead (old new : Source) (placed : Placed) : Type 0 where
   pub before : (events : List Placed) → AreLeft new events → AreLeft old (placed ∷ events)
   pub fewer : count_left new < count_left old
-  pub taken : IsTaken new
+  pub ready : IsReady new
 
 -- The next event of a source, if there is one.
 abbrev pub IsNext : Source → Source → Option Placed → Type 0

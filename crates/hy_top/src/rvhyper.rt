@@ -9,7 +9,7 @@ ghost use Rattle.hy_answer.specs.Outputs.{out_text};
 ghost use Rattle.hy_words.specs.Commands.{monitor, monitor_made};
 ghost use Rattle.hy_top.specs.Monitoring.{IsOutcome};
 ghost use Rattle.hy_top.specs.Runs.{Follows, extras_of};
-ghost use Rattle.hy_top.specs.Watching.{AreLeft, count_left, IsTaken};
+ghost use Rattle.hy_top.specs.Watching.{AreLeft, count_left, IsReady};
 
 use crate::files::{events_in, specs_in};
 use crate::source::Source;
@@ -91,7 +91,7 @@ fn judge(alloc: Global, specs: &SpecList, lengths: Lengths, source: Source) -> A
     requires quantifiers { All HasFewQuantifiers specs.now }
     requires countable { length specs.now < 2 ^ 32 }
     requires few { count_left source < 2 ^ 31 }
-    requires taken { IsTaken source }
+    requires ready { IsReady source }
     ensures { IsOutcome lengths (plain_formulas specs.now) (AreLeft source) result }
 {
     match Rv::new(alloc, specs.as_slice(), lengths) {

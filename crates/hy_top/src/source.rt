@@ -29,7 +29,7 @@ pub enum Source<'a> {
 
 impl<'a> Source<'a> {
     ghost use Rattle.hy_top.specs.Monitoring.{whole_traces};
-    ghost use Rattle.hy_top.specs.Watching.{AreLeft, count_left, IsTaken, IsNext};
+    ghost use Rattle.hy_top.specs.Watching.{AreLeft, count_left, IsReady, IsNext};
 
     /// The events of lines that are taken. Names that the table lacks are passed over.
     pub fn of_lines(bytes: &'a [u8], names: &'a NameTable) -> Source<'a>
@@ -38,7 +38,7 @@ impl<'a> Source<'a> {
         ensures left { (events : List Placed) → AreLeft result events
             → IsEventFile names.now bytes.now events }
         ensures few { count_left result < 2 ^ 31 }
-        ensures taken { IsTaken result }
+        ensures ready { IsReady result }
     {
         Source::Lines {
             lines: EventLines::new(bytes),
@@ -52,7 +52,7 @@ impl<'a> Source<'a> {
         ensures left { (events : List Placed) → AreLeft result events
             → events ≡ whole_traces 0 traces.now }
         ensures few { count_left result < 2 ^ 31 }
-        ensures taken { IsTaken result }
+        ensures ready { IsReady result }
     {
         Source::Made { first: 0, traces }
     }
@@ -60,7 +60,7 @@ impl<'a> Source<'a> {
     /// The next event, if there is one. That of a line is put into the memory of `letters`. Only
     /// memory may be wanting.
     pub fn next(&mut self, alloc: Global, letters: Letters) -> Result<Option<Placed>, Answer>
-        requires { IsTaken self.old }
+        requires { IsReady self.old }
         ensures next { IfOk result (λ next. IsNext self.old self.new next) }
         ensures ended { IfErr result (λ answer. answer ≡ Answer.Memory) }
     {

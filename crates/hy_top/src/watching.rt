@@ -6,7 +6,7 @@ ghost use Rattle.rv_core.specs.Seen.{held};
 ghost use Rattle.rv_core.specs.Histories.{History, empty_history};
 ghost use Rattle.hy_answer.specs.declared.answer.Answer.TheVariants.{NoViolation};
 ghost use Rattle.hy_top.specs.Monitoring.{EventsCome};
-ghost use Rattle.hy_top.specs.Watching.{OrMemory, IsEventAnswer, GoesOn, Stops, AreLeft, count_left, IsTaken, IsThrough};
+ghost use Rattle.hy_top.specs.Watching.{OrMemory, IsEventAnswer, GoesOn, Stops, AreLeft, count_left, IsReady, IsThrough};
 
 use crate::source::Source;
 use hy_answer::Answer;
@@ -24,7 +24,7 @@ pub fn watch(alloc: Global, rv: &mut Rv, specs: u32, source: Source) -> Answer
     requires stands { StandsFor (held rv.old) empty_history }
     requires specs { specs ≡ length (specs_of (held rv.old)) }
     requires few { count_left source < 2 ^ 31 }
-    requires taken { IsTaken source }
+    requires ready { IsReady source }
     ensures { OrMemory result (EventsCome (held rv.old).rule (specs_of (held rv.old)) (AreLeft source) result) }
 {
     match watch_on::<Brand>(alloc, rv, source, Blank::new(1)) {
@@ -42,7 +42,7 @@ fn watch_on<L: Ledger>(
 ) -> Result<(), Answer>
     requires stands { StandsFor (held rv.old) empty_history }
     requires few { count_left source < 2 ^ 31 }
-    requires taken { IsTaken source }
+    requires ready { IsReady source }
     requires name { blank.name ≡ L.name }
     requires parts { blank.parts ≡ L.parts }
     requires some { 0 < blank.parts }
@@ -65,7 +65,7 @@ fn watch_events<L: Ledger>(
 ) -> Result<(), Answer>
     requires stands { StandsFor (held rv.old) empty_history }
     requires few { count_left source < 2 ^ 31 }
-    requires taken { IsTaken source }
+    requires ready { IsReady source }
     ensures specs { specs_of (held rv.new) ≡ specs_of (held rv.old) }
     ensures through { OnOk result (IsThrough (held rv.old).rule (specs_of (held rv.old)) source (held rv.new)) }
     ensures ended { IfErr result (λ answer. OrMemory answer

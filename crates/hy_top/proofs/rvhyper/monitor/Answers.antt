@@ -1,10 +1,11 @@
 use Rattle.std.proofs.Common.{true, refl, subst, List, ℕ}
 use Rattle.hy_words.specs.Commands.{monitor}
 use Rattle.hy_read.specs.Builds.{plain_formulas}
+use Rattle.hy_finite.specs.EventFiles.{IsEventFile}
 use Rattle.hy_top.specs.Monitoring.{IsOutcome}
 use Rattle.hy_top.proofs.FirstSpecs.{few-quantifiers, read-few}
 use Rattle.hy_top.proofs.Progress.{ends_first}
-use Rattle.hy_top.proofs.Monitoring.{ends_at_events, outcome_follows}
+use Rattle.hy_top.proofs.Monitoring.{ends_at_events, events_follow, outcome-by}
 use Rattle.hy_top.proofs.rvhyper.monitor.Goals as goal
 
 pub returns-in-Err-clause-follows : goal.returns-in-Err-clause-follows
@@ -17,9 +18,11 @@ judge-requires-clause-quantifiers g c =
 
 pub returns-in-Ok-events_in-clause-follows : goal.returns-in-Ok-events_in-clause-follows
 returns-in-Ok-events_in-clause-follows g c =
-    let P : List ℕ → Type 0 = λ bytes. IsOutcome c.args.lengths (plain_formulas c.in-Ok.specs) c.specs_in.new.names bytes c.judge.result in
-    outcome_follows g.S.Shelf _ _ _ c.args.specs.now c.args.traces.now c.args.lengths _ _ (rw c.requires at c.in-Ok.ensures.taken) c.in-Ok-events_in.bytes
-    c.in-Ok-events_in.ensures.taken _ (subst P c.as_slice.ensures c.judge.ensures)
+    let names = c.specs_in.new.names in
+    let P : List ℕ → Type 0 = λ bytes. IsOutcome c.args.lengths (plain_formulas c.in-Ok.specs) (IsEventFile names bytes) c.judge.result in
+    events_follow g.S.Shelf _ _ _ c.args.specs.now c.args.traces.now c.args.lengths _ _ (rw c.requires at c.in-Ok.ensures.taken) c.in-Ok-events_in.bytes
+    c.in-Ok-events_in.ensures.taken _
+    (subst P c.as_slice.ensures (outcome-by c.args.lengths _ _ c.of_lines.ensures.left c.judge.ensures))
 
 pub returns-clause-follows : goal.returns-clause-follows
 returns-clause-follows g c =
