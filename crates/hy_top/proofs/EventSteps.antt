@@ -7,9 +7,7 @@ use Rattle.hy_finite.specs.declared.event.Event.{Event}
 use Rattle.hy_finite.specs.declared.event.Event.TheVariants as event
 use Rattle.hy_finite.specs.declared.event.Placed.{Placed}
 use Rattle.hy_finite.specs.declared.lengths.Lengths.{Lengths}
-use Rattle.hy_finite.specs.Remaining.{remaining}
 use Rattle.hy_finite.specs.Traces.{Trace, most_letters}
-use Rattle.hy_finite.proofs.OneAnswer.{good-say}
 use Rattle.rv_core.specs.declared.reply.Reply.{Reply}
 use Rattle.rv_core.specs.declared.reply.Reply.TheVariants.{Quiet, Arrived, Violation}
 use Rattle.rv_core.specs.declared.rv_error.RvError.{RvError}
@@ -21,10 +19,10 @@ use Rattle.rv_core.specs.Histories.{Present, History, empty_history, Refusal, no
 use Rattle.rv_core.specs.Replies.{error_of, IsFound, IsAnswer, quiet, arrived, violated, refused_by, spent, Answers}
 use Rattle.hy_answer.specs.declared.answer.Answer.{Answer}
 use Rattle.hy_answer.specs.declared.answer.Answer.TheVariants as answers
-use Rattle.hy_top.specs.Monitoring.{refusal_answer, clean_answer, Comes, ComesTo, EventsCome, whole_traces}
+use Rattle.hy_top.specs.Monitoring.{refusal_answer, clean_answer, Comes, ComesTo, EventsCome}
 use Rattle.hy_top.specs.Watching.{OrMemory, IsEventAnswer, GoesOn, Stops, AreLeft, count_left, IsReady, IsAhead, IsThrough}
 use Rattle.hy_top.specs.declared.source.Source.{Source}
-use Rattle.hy_top.specs.declared.source.Source.TheVariants.{Lines, Made}
+use Rattle.hy_top.proofs.Sources.{some-left}
 
 pub or-memory : {P Q : Type 0} {a : Answer} → (P → Q) → OrMemory a P → OrMemory a Q
 or-memory f (inl e) = inl e
@@ -173,11 +171,6 @@ one-more m h event.Back next stands e = by-saves h.saves stands.saves e
         rw same (omega (arith, le))
 
 -- ---- one event after another
-
--- Some events are left.
-some-left : (source : Source) → IsReady source → (events : List Placed) × AreLeft source events
-some-left (Lines lines names) good = good-say names.now (remaining lines).first (remaining lines).lines good
-some-left (Made first traces) few = (whole_traces first traces.now, refl)
 
 -- The events before these were given to the monitor, and none of them was refused or violated a formula.
 pub record Passed (lengths : Lengths) (specs : List Spec) (start left : Source) (m : Held) : Type 0 where
