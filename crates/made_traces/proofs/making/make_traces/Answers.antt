@@ -1,4 +1,4 @@
-use Rattle.std.proofs.Common.{◌≡◌, ◌+◌, ℕ, suc, [], ◌∷◌, ◌++◌, sym, ap, subst, ◌∙◌, arith}
+use Rattle.std.proofs.Common.{◌≡◌, ◌+◌, ℕ, suc, [], ◌∷◌, ◌++◌, ap, subst, ◌∙◌, arith}
 use Rattle.made_traces.specs.MadeTraces.{letters_before, made_traces}
 use Rattle.made_traces.specs.Progress.{HasMade}
 use Rattle.made_traces.proofs.making.make_traces.Goals as goal
@@ -13,6 +13,6 @@ loop-k-preserved c =
     let made = c.in_ok-next_trace.ensures in (
       subst P one_more (made.made names (letters_before k) has),
       c.in_ok-push.ensures.added ∙ ap (λ traces. traces ++ c.in_ok-next_trace.field-0 ∷ []) same
-      ∙ ap (λ trace. made_traces names k ++ trace ∷ []) (made.trace names (letters_before k) has)
-      ∙ ap (made_traces names) one_more,
+          ∙ ap (λ trace. made_traces names k ++ trace ∷ []) (made.trace names (letters_before k) has)
+          ∙ ap (made_traces names) one_more,
     )

@@ -1,4 +1,4 @@
-use Rattle.std.proofs.Common.{◌≡◌, ◌+◌, ℕ, suc, [], ◌∷◌, ◌++◌, sym, ap, subst, ◌∙◌, arith}
+use Rattle.std.proofs.Common.{◌≡◌, ◌+◌, ℕ, suc, [], ◌∷◌, ◌++◌, ap, subst, ◌∙◌, arith}
 use Rattle.std.proofs.lemmas.List.{length-append}
 use Rattle.made_traces.specs.MadeTraces.{letters_from}
 use Rattle.made_traces.specs.Progress.{HasMade}
@@ -17,8 +17,8 @@ loop-letter-preserved c =
           let place : suc (k + i) ≡ k + (i + 1) = omega arith in (
             subst P place (c.next.ensures.made table (k + i) before),
             added ∙ ap (λ letters. letters ++ c.next.result ∷ []) same
-            ∙ ap (λ letter. letters_from table k i ++ letter ∷ []) (c.next.ensures.letter table (k + i) before)
-            ∙ ap (letters_from table k) one_more,
+                ∙ ap (λ letter. letters_from table k i ++ letter ∷ []) (c.next.ensures.letter table (k + i) before)
+                ∙ ap (letters_from table k) one_more,
           ),
     )
 
