@@ -1,5 +1,5 @@
 -- What formulas come to on the events of a file, or on made traces, is the answer of the run.
-use Rattle.std.proofs.Common.{◌≡◌, ◌≤◌, ℕ, List, [], ◌∷◌, ◌++◌, length, Ok, inr, refl, sym, subst, append-nil, inl}
+use Rattle.std.proofs.Common.{◌≡◌, ◌≤◌, ℕ, zero, suc, List, [], ◌∷◌, ◌++◌, length, Ok, inr, refl, sym, subst, append-nil, length-append, inl, arith}
 use Rattle.hy_base.specs.declared.shelf.Shelf.{Ghosts}
 use Rattle.hy_formula.specs.Quantifiers.{Each}
 use Rattle.hy_formula.specs.Trees.{Tree}
@@ -10,7 +10,7 @@ use Rattle.fin_monitor.specs.Limits.{HasLargeClosure, HasSmallClosure, HasManyAt
 use Rattle.hy_finite.specs.declared.event.Placed.{Placed}
 use Rattle.hy_finite.specs.declared.lengths.Lengths.{Lengths}
 use Rattle.hy_finite.specs.EventFiles.{IsEventFile}
-use Rattle.made_traces.specs.MadeTraces.{made_traces}
+use Rattle.made_traces.specs.MadeTraces.{made_trace, made_traces}
 use Rattle.hy_read.specs.Answers.{Plain}
 use Rattle.hy_answer.specs.declared.answer.Answer.{Answer}
 use Rattle.hy_answer.specs.declared.answer.Answer.TheVariants.{Prefix}
@@ -34,27 +34,27 @@ use Rattle.hy_top.proofs.Formulas.{class_passed, instances_passed}
 use Rattle.hy_top.proofs.Progress.{Progress, begun, goes_on, ends_here, answers_behind, runs_short, texts_still}
 
 -- Events that are so are so by another measure too.
-pub outcome-by : {A B : List Placed → Type 0} (lengths : Lengths) (formulas : List Plain) (a : Answer) → ((events : List Placed) → A events → B events)
+pub outcome-by : {A B : List Placed → Type 0} (lengths : Lengths) (formulas : List Plain) (a : Answer) → ((es : List Placed) → A es → B es)
     → IsOutcome lengths formulas A a → IsOutcome lengths formulas B a
 outcome-by lengths formulas _ f (untaken place class first) = untaken place class first
 outcome-by lengths formulas _ f (large_closure universal some) = large_closure universal some
 outcome-by lengths formulas _ f (many_atoms universal small some) = many_atoms universal small some
 outcome-by lengths formulas _ f (large_table universal small few some) = large_table universal small few some
-outcome-by lengths formulas a f (done _ universal taken (events, so, comes)) = done a universal taken (events, f events so, comes)
+outcome-by lengths formulas a f (done _ universal taken (es, so, comes)) = done a universal taken (es, f es so, comes)
 outcome-by lengths formulas _ f spent = spent
 
 -- what is said of a command that monitors the formulas of its first file
-record IsMonitoring (command : Command) (lengths : Lengths) : Type 0 where
-  taken : (formulas : List Plain) → AreUniversal formulas → AreTaken command formulas
-  refused : (formulas : List Plain) (place : ℕ) (class : Class) → FirstUntaken is_universal formulas place class
+pub record IsMonitoring (command : Command) (lengths : Lengths) : Type 0 where
+  pub taken : (formulas : List Plain) → AreUniversal formulas → AreTaken command formulas
+  pub refused : (formulas : List Plain) (place : ℕ) (class : Class) → FirstUntaken is_universal formulas place class
       → FirstUntaken (takes command) formulas place class
-  blamed : (place : ℕ) → file_of command place ≡ 0
-  few_maps : (formulas : List Plain) → Each HasFewMaps (plans_of command formulas)
-  few_members : (formulas : List Plain) → Each HasFewMembers (plans_of command formulas)
-  bodies : (formulas : List Plain) → monitored command formulas ≡ formulas
-  unjudged : ¬ IsJudging command
-  unchecked : ¬ IsChecking command
-  works : (given : Given) (a : Answer) → Monitors lengths command given a → ComesTo command given a
+  pub blamed : (place : ℕ) → file_of command place ≡ 0
+  pub few_maps : (formulas : List Plain) → Each HasFewMaps (plans_of command formulas)
+  pub few_members : (formulas : List Plain) → Each HasFewMembers (plans_of command formulas)
+  pub bodies : (formulas : List Plain) → monitored command formulas ≡ formulas
+  pub unjudged : ¬ IsJudging command
+  pub unchecked : ¬ IsChecking command
+  pub works : (given : Given) (a : Answer) → Monitors lengths command given a → ComesTo command given a
 
 of-file : (specs traces : List ℕ) (lengths : Lengths) → IsMonitoring (monitor specs traces lengths) lengths
 of-file specs traces lengths = record {
@@ -69,8 +69,8 @@ of-file specs traces lengths = record {
   works = λ given a monitors. monitors;
 }
 
-of-made : (specs : List ℕ) (count : ℕ) (lengths : Lengths) → IsMonitoring (monitor_made specs count lengths) lengths
-of-made specs count lengths = record {
+of-made : (specs : List ℕ) (n : ℕ) (lengths : Lengths) → IsMonitoring (monitor_made specs n lengths) lengths
+of-made specs n lengths = record {
   taken = λ formulas universal. universal;
   refused = λ formulas place class first. first;
   blamed = λ place. refl;
@@ -194,18 +194,23 @@ module _ {S : Type 0} (g : Ghosts S) (old mid new : S) (specs file : List ℕ) (
 -- ---- made traces
 
 -- The run follows what comes of made traces.
-pub made_follow : {S : Type 0} (g : Ghosts S) (old new : S) (specs : List ℕ) (count : ℕ) (lengths : Lengths) (formulas : List Plain) (names : List (List ℕ))
+pub made_follow : {S : Type 0} (g : Ghosts S) (old new : S) (specs : List ℕ) (n : ℕ) (lengths : Lengths) (formulas : List Plain) (names : List (List ℕ))
     → Takes g old new specs 4 [] specifications formulas names → (a : Answer)
-    → IsOutcome lengths formulas (λ es. es ≡ whole_traces 0 (made_traces names count)) a
-    → Follows g old new (monitor_made specs count lengths) a (out_text (extras_of (monitor_made specs count lengths)) names a)
-made_follow g old new specs count lengths formulas names first a outcome =
-    let command = monitor_made specs count lengths in
+    → IsOutcome lengths formulas (λ es. es ≡ whole_traces 0 (made_traces names n)) a
+    → Follows g old new (monitor_made specs n lengths) a (out_text (extras_of (monitor_made specs n lengths)) names a)
+made_follow g old new specs n lengths formulas names first a outcome =
+    let command = monitor_made specs n lengths in
     let read_first = goes_on g command old old new [] [] formulas [] names specs (begun g command old) refl first in
-    outcome_follows g old new command lengths (Ok first.bytes ∷ []) formulas names (of-made specs count lengths) read_first refl read_first.texts a outcome
+    outcome_follows g old new command lengths (Ok first.bytes ∷ []) formulas names (of-made specs n lengths) read_first refl read_first.texts a outcome
+
+-- There are as many made traces as were asked for.
+pub length-made : (known : List (List ℕ)) (n : ℕ) → length (made_traces known n) ≡ n
+length-made known zero = refl
+length-made known (suc n) = omega (arith, length-append (made_traces known n) (made_trace known n ∷ []), length-made known n)
 
 -- Words ask for at most a million traces.
-pub few-made : (tool : Tool) (words : List (List ℕ)) (specs : List ℕ) (count : ℕ) (lengths : Lengths)
-    → IsCommand tool words (monitor_made specs count lengths) → count ≤ 1000000
-few-made RvHyper words specs count lengths (items, says, proper, (text, monitors, number)) = number.2
-few-made EaHyper words specs count lengths (items, says, proper, none) = absurd none
-few-made McHyper words specs count lengths (items, says, proper, none) = absurd none
+pub few-made : (tool : Tool) (words : List (List ℕ)) (specs : List ℕ) (n : ℕ) (lengths : Lengths)
+    → IsCommand tool words (monitor_made specs n lengths) → n ≤ 1000000
+few-made RvHyper words specs n lengths (items, says, proper, (text, monitors, number)) = number.2
+few-made EaHyper words specs n lengths (items, says, proper, none) = absurd none
+few-made McHyper words specs n lengths (items, says, proper, none) = absurd none

@@ -93,7 +93,7 @@ one-list : (command : Command) (given : Given) (names : List (List ℕ)) (events
 one-list (monitor specs traces lengths) given names events others (bytes, came, said) (more, also, again) =
     let P : List ℕ → Type 0 = λ bs. SayEvents names 1 (lines_of bs) events in
     events-once names 1 (lines_of more) events others (subst P (bytes_once given 1 bytes more came also) said) again
-one-list (monitor_made specs count lengths) given names events others one two = one ∙ sym two
+one-list (monitor_made specs n lengths) given names events others one two = one ∙ sym two
 one-list (judge formula list) given names events others none two = absurd none
 one-list (decide formula states proof) given names events others none two = absurd none
 one-list (imply first second states proof) given names events others none two = absurd none
@@ -266,8 +266,8 @@ checks_agree command given ask a b one two =
 
 works_agree : (command : Command) (given : Given) (a b : Answer) → ComesTo command given a → ComesTo command given b → Agree a b
 works_agree (monitor specs traces lengths) given a b one two = monitors_agree (monitor specs traces lengths) given lengths a b one two
-works_agree (monitor_made specs count lengths) given a b one two =
-    monitors_agree (monitor_made specs count lengths) given lengths a b one two
+works_agree (monitor_made specs n lengths) given a b one two =
+    monitors_agree (monitor_made specs n lengths) given lengths a b one two
 works_agree (judge formula list) given a b one two = judgements_agree (judge formula list) given a b one two
 works_agree (decide formula states proof) given a b one two = determined_agree (decide formula states proof) given a b one two
 works_agree (imply first second states proof) given a b one two = determined_agree (imply first second states proof) given a b one two

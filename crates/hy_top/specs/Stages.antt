@@ -90,7 +90,7 @@ IsPast command given table = monitoring.SomeBody HasLargeTable command given
 -- The work of the command comes to this answer.
 abbrev pub ComesTo : Command → Given → Answer → Type 0
 ComesTo (monitor specs traces lengths) given answer = monitoring.Monitors lengths (monitor specs traces lengths) given answer
-ComesTo (monitor_made specs count lengths) given answer = monitoring.Monitors lengths (monitor_made specs count lengths) given answer
+ComesTo (monitor_made specs n lengths) given answer = monitoring.Monitors lengths (monitor_made specs n lengths) given answer
 ComesTo (judge formula list) given answer = judging.Judges (judge formula list) given answer
 ComesTo (decide formula states proof) given answer = deciding.Determines (decide formula states proof) given answer
 ComesTo (imply first second states proof) given answer = deciding.Determines (imply first second states proof) given answer

@@ -2,7 +2,12 @@
 
 ghost use Rattle.std.specs.Prelude.{◌≡◌, ◌≤◌, ◌<◌, ◌^◌, ℕ, All, List, [], length};
 ghost use Rattle.hy_base.specs.Shelf.{KeepsShelf};
+ghost use Rattle.hy_base.specs.declared.reading.TheConstants.{BYTES_LIMIT};
+ghost use Rattle.hy_formula.specs.Quantifiers.{Each};
 ghost use Rattle.hy_formula.specs.declared.formula.Formula.{Formula};
+ghost use Rattle.hy_text.specs.Lines.{lines_of};
+ghost use Rattle.hy_finite.specs.EventFiles.{IsEventFile};
+ghost use Rattle.hy_finite.specs.EventLines.{IsGood};
 ghost use Rattle.hy_read.specs.Builds.{plain_formulas};
 ghost use Rattle.rv_core.specs.Built.{HasFewQuantifiers, IsNewRefusal};
 ghost use Rattle.hy_answer.specs.Outputs.{out_text};
@@ -15,7 +20,7 @@ use crate::files::{events_in, specs_in};
 use crate::source::Source;
 use crate::watching::watch;
 use hy_answer::Answer;
-use hy_base::{Memory, Shelf};
+use hy_base::Shelf;
 use hy_finite::Lengths;
 use hy_formula::NameTable;
 use hy_read::SpecList;
@@ -23,8 +28,8 @@ use made_traces::make_traces;
 use rv_core::{Rv, RvNewError};
 use std::alloc::Global;
 
-/// Whether the traces of a file violate the formulas of another under a rule of lengths. Their names are added to the empty
-/// table.
+/// Whether the traces of a file violate the formulas of another under a rule of lengths. Their names
+/// are added to the empty table.
 pub fn monitor<S: Shelf>(
     alloc: Global,
     shelf: &mut S,
@@ -44,12 +49,7 @@ pub fn monitor<S: Shelf>(
         Err(answer) => return answer,
     };
     match events_in(alloc, shelf, traces) {
-        Ok(bytes) => judge(
-            alloc,
-            &specs,
-            lengths,
-            Source::of_lines(bytes.as_slice(), names),
-        ),
+        Ok(bytes) => judge_lines(alloc, &specs, lengths, bytes.as_slice(), names),
         Err(answer) => answer,
     }
 }
@@ -71,19 +71,34 @@ pub fn monitor_made<S: Shelf>(
         Follows S.Shelf shelf.old shelf.new command result
         (out_text (extras_of command) names.new result) }
 {
-    let specs = match specs_in(alloc, shelf, specs, names) {
-        Ok(specs) => specs,
+    let formulas = match specs_in(alloc, shelf, specs, names) {
+        Ok(formulas) => formulas,
         Err(answer) => return answer,
     };
-    match make_traces(alloc, count, names) {
-        Ok(traces) => judge(
-            alloc,
-            &specs,
-            lengths,
-            Source::of_traces(traces.as_slice()),
-        ),
-        Err(Memory) => Answer::Memory,
-    }
+    let Ok(traces) = make_traces(alloc, count, names) else {
+        return Answer::Memory;
+    };
+    let source = Source::of_traces(traces.as_slice());
+    judge(alloc, &formulas, lengths, source)
+}
+
+/// What formulas come to on the events of lines that are taken.
+fn judge_lines(
+    alloc: Global,
+    specs: &SpecList,
+    lengths: Lengths,
+    bytes: &[u8],
+    names: &NameTable,
+) -> Answer
+    requires quantifiers { All HasFewQuantifiers specs.now }
+    requires countable { length specs.now < 2 ^ 32 }
+    requires few { length bytes.now ≤ BYTES_LIMIT }
+    requires good { Each IsGood (lines_of bytes.now) }
+    ensures { IsOutcome lengths (plain_formulas specs.now) (IsEventFile names.now bytes.now)
+        result }
+{
+    let source = Source::of_lines(bytes, names);
+    judge(alloc, specs, lengths, source)
 }
 
 /// What formulas come to on the events of a source.
@@ -92,7 +107,7 @@ fn judge(alloc: Global, specs: &SpecList, lengths: Lengths, source: Source) -> A
     requires countable { length specs.now < 2 ^ 32 }
     requires few { count_left source < 2 ^ 31 }
     requires ready { IsReady source }
-    ensures { IsOutcome lengths (plain_formulas specs.now) (AreLeft source) result }
+    ensures { IsOutcome lengths (plain_formulas specs.now) (AreLeft source.entry) result }
 {
     match Rv::new(alloc, specs.as_slice(), lengths) {
         Ok(mut rv) => watch(alloc, &mut rv, specs.len() as u32, source),

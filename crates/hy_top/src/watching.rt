@@ -1,6 +1,6 @@
 //! Events, given to a monitor one after another.
 
-ghost use Rattle.std.specs.Prelude.{◌≡◌, ◌+◌, ◌<◌, ◌^◌, IfErr, OnOk, IsTrue, List, ℕ, length, replicate};
+ghost use Rattle.std.specs.Prelude.{◌≡◌, ◌+◌, ◌<◌, ◌^◌, IfOk, IfErr, OnOk, IsTrue, List, ℕ, length, replicate};
 ghost use Rattle.rv_core.specs.Held.{StandsFor, specs_of};
 ghost use Rattle.rv_core.specs.Seen.{held};
 ghost use Rattle.rv_core.specs.Histories.{History, empty_history};
@@ -25,7 +25,7 @@ pub fn watch(alloc: Global, rv: &mut Rv, specs: u32, source: Source) -> Answer
     requires specs { specs ≡ length (specs_of (held rv.old)) }
     requires few { count_left source < 2 ^ 31 }
     requires ready { IsReady source }
-    ensures { OrMemory result (EventsCome (held rv.old).rule (specs_of (held rv.old)) (AreLeft source) result) }
+    ensures { OrMemory result (EventsCome (held rv.old).rule (specs_of (held rv.old)) (AreLeft source.entry) result) }
 {
     match watch_on::<Brand>(alloc, rv, source, Blank::new(1)) {
         Ok(()) => clean_answer(alloc, rv, specs),
@@ -47,9 +47,9 @@ fn watch_on<L: Ledger>(
     requires parts { blank.parts ≡ L.parts }
     requires some { 0 < blank.parts }
     ensures specs { specs_of (held rv.new) ≡ specs_of (held rv.old) }
-    ensures through { OnOk result (IsThrough (held rv.old).rule (specs_of (held rv.old)) source (held rv.new)) }
+    ensures through { OnOk result (IsThrough (held rv.old).rule (specs_of (held rv.old)) source.entry (held rv.new)) }
     ensures ended { IfErr result (λ answer. OrMemory answer
-        (EventsCome (held rv.old).rule (specs_of (held rv.old)) (AreLeft source) answer)) }
+        (EventsCome (held rv.old).rule (specs_of (held rv.old)) (AreLeft source.entry) answer)) }
 {
     let mut steps = Steps::<L>::new(blank);
     watch_events(alloc, rv, source, &mut steps)
@@ -67,9 +67,9 @@ fn watch_events<L: Ledger>(
     requires few { count_left source < 2 ^ 31 }
     requires ready { IsReady source }
     ensures specs { specs_of (held rv.new) ≡ specs_of (held rv.old) }
-    ensures through { OnOk result (IsThrough (held rv.old).rule (specs_of (held rv.old)) source (held rv.new)) }
+    ensures through { OnOk result (IsThrough (held rv.old).rule (specs_of (held rv.old)) source.entry (held rv.new)) }
     ensures ended { IfErr result (λ answer. OrMemory answer
-        (EventsCome (held rv.old).rule (specs_of (held rv.old)) (AreLeft source) answer)) }
+        (EventsCome (held rv.old).rule (specs_of (held rv.old)) (AreLeft source.entry) answer)) }
 {
     let mut left = source;
     let mut letters = Letters::new(alloc);

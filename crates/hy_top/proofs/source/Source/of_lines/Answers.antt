@@ -1,4 +1,4 @@
-use Rattle.std.proofs.Common.{sym, subst}
+use Rattle.std.proofs.Common.{◌<◌, ◌^◌, length, sym, subst}
 use Rattle.hy_formula.specs.Quantifiers.{Each}
 use Rattle.hy_finite.specs.EventFiles.{SayEvents}
 use Rattle.hy_finite.specs.EventLines.{IsGood}
@@ -12,7 +12,9 @@ returns-clause-left c events left =
     subst P c.new.ensures left
 
 pub returns-clause-few : goal.returns-clause-few
-returns-clause-few c = rw c.new.ensures (few-lines c.args.bytes.now c.requires.short)
+returns-clause-few c =
+    let P : LinesLeft → Type 0 = λ l. length l.lines < 2 ^ 31 in
+    subst P (sym c.new.ensures) (few-lines c.args.bytes.now c.requires.short)
 
 pub returns-clause-ready : goal.returns-clause-ready
 returns-clause-ready c =
