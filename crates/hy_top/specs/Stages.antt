@@ -132,14 +132,20 @@ IsRight command given answer = First command given (stages_of command) answer
 abbrev pub InTurn : Command → Given → Type 0
 InTurn command given = (k : ℕ) → k < length given → AllPassed command given (stages_of_files k)
 
+-- The limit is one of queries.
+abbrev pub IsQueryLimit : Kind → Type 0
+IsQueryLimit kinds.CnfVariables = Unit {0}
+IsQueryLimit kinds.CnfLiterals = Unit {0}
+IsQueryLimit _ = ⊥
+
 -- What a check answers, but for what it says of the circuit.
 abbrev pub IsOfCheck : Answer → Type 0
 IsOfCheck (Holds traces runs proof) = Unit {0}
 IsOfCheck (Violated traces runs proof) = Unit {0}
 IsOfCheck (UnknownDepth depth kept path) = Unit {0}
 IsOfCheck (UnknownConflicts conflicts k step kept log) = Unit {0}
-IsOfCheck (Limit kind limit) = Unit {0}
-IsOfCheck (CnfLimit kind limit kept) = Unit {0}
+IsOfCheck (Limit kind limit) = IsQueryLimit kind
+IsOfCheck (CnfLimit kind limit kept) = IsQueryLimit kind
 IsOfCheck _ = ⊥
 
 -- One says that the formula holds, and the other that it does not.
