@@ -24,7 +24,10 @@ pub enum Source<'a> {
         names: &'a NameTable,
     },
     /// Traces, each of them whole, and the number of the first of them.
-    Made { first: u32, traces: &'a [Trace] },
+    Made {
+        first: u32,
+        traces: &'a [Trace],
+    },
 }
 
 impl<'a> Source<'a> {
