@@ -1,5 +1,5 @@
 -- What checking a formula on a circuit comes to is the answer of the run.
-use Rattle.std.proofs.Common.{◌≡◌, ◌⊎◌, ◌<◌, ◌≤◌, ℕ, Bool, true, false, List, [], ◌∷◌, ◌++◌, length, Ok, Err, Result, inl, inr, refl, sym, ap, subst, ◌∙◌, arith, cond, ◌&&◌, nat_eq, Some, is_some, true≢false, eqb-true}
+use Rattle.std.proofs.Common.{◌≡◌, ◌⊎◌, ◌<◌, ◌≤◌, ℕ, Bool, true, false, List, [], ◌∷◌, ◌++◌, Ok, inl, inr, refl, sym, ap, subst, ◌∙◌, arith, cond, ◌&&◌, nat_eq, Some, is_some, true≢false, eqb-true}
 use Rattle.hy_base.specs.Limits.{most}
 use Rattle.hy_base.specs.declared.limit.Kind.{Kind}
 use Rattle.hy_base.specs.declared.limit.Kind.TheVariants.{Closure}
@@ -13,8 +13,8 @@ use Rattle.hy_read.specs.Answers.{Plain}
 use Rattle.aig_net.specs.Nets.{Net}
 use Rattle.aig_net.specs.declared.signals.Signal.{Signal}
 use Rattle.aiger_body.specs.Outcomes as outcomes
-use Rattle.mc_core.specs.Answers.{IsPosed, IsTaken, IsAnswer, IsRefused as IsUnchecked, members}
-use Rattle.mc_core.specs.Names.{IsFirstBad, AreSignals, IsOnly, HasLiteral, IsBadName, has_name, name_at}
+use Rattle.mc_core.specs.Answers.{IsAnswer, IsRefused as IsUnchecked, members}
+use Rattle.mc_core.specs.Names.{IsFirstBad, AreSignals, IsOnly, IsBadName, name_at}
 use Rattle.mc_core.specs.declared.ask.Ask.{Ask}
 use Rattle.mc_core.specs.declared.checked.Checked.{Checked}
 use Rattle.mc_core.specs.declared.checked.Checked.TheVariants as checked
@@ -25,7 +25,6 @@ use Rattle.cnf_frames.specs.declared.queries.FrameError.TheVariants as frame
 use Rattle.invar_find.specs.Kepts as kepts
 use Rattle.k_induct.specs.Verdicts.{IsStopped}
 use Rattle.live_safe.specs.declared.safe_net.SafeNet.{SafeNet}
-use Rattle.wit_lasso.specs.Satisfaction.{Satisfies}
 use Rattle.mc_core.proofs.SameSignals.{same-satisfaction}
 use Rattle.hy_top.specs.Stages.{IsQueryLimit, IsOfCheck, Deny, Agree, other_check}
 use Rattle.mc_core.specs.declared.mc_error.McError.{McError}
@@ -34,11 +33,11 @@ use Rattle.hy_answer.specs.declared.answer.Answer.{Answer}
 use Rattle.hy_answer.specs.declared.answer.Answer.TheVariants as answers
 use Rattle.hy_answer.specs.Outputs.{out_text}
 use Rattle.hy_words.specs.Commands.{Command, check}
-use Rattle.hy_top.specs.Checking.{IsChecking, HasPair, HasManyMembers, RefusesName, Checks, ComesBy, found, facts_stop, paths_stop, checked_answer, IsCheck, untaken, large_closure, bad_name, done, spent}
+use Rattle.hy_top.specs.Checking.{HasPair, ComesBy, found, facts_stop, paths_stop, checked_answer, IsCheck, untaken, large_closure, bad_name, done, spent}
 use Rattle.hy_top.specs.Circuits.{IsCircuit}
 use Rattle.hy_top.specs.Classes.{is_of_one_kind}
 use Rattle.hy_top.specs.Contents.{one_formula, circuit}
-use Rattle.hy_top.specs.Files.{Given, HasTexts, HasFormulas, HasAll}
+use Rattle.hy_top.specs.Files.{Given, HasFormulas}
 use Rattle.hy_top.specs.Runs.{Follows, extras_of}
 use Rattle.hy_top.specs.Stages.{First, here, later, count, closure, joint, atoms, table, work, Passed, stages_of_formulas}
 use Rattle.hy_top.specs.Stages.{names as names_stage}

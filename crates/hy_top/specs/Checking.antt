@@ -1,18 +1,14 @@
 -- What `mchyper` answers: how a formula that is checked is counted, what its names stand for, and what the check comes to.
-use Rattle.std.specs.Prelude.{◌≡◌, ◌<◌, ◌≤◌, ℕ, Bool, true, false, List, [], ◌∷◌, length, Ok}
+use Rattle.std.specs.Prelude.{◌≡◌, ◌<◌, ◌≤◌, ℕ, Bool, true, false, List, [], ◌∷◌, Ok}
 use Rattle.hy_base.specs.Limits.{most}
 use Rattle.hy_base.specs.declared.limit.Kind.{Kind}
 use Rattle.hy_base.specs.declared.limit.Kind.TheVariants.{Closure}
 use Rattle.hy_base.specs.declared.limit.Limit.{Limit as Past}
-use Rattle.hy_bits.specs.Letter.{Letter}
 use Rattle.hy_formula.specs.Classes.{class_of}
-use Rattle.hy_formula.specs.Lassos.{Lasso}
 use Rattle.hy_formula.specs.declared.classes.Class.{Class}
 use Rattle.hy_read.specs.Answers.{Plain}
 use Rattle.aig_net.specs.Nets.{Net}
-use Rattle.aig_net.specs.declared.run.Run.{Run}
 use Rattle.aig_net.specs.declared.signals.Signal.{Signal}
-use Rattle.cnf_frames.specs.declared.inductions.InductionProof.{InductionProof}
 use Rattle.cnf_frames.specs.declared.queries.FrameError.TheVariants as frame
 use Rattle.invar_find.specs.Kepts as kepts
 use Rattle.invar_find.specs.declared.kept.Kept.{Kept}

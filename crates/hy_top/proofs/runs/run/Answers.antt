@@ -1,4 +1,4 @@
-use Rattle.std.proofs.Common.{true, false, arith}
+use Rattle.std.proofs.Common.{false, arith}
 use Rattle.hy_words.specs.Commands.{monitor, monitor_made, judge, decide, imply, compare, check}
 use Rattle.hy_top.proofs.Monitoring.{few-made}
 use Rattle.hy_top.proofs.Worded.{unworded_comes, unworded_names}

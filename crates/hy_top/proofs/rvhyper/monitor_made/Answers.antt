@@ -1,5 +1,4 @@
-use Rattle.std.proofs.Common.{◌≡◌, true, refl, ap, ◌∙◌, List, length, arith}
-use Rattle.hy_finite.specs.Traces.{Trace}
+use Rattle.std.proofs.Common.{◌≡◌, true, refl, ap, ◌∙◌, length, arith}
 use Rattle.hy_words.specs.Commands.{monitor_made}
 use Rattle.made_traces.specs.MadeTraces.{made_traces}
 use Rattle.hy_top.specs.Monitoring.{whole_traces, spent}

@@ -1,4 +1,4 @@
-use Rattle.std.proofs.Common.{inl, refl, subst, Ok, Option}
+use Rattle.std.proofs.Common.{inl, refl, subst, Option}
 use Rattle.std.proofs.lemmas.Result.{err_from_is_err_and}
 use Rattle.hy_finite.specs.declared.event.Placed.{Placed}
 use Rattle.rv_core.specs.Held.{specs_of}
