@@ -1,7 +1,9 @@
 -- What checking a formula on a circuit comes to is the answer of the run.
-use Rattle.std.proofs.Common.{◌≡◌, ◌⊎◌, ◌<◌, ◌≤◌, ℕ, Bool, true, false, List, [], ◌∷◌, ◌++◌, length, Ok, Err, Result, inl, inr, refl, sym, ap, subst, ◌∙◌, arith, cond, ◌&&◌, nat_eq, Some, is_some, true≢false, eqb-true}
+use Rattle.std.proofs.Common.{◌≡◌, ◌⊎◌, ◌<◌, ◌≤◌, ℕ, Bool, true, false, List, [], ◌∷◌, ◌++◌, Ok, inl, inr, refl, sym, ap, subst, ◌∙◌, arith, cond, ◌&&◌, nat_eq, Some, is_some, true≢false, eqb-true}
 use Rattle.hy_base.specs.Limits.{most}
+use Rattle.hy_base.specs.declared.limit.Kind.{Kind}
 use Rattle.hy_base.specs.declared.limit.Kind.TheVariants.{Closure}
+use Rattle.hy_base.specs.declared.limit.Kind.TheVariants as kinds
 use Rattle.hy_base.specs.declared.limit.Limit.{Limit as Past}
 use Rattle.hy_base.specs.declared.shelf.Shelf.{Ghosts}
 use Rattle.hy_formula.specs.Classes.{class_of}
@@ -11,26 +13,31 @@ use Rattle.hy_read.specs.Answers.{Plain}
 use Rattle.aig_net.specs.Nets.{Net}
 use Rattle.aig_net.specs.declared.signals.Signal.{Signal}
 use Rattle.aiger_body.specs.Outcomes as outcomes
-use Rattle.mc_core.specs.Answers.{IsPosed, IsTaken, IsAnswer, IsRefused as IsUnchecked, members}
-use Rattle.mc_core.specs.Names.{IsFirstBad, AreSignals, IsOnly, HasLiteral, IsBadName, has_name, name_at}
+use Rattle.mc_core.specs.Answers.{IsAnswer, IsRefused as IsUnchecked, members}
+use Rattle.mc_core.specs.Names.{IsFirstBad, AreSignals, IsOnly, IsBadName, name_at}
 use Rattle.mc_core.specs.declared.ask.Ask.{Ask}
 use Rattle.mc_core.specs.declared.checked.Checked.{Checked}
 use Rattle.mc_core.specs.declared.checked.Checked.TheVariants as checked
-use Rattle.mc_core.specs.Answers.{IsChecked}
-use Rattle.wit_lasso.specs.Satisfaction.{Satisfies}
+use Rattle.mc_core.specs.Answers.{IsChecked, checked_safe}
+use Rattle.cnf_frames.specs.Queries.{IsPastBy}
+use Rattle.cnf_frames.specs.declared.facts.Fact.{Fact}
+use Rattle.cnf_frames.specs.declared.queries.FrameError.TheVariants as frame
+use Rattle.invar_find.specs.Kepts as kepts
+use Rattle.k_induct.specs.Verdicts.{IsStopped}
+use Rattle.live_safe.specs.declared.safe_net.SafeNet.{SafeNet}
 use Rattle.mc_core.proofs.SameSignals.{same-satisfaction}
-use Rattle.hy_top.specs.Stages.{IsOfCheck, Deny, Agree, other_check}
+use Rattle.hy_top.specs.Stages.{IsQueryLimit, IsOfCheck, Deny, Agree, other_check}
 use Rattle.mc_core.specs.declared.mc_error.McError.{McError}
 use Rattle.mc_core.specs.declared.mc_error.McError.TheVariants as errors
 use Rattle.hy_answer.specs.declared.answer.Answer.{Answer}
 use Rattle.hy_answer.specs.declared.answer.Answer.TheVariants as answers
 use Rattle.hy_answer.specs.Outputs.{out_text}
 use Rattle.hy_words.specs.Commands.{Command, check}
-use Rattle.hy_top.specs.Checking.{IsChecking, HasPair, HasManyMembers, RefusesName, Checks, ComesBy, found, facts_stop, paths_stop, checked_answer, IsCheck, untaken, large_closure, bad_name, done, spent}
+use Rattle.hy_top.specs.Checking.{HasPair, ComesBy, found, facts_stop, paths_stop, checked_answer, IsCheck, untaken, large_closure, bad_name, done, spent}
 use Rattle.hy_top.specs.Circuits.{IsCircuit}
 use Rattle.hy_top.specs.Classes.{is_of_one_kind}
 use Rattle.hy_top.specs.Contents.{one_formula, circuit}
-use Rattle.hy_top.specs.Files.{Given, HasTexts, HasFormulas, HasAll}
+use Rattle.hy_top.specs.Files.{Given, HasFormulas}
 use Rattle.hy_top.specs.Runs.{Follows, extras_of}
 use Rattle.hy_top.specs.Stages.{First, here, later, count, closure, joint, atoms, table, work, Passed, stages_of_formulas}
 use Rattle.hy_top.specs.Stages.{names as names_stage}
@@ -189,6 +196,11 @@ module _ {S : Type 0} (g : Ghosts S) (old mid new : S) (file formula : List ℕ)
 
 -- ---- one check
 
+query_limit : (variables literals : ℕ) (kind : Kind) → IsPastBy variables literals kind → IsQueryLimit kind
+query_limit variables literals kinds.CnfVariables past = tt
+query_limit variables literals kinds.CnfLiterals past = tt
+query_limit variables literals _ past = absurd past
+
 of_checked : (c : Checked) → IsOfCheck (checked_answer c)
 of_checked (checked.Holds traces runs proof) = tt
 of_checked (checked.Violated traces runs proof) = tt
@@ -220,13 +232,26 @@ module _ (net : Net) (names : List (List ℕ)) (f : Plain) (ask : Ask) (s t : Li
   never_cnf (checked.UnknownDepth depth kept path) kind limit keeps deny = deny
   never_cnf (checked.UnknownConflicts conflicts k step kept log) kind limit keeps deny = deny
 
+  stopped_facts : (safe : SafeNet) (limit : Past) → kepts.IsStopped safe (frame.Limit limit) → IsQueryLimit limit.kind
+  stopped_facts safe limit (facts, group, starting, among, past, same) = query_limit _ _ limit.kind past
+
+  stopped_paths : (safe : SafeNet) (facts : List Fact) (depth : ℕ) (kind : Kind) (limit : ℕ)
+      → IsStopped safe facts depth (frame.Limit (record { kind = kind; limit = limit })) → IsQueryLimit kind
+  stopped_paths safe facts depth kind limit (k, step, asked, met, past, same) = query_limit _ _ kind past
+
+  -- Whether a check found something or stopped, it answers as checks do.
+  of_check : (r : List Signal) (a : Answer) → ComesBy net r f ask a → IsOfCheck a
+  of_check r _ (found c is) = of_checked c
+  of_check r _ (facts_stop limit plain stopped) = stopped_facts (checked_safe net r f.prefix f.body) limit stopped
+  of_check r _ (paths_stop kind limit kept keeps stopped) =
+      stopped_paths (checked_safe net r f.prefix f.body) kept.inv ask.depth kind limit stopped
+
+  no_denial : (a b : Answer) → ComesBy net s f ask a → ComesBy net t f ask b → ¬ Deny a b
+  no_denial _ _ (found c is) (found d also) = not_denied c d is also
+  no_denial _ _ (found c is) (facts_stop limit p q) = never_limit c limit.kind limit.limit
+  no_denial _ _ (found c is) (paths_stop kind limit kept p q) = never_cnf c kind limit kept
+  no_denial _ _ (facts_stop limit p q) other = λ deny. deny
+  no_denial _ _ (paths_stop kind limit kept p q) other = λ deny. deny
+
   pub comes_agree : (a b : Answer) → ComesBy net s f ask a → ComesBy net t f ask b → Agree a b
-  comes_agree _ _ (found c is) (found d also) = other_check _ _ (of_checked c) (of_checked d) (not_denied c d is also)
-  comes_agree _ _ (found c is) (facts_stop limit p q) = other_check _ _ (of_checked c) tt (never_limit c limit.kind limit.limit)
-  comes_agree _ _ (found c is) (paths_stop kind limit kept p q) = other_check _ _ (of_checked c) tt (never_cnf c kind limit kept)
-  comes_agree _ _ (facts_stop limit p q) (found d also) = other_check _ _ tt (of_checked d) (λ deny. deny)
-  comes_agree _ _ (facts_stop limit p q) (facts_stop other r u) = other_check _ _ tt tt (λ deny. deny)
-  comes_agree _ _ (facts_stop limit p q) (paths_stop kind other kept r u) = other_check _ _ tt tt (λ deny. deny)
-  comes_agree _ _ (paths_stop kind limit kept p q) (found d also) = other_check _ _ tt (of_checked d) (λ deny. deny)
-  comes_agree _ _ (paths_stop kind limit kept p q) (facts_stop other r u) = other_check _ _ tt tt (λ deny. deny)
-  comes_agree _ _ (paths_stop kind limit kept p q) (paths_stop other more keeps r u) = other_check _ _ tt tt (λ deny. deny)
+  comes_agree a b first second = other_check a b (of_check s a first) (of_check t b second) (no_denial a b first second)

@@ -1,25 +1,13 @@
--- The events of lines, given to a monitor one after another.
+-- Events, given to a monitor one after another.
 use Rattle.std.proofs.Common.{◌≡◌, ℕ, suc, ◌+◌, ◌<◌, ◌≤◌, ◌^◌, Bool, true, false, nat_lt, if◌then◌else◌, List, [], ◌∷◌, length, Option, Some, None, Ok, Err, Result, inl, inr, refl, sym, subst, ◌∙◌, arith}
 use Rattle.std.proofs.lemmas.List.{length-append, length-take}
-use Rattle.std.proofs.lemmas.List.Splits.{length-slice_split}
-use Rattle.std.proofs.lemmas.List.Sums.{count_by-le-length}
 use Rattle.hy_base.specs.Limits.{most}
 use Rattle.hy_bits.specs.Letter.{Letter}
-use Rattle.hy_formula.specs.Quantifiers.{Each}
-use Rattle.hy_text.specs.Bytes.{is_line_feed}
-use Rattle.hy_text.specs.Lines.{lines_of}
 use Rattle.hy_finite.specs.declared.event.Event.{Event}
 use Rattle.hy_finite.specs.declared.event.Event.TheVariants as event
 use Rattle.hy_finite.specs.declared.event.Placed.{Placed}
 use Rattle.hy_finite.specs.declared.lengths.Lengths.{Lengths}
-use Rattle.hy_finite.specs.EventLines.{IsGood, SaysNothing}
-use Rattle.hy_finite.specs.EventFiles.{SayEvents}
-use Rattle.hy_finite.specs.LinesLeft.{LinesLeft}
-use Rattle.hy_finite.specs.Remaining.{all_lines}
-use Rattle.hy_finite.specs.NextEvents.{IsNextAnswer}
 use Rattle.hy_finite.specs.Traces.{Trace, most_letters}
-use Rattle.hy_finite.proofs.Collecting.{next-more, next-fewer, next-good, silent-says}
-use Rattle.hy_finite.proofs.OneAnswer.{good-say}
 use Rattle.rv_core.specs.declared.reply.Reply.{Reply}
 use Rattle.rv_core.specs.declared.reply.Reply.TheVariants.{Quiet, Arrived, Violation}
 use Rattle.rv_core.specs.declared.rv_error.RvError.{RvError}
@@ -31,8 +19,10 @@ use Rattle.rv_core.specs.Histories.{Present, History, empty_history, Refusal, no
 use Rattle.rv_core.specs.Replies.{error_of, IsFound, IsAnswer, quiet, arrived, violated, refused_by, spent, Answers}
 use Rattle.hy_answer.specs.declared.answer.Answer.{Answer}
 use Rattle.hy_answer.specs.declared.answer.Answer.TheVariants as answers
-use Rattle.hy_top.specs.Monitoring.{refusal_answer, clean_answer, Comes, ComesTo}
-use Rattle.hy_top.specs.Watching.{OrMemory, IsEventAnswer, GoesOn, Stops, LinesCome, IsThrough}
+use Rattle.hy_top.specs.Monitoring.{refusal_answer, clean_answer, Comes, ComesTo, EventsCome}
+use Rattle.hy_top.specs.Watching.{OrMemory, IsEventAnswer, GoesOn, Stops, AreLeft, count_left, IsReady, IsAhead, IsThrough}
+use Rattle.hy_top.specs.declared.source.Source.{Source}
+use Rattle.hy_top.proofs.Sources.{some-left}
 
 pub or-memory : {P Q : Type 0} {a : Answer} → (P → Q) → OrMemory a P → OrMemory a Q
 or-memory f (inl e) = inl e
@@ -180,41 +170,38 @@ one-more m h event.Back next stands e = by-saves h.saves stands.saves e
         let le = shorter-save h.present.arrived m.saves p ps are in
         rw same (omega (arith, le))
 
--- ---- one line after another
+-- ---- one event after another
 
--- The lines before these were given to the monitor, and no event of them was refused or violated a formula.
-pub record Passed (lengths : Lengths) (specs : List Spec) (names : List (List ℕ)) (bytes : List ℕ) (left : LinesLeft) (m : Held) : Type 0 where
+-- The events before these were given to the monitor, and none of them was refused or violated a formula.
+pub record Passed (lengths : Lengths) (specs : List Spec) (start left : Source) (m : Held) : Type 0 where
   pub history : History
   pub stands : StandsFor m history
   pub specs_are : specs_of m ≡ specs
   pub rule : m.rule ≡ lengths
-  pub few : length history.present.arrived + length left.lines ≤ length (lines_of bytes)
-  pub good : Each IsGood left.lines
-  pub back : (more : List Placed) (a : Answer) → SayEvents names left.first left.lines more → ComesTo lengths specs history more a
-      → LinesCome lengths specs names bytes a
+  pub few : length history.present.arrived + count_left left ≤ count_left start
+  pub ready : IsReady left
+  pub back : (more : List Placed) (a : Answer) → AreLeft left more → ComesTo lengths specs history more a
+      → EventsCome lengths specs (AreLeft start) a
 
-pub passed-none : (lengths : Lengths) (names : List (List ℕ)) (bytes : List ℕ) (left : LinesLeft) (m : Held) → left ≡ all_lines bytes
-    → StandsFor m empty_history → m.rule ≡ lengths → Each IsGood (lines_of bytes) → Passed lengths (specs_of m) names bytes left m
-passed-none lengths names bytes left m e stands rule good =
-    let P : LinesLeft → Type 0 = λ l. Passed lengths (specs_of m) names bytes l m in
-    subst P (sym e)
-    (record {
-      history = empty_history;
-      stands = stands;
-      specs_are = refl;
-      rule = rule;
-      few = omega arith;
-      good = good;
-      back = λ more a say comes. (more, say, comes);
-    })
+pub passed-none : (lengths : Lengths) (start : Source) (m : Held) → StandsFor m empty_history → m.rule ≡ lengths → IsReady start
+    → Passed lengths (specs_of m) start start m
+passed-none lengths start m stands rule ready = record {
+  history = empty_history;
+  stands = stands;
+  specs_are = refl;
+  rule = rule;
+  few = omega arith;
+  ready = ready;
+  back = λ more a left comes. (more, left, comes);
+}
 
-module _ (lengths : Lengths) (specs : List Spec) (names : List (List ℕ)) (bytes : List ℕ) (old new : LinesLeft) (m : Held) (before : Passed lengths specs names bytes old m) where
-  pub passed-more : (placed : Placed) (m' : Held) → IsNextAnswer names old new (Ok (Some placed)) → specs_of m' ≡ specs_of m
-      → m'.rule ≡ m.rule → GoesOn m.rule (specs_of m) before.history placed m' → Passed lengths specs names bytes new m'
-  passed-more placed m' found same rules goes_on =
+module _ (lengths : Lengths) (specs : List Spec) (start old : Source) (m : Held) (before : Passed lengths specs start old m) where
+  pub passed-more : (placed : Placed) (new : Source) (m' : Held) → IsAhead old new placed → specs_of m' ≡ specs_of m
+      → m'.rule ≡ m.rule → GoesOn m.rule (specs_of m) before.history placed m' → Passed lengths specs start new m'
+  passed-more placed new m' ahead same rules goes_on =
       let h = before.history in
       let more_traces = one-more m h placed.event goes_on.next before.stands goes_on.steps in
-      let fewer = next-fewer names old new placed found in
+      let fewer = ahead.fewer in
       let few = before.few in
       let Q : List Spec → Type 0 = λ s. IsClean m.rule s goes_on.next.present.arrived in
       let R : Lengths → Type 0 = λ l. IsClean l specs goes_on.next.present.arrived in
@@ -224,34 +211,30 @@ module _ (lengths : Lengths) (specs : List Spec) (names : List (List ℕ)) (byte
         specs_are = same ∙ before.specs_are;
         rule = rules ∙ before.rule;
         few = omega (arith, more_traces, fewer, few);
-        good = next-good names old new placed found before.good;
-        back = λ more a say comes.
-            before.back (placed ∷ more) a (next-more names old new placed more found say)
+        ready = ahead.ready;
+        back = λ more a left comes.
+            before.back (placed ∷ more) a (ahead.before more left)
             (goes-comes lengths specs placed.line (arrives placed.event) (step h placed.event) goes_on.next
             (λ next. ComesTo lengths specs next more a) a goes_on.steps
             (λ loud. subst R before.rule (subst Q before.specs_are (goes_on.clean loud))) comes);
       }
 
-  pub passed-stops : (placed : Placed) (a : Answer) → IsNextAnswer names old new (Ok (Some placed))
-      → Stops m.rule (specs_of m) before.history placed a → LinesCome lengths specs names bytes a
-  passed-stops placed a found stops =
+  pub passed-stops : (placed : Placed) (new : Source) (a : Answer) → IsAhead old new placed
+      → Stops m.rule (specs_of m) before.history placed a → EventsCome lengths specs (AreLeft start) a
+  passed-stops placed new a ahead stops =
       let h = before.history in
-      let (more, say) = good-say names new.first new.lines (next-good names old new placed found before.good) in
+      let (more, left) = some-left new ahead.ready in
       let P : List Spec → Type 0 = λ s. Comes m.rule s placed.line (arrives placed.event) (step h placed.event) (λ next. ⊥) a in
       let R : Lengths → Type 0 = λ l. Comes l specs placed.line (arrives placed.event) (step h placed.event) (λ next. ⊥) a in
-      before.back (placed ∷ more) a (next-more names old new placed more found say)
+      before.back (placed ∷ more) a (ahead.before more left)
       (stops-comes lengths specs placed.line (arrives placed.event) (step h placed.event) (λ next. ComesTo lengths specs next more a) a
       (subst R before.rule (subst P before.specs_are stops)))
 
-  pub passed-all : Each SaysNothing old.lines → IsThrough lengths specs names bytes m
-  passed-all silent = (
-    before.history,
-    before.stands,
-    before.back [] (clean_answer (length specs) before.history) (silent-says names old.first old.lines silent) refl,
-  )
+  pub passed-all : AreLeft old [] → IsThrough lengths specs start m
+  passed-all none = (before.history, before.stands, before.back [] (clean_answer (length specs) before.history) none refl)
 
-  pub few-arrived : length bytes ≤ 67108864 → m.arrived < 2 ^ 31
+  pub few-arrived : count_left start < 2 ^ 31 → m.arrived < 2 ^ 31
   few-arrived short =
       let few = before.few in
       let count = before.stands.count in
-      omega (arith, few, count, short, length-slice_split is_line_feed bytes, count_by-le-length is_line_feed bytes)
+      omega (arith, few, count, short)

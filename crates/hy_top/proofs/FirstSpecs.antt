@@ -12,6 +12,7 @@ use Rattle.hy_formula.specs.declared.classes.Class.TheVariants as classes
 use Rattle.hy_formula.specs.Quantifiers.{Each}
 use Rattle.hy_formula.specs.Trees.{Tree}
 use Rattle.hy_formula.proofs.Tuples.{contains-here, contains-later}
+use Rattle.hy_finite.specs.declared.event.Placed.{Placed}
 use Rattle.hy_finite.specs.declared.lengths.Lengths.{Lengths}
 use Rattle.hy_read.specs.Answers.{Plain, Answers, read_as, plain_of, tokens_of, located}
 use Rattle.hy_read.specs.Scanning.{Span}
@@ -26,8 +27,8 @@ use Rattle.rv_core.specs.Endings.{Spec}
 use Rattle.hy_answer.specs.declared.answer.Answer.{Answer}
 use Rattle.hy_answer.specs.declared.answer.Answer.TheVariants as answers
 use Rattle.hy_top.specs.Classes.{is_universal, FirstUntaken}
-use Rattle.hy_top.specs.Monitoring.{AreUniversal, SomePlain, EachPlain, IsOutcome, untaken, large_closure, many_atoms, large_table, done, spent, specs_of}
-use Rattle.hy_top.specs.Watching.{OrMemory, LinesCome}
+use Rattle.hy_top.specs.Monitoring.{AreUniversal, SomePlain, EachPlain, EventsCome, IsOutcome, untaken, large_closure, many_atoms, large_table, done, spent, specs_of}
+use Rattle.hy_top.specs.Watching.{OrMemory}
 
 -- ---- how many quantifiers and formulas there are
 
@@ -130,20 +131,20 @@ each-plain Q (f ∷ formulas) (is, each) = (is, each-plain Q formulas each)
 
 -- ---- why formulas are not monitored
 
-pub prefix-outcome : (lengths : Lengths) (formulas : List Formula) (known : List (List ℕ)) (bytes : List ℕ) (k : ℕ) (c : Class)
-    → FirstOther formulas k c → IsOutcome lengths (plain_formulas formulas) known bytes (answers.Prefix 0 c)
-prefix-outcome lengths formulas known bytes k c first = untaken k c (first-untaken formulas k c first)
+pub prefix-outcome : (lengths : Lengths) (formulas : List Formula) (AreSo : List Placed → Type 0) (k : ℕ) (c : Class)
+    → FirstOther formulas k c → IsOutcome lengths (plain_formulas formulas) AreSo (answers.Prefix 0 c)
+prefix-outcome lengths formulas AreSo k c first = untaken k c (first-untaken formulas k c first)
 
-pub limit-outcome : (lengths : Lengths) (formulas : List Formula) (known : List (List ℕ)) (bytes : List ℕ) (kind : Kind)
-    → AllUniversal formulas → IsTooLarge formulas kind → IsOutcome lengths (plain_formulas formulas) known bytes (answers.Limit kind (most_of kind))
-limit-outcome lengths formulas known bytes kinds.Closure universal some =
+pub limit-outcome : (lengths : Lengths) (formulas : List Formula) (AreSo : List Placed → Type 0) (kind : Kind)
+    → AllUniversal formulas → IsTooLarge formulas kind → IsOutcome lengths (plain_formulas formulas) AreSo (answers.Limit kind (most_of kind))
+limit-outcome lengths formulas AreSo kinds.Closure universal some =
     large_closure (are-universal formulas universal) (some-plain HasLargeClosure formulas some)
-limit-outcome lengths formulas known bytes kinds.Atoms universal (small, some) =
+limit-outcome lengths formulas AreSo kinds.Atoms universal (small, some) =
     many_atoms (are-universal formulas universal) (each-plain HasSmallClosure formulas small) (some-plain HasManyAtoms formulas some)
-limit-outcome lengths formulas known bytes kinds.Table universal (small, few, some) =
+limit-outcome lengths formulas AreSo kinds.Table universal (small, few, some) =
     large_table (are-universal formulas universal) (each-plain HasSmallClosure formulas small) (each-plain HasFewAtoms formulas few)
     (some-plain HasLargeTable formulas some)
-limit-outcome lengths formulas known bytes _ universal none = absurd none
+limit-outcome lengths formulas AreSo _ universal none = absurd none
 
 -- ---- what they come to
 
@@ -151,17 +152,17 @@ specs-same : (formulas : List Formula) → map spec_of_formula formulas ≡ spec
 specs-same [] = refl
 specs-same (f ∷ formulas) = ap (λ specs. spec_of_formula f ∷ specs) (specs-same formulas)
 
-module _ (lengths : Lengths) (formulas : List Formula) (known : List (List ℕ)) (bytes : List ℕ) (a : Answer) (universal : AllUniversal formulas) (small : EachBody IsTaken formulas) where
-  outcome-of : OrMemory a (LinesCome lengths (map spec_of_formula formulas) known bytes a) → IsOutcome lengths (plain_formulas formulas) known bytes a
-  outcome-of (inl e) = let P : Answer → Type 0 = λ b. IsOutcome lengths (plain_formulas formulas) known bytes b in subst P (sym e) spent
+module _ (lengths : Lengths) (formulas : List Formula) (AreSo : List Placed → Type 0) (a : Answer) (universal : AllUniversal formulas) (small : EachBody IsTaken formulas) where
+  outcome-of : OrMemory a (EventsCome lengths (map spec_of_formula formulas) AreSo a) → IsOutcome lengths (plain_formulas formulas) AreSo a
+  outcome-of (inl e) = let P : Answer → Type 0 = λ b. IsOutcome lengths (plain_formulas formulas) AreSo b in subst P (sym e) spent
   outcome-of (inr come) =
-      let P : List Spec → Type 0 = λ specs. LinesCome lengths specs known bytes a in
+      let P : List Spec → Type 0 = λ specs. EventsCome lengths specs AreSo a in
       done a (are-universal formulas universal) (each-plain IsTaken formulas small) (subst P (specs-same formulas) come)
 
-pub monitored-outcome : (lengths : Lengths) (formulas read : List Formula) (known : List (List ℕ)) (bytes : List ℕ) (a : Answer) (specs : List Spec)
+pub monitored-outcome : (lengths : Lengths) (formulas read : List Formula) (AreSo : List Placed → Type 0) (a : Answer) (specs : List Spec)
     → read ≡ formulas → AllUniversal read → EachBody IsTaken read → specs ≡ map spec_of_formula read
-    → OrMemory a (LinesCome lengths specs known bytes a) → IsOutcome lengths (plain_formulas formulas) known bytes a
-monitored-outcome lengths formulas read known bytes a monitored same universal small e come =
-    let P : List Spec → Type 0 = λ s. OrMemory a (LinesCome lengths s known bytes a) in
-    let Q : List Formula → Type 0 = λ fs. IsOutcome lengths (plain_formulas fs) known bytes a in
-    subst Q same (outcome-of lengths read known bytes a universal small (subst P e come))
+    → OrMemory a (EventsCome lengths specs AreSo a) → IsOutcome lengths (plain_formulas formulas) AreSo a
+monitored-outcome lengths formulas read AreSo a monitored same universal small e come =
+    let P : List Spec → Type 0 = λ s. OrMemory a (EventsCome lengths s AreSo a) in
+    let Q : List Formula → Type 0 = λ fs. IsOutcome lengths (plain_formulas fs) AreSo a in
+    subst Q same (outcome-of lengths read AreSo a universal small (subst P e come))

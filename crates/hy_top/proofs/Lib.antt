@@ -13,6 +13,7 @@ pub mod Progress
 pub mod Reading
 pub mod Rooms
 pub mod Silence
+pub mod Sources
 pub mod StageOrder
 pub mod Texts
 pub mod Worded

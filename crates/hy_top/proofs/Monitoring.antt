@@ -1,23 +1,165 @@
--- What formulas come to on the events of a file is the answer of the run.
-use Rattle.std.proofs.Common.{ℕ, List, [], ◌∷◌, ◌++◌, Ok, inr, refl, subst, append-nil, inl}
+-- What formulas come to on the events of a file, or on made traces, is the answer of the run.
+use Rattle.std.proofs.Common.{◌≡◌, ◌≤◌, ℕ, zero, suc, List, [], ◌∷◌, ◌++◌, length, Ok, inr, refl, sym, subst, append-nil, length-append, inl, arith}
 use Rattle.hy_base.specs.declared.shelf.Shelf.{Ghosts}
+use Rattle.hy_formula.specs.Quantifiers.{Each}
 use Rattle.hy_formula.specs.Trees.{Tree}
+use Rattle.hy_formula.specs.declared.classes.Class.{Class}
+use Rattle.ea_core.specs.Undecided.{HasFewMembers}
+use Rattle.ea_reduce.specs.Refused.{HasFewMaps}
 use Rattle.fin_monitor.specs.Limits.{HasLargeClosure, HasSmallClosure, HasManyAtoms, HasFewAtoms, HasLargeTable, HasSmallTable, IsTaken}
+use Rattle.hy_finite.specs.declared.event.Placed.{Placed}
 use Rattle.hy_finite.specs.declared.lengths.Lengths.{Lengths}
+use Rattle.hy_finite.specs.EventFiles.{IsEventFile}
+use Rattle.made_traces.specs.MadeTraces.{made_trace, made_traces}
 use Rattle.hy_read.specs.Answers.{Plain}
 use Rattle.hy_answer.specs.declared.answer.Answer.{Answer}
+use Rattle.hy_answer.specs.declared.answer.Answer.TheVariants.{Prefix}
 use Rattle.hy_answer.specs.Outputs.{out_text}
-use Rattle.hy_words.specs.Commands.{monitor}
+use Rattle.hy_words.specs.declared.tool.Tool.{Tool}
+use Rattle.hy_words.specs.declared.tool.Tool.TheVariants.{EaHyper, RvHyper, McHyper}
+use Rattle.hy_words.specs.Commands.{Command, monitor, monitor_made, files_of, IsCommand}
+use Rattle.hy_top.specs.Checking.{IsChecking}
+use Rattle.hy_top.specs.Classes.{is_universal, takes, file_of, FirstUntaken, AreTaken}
 use Rattle.hy_top.specs.Contents.{specifications, events}
+use Rattle.hy_top.specs.Deciding.{plans_of}
 use Rattle.hy_top.specs.Files.{Given, HasTexts, HasFormulas}
-use Rattle.hy_top.specs.Monitoring.{AreUniversal, SomePlain, EachPlain, SomeBody, IsOutcome, untaken, large_closure, many_atoms, large_table, done, spent}
+use Rattle.hy_top.specs.Judging.{IsJudging}
+use Rattle.hy_top.specs.Monitoring.{AreUniversal, SomePlain, EachPlain, SomeBody, monitored, Monitors, AreEvents, whole_traces, IsOutcome, untaken, large_closure, many_atoms, large_table, done, spent}
 use Rattle.hy_top.specs.Runs.{Follows, extras_of}
 use Rattle.hy_top.specs.Stages.{names as names_stage}
-use Rattle.hy_top.specs.Stages.{First, here, later, count, closure, joint, atoms, table, work, stages_of_formulas}
+use Rattle.hy_top.specs.Stages.{First, here, later, count, closure, joint, atoms, table, work, stages_of_formulas, ComesTo}
 use Rattle.hy_top.specs.Steps.{Takes, TakesEvents, Ends}
 use Rattle.hy_top.proofs.Bodies.{closure_passed, atoms_passed, table_passed}
 use Rattle.hy_top.proofs.Formulas.{class_passed, instances_passed}
 use Rattle.hy_top.proofs.Progress.{Progress, begun, goes_on, ends_here, answers_behind, runs_short, texts_still}
+
+-- Events that are so are so by another measure too.
+pub outcome-by : {A B : List Placed → Type 0} (lengths : Lengths) (formulas : List Plain) (a : Answer) → ((es : List Placed) → A es → B es)
+    → IsOutcome lengths formulas A a → IsOutcome lengths formulas B a
+outcome-by lengths formulas _ f (untaken place class first) = untaken place class first
+outcome-by lengths formulas _ f (large_closure universal some) = large_closure universal some
+outcome-by lengths formulas _ f (many_atoms universal small some) = many_atoms universal small some
+outcome-by lengths formulas _ f (large_table universal small few some) = large_table universal small few some
+outcome-by lengths formulas a f (done _ universal taken (es, so, comes)) = done a universal taken (es, f es so, comes)
+outcome-by lengths formulas _ f spent = spent
+
+-- what is said of a command that monitors the formulas of its first file
+pub record IsMonitoring (command : Command) (lengths : Lengths) : Type 0 where
+  pub taken : (formulas : List Plain) → AreUniversal formulas → AreTaken command formulas
+  pub refused : (formulas : List Plain) (place : ℕ) (class : Class) → FirstUntaken is_universal formulas place class
+      → FirstUntaken (takes command) formulas place class
+  pub blamed : (place : ℕ) → file_of command place ≡ 0
+  pub few_maps : (formulas : List Plain) → Each HasFewMaps (plans_of command formulas)
+  pub few_members : (formulas : List Plain) → Each HasFewMembers (plans_of command formulas)
+  pub bodies : (formulas : List Plain) → monitored command formulas ≡ formulas
+  pub unjudged : ¬ IsJudging command
+  pub unchecked : ¬ IsChecking command
+  pub works : (given : Given) (a : Answer) → Monitors lengths command given a → ComesTo command given a
+
+of-file : (specs traces : List ℕ) (lengths : Lengths) → IsMonitoring (monitor specs traces lengths) lengths
+of-file specs traces lengths = record {
+  taken = λ formulas universal. universal;
+  refused = λ formulas place class first. first;
+  blamed = λ place. refl;
+  few_maps = λ formulas. tt;
+  few_members = λ formulas. tt;
+  bodies = λ formulas. refl;
+  unjudged = λ is. is;
+  unchecked = λ is. is;
+  works = λ given a monitors. monitors;
+}
+
+of-made : (specs : List ℕ) (n : ℕ) (lengths : Lengths) → IsMonitoring (monitor_made specs n lengths) lengths
+of-made specs n lengths = record {
+  taken = λ formulas universal. universal;
+  refused = λ formulas place class first. first;
+  blamed = λ place. refl;
+  few_maps = λ formulas. tt;
+  few_members = λ formulas. tt;
+  bodies = λ formulas. refl;
+  unjudged = λ is. is;
+  unchecked = λ is. is;
+  works = λ given a monitors. monitors;
+}
+
+-- Where all files of a command that monitors were taken, the run follows what the formulas of the first come to.
+module _ {S : Type 0} (g : Ghosts S) (old new : S) (command : Command) (lengths : Lengths) (given : Given) (formulas : List Plain) (names : List (List ℕ))
+    (is : IsMonitoring command lengths) (progress : Progress g command old new given formulas names)
+    (whole : length given ≡ length (files_of command)) (first : HasTexts command given 1 formulas names) where
+  all_of : HasFormulas command given formulas
+  all_of = (names, let P : ℕ → Type 0 = λ n. HasTexts command given n formulas names in subst P whole progress.texts)
+
+  behind : (a : Answer) → First command given (stages_of_formulas ++ work ∷ []) a
+      → Follows g old new command a (out_text (extras_of command) names a)
+  behind a rest = answers_behind g command old new given formulas names a progress whole rest
+
+  each_body : (Q : Tree → Type 0) → EachPlain Q formulas → EachPlain Q (monitored command formulas)
+  each_body Q each = let P : List Plain → Type 0 = EachPlain Q in subst P (sym (is.bodies formulas)) each
+
+  some_body : (Q : Tree → Type 0) → SomePlain Q formulas → SomeBody Q command given
+  some_body Q some =
+      let P : List Plain → Type 0 = SomePlain Q in
+      record { formulas = formulas; has = all_of; some = subst P (sym (is.bodies formulas)) some }
+
+  -- Behind the classes and the instances the closures come.
+  behind_class : (a : Answer) → AreUniversal formulas
+      → First command given (count closure ∷ count joint ∷ count atoms ∷ count table ∷ names_stage ∷ work ∷ []) a
+      → Follows g old new command a (out_text (extras_of command) names a)
+  behind_class a universal rest =
+      behind a
+      (later (class_passed command given formulas all_of (is.taken formulas universal))
+      (later (instances_passed command given formulas all_of (is.few_maps formulas)) rest))
+
+  behind_closures : (a : Answer) → AreUniversal formulas → EachPlain HasSmallClosure formulas
+      → First command given (count atoms ∷ count table ∷ names_stage ∷ work ∷ []) a
+      → Follows g old new command a (out_text (extras_of command) names a)
+  behind_closures a universal small rest =
+      behind_class a universal
+      (later
+      (closure_passed command given formulas all_of (is.few_members formulas) (each_body HasSmallClosure small) (λ past. is.unchecked past.checks))
+      (later (λ b met. is.unjudged met.0.judges) rest))
+
+  behind_atoms : (a : Answer) → AreUniversal formulas → EachPlain HasSmallClosure formulas → EachPlain HasFewAtoms formulas
+      → First command given (count table ∷ names_stage ∷ work ∷ []) a
+      → Follows g old new command a (out_text (extras_of command) names a)
+  behind_atoms a universal small few rest =
+      behind_closures a universal small
+      (later (atoms_passed command given formulas all_of (each_body HasFewAtoms few)) rest)
+
+  pub outcome_follows : (a : Answer) → IsOutcome lengths formulas (AreEvents command given names) a
+      → Follows g old new command a (out_text (extras_of command) names a)
+  outcome_follows _ (untaken place found is_first) =
+      let blamed : Prefix 0 found ≡ Prefix (file_of command place) found = (λ i. Prefix ((sym (is.blamed place)) i) found) in
+      behind _
+      (here
+      (record { formulas = formulas; has = all_of; place = place; class = found; first = is.refused formulas place found is_first; answered = blamed }))
+  outcome_follows _ (large_closure universal some) =
+      behind_class _ universal (here (inr (inl (some_body HasLargeClosure some)), refl))
+  outcome_follows _ (many_atoms universal small some) =
+      behind_closures _ universal small (here (some_body HasManyAtoms some, refl))
+  outcome_follows _ (large_table universal small few some) =
+      behind_atoms _ universal small few (here (some_body HasLargeTable some, refl))
+  outcome_follows a (done _ universal taken verdict) =
+      behind_atoms a universal (taken-closures formulas taken) (taken-atoms formulas taken)
+      (later
+      (table_passed command given formulas all_of (each_body HasSmallTable (taken-tables formulas taken)))
+      (later (λ b refuses. is.unchecked refuses.checks)
+      (here (is.works given a (record { formulas = formulas; names = names; first = first; verdict = verdict })))))
+    where
+      taken-closures : (fs : List Plain) → EachPlain IsTaken fs → EachPlain HasSmallClosure fs
+      taken-closures [] all = tt
+      taken-closures (f ∷ fs) (t, all) = (t.closure, taken-closures fs all)
+
+      taken-atoms : (fs : List Plain) → EachPlain IsTaken fs → EachPlain HasFewAtoms fs
+      taken-atoms [] all = tt
+      taken-atoms (f ∷ fs) (t, all) = (t.atoms, taken-atoms fs all)
+
+      taken-tables : (fs : List Plain) → EachPlain IsTaken fs → EachPlain HasSmallTable fs
+      taken-tables [] all = tt
+      taken-tables (f ∷ fs) (t, all) = (t.table, taken-tables fs all)
+  outcome_follows _ spent = runs_short g command old new given formulas names progress
+
+-- ---- the events of a file
 
 module _ {S : Type 0} (g : Ghosts S) (old mid new : S) (specs file : List ℕ) (lengths : Lengths) (formulas : List Plain) (names : List (List ℕ))
     (first : Takes g old mid specs 4 [] specifications formulas names) where
@@ -34,77 +176,41 @@ module _ {S : Type 0} (g : Ghosts S) (old mid new : S) (specs file : List ℕ) (
     abbrev given : Given
     given = Ok first.bytes ∷ Ok bytes ∷ []
 
-    read_all : Progress g (monitor specs file lengths) old new given (formulas ++ []) names
+    read_all : Progress g (monitor specs file lengths) old new given formulas names
     read_all =
-        goes_on g (monitor specs file lengths) old mid new (Ok first.bytes ∷ []) formulas [] names names file read_first refl
-        (record { bytes = bytes; read = second.read; is = (second.lines, refl, refl) })
+        let P : List Plain → Type 0 = λ fs. Progress g (monitor specs file lengths) old new given fs names in
+        subst P (append-nil formulas)
+        (goes_on g (monitor specs file lengths) old mid new (Ok first.bytes ∷ []) formulas [] names names file read_first refl
+        (record { bytes = bytes; read = second.read; is = (second.lines, refl, refl) }))
 
-    all_of : HasFormulas (monitor specs file lengths) given formulas
-    all_of = (
-      names,
-      let P : List Plain → Type 0 = λ fs. HasTexts (monitor specs file lengths) given 2 fs names in
-          subst P (append-nil formulas) read_all.texts,
-    )
-
-    specs_first : HasTexts (monitor specs file lengths) given 1 formulas names
-    specs_first = texts_still (monitor specs file lengths) (Ok first.bytes ∷ []) (Ok bytes ∷ []) 1 formulas names read_first.texts
-
-    behind : (a : Answer) → First (monitor specs file lengths) given (stages_of_formulas ++ work ∷ []) a
+    -- The run follows what comes of the events.
+    pub events_follow : (a : Answer) → IsOutcome lengths formulas (IsEventFile names bytes) a
         → Follows g old new (monitor specs file lengths) a (out_text (extras_of (monitor specs file lengths)) names a)
-    behind a rest = answers_behind g (monitor specs file lengths) old new given (formulas ++ []) names a read_all refl rest
+    events_follow a outcome =
+        outcome_follows g old new (monitor specs file lengths) lengths given formulas names (of-file specs file lengths) read_all refl
+        (texts_still (monitor specs file lengths) (Ok first.bytes ∷ []) (Ok bytes ∷ []) 1 formulas names read_first.texts) a
+        (outcome-by lengths formulas a (λ es file_is. (bytes, refl, file_is)) outcome)
 
-    some_body : (Q : Tree → Type 0) → SomePlain Q formulas → SomeBody Q (monitor specs file lengths) given
-    some_body Q some = record { formulas = formulas; has = all_of; some = some }
+-- ---- made traces
 
-    -- Behind the classes and the instances the closures come.
-    behind_class : (a : Answer) → AreUniversal formulas
-        → First (monitor specs file lengths) given (count closure ∷ count joint ∷ count atoms ∷ count table ∷ names_stage ∷ work ∷ []) a
-        → Follows g old new (monitor specs file lengths) a (out_text (extras_of (monitor specs file lengths)) names a)
-    behind_class a universal rest =
-        behind a
-        (later (class_passed (monitor specs file lengths) given formulas all_of universal)
-        (later (instances_passed (monitor specs file lengths) given formulas all_of tt) rest))
+-- The run follows what comes of made traces.
+pub made_follow : {S : Type 0} (g : Ghosts S) (old new : S) (specs : List ℕ) (n : ℕ) (lengths : Lengths) (formulas : List Plain) (names : List (List ℕ))
+    → Takes g old new specs 4 [] specifications formulas names → (a : Answer)
+    → IsOutcome lengths formulas (λ es. es ≡ whole_traces 0 (made_traces names n)) a
+    → Follows g old new (monitor_made specs n lengths) a (out_text (extras_of (monitor_made specs n lengths)) names a)
+made_follow g old new specs n lengths formulas names first a outcome =
+    let command = monitor_made specs n lengths in
+    let read_first = goes_on g command old old new [] [] formulas [] names specs (begun g command old) refl first in
+    outcome_follows g old new command lengths (Ok first.bytes ∷ []) formulas names (of-made specs n lengths) read_first refl read_first.texts a outcome
 
-    behind_closures : (a : Answer) → AreUniversal formulas → EachPlain HasSmallClosure formulas
-        → First (monitor specs file lengths) given (count atoms ∷ count table ∷ names_stage ∷ work ∷ []) a
-        → Follows g old new (monitor specs file lengths) a (out_text (extras_of (monitor specs file lengths)) names a)
-    behind_closures a universal small rest =
-        behind_class a universal (later (closure_passed (monitor specs file lengths) given formulas all_of tt small (λ past. past.checks)) (later (λ b met. met.0.judges) rest))
+-- There are as many made traces as were asked for.
+pub length-made : (known : List (List ℕ)) (n : ℕ) → length (made_traces known n) ≡ n
+length-made known zero = refl
+length-made known (suc n) = omega (arith, length-append (made_traces known n) (made_trace known n ∷ []), length-made known n)
 
-    behind_atoms : (a : Answer) → AreUniversal formulas → EachPlain HasSmallClosure formulas → EachPlain HasFewAtoms formulas
-        → First (monitor specs file lengths) given (count table ∷ names_stage ∷ work ∷ []) a
-        → Follows g old new (monitor specs file lengths) a (out_text (extras_of (monitor specs file lengths)) names a)
-    behind_atoms a universal small few rest =
-        behind_closures a universal small
-        (later (atoms_passed (monitor specs file lengths) given formulas all_of few) rest)
-
-    -- The run follows the outcome.
-    pub outcome_follows : (a : Answer) → IsOutcome lengths formulas names bytes a
-        → Follows g old new (monitor specs file lengths) a (out_text (extras_of (monitor specs file lengths)) names a)
-    outcome_follows _ (untaken place found is) =
-        behind _ (here (record { formulas = formulas; has = all_of; place = place; class = found; first = is; answered = refl }))
-    outcome_follows _ (large_closure universal some) =
-        behind_class _ universal (here (inr (inl (some_body HasLargeClosure some)), refl))
-    outcome_follows _ (many_atoms universal small some) =
-        behind_closures _ universal small (here (some_body HasManyAtoms some, refl))
-    outcome_follows _ (large_table universal small few some) =
-        behind_atoms _ universal small few (here (some_body HasLargeTable some, refl))
-    outcome_follows a (done _ universal taken verdict) =
-        behind_atoms a universal (taken-closures formulas taken) (taken-atoms formulas taken)
-        (later
-        (table_passed (monitor specs file lengths) given formulas all_of (taken-tables formulas taken))
-        (later (λ b refuses. refuses.checks) (here
-        (record { formulas = formulas; names = names; first = specs_first; bytes = bytes; came = refl; verdict = verdict }))))
-      where
-        taken-closures : (fs : List Plain) → EachPlain IsTaken fs → EachPlain HasSmallClosure fs
-        taken-closures [] all = tt
-        taken-closures (f ∷ fs) (t, all) = (t.closure, taken-closures fs all)
-
-        taken-atoms : (fs : List Plain) → EachPlain IsTaken fs → EachPlain HasFewAtoms fs
-        taken-atoms [] all = tt
-        taken-atoms (f ∷ fs) (t, all) = (t.atoms, taken-atoms fs all)
-
-        taken-tables : (fs : List Plain) → EachPlain IsTaken fs → EachPlain HasSmallTable fs
-        taken-tables [] all = tt
-        taken-tables (f ∷ fs) (t, all) = (t.table, taken-tables fs all)
-    outcome_follows _ spent = runs_short g (monitor specs file lengths) old new given (formulas ++ []) names read_all
+-- Words ask for at most a million traces.
+pub few-made : (tool : Tool) (words : List (List ℕ)) (specs : List ℕ) (n : ℕ) (lengths : Lengths)
+    → IsCommand tool words (monitor_made specs n lengths) → n ≤ 1000000
+few-made RvHyper words specs n lengths (items, says, proper, (text, monitors, number)) = number.2
+few-made EaHyper words specs n lengths (items, says, proper, none) = absurd none
+few-made McHyper words specs n lengths (items, says, proper, none) = absurd none

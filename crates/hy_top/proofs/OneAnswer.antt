@@ -5,6 +5,7 @@ use Rattle.hy_bits.specs.Letter.{Letter}
 use Rattle.hy_formula.specs.Lassos.{Lasso}
 use Rattle.hy_text.specs.Lines.{lines_of}
 use Rattle.hy_finite.specs.declared.event.Placed.{Placed}
+use Rattle.hy_finite.specs.EventFiles.{SayEvents}
 use Rattle.hy_finite.specs.declared.lengths.Lengths.{Lengths}
 use Rattle.hy_finite.specs.Traces.{Trace}
 use Rattle.rv_core.specs.Endings.{Spec, IsClean, FirstViolated}
@@ -16,7 +17,7 @@ use Rattle.ea_core.specs.Undecided.{HasFewBranches, HasManyBranches}
 use Rattle.ea_core.proofs.Searching.{not-both}
 use Rattle.hy_answer.specs.declared.answer.Answer.{Answer}
 use Rattle.hy_answer.specs.declared.answer.Answer.TheVariants as answers
-use Rattle.hy_words.specs.Commands.{Command, monitor, judge, decide, imply, compare, check}
+use Rattle.hy_words.specs.Commands.{Command, monitor, monitor_made, judge, decide, imply, compare, check}
 use Rattle.hy_top.specs.Classes.{takes, file_of, RefusesClass, FirstUntaken}
 use Rattle.hy_top.specs.Contents.{content_of, most_quantifiers, IsRefused}
 use Rattle.hy_top.specs.Deciding.{plan_of, plan_against, Determines, DecidesBy, DecidesOne, DecidesTwo, ComparesTwo, sat, unsat, implied, not_implied, beyond, equivalent, first_alone, second_alone, many_branches}
@@ -27,7 +28,7 @@ use Rattle.hy_top.proofs.Checking.{pair_once, only-not-bad, comes_agree}
 use Rattle.hy_top.specs.Checking.{RefusesName, Checks, ComesBy}
 use Rattle.hy_top.specs.Files.{Given, RefusesText}
 use Rattle.hy_top.specs.Judging.{Judges, holds, fails}
-use Rattle.hy_top.specs.Monitoring.{specs_of, IsViolation, Comes, IsVerdict, Monitors}
+use Rattle.hy_top.specs.Monitoring.{specs_of, IsViolation, Comes, EventsCome, AreEvents, Monitors}
 use Rattle.hy_top.specs.Monitoring.{ComesTo as ComesToAnswer}
 use Rattle.hy_top.specs.Stages.{names as names_stage}
 use Rattle.hy_top.specs.Stages.{Stage, opening, reading, size, text, class, count, work, Met, First, here, later, ComesTo, Agree, same, other_tuple, other_model, other_proof, other_implied, other_proofs, other_witness, other_side}
@@ -86,12 +87,25 @@ events-agree lengths specs (placed ∷ events) h a b one two =
     step-agrees lengths specs placed.line (arrives placed.event) (step h placed.event) (λ next x. ComesToAnswer lengths specs next events x)
     (λ next x y. events-agree lengths specs events next x y) a b one two
 
-verdicts-agree : (lengths : Lengths) (formulas : List Plain) (names : List (List ℕ)) (bytes : List ℕ) (a b : Answer) → IsVerdict lengths formulas names bytes a
-    → IsVerdict lengths formulas names bytes b → Agree a b
-verdicts-agree lengths formulas names bytes a b (events, said, one) (others, also, two) =
-    let same = events-once names 1 (lines_of bytes) events others said also in
+-- A command has one list of events.
+one-list : (command : Command) (given : Given) (names : List (List ℕ)) (events others : List Placed) → AreEvents command given names events
+    → AreEvents command given names others → events ≡ others
+one-list (monitor specs traces lengths) given names events others (bytes, came, said) (more, also, again) =
+    let P : List ℕ → Type 0 = λ bs. SayEvents names 1 (lines_of bs) events in
+    events-once names 1 (lines_of more) events others (subst P (bytes_once given 1 bytes more came also) said) again
+one-list (monitor_made specs n lengths) given names events others one two = one ∙ sym two
+one-list (judge formula list) given names events others none two = absurd none
+one-list (decide formula states proof) given names events others none two = absurd none
+one-list (imply first second states proof) given names events others none two = absurd none
+one-list (compare first second states proof) given names events others none two = absurd none
+one-list (check circuit formula depth conflicts plain proof) given names events others none two = absurd none
+
+verdicts-agree : (command : Command) (given : Given) (lengths : Lengths) (formulas : List Plain) (names : List (List ℕ)) (a b : Answer)
+    → EventsCome lengths (specs_of formulas) (AreEvents command given names) a → EventsCome lengths (specs_of formulas) (AreEvents command given names) b
+    → Agree a b
+verdicts-agree command given lengths formulas names a b (events, said, one) (others, also, two) =
     let P : List Placed → Type 0 = λ es. ComesToAnswer lengths (specs_of formulas) empty_history es a in
-    events-agree lengths (specs_of formulas) others empty_history a b (subst P same one) two
+    events-agree lengths (specs_of formulas) others empty_history a b (subst P (one-list command given names events others said also) one) two
 
 -- ---- two decisions
 
@@ -196,11 +210,9 @@ module _ (command : Command) (given : Given) where
   monitors_agree : (lengths : Lengths) (a b : Answer) → Monitors lengths command given a → Monitors lengths command given b → Agree a b
   monitors_agree lengths a b one two =
       let (formulas, names) = texts_once command given 1 one.formulas two.formulas one.names two.names one.first two.first in
-      let bytes = bytes_once given 1 one.bytes two.bytes one.came two.came in
-      let P : List Plain → Type 0 = λ fs. IsVerdict lengths fs one.names one.bytes a in
-      let Q : List (List ℕ) → Type 0 = λ ns. IsVerdict lengths two.formulas ns one.bytes a in
-      let R : List ℕ → Type 0 = λ bs. IsVerdict lengths two.formulas two.names bs a in
-      verdicts-agree lengths two.formulas two.names two.bytes a b (subst R bytes (subst Q names (subst P formulas one.verdict))) two.verdict
+      let P : List Plain → Type 0 = λ fs. EventsCome lengths (specs_of fs) (AreEvents command given one.names) a in
+      let Q : List (List ℕ) → Type 0 = λ ns. EventsCome lengths (specs_of two.formulas) (AreEvents command given ns) a in
+      verdicts-agree command given lengths two.formulas two.names a b (subst Q names (subst P formulas one.verdict)) two.verdict
 
 decided_agree : (command : Command) (formulas : List Plain) (a b : Answer) → DecidesBy command formulas a → DecidesBy command formulas b → Agree a b
 decided_agree (decide formula states proof) (f ∷ []) a b one two = decisions_agree f states a b one two
@@ -254,6 +266,8 @@ checks_agree command given ask a b one two =
 
 works_agree : (command : Command) (given : Given) (a b : Answer) → ComesTo command given a → ComesTo command given b → Agree a b
 works_agree (monitor specs traces lengths) given a b one two = monitors_agree (monitor specs traces lengths) given lengths a b one two
+works_agree (monitor_made specs n lengths) given a b one two =
+    monitors_agree (monitor_made specs n lengths) given lengths a b one two
 works_agree (judge formula list) given a b one two = judgements_agree (judge formula list) given a b one two
 works_agree (decide formula states proof) given a b one two = determined_agree (decide formula states proof) given a b one two
 works_agree (imply first second states proof) given a b one two = determined_agree (imply first second states proof) given a b one two

@@ -2,11 +2,8 @@
 use Rattle.std.proofs.Common.{◌≡◌, ℕ, ◌+◌, ◌*◌, ◌<◌, ◌≤◌, Bool, false, List, [], ◌∷◌, length, arith}
 use Rattle.std.proofs.Math.Nat.{mul-le-mul_right}
 use Rattle.hy_base.specs.declared.reading.TheConstants.{BYTES_LIMIT}
-use Rattle.hy_base.specs.Limits.{most}
-use Rattle.hy_base.specs.declared.limit.Kind.TheVariants.{Closure}
 use Rattle.hy_formula.specs.Trees.{Tree}
 use Rattle.hy_formula.specs.declared.prefix.Quant.{Quant}
-use Rattle.aig_net.specs.declared.signals.Signal.{Signal}
 use Rattle.aig_net.specs.Nets.{Net, variables}
 use Rattle.ltl_closure.specs.Nodes.{Node}
 use Rattle.self_compose.specs.Copies.{compose}
@@ -18,7 +15,7 @@ use Rattle.hy_read.specs.Answers.{Plain}
 use Rattle.hy_top.specs.Contents.{one_formula}
 use Rattle.hy_top.specs.Steps.{Takes}
 use Rattle.hy_top.proofs.FirstSpecs.{read-few}
-use Rattle.mc_core.specs.Answers.{HasRoom, IsPosed, is_existential, members}
+use Rattle.mc_core.specs.Answers.{HasRoom, is_existential}
 
 -- what is known of the sizes of safe nets, of nets with oracles, and of copies
 pub record AreSmall : Type 0 where

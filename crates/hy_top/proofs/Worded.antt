@@ -1,5 +1,5 @@
 -- Runs whose words are no command, or over whose words memory ran out.
-use Rattle.std.proofs.Common.{◌≡◌, ◌⊎◌, ℕ, ◌<◌, List, [], length, inl, inr, refl, sym, subst, arith}
+use Rattle.std.proofs.Common.{◌≡◌, ◌⊎◌, ℕ, List, [], inl, inr, refl, sym, subst, arith}
 use Rattle.hy_base.specs.declared.shelf.Shelf.{Ghosts}
 use Rattle.hy_base.specs.declared.sink.Sink as sink
 use Rattle.hy_answer.specs.declared.answer.Answer.{Answer}

@@ -1,18 +1,14 @@
 -- What `mchyper` answers: how a formula that is checked is counted, what its names stand for, and what the check comes to.
-use Rattle.std.specs.Prelude.{◌≡◌, ◌<◌, ◌≤◌, ℕ, Bool, true, false, List, [], ◌∷◌, length, Ok}
+use Rattle.std.specs.Prelude.{◌≡◌, ◌<◌, ◌≤◌, ℕ, Bool, true, false, List, [], ◌∷◌, Ok}
 use Rattle.hy_base.specs.Limits.{most}
 use Rattle.hy_base.specs.declared.limit.Kind.{Kind}
 use Rattle.hy_base.specs.declared.limit.Kind.TheVariants.{Closure}
 use Rattle.hy_base.specs.declared.limit.Limit.{Limit as Past}
-use Rattle.hy_bits.specs.Letter.{Letter}
 use Rattle.hy_formula.specs.Classes.{class_of}
-use Rattle.hy_formula.specs.Lassos.{Lasso}
 use Rattle.hy_formula.specs.declared.classes.Class.{Class}
 use Rattle.hy_read.specs.Answers.{Plain}
 use Rattle.aig_net.specs.Nets.{Net}
-use Rattle.aig_net.specs.declared.run.Run.{Run}
 use Rattle.aig_net.specs.declared.signals.Signal.{Signal}
-use Rattle.cnf_frames.specs.declared.inductions.InductionProof.{InductionProof}
 use Rattle.cnf_frames.specs.declared.queries.FrameError.TheVariants as frame
 use Rattle.invar_find.specs.Kepts as kepts
 use Rattle.invar_find.specs.declared.kept.Kept.{Kept}
@@ -24,7 +20,7 @@ use Rattle.mc_core.specs.declared.checked.Checked.{Checked}
 use Rattle.mc_core.specs.declared.checked.Checked.TheVariants as checked
 use Rattle.hy_answer.specs.declared.answer.Answer.{Answer}
 use Rattle.hy_answer.specs.declared.answer.Answer.TheVariants.{Holds, Violated, UnknownDepth, UnknownConflicts, Name, Prefix, Limit, CnfLimit, Memory}
-use Rattle.hy_words.specs.Commands.{Command, monitor, judge, decide, imply, compare, check}
+use Rattle.hy_words.specs.Commands.{Command, monitor, monitor_made, judge, decide, imply, compare, check}
 use Rattle.hy_top.specs.Circuits.{IsCircuit}
 use Rattle.hy_top.specs.Classes.{is_of_one_kind}
 use Rattle.hy_top.specs.Files.{Given, Came, HasAll}
@@ -32,6 +28,7 @@ use Rattle.hy_top.specs.Files.{Given, Came, HasAll}
 abbrev pub IsChecking : Command → Type 0
 IsChecking (check circuit formula depth conflicts plain proof) = Unit {0}
 IsChecking (monitor specs traces lengths) = ⊥
+IsChecking (monitor_made specs count lengths) = ⊥
 IsChecking (judge formula list) = ⊥
 IsChecking (decide formula states proof) = ⊥
 IsChecking (imply first second states proof) = ⊥

@@ -7,7 +7,7 @@ use Rattle.hy_formula.specs.declared.classes.Class.TheVariants.{Exists, Forall, 
 use Rattle.hy_read.specs.Answers.{Plain}
 use Rattle.hy_answer.specs.declared.answer.Answer.{Answer}
 use Rattle.hy_answer.specs.declared.answer.Answer.TheVariants.{Prefix}
-use Rattle.hy_words.specs.Commands.{Command, monitor, judge, decide, imply, compare, check}
+use Rattle.hy_words.specs.Commands.{Command, monitor, monitor_made, judge, decide, imply, compare, check}
 use Rattle.hy_top.specs.Files.{Given, HasFormulas}
 
 abbrev pub is_universal : Class → Bool
@@ -32,6 +32,7 @@ is_decided Other = false
 
 abbrev pub takes : Command → Class → Bool
 takes (monitor specs traces lengths) class = is_universal class
+takes (monitor_made specs count lengths) class = is_universal class
 takes (judge formula list) class = true
 takes (decide formula states proof) class = is_decided class
 takes (imply first second states proof) class = is_of_one_kind class
@@ -41,6 +42,7 @@ takes (check circuit formula depth conflicts plain proof) class = is_of_one_kind
 -- the file of formula j
 abbrev pub file_of : Command → ℕ → ℕ
 file_of (monitor specs traces lengths) j = 0
+file_of (monitor_made specs count lengths) j = 0
 file_of (judge formula list) j = 0
 file_of (decide formula states proof) j = 0
 file_of (imply first second states proof) j = j

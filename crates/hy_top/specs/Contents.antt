@@ -16,7 +16,7 @@ use Rattle.hy_answer.specs.Refusals.{Refuses, line_answer}
 use Rattle.aig_net.specs.Nets.{Net}
 use Rattle.aiger_body.specs.Outcomes.{Refusal}
 use Rattle.hy_top.specs.Circuits.{IsCircuit, IsNoCircuit, circuit_answer}
-use Rattle.hy_words.specs.Commands.{Command, monitor, judge, decide, imply, compare, check}
+use Rattle.hy_words.specs.Commands.{Command, monitor, monitor_made, judge, decide, imply, compare, check}
 
 pub data Content : Type 0 where
   -- formulas, joined by semicolons
@@ -32,6 +32,7 @@ pub data Content : Type 0 where
 abbrev pub content_of : Command → ℕ → Content
 content_of (monitor specs traces lengths) zero = specifications
 content_of (monitor specs traces lengths) (suc k) = events
+content_of (monitor_made specs count lengths) k = specifications
 content_of (judge formula list) zero = one_formula
 content_of (judge formula list) (suc k) = lassos
 content_of (decide formula states proof) k = one_formula
@@ -43,6 +44,7 @@ content_of (check file formula depth conflicts plain proof) (suc k) = one_formul
 -- most quantifiers of a formula of the command
 abbrev pub most_quantifiers : Command → ℕ
 most_quantifiers (monitor specs traces lengths) = 4
+most_quantifiers (monitor_made specs count lengths) = 4
 most_quantifiers (judge formula list) = 8
 most_quantifiers (decide formula states proof) = 8
 most_quantifiers (imply first second states proof) = 8

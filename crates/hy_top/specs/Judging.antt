@@ -12,7 +12,7 @@ use Rattle.hy_lasso.specs.Words.{Satisfies}
 use Rattle.hy_read.specs.Answers.{Plain}
 use Rattle.hy_answer.specs.declared.answer.Answer.{Answer}
 use Rattle.hy_answer.specs.declared.answer.Answer.TheVariants.{OnTrue, OnFalse, Limit, Memory}
-use Rattle.hy_words.specs.Commands.{Command, monitor, judge, decide, imply, compare, check}
+use Rattle.hy_words.specs.Commands.{Command, monitor, monitor_made, judge, decide, imply, compare, check}
 use Rattle.hy_top.specs.Files.{Given, Came, HasTexts}
 
 -- The first file is this formula, and the second has these lassos.
@@ -25,6 +25,7 @@ pub record HasLassos (command : Command) (given : Given) (formula : Plain) (list
 
 abbrev pub IsJudging : Command → Type 0
 IsJudging (monitor specs traces lengths) = ⊥
+IsJudging (monitor_made specs count lengths) = ⊥
 IsJudging (judge formula list) = Unit {0}
 IsJudging (decide formula states proof) = ⊥
 IsJudging (imply first second states proof) = ⊥

@@ -1,5 +1,6 @@
--- What `rvhyper` answers: how the formulas are counted, and what comes of the events of a file, one after another.
-use Rattle.std.specs.Prelude.{◌≡◌, ◌⊎◌, ℕ, Bool, true, false, List, [], ◌∷◌, length, map, replicate, Ok}
+-- What `rvhyper` answers: how the formulas are counted, and what comes of the events, one after another: those of a
+-- file, or made traces.
+use Rattle.std.specs.Prelude.{◌≡◌, ◌⊎◌, ℕ, suc, Bool, true, false, List, [], ◌∷◌, length, map, replicate, Ok}
 use Rattle.std.specs.List.{Contains}
 use Rattle.hy_base.specs.Limits.{most}
 use Rattle.hy_base.specs.declared.limit.Kind.TheVariants.{Closure, Atoms, Table, Length, Sessions, Saves}
@@ -7,10 +8,12 @@ use Rattle.hy_formula.specs.Classes.{class_of}
 use Rattle.hy_formula.specs.declared.classes.Class.{Class}
 use Rattle.hy_formula.specs.Quantifiers.{Each}
 use Rattle.hy_formula.specs.Trees.{Tree}
+use Rattle.hy_finite.specs.declared.event.Event.TheVariants.{Whole}
 use Rattle.hy_finite.specs.declared.event.Placed.{Placed}
 use Rattle.hy_finite.specs.declared.lengths.Lengths.{Lengths}
 use Rattle.hy_finite.specs.EventFiles.{IsEventFile}
 use Rattle.hy_finite.specs.Traces.{Trace}
+use Rattle.made_traces.specs.MadeTraces.{made_traces}
 use Rattle.hy_read.specs.Answers.{Plain}
 use Rattle.fin_monitor.specs.Limits.{HasLargeClosure, HasSmallClosure, HasManyAtoms, HasFewAtoms, HasLargeTable, IsTaken}
 use Rattle.rv_core.specs.Endings.{Spec, IsClean}
@@ -18,7 +21,7 @@ use Rattle.rv_core.specs.Histories.{History, empty_history, Refusal, no_session,
 use Rattle.rv_core.specs.Replies.{IsFound}
 use Rattle.hy_answer.specs.declared.answer.Answer.{Answer}
 use Rattle.hy_answer.specs.declared.answer.Answer.TheVariants.{NoViolation, Violation, Prefix, Session, Limit, Memory}
-use Rattle.hy_words.specs.Commands.{Command, monitor, judge, decide, imply, compare, check}
+use Rattle.hy_words.specs.Commands.{Command, monitor, monitor_made, judge, decide, imply, compare, check}
 use Rattle.hy_top.specs.Classes.{is_universal, FirstUntaken}
 use Rattle.hy_top.specs.Files.{Given, Came, HasTexts, HasFormulas}
 
@@ -38,6 +41,7 @@ EachPlain Q formulas = Each (λ (f : Plain). Q f.body) formulas
 -- the formulas that a command has monitors of
 abbrev pub monitored : Command → List Plain → List Plain
 monitored (monitor specs traces lengths) formulas = formulas
+monitored (monitor_made specs count lengths) formulas = formulas
 monitored (judge formula list) formulas = []
 monitored (decide formula states proof) formulas = []
 monitored (imply first second states proof) formulas = []
@@ -96,30 +100,45 @@ ComesTo lengths specs h (placed ∷ events) answer =
     Comes lengths specs placed.line (arrives placed.event) (step h placed.event)
     (λ next. ComesTo lengths specs next events answer) answer
 
--- The lines of a file say events that come to this answer.
-abbrev pub IsVerdict : Lengths → List Plain → List (List ℕ) → List ℕ → Answer → Type 0
-IsVerdict lengths formulas names bytes answer =
-    (events : List Placed) × IsEventFile names bytes events × ComesTo lengths (specs_of formulas) empty_history events answer
+-- Events that are so come to this answer.
+abbrev pub EventsCome : Lengths → List Spec → (List Placed → Type 0) → Answer → Type 0
+EventsCome lengths specs AreSo answer =
+    (events : List Placed) × AreSo events × ComesTo lengths specs empty_history events answer
 
--- The files are formulas and events, and this is what they come to.
+-- traces as events in their order, the first of them in place k
+abbrev pub whole_traces : ℕ → List Trace → List Placed
+whole_traces k [] = []
+whole_traces k (t ∷ ts) = record { line = k; event = Whole t } ∷ whole_traces (suc k) ts
+
+-- The events that a command monitors are these, where its formulas have these names: those of its second file, or made
+-- traces.
+abbrev pub AreEvents : Command → Given → List (List ℕ) → List Placed → Type 0
+AreEvents (monitor specs traces lengths) given names events =
+    (bytes : List ℕ) × Came given 1 (Ok bytes) × IsEventFile names bytes events
+AreEvents (monitor_made specs count lengths) given names events = events ≡ whole_traces 0 (made_traces names count)
+AreEvents (judge formula list) given names events = ⊥
+AreEvents (decide formula states proof) given names events = ⊥
+AreEvents (imply first second states proof) given names events = ⊥
+AreEvents (compare first second states proof) given names events = ⊥
+AreEvents (check circuit formula depth conflicts plain proof) given names events = ⊥
+
+-- The first file has formulas, and this is what the events come to with them.
 pub record Monitors (lengths : Lengths) (command : Command) (given : Given) (answer : Answer) : Type 0 where
   pub formulas : List Plain
   pub names : List (List ℕ)
   pub first : HasTexts command given 1 formulas names
-  pub bytes : List ℕ
-  pub came : Came given 1 (Ok bytes)
-  pub verdict : IsVerdict lengths formulas names bytes answer
+  pub verdict : EventsCome lengths (specs_of formulas) (AreEvents command given names) answer
 
--- What formulas come to on the events of a file: the first of these that is met, or memory ran out.
-pub data IsOutcome (lengths : Lengths) (formulas : List Plain) (names : List (List ℕ)) (bytes : List ℕ) : Answer → Type 0 where
+-- What formulas come to on events that are so: the first of these that is met, or memory ran out.
+pub data IsOutcome (lengths : Lengths) (formulas : List Plain) (AreSo : List Placed → Type 0) : Answer → Type 0 where
   untaken : (place : ℕ) (class : Class) → FirstUntaken is_universal formulas place class
-      → IsOutcome lengths formulas names bytes (Prefix 0 class)
+      → IsOutcome lengths formulas AreSo (Prefix 0 class)
   large_closure : AreUniversal formulas → SomePlain HasLargeClosure formulas
-      → IsOutcome lengths formulas names bytes (Limit Closure (most Closure))
+      → IsOutcome lengths formulas AreSo (Limit Closure (most Closure))
   many_atoms : AreUniversal formulas → EachPlain HasSmallClosure formulas → SomePlain HasManyAtoms formulas
-      → IsOutcome lengths formulas names bytes (Limit Atoms (most Atoms))
+      → IsOutcome lengths formulas AreSo (Limit Atoms (most Atoms))
   large_table : AreUniversal formulas → EachPlain HasSmallClosure formulas → EachPlain HasFewAtoms formulas
-      → SomePlain HasLargeTable formulas → IsOutcome lengths formulas names bytes (Limit Table (most Table))
-  done : (answer : Answer) → AreUniversal formulas → EachPlain IsTaken formulas → IsVerdict lengths formulas names bytes answer
-      → IsOutcome lengths formulas names bytes answer
-  spent : IsOutcome lengths formulas names bytes Memory
+      → SomePlain HasLargeTable formulas → IsOutcome lengths formulas AreSo (Limit Table (most Table))
+  done : (answer : Answer) → AreUniversal formulas → EachPlain IsTaken formulas → EventsCome lengths (specs_of formulas) AreSo answer
+      → IsOutcome lengths formulas AreSo answer
+  spent : IsOutcome lengths formulas AreSo Memory

@@ -10,7 +10,7 @@ use Rattle.hy_answer.specs.declared.answer.Answer.TheVariants.{Words, WriteFault
 use Rattle.hy_answer.specs.declared.answer.Extras.{Extras}
 use Rattle.hy_answer.specs.Outputs.{out_text}
 use Rattle.hy_words.specs.declared.tool.Tool.{Tool}
-use Rattle.hy_words.specs.Commands.{Command, monitor, judge, decide, imply, compare, check, IsCommand, HasNoCommand, files_of}
+use Rattle.hy_words.specs.Commands.{Command, monitor, monitor_made, judge, decide, imply, compare, check, IsCommand, HasNoCommand, files_of}
 use Rattle.hy_top.specs.Files.{Given, HasAll}
 use Rattle.hy_top.specs.Stages.{IsRight, InTurn}
 
@@ -22,6 +22,7 @@ pub record Reads {S : Type 0} (g : Ghosts S) (old new : S) (command : Command) (
 -- what the text of an answer shows beside the verdict
 abbrev pub extras_of : Command → Extras
 extras_of (monitor specs traces lengths) = record { kept = false; proof = false }
+extras_of (monitor_made specs count lengths) = record { kept = false; proof = false }
 extras_of (judge formula list) = record { kept = false; proof = false }
 extras_of (decide formula states proof) = record { kept = false; proof = proof }
 extras_of (imply first second states proof) = record { kept = false; proof = proof }

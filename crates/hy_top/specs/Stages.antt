@@ -12,7 +12,7 @@ use Rattle.fin_monitor.specs.Limits.{HasLargeClosure, HasManyAtoms, HasLargeTabl
 use Rattle.hy_answer.specs.declared.answer.Answer.{Answer}
 use Rattle.hy_answer.specs.declared.answer.Answer.TheVariants.{Holds, Violated, UnknownDepth, UnknownConflicts, CnfLimit}
 use Rattle.hy_answer.specs.declared.answer.Answer.TheVariants.{Sat, Unsat, Implied, NotImplied, Equivalent, NotEquivalent, Violation, OpenFault, ReadFault, Limit}
-use Rattle.hy_words.specs.Commands.{Command, monitor, judge, decide, imply, compare, check, files_of}
+use Rattle.hy_words.specs.Commands.{Command, monitor, monitor_made, judge, decide, imply, compare, check, files_of}
 use Rattle.hy_top.specs.Files.{Given, Came, RefusesText}
 use Rattle.hy_top.specs.Classes.{RefusesClass}
 use Rattle.hy_top.specs.Checking as checking
@@ -90,6 +90,7 @@ IsPast command given table = monitoring.SomeBody HasLargeTable command given
 -- The work of the command comes to this answer.
 abbrev pub ComesTo : Command → Given → Answer → Type 0
 ComesTo (monitor specs traces lengths) given answer = monitoring.Monitors lengths (monitor specs traces lengths) given answer
+ComesTo (monitor_made specs n lengths) given answer = monitoring.Monitors lengths (monitor_made specs n lengths) given answer
 ComesTo (judge formula list) given answer = judging.Judges (judge formula list) given answer
 ComesTo (decide formula states proof) given answer = deciding.Determines (decide formula states proof) given answer
 ComesTo (imply first second states proof) given answer = deciding.Determines (imply first second states proof) given answer
@@ -131,14 +132,20 @@ IsRight command given answer = First command given (stages_of command) answer
 abbrev pub InTurn : Command → Given → Type 0
 InTurn command given = (k : ℕ) → k < length given → AllPassed command given (stages_of_files k)
 
+-- The limit is one of queries.
+abbrev pub IsQueryLimit : Kind → Type 0
+IsQueryLimit kinds.CnfVariables = Unit {0}
+IsQueryLimit kinds.CnfLiterals = Unit {0}
+IsQueryLimit _ = ⊥
+
 -- What a check answers, but for what it says of the circuit.
 abbrev pub IsOfCheck : Answer → Type 0
 IsOfCheck (Holds traces runs proof) = Unit {0}
 IsOfCheck (Violated traces runs proof) = Unit {0}
 IsOfCheck (UnknownDepth depth kept path) = Unit {0}
 IsOfCheck (UnknownConflicts conflicts k step kept log) = Unit {0}
-IsOfCheck (Limit kind limit) = Unit {0}
-IsOfCheck (CnfLimit kind limit kept) = Unit {0}
+IsOfCheck (Limit kind limit) = IsQueryLimit kind
+IsOfCheck (CnfLimit kind limit kept) = IsQueryLimit kind
 IsOfCheck _ = ⊥
 
 -- One says that the formula holds, and the other that it does not.

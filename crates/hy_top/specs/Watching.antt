@@ -1,17 +1,22 @@
--- What comes of one line after another of a file of events, given to a monitor.
-use Rattle.std.specs.Prelude.{◌≡◌, ◌⊎◌, ℕ, true, List, length}
+-- What comes of one event after another, given to a monitor.
+use Rattle.std.specs.Prelude.{◌≡◌, ◌⊎◌, ◌+◌, ◌<◌, ◌^◌, ℕ, true, List, [], ◌∷◌, length, Option, Some, None}
 use Rattle.hy_base.specs.Limits.{most}
 use Rattle.hy_finite.specs.declared.event.Placed.{Placed}
 use Rattle.hy_finite.specs.declared.lengths.Lengths.{Lengths}
-use Rattle.hy_finite.specs.EventFiles.{IsEventFile}
+use Rattle.hy_formula.specs.Quantifiers.{Each}
+use Rattle.hy_finite.specs.EventFiles.{SayEvents}
+use Rattle.hy_finite.specs.EventLines.{IsGood}
+use Rattle.hy_finite.specs.Remaining.{remaining}
 use Rattle.rv_core.specs.Endings.{Spec, IsClean}
 use Rattle.rv_core.specs.Held.{Held, StandsFor}
-use Rattle.rv_core.specs.Histories.{History, empty_history, goes, step, arrives}
+use Rattle.rv_core.specs.Histories.{History, goes, step, arrives}
 use Rattle.rv_core.specs.declared.rv_error.RvError.{RvError}
 use Rattle.rv_core.specs.declared.rv_error.RvError.TheVariants as errors
 use Rattle.hy_answer.specs.declared.answer.Answer.{Answer}
 use Rattle.hy_answer.specs.declared.answer.Answer.TheVariants.{Session, Limit, Memory}
-use Rattle.hy_top.specs.Monitoring.{Comes, ComesTo, clean_answer}
+use Rattle.hy_top.specs.Monitoring.{Comes, EventsCome, clean_answer, whole_traces}
+use Rattle.hy_top.specs.declared.source.Source.{Source}
+use Rattle.hy_top.specs.declared.source.Source.TheVariants.{Lines, Made}
 
 -- Memory ran out, or the fact holds.
 abbrev pub OrMemory : Answer → Type 0 → Type 0
@@ -36,13 +41,34 @@ abbrev pub Stops : Lengths → List Spec → History → Placed → Answer → T
 Stops lengths specs h placed answer =
     Comes lengths specs placed.line (arrives placed.event) (step h placed.event) (λ next. ⊥) answer
 
--- The lines of a file say events that come to this answer.
-abbrev pub LinesCome : Lengths → List Spec → List (List ℕ) → List ℕ → Answer → Type 0
-LinesCome lengths specs names bytes answer =
-    (events : List Placed) × IsEventFile names bytes events × ComesTo lengths specs empty_history events answer
+-- The events that a source has left are these.
+abbrev pub AreLeft : Source → List Placed → Type 0
+AreLeft (Lines lines names) events = SayEvents names.now (remaining lines).first (remaining lines).lines events
+AreLeft (Made first traces) events = events ≡ whole_traces first traces.now
 
--- No event of the lines of a file was refused or violated a formula: the monitor stands for the history behind the last
--- one, so that the lines come to its answer.
-abbrev pub IsThrough : Lengths → List Spec → List (List ℕ) → List ℕ → Held → Type 0
-IsThrough lengths specs names bytes new =
-    (h : History) × StandsFor new h × LinesCome lengths specs names bytes (clean_answer (length specs) h)
+-- how many lines or traces a source has left
+abbrev pub count_left : Source → ℕ
+count_left (Lines lines names) = length (remaining lines).lines
+count_left (Made first traces) = length traces.now
+
+-- Each line that is left says nothing or an event; traces can be numbered.
+abbrev pub IsReady : Source → Type 0
+IsReady (Lines lines names) = Each IsGood (remaining lines).lines
+IsReady (Made first traces) = first + length traces.now < 2 ^ 32
+
+-- The event is the next of a source, and then the new source is left.
+pub record IsAhead (old new : Source) (placed : Placed) : Type 0 where
+  pub before : (events : List Placed) → AreLeft new events → AreLeft old (placed ∷ events)
+  pub fewer : count_left new < count_left old
+  pub ready : IsReady new
+
+-- The next event of a source, if there is one.
+abbrev pub IsNext : Source → Source → Option Placed → Type 0
+IsNext old new None = AreLeft old []
+IsNext old new (Some placed) = IsAhead old new placed
+
+-- No event was refused or violated a formula: the monitor stands for the history behind the last one, so that the
+-- events come to its answer.
+abbrev pub IsThrough : Lengths → List Spec → Source → Held → Type 0
+IsThrough lengths specs source new =
+    (h : History) × StandsFor new h × EventsCome lengths specs (AreLeft source) (clean_answer (length specs) h)

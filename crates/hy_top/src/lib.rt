@@ -8,6 +8,7 @@ mod laws;
 mod mchyper;
 mod runs;
 mod rvhyper;
+mod source;
 mod watching;
 
 pub use host::run_here;

@@ -66,6 +66,14 @@ pub fn run<S: Shelf, O: Sink, E: Sink>(
             let due = rvhyper::monitor(alloc, shelf, specs, traces, lengths, &mut names);
             finish(alloc, due, plain, &names, &[specs, traces], out, err)
         }
+        Command::MonitorMade {
+            specs,
+            count,
+            lengths,
+        } => {
+            let due = rvhyper::monitor_made(alloc, shelf, specs, count, lengths, &mut names);
+            finish(alloc, due, plain, &names, &[specs], out, err)
+        }
         Command::Judge { formula, lassos } => {
             let due = eahyper::judge(alloc, shelf, formula, lassos, &mut names);
             finish(alloc, due, plain, &names, &[formula, lassos], out, err)

@@ -6,26 +6,30 @@ ghost use Rattle.hy_base.specs.declared.reading.TheConstants.{BYTES_LIMIT};
 ghost use Rattle.hy_formula.specs.Quantifiers.{Each};
 ghost use Rattle.hy_formula.specs.declared.formula.Formula.{Formula};
 ghost use Rattle.hy_text.specs.Lines.{lines_of};
+ghost use Rattle.hy_finite.specs.EventFiles.{IsEventFile};
 ghost use Rattle.hy_finite.specs.EventLines.{IsGood};
 ghost use Rattle.hy_read.specs.Builds.{plain_formulas};
 ghost use Rattle.rv_core.specs.Built.{HasFewQuantifiers, IsNewRefusal};
 ghost use Rattle.hy_answer.specs.Outputs.{out_text};
-ghost use Rattle.hy_words.specs.Commands.{monitor};
+ghost use Rattle.hy_words.specs.Commands.{monitor, monitor_made};
 ghost use Rattle.hy_top.specs.Monitoring.{IsOutcome};
 ghost use Rattle.hy_top.specs.Runs.{Follows, extras_of};
+ghost use Rattle.hy_top.specs.Watching.{AreLeft, count_left, IsReady};
 
 use crate::files::{events_in, specs_in};
+use crate::source::Source;
 use crate::watching::watch;
 use hy_answer::Answer;
 use hy_base::Shelf;
 use hy_finite::Lengths;
 use hy_formula::NameTable;
 use hy_read::SpecList;
+use made_traces::make_traces;
 use rv_core::{Rv, RvNewError};
 use std::alloc::Global;
 
-/// Whether the traces of a file violate the formulas of another under a rule of lengths. Their names are added to the empty
-/// table.
+/// Whether the traces of a file violate the formulas of another under a rule of lengths. Their names
+/// are added to the empty table.
 pub fn monitor<S: Shelf>(
     alloc: Global,
     shelf: &mut S,
@@ -45,13 +49,41 @@ pub fn monitor<S: Shelf>(
         Err(answer) => return answer,
     };
     match events_in(alloc, shelf, traces) {
-        Ok(bytes) => judge(alloc, &specs, lengths, bytes.as_slice(), names),
+        Ok(bytes) => judge_lines(alloc, &specs, lengths, bytes.as_slice(), names),
         Err(answer) => answer,
     }
 }
 
+/// Whether `count` made traces violate the formulas of a file under a rule of lengths. The names of
+/// the formulas are added to the empty table.
+pub fn monitor_made<S: Shelf>(
+    alloc: Global,
+    shelf: &mut S,
+    specs: &str,
+    count: u32,
+    lengths: Lengths,
+    names: &mut NameTable,
+) -> Answer
+    requires empty { names.old ≡ [] }
+    requires few { count < 2 ^ 31 }
+    ensures keeps { KeepsShelf S.Shelf shelf.old shelf.new }
+    ensures follows { let command = monitor_made specs.now count lengths in
+        Follows S.Shelf shelf.old shelf.new command result
+        (out_text (extras_of command) names.new result) }
+{
+    let formulas = match specs_in(alloc, shelf, specs, names) {
+        Ok(formulas) => formulas,
+        Err(answer) => return answer,
+    };
+    let Ok(traces) = make_traces(alloc, count, names) else {
+        return Answer::Memory;
+    };
+    let source = Source::of_traces(traces.as_slice());
+    judge(alloc, &formulas, lengths, source)
+}
+
 /// What formulas come to on the events of lines that are taken.
-fn judge(
+fn judge_lines(
     alloc: Global,
     specs: &SpecList,
     lengths: Lengths,
@@ -62,10 +94,23 @@ fn judge(
     requires countable { length specs.now < 2 ^ 32 }
     requires few { length bytes.now ≤ BYTES_LIMIT }
     requires good { Each IsGood (lines_of bytes.now) }
-    ensures { IsOutcome lengths (plain_formulas specs.now) names.now bytes.now result }
+    ensures { IsOutcome lengths (plain_formulas specs.now) (IsEventFile names.now bytes.now)
+        result }
+{
+    let source = Source::of_lines(bytes, names);
+    judge(alloc, specs, lengths, source)
+}
+
+/// What formulas come to on the events of a source.
+fn judge(alloc: Global, specs: &SpecList, lengths: Lengths, source: Source) -> Answer
+    requires quantifiers { All HasFewQuantifiers specs.now }
+    requires countable { length specs.now < 2 ^ 32 }
+    requires few { count_left source < 2 ^ 31 }
+    requires ready { IsReady source }
+    ensures { IsOutcome lengths (plain_formulas specs.now) (AreLeft source.entry) result }
 {
     match Rv::new(alloc, specs.as_slice(), lengths) {
-        Ok(mut rv) => watch(alloc, &mut rv, specs.len() as u32, bytes, names),
+        Ok(mut rv) => watch(alloc, &mut rv, specs.len() as u32, source),
         Err(error) => new_answer(error),
     }
 }
@@ -73,8 +118,7 @@ fn judge(
 /// The answer for formulas that are not monitored.
 fn new_answer(error: RvNewError) -> Answer
     ensures { (lengths : Lengths) (formulas : List Formula) → IsNewRefusal formulas error
-        → (names : List (List ℕ)) (bytes : List ℕ)
-        → IsOutcome lengths (plain_formulas formulas) names bytes result }
+        → (source : Source) → IsOutcome lengths (plain_formulas formulas) (AreLeft source) result }
 {
     match error {
         RvNewError::Prefix { class, .. } => Answer::Prefix { file: 0, class },

@@ -1,108 +1,83 @@
-//! The events of a file's lines, given to a monitor one after another.
+//! Events, given to a monitor one after another.
 
-ghost use Rattle.std.specs.Prelude.{◌≡◌, ◌+◌, ◌<◌, ◌≤◌, ◌^◌, IfOk, IfErr, OnOk, IsTrue, List, ℕ, length, replicate};
-ghost use Rattle.hy_base.specs.declared.reading.TheConstants.{BYTES_LIMIT};
-ghost use Rattle.hy_formula.specs.Quantifiers.{Each};
-ghost use Rattle.hy_text.specs.Lines.{lines_of};
-ghost use Rattle.hy_finite.specs.EventLines.{IsGood};
-ghost use Rattle.hy_finite.specs.NextEvents.{IsNextAnswer};
-ghost use Rattle.hy_finite.specs.Remaining.{remaining};
+ghost use Rattle.std.specs.Prelude.{◌≡◌, ◌+◌, ◌<◌, ◌^◌, IfOk, IfErr, OnOk, IsTrue, List, ℕ, length, replicate};
 ghost use Rattle.rv_core.specs.Held.{StandsFor, specs_of};
 ghost use Rattle.rv_core.specs.Seen.{held};
 ghost use Rattle.rv_core.specs.Histories.{History, empty_history};
 ghost use Rattle.hy_answer.specs.declared.answer.Answer.TheVariants.{NoViolation};
-ghost use Rattle.hy_top.specs.Watching.{OrMemory, IsEventAnswer, GoesOn, Stops, LinesCome, IsThrough};
+ghost use Rattle.hy_top.specs.Monitoring.{EventsCome};
+ghost use Rattle.hy_top.specs.Watching.{OrMemory, IsEventAnswer, GoesOn, Stops, AreLeft, count_left, IsReady, IsThrough};
 
+use crate::source::Source;
 use hy_answer::Answer;
 use hy_base::{M, Memory, NumList, Steps};
 use hy_bits::Letters;
-use hy_finite::{EventLines, Placed};
-use hy_formula::NameTable;
+use hy_finite::Placed;
 use rv_core::{Reply, Rv, RvError};
 use std::alloc::Global;
 use std::marker::Brand;
 use std::sync::ledger::{Blank, Ledger};
 
-/// What the events of lines that are taken come to with a monitor of `specs` formulas to
-/// which nothing has come yet.
-pub fn watch(alloc: Global, rv: &mut Rv, specs: u32, bytes: &[u8], names: &NameTable) -> Answer
+/// What the events of a source come to with a monitor of `specs` formulas to which nothing has come
+/// yet.
+pub fn watch(alloc: Global, rv: &mut Rv, specs: u32, source: Source) -> Answer
     requires stands { StandsFor (held rv.old) empty_history }
     requires specs { specs ≡ length (specs_of (held rv.old)) }
-    requires few { length bytes.now ≤ BYTES_LIMIT }
-    requires good { Each IsGood (lines_of bytes.now) }
-    ensures { OrMemory result (LinesCome (held rv.old).rule (specs_of (held rv.old)) names.now bytes.now result) }
+    requires few { count_left source < 2 ^ 31 }
+    requires ready { IsReady source }
+    ensures { OrMemory result (EventsCome (held rv.old).rule (specs_of (held rv.old)) (AreLeft source.entry) result) }
 {
-    match watch_on::<Brand>(alloc, rv, bytes, names, Blank::new(1)) {
+    match watch_on::<Brand>(alloc, rv, source, Blank::new(1)) {
         Ok(()) => clean_answer(alloc, rv, specs),
         Err(answer) => answer,
     }
 }
 
-/// Gives the monitor the events of lines, on a ledger of its own, on which the steps are counted.
+/// Gives the monitor the events of a source, on a ledger of its own, on which the steps are counted.
 fn watch_on<L: Ledger>(
     alloc: Global,
     rv: &mut Rv,
-    bytes: &[u8],
-    names: &NameTable,
+    source: Source,
     blank: Blank,
 ) -> Result<(), Answer>
     requires stands { StandsFor (held rv.old) empty_history }
-    requires few { length bytes.now ≤ BYTES_LIMIT }
-    requires good { Each IsGood (lines_of bytes.now) }
+    requires few { count_left source < 2 ^ 31 }
+    requires ready { IsReady source }
     requires name { blank.name ≡ L.name }
     requires parts { blank.parts ≡ L.parts }
     requires some { 0 < blank.parts }
     ensures specs { specs_of (held rv.new) ≡ specs_of (held rv.old) }
-    ensures through { OnOk result (IsThrough (held rv.old).rule (specs_of (held rv.old)) names.now bytes.now
-        (held rv.new)) }
+    ensures through { OnOk result (IsThrough (held rv.old).rule (specs_of (held rv.old)) source.entry (held rv.new)) }
     ensures ended { IfErr result (λ answer. OrMemory answer
-        (LinesCome (held rv.old).rule (specs_of (held rv.old)) names.now bytes.now answer)) }
+        (EventsCome (held rv.old).rule (specs_of (held rv.old)) (AreLeft source.entry) answer)) }
 {
     let mut steps = Steps::<L>::new(blank);
-    watch_lines(alloc, rv, bytes, names, &mut steps)
+    watch_events(alloc, rv, source, &mut steps)
 }
 
-/// Gives the monitor the events of lines, up to the first that is refused or violates a formula, and
-/// then says what is answered.
-fn watch_lines<L: Ledger>(
+/// Gives the monitor the events of a source, up to the first that is refused or violates a formula,
+/// and then says what is answered.
+fn watch_events<L: Ledger>(
     alloc: Global,
     rv: &mut Rv,
-    bytes: &[u8],
-    names: &NameTable,
+    source: Source,
     steps: &mut Steps<L>,
 ) -> Result<(), Answer>
     requires stands { StandsFor (held rv.old) empty_history }
-    requires few { length bytes.now ≤ BYTES_LIMIT }
-    requires good { Each IsGood (lines_of bytes.now) }
+    requires few { count_left source < 2 ^ 31 }
+    requires ready { IsReady source }
     ensures specs { specs_of (held rv.new) ≡ specs_of (held rv.old) }
-    ensures through { OnOk result (IsThrough (held rv.old).rule (specs_of (held rv.old)) names.now bytes.now (held rv.new)) }
+    ensures through { OnOk result (IsThrough (held rv.old).rule (specs_of (held rv.old)) source.entry (held rv.new)) }
     ensures ended { IfErr result (λ answer. OrMemory answer
-        (LinesCome (held rv.old).rule (specs_of (held rv.old)) names.now bytes.now answer)) }
+        (EventsCome (held rv.old).rule (specs_of (held rv.old)) (AreLeft source.entry) answer)) }
 {
-    let mut lines = EventLines::new(bytes);
+    let mut left = source;
     let mut letters = Letters::new(alloc);
-    while let Some(placed) = next_event(&mut lines, names, letters)? {
+    while let Some(placed) = left.next(alloc, letters)? {
         take(alloc, rv, &placed, steps)?;
         letters = placed.event.into_letters(alloc);
     }
     Ok(())
-}
-
-/// The next event of lines that are taken, in the memory of `letters`, so that nothing but memory may
-/// be wanting.
-fn next_event(
-    lines: &mut EventLines,
-    names: &NameTable,
-    letters: Letters,
-) -> Result<Option<Placed>, Answer>
-    ensures next { IfOk result (λ next. IsNextAnswer names.now (remaining lines.old)
-        (remaining lines.new) (Ok next)) }
-    ensures ended { IfErr result (λ answer. answer ≡ Answer.Memory) }
-{
-    match lines.next(names, letters) {
-        Ok(next) => Ok(next),
-        Err(_) => Err(Answer::Memory),
-    }
 }
 
 /// Gives the monitor an event, or says what is answered where it is refused or violates a formula.

@@ -7,8 +7,11 @@ use Rattle.hy_finite.specs.declared.lengths.Lengths.TheVariants.{Min, Pad}
 use Rattle.hy_words.specs.declared.tool.Tool.{Tool}
 use Rattle.hy_words.specs.declared.tool.Tool.TheVariants.{EaHyper, RvHyper, McHyper}
 use Rattle.hy_words.specs.Words.{Text, Item, given_in}
-use Rattle.hy_words.specs.Commands.{Command, monitor, judge, decide, imply, compare, check, IsNumber, IsNumberOr, IsRule, Asks, Monitors, Checks, Orders, IsCommand}
+use Rattle.hy_words.specs.Commands.{Command, monitor, monitor_made, judge, decide, imply, compare, check, IsNumber, IsNumberOr, IsRule, Asks, Monitors, Checks, Orders, IsCommand}
 use Rattle.hy_words.proofs.Telling.{Same, same_items}
+
+some-nothing : {A : Type 0} {x : A} {xs : List A} → x ∷ xs ≡ [] → ⊥
+some-nothing e = cc
 
 same-number : (text : Text) (least most n m : ℕ) → most < 2 ^ 32 → IsNumber text least most n → IsNumber text least most m → n ≡ m
 same-number text least most n m small (e, from, to) (f, also, too) = decimal_injective n m (omega arith) (omega arith) (sym e ∙ f)
@@ -41,6 +44,7 @@ question_of items (decide f n b) asks = (f, [], [], [], n, b, asks, refl)
 question_of items (imply f g n b) asks = (f, [], g ∷ [], [], n, b, asks, refl)
 question_of items (compare f g n b) asks = (f, [], [], g ∷ [], n, b, asks, refl)
 question_of items (monitor s t l) e = absurd e
+question_of items (monitor_made s n l) e = absurd e
 question_of items (check c f d n p q) e = absurd e
 
 one_decision : (items others : List Item) → Same EaHyper items others → (a b : Command) → Orders EaHyper items a → Orders EaHyper others b → a ≡ b
@@ -61,8 +65,10 @@ one_decision items others same a b one two =
 -- ---- rvhyper
 
 monitoring_of : (items : List Item) (command : Command) → Orders RvHyper items command
-    → (s : Text) × (t : Text) × (l : Lengths) × Monitors items s t l × (command ≡ monitor s t l)
-monitoring_of items (monitor s t l) monitors = (s, t, l, monitors, refl)
+    → ((s : Text) × (t : Text) × (l : Lengths) × Monitors items (s ∷ t ∷ []) [] l × (command ≡ monitor s t l))
+    ⊎ ((s : Text) × (v : Text) × (n : ℕ) × (l : Lengths) × Monitors items (s ∷ []) (v ∷ []) l × IsNumber v 1 1000000 n × (command ≡ monitor_made s n l))
+monitoring_of items (monitor s t l) monitors = inl (s, t, l, monitors, refl)
+monitoring_of items (monitor_made s n l) (v, monitors, number) = inr (s, v, n, l, monitors, number, refl)
 monitoring_of items (judge f l) e = absurd e
 monitoring_of items (decide f n b) e = absurd e
 monitoring_of items (imply f g n b) e = absurd e
@@ -71,14 +77,32 @@ monitoring_of items (check c f d n p q) e = absurd e
 
 one_monitoring : (items others : List Item) → Same RvHyper items others → (a b : Command) → Orders RvHyper items a → Orders RvHyper others b → a ≡ b
 one_monitoring items others same a b one two =
-    let (s, t, l, monitors, is_a) = monitoring_of items a one in
-    let (u, v, k, also, is_b) = monitoring_of others b two in
-    let (lengths, nil) = same.options in
-    let files : s ∷ t ∷ [] ≡ u ∷ v ∷ [] = sym monitors.files ∙ same.files ∙ also.files in
-    let rule : l ≡ k = same-rule (given_in (codes "lengths") others) l k (subst (λ vs. IsRule vs l) lengths monitors.rule) also.rule in
-    let specs : s ≡ u = cc in
-    let traces : t ≡ v = cc in
-    is_a ∙ (λ i. monitor (specs i) (traces i) (rule i)) ∙ sym is_b
+    let (lengths, (make, nil)) = same.options in
+    by (monitoring_of items a one) (monitoring_of others b two) lengths make
+  where
+    by : (x : ((s : Text) × (t : Text) × (l : Lengths) × Monitors items (s ∷ t ∷ []) [] l × (a ≡ monitor s t l))
+        ⊎ ((s : Text) × (v : Text) × (n : ℕ) × (l : Lengths) × Monitors items (s ∷ []) (v ∷ []) l × IsNumber v 1 1000000 n × (a ≡ monitor_made s n l)))
+        (y : ((s : Text) × (t : Text) × (l : Lengths) × Monitors others (s ∷ t ∷ []) [] l × (b ≡ monitor s t l))
+        ⊎ ((s : Text) × (v : Text) × (n : ℕ) × (l : Lengths) × Monitors others (s ∷ []) (v ∷ []) l × IsNumber v 1 1000000 n × (b ≡ monitor_made s n l)))
+        → given_in (codes "lengths") items ≡ given_in (codes "lengths") others → given_in (codes "make") items ≡ given_in (codes "make") others → a ≡ b
+    by (inl (s, t, l, monitors, is_a)) (inl (u, v, k, also, is_b)) lengths make =
+        let files : s ∷ t ∷ [] ≡ u ∷ v ∷ [] = sym monitors.files ∙ same.files ∙ also.files in
+        let rule : l ≡ k = same-rule (given_in (codes "lengths") others) l k (subst (λ vs. IsRule vs l) lengths monitors.rule) also.rule in
+        let specs : s ≡ u = cc in
+        let traces : t ≡ v = cc in
+        is_a ∙ (λ i. monitor (specs i) (traces i) (rule i)) ∙ sym is_b
+    by (inl (s, t, l, monitors, is_a)) (inr (u, v, n, k, also, number, is_b)) lengths make =
+        absurd (some-nothing (sym also.make ∙ sym make ∙ monitors.make))
+    by (inr (u, v, n, k, monitors, number, is_a)) (inl (s, t, l, also, is_b)) lengths make =
+        absurd (some-nothing (sym monitors.make ∙ make ∙ also.make))
+    by (inr (s, v, n, l, monitors, number, is_a)) (inr (u, w, m, k, also, other, is_b)) lengths make =
+        let files : s ∷ [] ≡ u ∷ [] = sym monitors.files ∙ same.files ∙ also.files in
+        let texts : v ∷ [] ≡ w ∷ [] = sym monitors.make ∙ make ∙ also.make in
+        let specs : s ≡ u = cc in
+        let text : v ≡ w = cc in
+        let count : n ≡ m = same-number w 1 1000000 n m (omega arith) (subst (λ t. IsNumber t 1 1000000 n) text number) other in
+        let rule : l ≡ k = same-rule (given_in (codes "lengths") others) l k (subst (λ vs. IsRule vs l) lengths monitors.rule) also.rule in
+        is_a ∙ (λ i. monitor_made (specs i) (count i) (rule i)) ∙ sym is_b
 
 -- ---- mchyper
 
@@ -90,6 +114,7 @@ checking_of items (decide f n b) e = absurd e
 checking_of items (imply f g n b) e = absurd e
 checking_of items (compare f g n b) e = absurd e
 checking_of items (monitor s t l) e = absurd e
+checking_of items (monitor_made s n l) e = absurd e
 
 one_checking : (items others : List Item) → Same McHyper items others → (a b : Command) → Orders McHyper items a → Orders McHyper others b → a ≡ b
 one_checking items others same a b one two =

@@ -1,10 +1,11 @@
 -- The command of the logic that a command of the code stands for.
 use Rattle.hy_words.specs.declared.command.Command.{Command as Told}
-use Rattle.hy_words.specs.declared.command.Command.TheVariants.{Monitor, Judge, Decide, Imply, Compare, Check}
-use Rattle.hy_words.specs.Commands.{Command, monitor, judge, decide, imply, compare, check}
+use Rattle.hy_words.specs.declared.command.Command.TheVariants.{Monitor, MonitorMade, Judge, Decide, Imply, Compare, Check}
+use Rattle.hy_words.specs.Commands.{Command, monitor, monitor_made, judge, decide, imply, compare, check}
 
 abbrev pub said_by : Told → Command
 said_by (Monitor specs traces lengths) = monitor specs.now traces.now lengths
+said_by (MonitorMade specs count lengths) = monitor_made specs.now count lengths
 said_by (Judge formula lassos) = judge formula.now lassos.now
 said_by (Decide formula states proof) = decide formula.now states proof
 said_by (Imply first second states proof) = imply first.now second.now states proof

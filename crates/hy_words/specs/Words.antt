@@ -2,6 +2,7 @@
 --
 --     eahyper    [--on FILE | --implies FILE | --equivalent FILE] [--proof] [--states N] FORMULA
 --     rvhyper    [--lengths min|pad] SPECS TRACES
+--     rvhyper    [--lengths min|pad] --make N SPECS
 --     mchyper    [--depth K] [--conflicts N] [--plain] [--proof] CIRCUIT FORMULA
 --
 -- Flags and options stand anywhere among the names of files, but not behind a word `--`, behind which every word is the
@@ -29,7 +30,7 @@ flags_of McHyper = codes "plain" ∷ codes "proof" ∷ []
 -- the options of a tool that have a value, without their dashes
 abbrev pub options_of : Tool → List Text
 options_of EaHyper = codes "on" ∷ codes "implies" ∷ codes "equivalent" ∷ codes "states" ∷ []
-options_of RvHyper = codes "lengths" ∷ []
+options_of RvHyper = codes "lengths" ∷ codes "make" ∷ []
 options_of McHyper = codes "depth" ∷ codes "conflicts" ∷ []
 
 -- whether the name is one of these

@@ -25,6 +25,12 @@ pub enum Command<'a> {
         traces: &'a str,
         lengths: Lengths,
     },
+    /// Monitors `count` made traces, from 1 to 1,000,000, against the specifications of a file.
+    MonitorMade {
+        specs: &'a str,
+        count: u32,
+        lengths: Lengths,
+    },
     /// Checks a formula on the lassos of a file.
     Judge {
         formula: &'a str,
@@ -68,13 +74,14 @@ pub enum Command<'a> {
 /// ```text
 /// eahyper    [--on FILE | --implies FILE | --equivalent FILE] [--proof] [--states N] FORMULA
 /// rvhyper    [--lengths min|pad] SPECS TRACES
+/// rvhyper    [--lengths min|pad] --make N SPECS
 /// mchyper    [--depth K] [--conflicts N] [--plain] [--proof] CIRCUIT FORMULA
 /// ```
 /// Flags and options stand anywhere among the names of files, each at most once, and not behind a
 /// word `--`, behind which every word is the name of a file. A value is the word behind its option,
 /// or stands behind an equals sign in the same word; it is not empty, and begins with a dash only
-/// where it is one. The numbers of states, of steps and of conflicts are in the
-/// ranges that `Command` gives, and 100,000, 64 and 100,000 where they are not given; beside
+/// where it is one. The numbers of states, of made traces, of steps and of conflicts are in the
+/// ranges that `Command` gives, and 100,000, none, 64 and 100,000 where they are not given; beside
 /// `--on` neither `--states` nor `--proof` changes anything.
 ///
 /// `Memory` where memory ran out.

@@ -12,7 +12,7 @@ ghost use Rattle.hy_words.specs.declared.tool.Tool.TheVariants.{EaHyper, RvHyper
 use crate::command::Command;
 use crate::parser::FILES;
 use crate::tool::Tool;
-use crate::value::{are_filled, is_value_or_none, number_or, rule_of};
+use crate::value::{are_filled, is_value_or_none, number_in, number_or, rule_of};
 use clap::ArgMatches;
 
 /// The command of a tool that the matches of its parser are, if any.
@@ -101,15 +101,23 @@ fn monitoring<'a>(files: &[&'a str], matches: &ArgMatches<'a>) -> Option<Command
     ensures none { IfNone result ((items : List Item) (command : Meant) → Tells RvHyper items matches.now
         → IsFit RvHyper items → ¬ Orders RvHyper items command) }
 {
-    let &[specs, traces] = files else {
-        return None;
-    };
     let lengths = rule_of(matches.get_str("lengths"))?;
-    Some(Command::Monitor {
-        specs,
-        traces,
-        lengths,
-    })
+    match (files, matches.get_str("make")) {
+        (&[specs, traces], None) => Some(Command::Monitor {
+            specs,
+            traces,
+            lengths,
+        }),
+        (&[specs], Some(given)) => {
+            let count = number_in(given, 1, 1_000_000)?;
+            Some(Command::MonitorMade {
+                specs,
+                count,
+                lengths,
+            })
+        }
+        _ => None,
+    }
 }
 
 /// The command of `mchyper` for what its words give.

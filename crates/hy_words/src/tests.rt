@@ -74,7 +74,8 @@ fn words_that_are_no_command(rt: HostRuntime) -> Result<(), AllocError> {
         "-x spec traces",
         "--proof spec traces",
         "--lengths max spec traces",
-        "--make 3 spec",
+        "--make 0 spec",
+        "--make 3 spec traces",
     ] {
         assert!(rt; is_refused(alloc, Tool::RvHyper, line)?);
     }

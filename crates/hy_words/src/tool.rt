@@ -31,7 +31,7 @@ pub fn options_of<'a>(tool: Tool) -> &'a [&'a str]
 {
     match tool {
         Tool::EaHyper => &["on", "implies", "equivalent", "states"],
-        Tool::RvHyper => &["lengths"],
+        Tool::RvHyper => &["lengths", "make"],
         Tool::McHyper => &["depth", "conflicts"],
     }
 }

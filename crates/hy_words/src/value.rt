@@ -49,7 +49,7 @@ pub fn number_or(usual: u32, text: Option<&str>, least: u32, most: u32) -> Optio
 }
 
 /// The number that a text is, if it is one from `least` to `most`.
-fn number_in(text: &str, least: u32, most: u32) -> Option<u32>
+pub fn number_in(text: &str, least: u32, most: u32) -> Option<u32>
     ensures some { IfSome result (IsNumber text.now least most) }
     ensures none { IfNone result ((n : ℕ) → ¬ IsNumber text.now least most n) }
 {

@@ -1,4 +1,4 @@
-use Rattle.std.proofs.Common.{refl, arith}
+use Rattle.std.proofs.Common.{arith}
 use Rattle.hy_read.specs.Builds.{plain_formula}
 use Rattle.hy_top.specs.Checking.{spent}
 use Rattle.hy_top.proofs.Checking.{check-found, check-prefix, check-limit, check-cnf, check-name}

@@ -1,5 +1,6 @@
-use Rattle.std.proofs.Common.{true, false}
-use Rattle.hy_words.specs.Commands.{monitor, judge, decide, imply, compare, check}
+use Rattle.std.proofs.Common.{false, arith}
+use Rattle.hy_words.specs.Commands.{monitor, monitor_made, judge, decide, imply, compare, check}
+use Rattle.hy_top.proofs.Monitoring.{few-made}
 use Rattle.hy_top.proofs.Worded.{unworded_comes, unworded_names}
 use Rattle.hy_top.specs.Runs.{worded, of_command}
 use Rattle.hy_top.proofs.runs.run.Goals as goal
@@ -24,6 +25,29 @@ returns-in-Monitor-clause-err g c = (
   _,
   of_command (monitor c.in-Monitor.specs.now c.in-Monitor.traces.now c.in-Monitor.lengths) _ (rw c.in-Monitor.is at c.in-Ok-command_in.ensures.some),
   c.finish-in-Monitor.ensures.err,
+)
+
+pub monitor_made-due-requires-clause-few : goal.monitor_made-due-requires-clause-few
+monitor_made-due-requires-clause-few g c =
+    let most = few-made _ _ c.in-MonitorMade.specs.now c.in-MonitorMade.count c.in-MonitorMade.lengths
+    (rw c.in-MonitorMade.is at c.in-Ok-command_in.ensures.some) in
+    omega (arith, most)
+
+pub returns-in-MonitorMade-clause-right : goal.returns-in-MonitorMade-clause-right
+returns-in-MonitorMade-clause-right g c = (
+  _,
+  _,
+  worded (monitor_made c.in-MonitorMade.specs.now c.in-MonitorMade.count c.in-MonitorMade.lengths) _ _
+      (rw c.in-MonitorMade.is at c.in-Ok-command_in.ensures.some) c.monitor_made-due.ensures.follows,
+  c.finish-in-MonitorMade.ensures.written,
+)
+
+pub returns-in-MonitorMade-clause-err : goal.returns-in-MonitorMade-clause-err
+returns-in-MonitorMade-clause-err g c = (
+  _,
+  of_command (monitor_made c.in-MonitorMade.specs.now c.in-MonitorMade.count c.in-MonitorMade.lengths) _
+      (rw c.in-MonitorMade.is at c.in-Ok-command_in.ensures.some),
+  c.finish-in-MonitorMade.ensures.err,
 )
 
 pub returns-in-Judge-clause-right : goal.returns-in-Judge-clause-right

@@ -1,7 +1,8 @@
+use Rattle.hy_top.specs.Watching.{AreLeft}
 use Rattle.hy_top.proofs.FirstSpecs.{monitored-outcome}
 use Rattle.hy_top.proofs.rvhyper.judge.Goals as goal
 
 pub returns-in-Ok : goal.returns-in-Ok
 returns-in-Ok c =
-    monitored-outcome c.args.lengths c.args.specs.now c.as_slice.result.now c.args.names.now c.args.bytes.now _ _ c.as_slice.ensures c.in-Ok.ensures.universal
+    monitored-outcome c.args.lengths c.args.specs.now c.as_slice.result.now (AreLeft c.args.source) _ _ c.as_slice.ensures c.in-Ok.ensures.universal
     c.in-Ok.ensures.taken c.in-Ok.ensures.specs (rw c.in-Ok.ensures.rule at c.watch.ensures)

@@ -1,0 +1,31 @@
+use Rattle.std.proofs.Common.{◌≡◌, true, refl, ap, ◌∙◌, length, arith}
+use Rattle.hy_words.specs.Commands.{monitor_made}
+use Rattle.made_traces.specs.MadeTraces.{made_traces}
+use Rattle.hy_top.specs.Monitoring.{whole_traces, spent}
+use Rattle.hy_top.proofs.FirstSpecs.{few-quantifiers, read-few}
+use Rattle.hy_top.proofs.Progress.{ends_first}
+use Rattle.hy_top.proofs.Monitoring.{made_follow, length-made, outcome-by}
+use Rattle.hy_top.proofs.rvhyper.monitor_made.Goals as goal
+
+pub returns-in-Err-clause-follows : goal.returns-in-Err-clause-follows
+returns-in-Err-clause-follows g c =
+    ends_first g.S.Shelf (monitor_made c.args.specs.now c.args.count c.args.lengths) _ _ _ _ _ refl (rw c.requires.empty at c.in-Err.ensures.ended)
+
+pub returns-in_default-clause-follows : goal.returns-in_default-clause-follows
+returns-in_default-clause-follows g c =
+    made_follow g.S.Shelf _ _ c.args.specs.now c.args.count c.args.lengths _ _ (rw c.requires.empty at c.in-Ok.ensures.taken) _ spent
+
+pub of_traces-source-requires : goal.of_traces-source-requires
+of_traces-source-requires g c =
+    let same : c.as_slice.result.now ≡ made_traces c.specs_in.new.names c.args.count = c.as_slice.ensures ∙ c.in-Ok-make_traces.ensures in
+    omega (arith, ap length same, length-made c.specs_in.new.names c.args.count, c.requires.few)
+
+pub judge-requires-clause-quantifiers : goal.judge-requires-clause-quantifiers
+judge-requires-clause-quantifiers g c =
+    few-quantifiers c.in-Ok.formulas (read-few true 4 _ _ _ _ c.in-Ok.ensures.taken.is).1
+
+pub returns-clause-follows : goal.returns-clause-follows
+returns-clause-follows g c =
+    let same : c.as_slice.result.now ≡ made_traces c.specs_in.new.names c.args.count = c.as_slice.ensures ∙ c.in-Ok-make_traces.ensures in
+    made_follow g.S.Shelf _ _ c.args.specs.now c.args.count c.args.lengths _ _ (rw c.requires.empty at c.in-Ok.ensures.taken) _
+    (outcome-by c.args.lengths _ _ (λ es left. c.of_traces-source.ensures.left es left ∙ ap (whole_traces 0) same) c.judge.ensures)

@@ -1,0 +1,2 @@
+pub mod MadeTraces
+pub mod Progress
