@@ -81,8 +81,8 @@ fn sift_group(
     Ok(true)
 }
 
-/// Asks for the groups of the basis from `first` on and before `end`: the first where facts were left
-/// out.
+/// Asks for the groups of the basis from `first` on and before `end`: the first where facts were
+/// left out.
 fn sift_between(
     alloc: Global,
     safe: &SafeNet,
@@ -133,8 +133,8 @@ fn sift_once(
 }
 
 /// Leaves out facts that steps from states with all facts break, as far as small queries find such
-/// steps: mostly all of them. Each query has a basis of the facts, with one fact a latch at most, and
-/// there are at most as many steps as latches, since after each there is one class more of latches
+/// steps: mostly all of them. Each query has a basis of the facts, with one fact a latch at most,
+/// and as many steps as latches are enough, since after each there is one class more of latches
 /// that are equal.
 pub fn sift(alloc: Global, safe: &SafeNet, facts: &mut Inv, conflicts: u32) -> M<()>
     requires safe { IsSafe safe.now }

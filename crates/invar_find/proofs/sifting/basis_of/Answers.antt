@@ -1,4 +1,4 @@
-use Rattle.std.proofs.Common.{List, [], sym, subst, ◌∙◌}
+use Rattle.std.proofs.Common.{List, sym, subst, ◌∙◌}
 use Rattle.cnf_frames.specs.declared.facts.Fact.{Fact}
 use Rattle.cnf_frames.specs.Facts.{AllIn}
 use Rattle.invar_find.proofs.Sublists.{contains-none, in-more}
