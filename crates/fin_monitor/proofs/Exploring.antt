@@ -257,18 +257,18 @@ put-refusal nodes root atoms old r table bits same is family reach Memory h = tt
 -- ---- the rows of the table
 
 -- what is known before an entry is pushed
-pub record Ready (nodes : List Node) (root : ℕ) (atoms : List IndexedAtom) (list : List (List Duty)) (table : List ℕ) (row code next : ℕ) (residual : List Duty) (left_code : ℕ) (lists : List (List Duty)) : Type 0 where
+pub record Ready (nodes : List Node) (root : ℕ) (atoms : List IndexedAtom) (list : List (List Duty)) (table : List ℕ) (row code next : ℕ) (residual : List Duty) (Kept : Type 0) : Type 0 where
   pub explored : IsExplored nodes root atoms list table
   pub long : length table ≡ row * row_of atoms + code
   pub there : row < length list
   pub same : residual ≡ residual_at list row
   pub inside : next < length list
   pub follows : Same (residual_step nodes (letter_of atoms code) (residual_at list row)) (residual_at list next)
-  pub lefts : AreAllLefts nodes atoms left_code lists
+  pub lefts : Kept
 
-pub explored-push : (nodes : List Node) (root : ℕ) (atoms : List IndexedAtom) (list : List (List Duty)) (table : List ℕ) (row code next : ℕ) (residual : List Duty) (left_code : ℕ) (lists : List (List Duty)) → code < row_of atoms
-    → Ready nodes root atoms list table row code next residual left_code lists → IsExplored nodes root atoms list (table ++ next ∷ [])
-explored-push nodes root atoms list table row code next residual left_code lists lt ready =
+pub explored-push : (nodes : List Node) (root : ℕ) (atoms : List IndexedAtom) (list : List (List Duty)) (table : List ℕ) (row code next : ℕ) (residual : List Duty) (Kept : Type 0) → code < row_of atoms
+    → Ready nodes root atoms list table row code next residual Kept → IsExplored nodes root atoms list (table ++ next ∷ [])
+explored-push nodes root atoms list table row code next residual Kept lt ready =
     let is = ready.explored in
     let l : length (table ++ next ∷ []) ≡ length table + 1 = length-append table (next ∷ []) in
     let m : suc row * row_of atoms ≤ length list * row_of atoms = mul-le-mul_right (row_of atoms) ready.there in

@@ -21,3 +21,4 @@ pub mod JobClosure
 pub mod Refusals
 pub mod Making
 pub mod Places
+pub mod KeptLefts

@@ -9,6 +9,7 @@ mod explore;
 mod families;
 pub mod laws;
 mod lefts;
+mod lefts_by_code;
 mod members;
 mod monitor;
 mod monitor_error;

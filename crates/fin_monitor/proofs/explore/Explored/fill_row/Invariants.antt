@@ -1,4 +1,5 @@
 use Rattle.std.proofs.Common.{◌≡◌, ◌+◌, ◌*◌, ◌^◌, ◌<◌, length, map}
+use Rattle.hy_formula.specs.Quantifiers.{Each}
 use Rattle.fin_monitor.specs.Codes.{plain_atom}
 use Rattle.fin_monitor.specs.Duties.{residual_at}
 use Rattle.fin_monitor.specs.Lefts.{kept_lists}
@@ -12,5 +13,6 @@ invariant-loop-code g l =
       long : length l.self.table ≡ l.row * 2 ^ length l.judge.atoms.now + l.code;
       there : l.row < length l.self.residuals.keys;
       same : l.residual.items ≡ residual_at (kept_lists l.self.residuals.keys) l.row;
-      lefts : AreAllLefts l.judge.closure.now.nodes (map plain_atom l.judge.atoms.now) l.self.lefts.code (kept_lists l.self.lefts.lists);
+      some : 0 < length l.self.lefts.kept.items;
+      lefts : Each (λ k. AreAllLefts l.judge.closure.now.nodes (map plain_atom l.judge.atoms.now) k.code (kept_lists k.lists)) l.self.lefts.kept.items;
     }
