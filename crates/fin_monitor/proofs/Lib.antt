@@ -22,3 +22,4 @@ pub mod Refusals
 pub mod Making
 pub mod Places
 pub mod KeptLefts
+pub mod Outdoing

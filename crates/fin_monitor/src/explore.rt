@@ -5,6 +5,7 @@ ghost use Rattle.hy_formula.specs.Quantifiers.{Each};
 ghost use Rattle.fin_monitor.specs.Codes.{plain_atom};
 ghost use Rattle.fin_monitor.specs.Duties.{residual_at, accepts};
 ghost use Rattle.fin_monitor.specs.Lefts.{kept_lists, AreAsked};
+ghost use Rattle.fin_monitor.specs.Reductions.{LeaveAlike};
 ghost use Rattle.fin_monitor.specs.Tables.{AreAllLefts, Puts, Follows, IsExplored, IsPutRefusal, IsTableRefusal, IsAutomaton};
 
 use crate::automaton::Automaton;
@@ -14,9 +15,10 @@ use crate::lefts::Judge;
 use crate::lefts_by_code::LeftsByCode;
 use crate::members::{asked_in, asked_masks};
 use crate::monitor_error::MonitorError;
+use crate::reducing::reduced;
 use hy_base::{Kind, List, M, NumList};
 use indexmap::IndexSet;
-use ltl_closure::Obl;
+use ltl_closure::{Closure, Obl};
 use std::alloc::Global;
 
 /// The most residuals times joint letters.
@@ -121,7 +123,7 @@ impl<const W: usize> Explored<W> {
         ensures refused { IfErr result (IsTableRefusal judge.now.closure.now.nodes root
             (map plain_atom judge.now.atoms.now)) }
     {
-        let residual = copy_of(alloc, &self.residuals, row)?;
+        let residual = reduced_of(alloc, judge.closure, &self.residuals, row)?;
         let mask = asked_in(&residual, masks);
         let first = self.table.len();
         for code in 0..1 << judge.atoms.len() {
@@ -154,7 +156,8 @@ impl<const W: usize> Explored<W> {
         requires asked { AreAsked judge.now.closure.now.nodes (map plain_atom judge.now.atoms.now)
             masks.now (length masks.now) }
         requires there { row < length self.old.residuals.keys }
-        requires residual { residual.now ≡ residual_at (kept_lists self.old.residuals.keys) row }
+        requires residual { LeaveAlike judge.now.closure.now.nodes residual.now
+            (residual_at (kept_lists self.old.residuals.keys) row) }
         requires explored { IsExplored judge.now.closure.now.nodes root
             (map plain_atom judge.now.atoms.now) (kept_lists self.old.residuals.keys) self.old.table }
         requires some { 0 < length self.old.lefts.kept.items }
@@ -205,16 +208,20 @@ fn put<const W: usize>(residuals: &mut IndexSet<Family<W>>, residual: Family<W>)
     Ok(place)
 }
 
-/// A copy of a residual.
-fn copy_of<const W: usize>(
+/// The reduced residual of a row.
+fn reduced_of<const W: usize>(
     alloc: Global,
+    closure: &Closure,
     residuals: &IndexSet<Family<W>>,
     row: usize,
 ) -> M<Family<W>>
-    requires { row < length residuals.now.keys }
-    ensures { IfOk result (λ made. made.items ≡ residual_at (kept_lists residuals.now.keys) row) }
+    requires width { W ≤ 16 }
+    requires members { length closure.now.nodes ≤ 64 * W }
+    requires there { row < length residuals.now.keys }
+    ensures { IfOk result (λ made. LeaveAlike closure.now.nodes made.items
+        (residual_at (kept_lists residuals.now.keys) row)) }
 {
-    Ok(Vec::from_slice(alloc, &residuals.as_slice()[row])?)
+    reduced(alloc, closure, &residuals.as_slice()[row])
 }
 
 /// Whether each residual accepts.

@@ -13,8 +13,8 @@ use crate::lefts::{Judge, Lefts};
 use hy_base::{M, NumList};
 use std::alloc::Global;
 
-/// The most words in which members are counted that are kept after all letters at once.
-const MOST_WORDS: usize = 262_144;
+/// The most families that are kept at once, where those of all joint letters are.
+const MOST_FAMILIES: usize = 65_536;
 
 /// What the members leave after some joint letters, as many as are kept at once.
 #[derive(Drop)]
@@ -35,7 +35,7 @@ impl<const W: usize> LeftsByCode<W> {
     {
         let mut kept = Vec::new(alloc);
         kept.push(Lefts::new(alloc, judge)?)?;
-        if judge.closure.len() * W <= MOST_WORDS >> judge.atoms.len() {
+        if judge.closure.len() <= MOST_FAMILIES >> judge.atoms.len() {
             for _code in 1..1 << judge.atoms.len() {
                 kept.push(Lefts::new(alloc, judge)?)?;
             }

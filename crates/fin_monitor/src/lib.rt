@@ -13,6 +13,7 @@ mod lefts_by_code;
 mod members;
 mod monitor;
 mod monitor_error;
+mod reducing;
 mod settling;
 #[cfg(test)]
 mod tests;

@@ -3,6 +3,7 @@ use Rattle.hy_formula.specs.Quantifiers.{Each}
 use Rattle.fin_monitor.specs.Codes.{plain_atom}
 use Rattle.fin_monitor.specs.Duties.{Duty, residual_at}
 use Rattle.fin_monitor.specs.Lefts.{kept_lists, AreAsked, IsAskedAll}
+use Rattle.fin_monitor.specs.Reductions.{LeaveAlike}
 use Rattle.fin_monitor.specs.Tables.{row_of, AreAllLefts, IsExplored}
 use Rattle.fin_monitor.proofs.Exploring.{Ready, explored-push, copied, row-power}
 use Rattle.fin_monitor.proofs.CodeBits.{small-power}
@@ -37,7 +38,7 @@ loop-code-preserved g c =
             explored = subst T (sym w'.follow.ensures.table) f.explored;
             long = ap length w'.follow.ensures.table ∙ long;
             there = omega (arith, kept-length c.loop-code.self.residuals.keys, f.more, inv.there);
-            same = inv.same ∙ sym f.stays;
+            same = subst (LeaveAlike nodes c.in_ok-residual.residual.items) (sym f.stays) inv.same;
             inside = f.inside;
             follows = f.follows;
             lefts = (w'.in_ok-next.ensures.some, w'.in_ok-next.ensures.lefts);

@@ -5,6 +5,7 @@ use Rattle.fin_monitor.specs.Duties.{Duty, residual_at, residual_step, Same, IsR
 use Rattle.fin_monitor.specs.Lefts.{kept_lists, AreLefts}
 use Rattle.fin_monitor.specs.Tables.{row_of, AreAllLefts, Puts, Follows, IsPutRefusal, IsTableRefusal}
 use Rattle.fin_monitor.proofs.Exploring.{same-back, all-lefts, step-same, follows-put, put-refusal, row-power, ok-both, on-ok, err-map}
+use Rattle.fin_monitor.proofs.Outdoing.{step-alike}
 use Rattle.fin_monitor.proofs.Stepping.{kept-length}
 use Rattle.fin_monitor.proofs.explore.Explored.follow.Goals as goal
 
@@ -16,8 +17,7 @@ returns g c =
     let new = kept_lists c.number.new.self.residuals.keys in
     let r = c.in_ok-left.left.items in
     let code = c.args.code in
-    let C : List Duty → Type 0 = λ l. Same r (residual_step nodes (letter_of atoms code) l) in
-    let same = subst C c.requires.residual c.in_ok-left.ensures.same in
+    let same = step-alike nodes (letter_of atoms code) c.args.residual.now (residual_at old c.args.row) r c.in_ok-left.ensures.family c.requires.residual c.in_ok-left.ensures.same in
     let there : c.args.row < length old = omega (arith, kept-length c.args.self.now.residuals.keys, c.requires.there) in
     let reach = later {nodes = nodes} {root = c.args.root} (letter_of atoms code) (residual_at old c.args.row) (c.requires.explored.reached.only c.args.row there) (same-back r _ same) in
     record {
