@@ -1,4 +1,4 @@
-use Rattle.std.proofs.Common.{◌≡◌, ◌∷◌, [], ◌++◌, ◌+◌, ◌*◌, ◌^◌, ◌<◌, ◌≤◌, List, ℕ, bit_and, get_or, map, length, refl, sym, ap, ◌∙◌, subst, arith, length-append}
+use Rattle.std.proofs.Common.{rules, ◌≡◌, ◌∷◌, [], ◌++◌, ◌+◌, ◌*◌, ◌^◌, ◌<◌, ◌≤◌, List, ℕ, bit_and, get_or, map, length, refl, sym, ap, ◌∙◌, subst, arith, length-append}
 use Rattle.hy_formula.specs.Quantifiers.{Each}
 use Rattle.fin_monitor.specs.Codes.{plain_atom}
 use Rattle.fin_monitor.specs.Duties.{Duty, residual_at}
@@ -83,3 +83,36 @@ returns g c =
     let power = small-power (length c.args.judge.now.atoms.now) (omega (arith, c.requires.few)) in
     let end : c.loop-code.code ≡ 2 ^ length c.args.judge.now.atoms.now = omega (arith, c.loop-code-test.false, c.loop-code.auto.code-end, power) in
     record { rows = omega (arith, inv.long, end); more = inv.there; explored = inv.explored; some = inv.some; lefts = inv.lefts; refused = tt }
+
+pub follow-requires : goal.follow-requires
+follow-requires g c =
+    let inv = c.loop-code.invariant in
+    let P : List Duty → Type 0 = λ l. LeaveAlike c.args.judge.now.closure.now.nodes l (residual_at (kept_lists c.loop-code.self.residuals.keys) c.args.row) in
+    (
+      search rules,
+      (
+        search rules,
+        (
+          c.requires.width,
+          (
+            c.requires.members,
+            (
+              c.requires.few,
+              (
+                c.requires.masks,
+                (
+                  c.requires.asked,
+                  (
+                    inv.there,
+                    (
+                      subst P (sym c.deref-then-asked-code.ensures.value) inv.same,
+                      (inv.explored, (inv.some, inv.lefts)),
+                    ),
+                  ),
+                ),
+              ),
+            ),
+          ),
+        ),
+      ),
+    )
