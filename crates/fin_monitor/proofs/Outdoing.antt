@@ -142,15 +142,16 @@ module _ (nodes : List Node) (made residual : List Duty) (i : ℕ) (d : Duty) (l
       let P : List Duty → Type 0 = λ l. AreAlike l (after_each nodes letter (drop i residual)) in
       let Q : List Duty → Type 0 = λ l. AreAlike (a ++ (c ++ [])) (after_each nodes letter l) in
       subst P (sym (each-append nodes letter made (d ∷ [])))
-      (subst Q (sym here)
-      ((λ x cx. elim (Contains-append_cases c b x cx) [
+      (subst Q (sym here) (
+        (λ x cx. elim (Contains-append_cases c b x cx) [
           | inl l ↦ (x, Contains-append_right a (c ++ []) x (Contains-append_left c [] x l), within-itself x)
           | inr r ↦ let (y, cy, w) = p x r in (y, Contains-append_left a (c ++ []) y cy, w)
         ]),
-      (λ x cx. elim (Contains-append_cases a (c ++ []) x cx) [
+        (λ x cx. elim (Contains-append_cases a (c ++ []) x cx) [
           | inl l ↦ let (y, cy, w) = q x l in (y, Contains-append_right c b y cy, w)
           | inr r ↦ elim (Contains-append_cases c [] x r) [ inl l ↦ (x, Contains-append_left c b x l, within-itself x) | inr none ↦ absurd (contains-none x none) ]
-        ])))
+        ]),
+      ))
 
   pub alike-dropped_duty : OutdoneBy nodes d made → LeaveAlike nodes made (drop i residual)
   alike-dropped_duty out letter =
@@ -159,9 +160,10 @@ module _ (nodes : List Node) (made residual : List Duty) (i : ℕ) (d : Duty) (l
       let c = after_duty nodes letter d in
       let (p, q) = so letter in
       let Q : List Duty → Type 0 = λ l. AreAlike a (after_each nodes letter l) in
-      subst Q (sym here)
-      ((λ x cx. elim (Contains-append_cases c b x cx) [ inl l ↦ out letter x l | inr r ↦ p x r ]),
-      (λ x cx. let (y, cy, w) = q x cx in (y, Contains-append_right c b y cy, w)))
+      subst Q (sym here) (
+        (λ x cx. elim (Contains-append_cases c b x cx) [ inl l ↦ out letter x l | inr r ↦ p x r ]),
+        (λ x cx. let (y, cy, w) = q x cx in (y, Contains-append_right c b y cy, w)),
+      )
 
 pub alike-both_ways : (nodes : List Node) (r s : List Duty) → LeaveAlike nodes r s → LeaveAlike nodes s r
 alike-both_ways nodes r s so letter = alike-back (after_each nodes letter r) (after_each nodes letter s) (so letter)

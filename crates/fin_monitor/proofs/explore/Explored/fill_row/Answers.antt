@@ -87,8 +87,7 @@ returns g c =
 pub follow-requires : goal.follow-requires
 follow-requires g c =
     let inv = c.loop-code.invariant in
-    let P : List Duty → Type 0 = λ l. LeaveAlike c.args.judge.now.closure.now.nodes l (residual_at (kept_lists c.loop-code.self.residuals.keys) c.args.row) in
-    (
+    let P : List Duty → Type 0 = λ l. LeaveAlike c.args.judge.now.closure.now.nodes l (residual_at (kept_lists c.loop-code.self.residuals.keys) c.args.row) in (
       search rules,
       (
         search rules,
