@@ -12,11 +12,13 @@ use Rattle.ltl_closure.specs.Nodes.{Node}
 use Rattle.fin_monitor.specs.Codes.{IndexedAtom, plain_atom, letter_of}
 use Rattle.fin_monitor.specs.Duties.{Duty, strongly, after_each, minimal, residual_step, Same, IsReached, first, later, SomeReached, residual_at, AreAlike}
 use Rattle.fin_monitor.specs.Lefts.{IsFamily, AreLefts, AreAsked, IsAskedAll, IsStepOf, kept_lists}
+use Rattle.fin_monitor.specs.Reductions.{LeaveAlike}
 use Rattle.fin_monitor.specs.Tables.{row_of, AreAllLefts, Puts, Follows, IsEntry, IsExplored, IsPutRefusal, IsTableRefusal}
 use Rattle.fin_monitor.specs.declared.monitor_error.MonitorError.{MonitorError}
 use Rattle.fin_monitor.specs.declared.monitor_error.MonitorError.TheVariants.{Limit, Memory}
 use Rattle.hy_base.specs.declared.limit.Kind.TheVariants as kind
 use Rattle.fin_monitor.proofs.FamilySteps.{family-minimal, family-single, same-family}
+use Rattle.fin_monitor.proofs.Outdoing.{alike-both_ways, step-alike}
 use Rattle.fin_monitor.proofs.Masks.{get-some, last-of}
 use Rattle.fin_monitor.proofs.Stepping.{kept-length}
 use Rattle.fin_monitor.proofs.CodeBits.{masked-agrees}
@@ -212,6 +214,11 @@ plain-lefts nodes atoms code lists all =
     let P : ℕ → Type 0 = λ n. AreLefts nodes atoms code (kept_lists lists) n in
     (sym (kept-length lists) ∙ all.long, subst P (kept-length lists) all.lefts)
 
+-- no more residuals than entries
+pub few-rows : (n w : ℕ) → 0 < w → n * w ≤ 4194304 → n ≤ 4194304
+few-rows n zero some le = absurd (omega arith)
+few-rows n (suc v) some le = omega (arith, le)
+
 -- more residuals than fit in the table
 pub many-entries : (a n w : ℕ) → 0 < w → a / w < n → a < n * w
 many-entries a n w some lt = (div-lt_iff_lt-mul some).0 lt
@@ -257,18 +264,18 @@ put-refusal nodes root atoms old r table bits same is family reach Memory h = tt
 -- ---- the rows of the table
 
 -- what is known before an entry is pushed
-pub record Ready (nodes : List Node) (root : ℕ) (atoms : List IndexedAtom) (list : List (List Duty)) (table : List ℕ) (row code next : ℕ) (residual : List Duty) (left_code : ℕ) (lists : List (List Duty)) : Type 0 where
+pub record Ready (nodes : List Node) (root : ℕ) (atoms : List IndexedAtom) (list : List (List Duty)) (table : List ℕ) (row code next : ℕ) (residual : List Duty) (Kept : Type 0) : Type 0 where
   pub explored : IsExplored nodes root atoms list table
   pub long : length table ≡ row * row_of atoms + code
   pub there : row < length list
-  pub same : residual ≡ residual_at list row
+  pub same : LeaveAlike nodes residual (residual_at list row)
   pub inside : next < length list
   pub follows : Same (residual_step nodes (letter_of atoms code) (residual_at list row)) (residual_at list next)
-  pub lefts : AreAllLefts nodes atoms left_code lists
+  pub lefts : Kept
 
-pub explored-push : (nodes : List Node) (root : ℕ) (atoms : List IndexedAtom) (list : List (List Duty)) (table : List ℕ) (row code next : ℕ) (residual : List Duty) (left_code : ℕ) (lists : List (List Duty)) → code < row_of atoms
-    → Ready nodes root atoms list table row code next residual left_code lists → IsExplored nodes root atoms list (table ++ next ∷ [])
-explored-push nodes root atoms list table row code next residual left_code lists lt ready =
+pub explored-push : (nodes : List Node) (root : ℕ) (atoms : List IndexedAtom) (list : List (List Duty)) (table : List ℕ) (row code next : ℕ) (residual : List Duty) (Kept : Type 0) → code < row_of atoms
+    → Ready nodes root atoms list table row code next residual Kept → IsExplored nodes root atoms list (table ++ next ∷ [])
+explored-push nodes root atoms list table row code next residual Kept lt ready =
     let is = ready.explored in
     let l : length (table ++ next ∷ []) ≡ length table + 1 = length-append table (next ∷ []) in
     let m : suc row * row_of atoms ≤ length list * row_of atoms = mul-le-mul_right (row_of atoms) ready.there in
@@ -285,7 +292,7 @@ explored-push nodes root atoms list table row code next residual left_code lists
 
 -- an entry that is copied, from a code that agrees where the residual asks
 pub copied : (nodes : List Node) (root : ℕ) (atoms : List IndexedAtom) (masks : List ℕ) (list : List (List Duty)) (table : List ℕ) (row code mask next : ℕ) (residual : List Duty) → length masks ≡ length nodes → AreAsked nodes atoms masks (length nodes)
-    → IsExplored nodes root atoms list table → length table ≡ row * row_of atoms + code → code < row_of atoms → residual ≡ residual_at list row → IsAskedAll masks residual mask → (bit_and code mask ≡ code → ⊥)
+    → IsExplored nodes root atoms list table → length table ≡ row * row_of atoms + code → code < row_of atoms → LeaveAlike nodes residual (residual_at list row) → IsAskedAll masks residual mask → (bit_and code mask ≡ code → ⊥)
     → get_or table (row * row_of atoms + bit_and code mask) 0 ≡ next
     → (next < length list) × Same (residual_step nodes (letter_of atoms code) (residual_at list row)) (residual_at list next)
 copied nodes root atoms masks list table row code mask next residual long asked is filled lt same all other at =
@@ -300,7 +307,10 @@ copied nodes root atoms masks list table row code mask next residual long asked 
     let here = subst (λ x. B x row next) (mod-mul-add row w low below) (subst (λ y. B (p % w) y next) (div-mul-add row w low below) (subst (λ z. B (p % w) (p / w) z) at entry.follows)) in
     let e : after_each nodes (letter_of atoms code) residual ≡ after_each nodes (letter_of atoms low) residual =
     each-asked nodes atoms masks long asked mask code low (sym (masked-agrees code mask)) residual all in
-    let C : List Duty → Type 0 = λ r. Same (minimal r) (residual_at list next) in
-    let D : List Duty → Type 0 = λ r. Same (residual_step nodes (letter_of atoms low) r) (residual_at list next) in
-    let E : List Duty → Type 0 = λ r. Same (residual_step nodes (letter_of atoms code) r) (residual_at list next) in
-    (subst A at entry.inside, subst E same (subst C (sym e) (subst D (sym same) here)))
+    let inside = subst A at entry.inside in
+    let family = is.families next inside in
+    let s = residual_at list row in
+    let t = residual_at list next in
+    let C : List Duty → Type 0 = λ r. Same t (minimal r) in
+    let back = step-alike nodes (letter_of atoms low) s residual t family (alike-both_ways nodes residual s same) (same-back _ t here) in
+    (inside, same-back t _ (step-alike nodes (letter_of atoms code) residual s t family same (subst C (sym e) back)))

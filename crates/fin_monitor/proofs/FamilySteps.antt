@@ -1,5 +1,5 @@
 -- What is added to a family.
-use Rattle.std.proofs.Common.{◌≡◌, ◌⊎◌, ◌+◌, ◌<◌, ◌≤◌, ℕ, Bool, true, false, not, List, [], ◌∷◌, ◌++◌, filter, take, drop, map, length, get_or, inl, inr, refl, sym, ap, ◌∙◌, subst, arith, append_assoc}
+use Rattle.std.proofs.Common.{◌≡◌, ◌⊎◌, ◌+◌, ◌<◌, ◌≤◌, ℕ, Bool, true, false, not, List, [], ◌∷◌, ◌++◌, filter, take, drop, map, length, get_or, set, inl, inr, refl, sym, ap, ◌∙◌, subst, arith, append_assoc}
 use Rattle.std.specs.List.{Contains, list_any, insert}
 use Rattle.std.specs.List.Sorted.{IsPermutation}
 use Rattle.std.proofs.lemmas.List.{take_more, take-append-drop, append-nil, map-append}
@@ -135,3 +135,14 @@ alike-joining other f f' base list i x lt is a b =
     let e : joined (take i list) other ++ joined (x ∷ []) other ≡ joined (take (i + 1) list) other =
     sym (joined-append (take i list) (x ∷ []) other) ∙ ap (λ l. joined l other) (ap (λ y. take i list ++ y ∷ []) is ∙ sym (take_more list i x lt)) in
     subst P e (alike-more f f' base (joined (take i list) other) (joined (x ∷ []) other) a b)
+
+-- one duty and one
+pub alike-singles : (xs ys : List Duty) (x y d : Duty) → length xs ≡ 1 → length ys ≡ 1 → x ≡ get_or xs 0 x → y ≡ get_or ys 0 y → d ≡ both x y → AreAlike (set ys 0 d) (joined xs ys)
+alike-singles [] ys x y d one only p q e = absurd (omega (arith, one))
+alike-singles (a ∷ b ∷ xs) ys x y d one only p q e = absurd (omega (arith, one))
+alike-singles (a ∷ []) [] x y d one only p q e = absurd (omega (arith, only))
+alike-singles (a ∷ []) (b ∷ c ∷ ys) x y d one only p q e = absurd (omega (arith, only))
+alike-singles (a ∷ []) (b ∷ []) x y d one only p q e =
+    let P : Duty → Type 0 = λ z. AreAlike (z ∷ []) (both a b ∷ []) in
+    let same : d ≡ both a b = e ∙ (λ i. both (p i) (q i)) in
+    subst P (sym same) (alike-itself (both a b ∷ []))

@@ -21,3 +21,5 @@ pub mod JobClosure
 pub mod Refusals
 pub mod Making
 pub mod Places
+pub mod KeptLefts
+pub mod Outdoing

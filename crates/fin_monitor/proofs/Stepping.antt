@@ -111,7 +111,7 @@ unions-not lists code s k made is none nodes atoms long lefts =
 pub step-none : (lists : List (List Duty)) (code : ℕ) (made : List Duty) → made ≡ [] → IsStepOf lists code [] made
 step-none lists code made e nodes atoms long lefts = let P : List Duty → Type 0 = λ l. AreAlike l [] in subst P (sym e) (alike-itself [])
 
-each-append : (nodes : List Node) (l : ℕ → ℕ → Bool) (xs ys : List Duty) → after_each nodes l (xs ++ ys) ≡ after_each nodes l xs ++ after_each nodes l ys
+pub each-append : (nodes : List Node) (l : ℕ → ℕ → Bool) (xs ys : List Duty) → after_each nodes l (xs ++ ys) ≡ after_each nodes l xs ++ after_each nodes l ys
 each-append nodes l [] ys = refl
 each-append nodes l (x ∷ xs) ys = ap (λ z. after_duty nodes l x ++ z) (each-append nodes l xs ys) ∙ sym (append_assoc (after_duty nodes l x) (after_each nodes l xs) (after_each nodes l ys))
 

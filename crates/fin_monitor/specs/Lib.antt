@@ -6,3 +6,4 @@ pub mod Machines
 pub mod Tables
 pub mod Seen
 pub mod OneJob
+pub mod Reductions

@@ -1,6 +1,7 @@
 //! Duties: members of a closure that are to hold at the next position.
 
-ghost use Rattle.std.specs.Prelude.{◌≡◌, ◌≤◌, ◌<◌, ◌*◌};
+ghost use Rattle.std.specs.Prelude.{◌≡◌, ◌≤◌, ◌<◌, ◌*◌, ◌||◌};
+ghost use Rattle.std.specs.FinSet.{contains};
 ghost use Rattle.fin_monitor.specs.Duties.{no_duty, strongly, weakly, both, within};
 ghost use Rattle.fin_monitor.specs.Lefts.{precedes};
 
@@ -63,6 +64,15 @@ impl<const W: usize> Duty<W> {
             strong: Obl::empty(),
             weak: Obl::empty().with(k),
         }
+    }
+
+    /// Whether member `k` is an obligation.
+    pub fn has(&self, k: usize) -> bool
+        requires width { W ≤ 16 }
+        requires within { k < 64 * W }
+        ensures { result ≡ (contains self.now.strong k || contains self.now.weak k) }
+    {
+        self.strong.has(k) || self.weak.has(k)
     }
 
     /// The obligations of both.

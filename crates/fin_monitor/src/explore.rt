@@ -1,20 +1,24 @@
 //! The residuals that joint letters lead to, found row by row.
 
 ghost use Rattle.std.specs.Prelude.{◌≡◌, ◌≤◌, ◌<◌, ◌*◌, ◌^◌, ◌+◌, length, map, IfOk, OnOk, IfErr, OnErr};
+ghost use Rattle.hy_formula.specs.Quantifiers.{Each};
 ghost use Rattle.fin_monitor.specs.Codes.{plain_atom};
 ghost use Rattle.fin_monitor.specs.Duties.{residual_at, accepts};
 ghost use Rattle.fin_monitor.specs.Lefts.{kept_lists, AreAsked};
+ghost use Rattle.fin_monitor.specs.Reductions.{LeaveAlike};
 ghost use Rattle.fin_monitor.specs.Tables.{AreAllLefts, Puts, Follows, IsExplored, IsPutRefusal, IsTableRefusal, IsAutomaton};
 
 use crate::automaton::Automaton;
 use crate::duty::Duty;
 use crate::families::{Family, single};
-use crate::lefts::{Judge, Lefts};
+use crate::lefts::Judge;
+use crate::lefts_by_code::LeftsByCode;
 use crate::members::{asked_in, asked_masks};
 use crate::monitor_error::MonitorError;
+use crate::reducing::reduced;
 use hy_base::{Kind, List, M, NumList};
 use indexmap::IndexSet;
-use ltl_closure::Obl;
+use ltl_closure::{Closure, Obl};
 use std::alloc::Global;
 
 /// The most residuals times joint letters.
@@ -25,7 +29,7 @@ const MOST_ENTRIES: usize = 4_194_304;
 struct Explored<const W: usize> {
     residuals: IndexSet<Family<W>>,
     table: NumList,
-    lefts: Lefts<W>,
+    lefts: LeftsByCode<W>,
 }
 
 /// All residuals that the starting one leads to. `Limit` comes exactly where these, times the joint
@@ -68,8 +72,10 @@ impl<const W: usize> Explored<W> {
         ensures explored { IfOk result (λ e. IsExplored judge.now.closure.now.nodes root
             (map plain_atom judge.now.atoms.now) (kept_lists e.residuals.keys) e.table) }
         ensures none { IfOk result (λ e. length e.table ≡ 0) }
-        ensures lefts { IfOk result (λ e. AreAllLefts judge.now.closure.now.nodes
-            (map plain_atom judge.now.atoms.now) e.lefts.code (kept_lists e.lefts.lists)) }
+        ensures some { IfOk result (λ e. 0 < length e.lefts.kept.items) }
+        ensures lefts { IfOk result (λ e. Each (λ k. AreAllLefts judge.now.closure.now.nodes
+            (map plain_atom judge.now.atoms.now) k.code (kept_lists k.lists))
+            e.lefts.kept.items) }
     {
         let mut residuals = IndexSet::new(alloc);
         let start = single(alloc, Duty::strongly(root as usize))?;
@@ -77,7 +83,7 @@ impl<const W: usize> Explored<W> {
         Ok(Explored {
             residuals,
             table: NumList::new(alloc),
-            lefts: Lefts::new(alloc, judge)?,
+            lefts: LeftsByCode::new(alloc, judge)?,
         })
     }
 
@@ -100,22 +106,24 @@ impl<const W: usize> Explored<W> {
         requires rows { length self.old.table ≡ row * 2 ^ length judge.now.atoms.now }
         requires explored { IsExplored judge.now.closure.now.nodes root
             (map plain_atom judge.now.atoms.now) (kept_lists self.old.residuals.keys) self.old.table }
-        requires lefts { AreAllLefts judge.now.closure.now.nodes
-            (map plain_atom judge.now.atoms.now) self.old.lefts.code
-            (kept_lists self.old.lefts.lists) }
+        requires some { 0 < length self.old.lefts.kept.items }
+        requires lefts { Each (λ k. AreAllLefts judge.now.closure.now.nodes
+            (map plain_atom judge.now.atoms.now) k.code (kept_lists k.lists))
+            self.old.lefts.kept.items }
         ensures rows { OnOk result (length self.new.table
             ≡ (row + 1) * 2 ^ length judge.now.atoms.now) }
         ensures more { OnOk result (row < length self.new.residuals.keys) }
         ensures explored { OnOk result (IsExplored judge.now.closure.now.nodes root
             (map plain_atom judge.now.atoms.now) (kept_lists self.new.residuals.keys)
             self.new.table) }
-        ensures lefts { OnOk result (AreAllLefts judge.now.closure.now.nodes
-            (map plain_atom judge.now.atoms.now) self.new.lefts.code
-            (kept_lists self.new.lefts.lists)) }
+        ensures some { OnOk result (0 < length self.new.lefts.kept.items) }
+        ensures lefts { OnOk result (Each (λ k. AreAllLefts judge.now.closure.now.nodes
+            (map plain_atom judge.now.atoms.now) k.code (kept_lists k.lists))
+            self.new.lefts.kept.items) }
         ensures refused { IfErr result (IsTableRefusal judge.now.closure.now.nodes root
             (map plain_atom judge.now.atoms.now)) }
     {
-        let residual = copy_of(alloc, &self.residuals, row)?;
+        let residual = reduced_of(alloc, judge.closure, &self.residuals, row)?;
         let mask = asked_in(&residual, masks);
         let first = self.table.len();
         for code in 0..1 << judge.atoms.len() {
@@ -148,24 +156,26 @@ impl<const W: usize> Explored<W> {
         requires asked { AreAsked judge.now.closure.now.nodes (map plain_atom judge.now.atoms.now)
             masks.now (length masks.now) }
         requires there { row < length self.old.residuals.keys }
-        requires residual { residual.now ≡ residual_at (kept_lists self.old.residuals.keys) row }
+        requires residual { LeaveAlike judge.now.closure.now.nodes residual.now
+            (residual_at (kept_lists self.old.residuals.keys) row) }
         requires explored { IsExplored judge.now.closure.now.nodes root
             (map plain_atom judge.now.atoms.now) (kept_lists self.old.residuals.keys) self.old.table }
-        requires lefts { AreAllLefts judge.now.closure.now.nodes
-            (map plain_atom judge.now.atoms.now) self.old.lefts.code
-            (kept_lists self.old.lefts.lists) }
+        requires some { 0 < length self.old.lefts.kept.items }
+        requires lefts { Each (λ k. AreAllLefts judge.now.closure.now.nodes
+            (map plain_atom judge.now.atoms.now) k.code (kept_lists k.lists))
+            self.old.lefts.kept.items }
         ensures table { self.new.table ≡ self.old.table }
-        ensures lefts { OnOk result (AreAllLefts judge.now.closure.now.nodes
-            (map plain_atom judge.now.atoms.now) self.new.lefts.code
-            (kept_lists self.new.lefts.lists)) }
+        ensures some { OnOk result (0 < length self.new.lefts.kept.items) }
+        ensures lefts { OnOk result (Each (λ k. AreAllLefts judge.now.closure.now.nodes
+            (map plain_atom judge.now.atoms.now) k.code (kept_lists k.lists))
+            self.new.lefts.kept.items) }
         ensures follows { IfOk result (Follows judge.now.closure.now.nodes root
             (map plain_atom judge.now.atoms.now) (kept_lists self.old.residuals.keys)
             (kept_lists self.new.residuals.keys) self.old.table row code) }
         ensures refused { IfErr result (IsTableRefusal judge.now.closure.now.nodes root
             (map plain_atom judge.now.atoms.now)) }
     {
-        self.lefts.turn(alloc, judge, masks, code)?;
-        let left = self.lefts.step(alloc, residual)?;
+        let left = self.lefts.step(alloc, judge, masks, code, residual)?;
         self.number(left, judge.atoms.len())
     }
 
@@ -198,16 +208,20 @@ fn put<const W: usize>(residuals: &mut IndexSet<Family<W>>, residual: Family<W>)
     Ok(place)
 }
 
-/// A copy of a residual.
-fn copy_of<const W: usize>(
+/// The reduced residual of a row.
+fn reduced_of<const W: usize>(
     alloc: Global,
+    closure: &Closure,
     residuals: &IndexSet<Family<W>>,
     row: usize,
 ) -> M<Family<W>>
-    requires { row < length residuals.now.keys }
-    ensures { IfOk result (λ made. made.items ≡ residual_at (kept_lists residuals.now.keys) row) }
+    requires width { W ≤ 16 }
+    requires members { length closure.now.nodes ≤ 64 * W }
+    requires there { row < length residuals.now.keys }
+    ensures { IfOk result (λ made. LeaveAlike closure.now.nodes made.items
+        (residual_at (kept_lists residuals.now.keys) row)) }
 {
-    Ok(Vec::from_slice(alloc, &residuals.as_slice()[row])?)
+    reduced(alloc, closure, &residuals.as_slice()[row])
 }
 
 /// Whether each residual accepts.

@@ -2,7 +2,7 @@
 
 ghost use Rattle.std.specs.Prelude.{◌≡◌, ◌≤◌, ◌<◌, ◌*◌, ◌∷◌, ◌++◌, [], cond, length, map, IfOk, OnOk};
 ghost use Rattle.fin_monitor.specs.Codes.{plain_atom};
-ghost use Rattle.fin_monitor.specs.Duties.{no_duty, joined};
+ghost use Rattle.fin_monitor.specs.Duties.{no_duty, joined, AreAlike};
 ghost use Rattle.fin_monitor.specs.Lefts.{kept_lists, IsFamily, IsFamilyOf, IsLeft, AreLefts, AreAsked, IsStepOf, IsUnionsBelow};
 
 use crate::atoms::holds;
@@ -63,6 +63,9 @@ impl<const W: usize> Lefts<W> {
             (map plain_atom judge.now.atoms.now) code (kept_lists self.new.lists)
             (length self.new.lists)) }
     {
+        if self.code == code {
+            return Ok(());
+        }
         for k in 0..masks.len() {
             let mask = *masks.at(k);
             if code & mask != self.code & mask {
@@ -101,13 +104,26 @@ impl<const W: usize> Lefts<W> {
         let mut made = single(alloc, Duty::none())?;
         for k in 0..self.lists.len() {
             if set.has(k) {
-                let mut more = Vec::new(alloc);
-                add_joined(&mut more, self.lists.at(k), &made)?;
-                made = more;
+                join(alloc, &mut made, self.lists.at(k))?;
             }
         }
         Ok(made)
     }
+}
+
+/// Makes each union of a duty of the list and one of `made`, in place where both are one duty.
+fn join<const W: usize>(alloc: Global, made: &mut Family<W>, list: &[Duty<W>]) -> M<()>
+    requires { W ≤ 16 }
+    ensures { OnOk result (AreAlike made.new.items (joined list.now made.old.items)) }
+{
+    if list.len() == 1 && made.len() == 1 {
+        made[0] = list[0].both(&made[0]);
+        return Ok(());
+    }
+    let mut more = Vec::new(alloc);
+    add_joined(&mut more, list, made)?;
+    *made = more;
+    Ok(())
 }
 
 /// What member `k` leaves, by what those before it leave.

@@ -9,9 +9,11 @@ mod explore;
 mod families;
 pub mod laws;
 mod lefts;
+mod lefts_by_code;
 mod members;
 mod monitor;
 mod monitor_error;
+mod reducing;
 mod settling;
 #[cfg(test)]
 mod tests;

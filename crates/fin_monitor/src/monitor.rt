@@ -51,7 +51,8 @@ impl Monitor {
     /// `Limit` comes exactly where the closure has more than 1,024 members; or else the body has more
     /// than 16 indexed atoms; or else its residuals, times the joint letters, are more than 4,194,304.
     /// In time and memory linear in the table, times what it takes to step a residual; letters that
-    /// agree where a residual asks share one step.
+    /// agree where a residual asks share one step. What members leave is kept for all letters where
+    /// members times letters are at most 65,536.
     pub fn build(alloc: Global, body: &Body, vars: u8) -> Result<Monitor, MonitorError>
         requires some { 1 ≤ vars }
         requires few { vars ≤ 4 }

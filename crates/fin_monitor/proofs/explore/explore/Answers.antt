@@ -1,9 +1,9 @@
-use Rattle.std.proofs.Common.{◌≡◌, ◌*◌, ◌^◌, List, ℕ, map, length, sym, ap, ◌∙◌, subst, arith, Vec}
+use Rattle.std.proofs.Common.{◌≡◌, ◌+◌, ◌-◌, ◌*◌, ◌^◌, ◌<◌, List, ℕ, map, length, sym, ap, ◌∙◌, subst, arith, Vec}
 use Rattle.fin_monitor.specs.Codes.{plain_atom}
 use Rattle.fin_monitor.specs.Duties.{Duty, accepts}
 use Rattle.fin_monitor.specs.Lefts.{kept_lists}
 use Rattle.fin_monitor.specs.Tables.{row_of}
-use Rattle.fin_monitor.proofs.Exploring.{row-power}
+use Rattle.fin_monitor.proofs.Exploring.{row-power, row-some, few-rows}
 use Rattle.fin_monitor.proofs.Stepping.{kept-length}
 use Rattle.fin_monitor.proofs.explore.explore.Goals as goal
 
@@ -19,3 +19,10 @@ returns-clause-automaton g c =
       whole = subst P (sym (row-power c.args.judge.now.atoms.now)) (inv.rows ∙ ap (λ n. n * 2 ^ length c.args.judge.now.atoms.now) rows);
       accepting = c.in_ok-accepting.ensures ∙ ap (λ l. map accepts (kept_lists l)) c.as_slice.ensures.keys;
     }
+
+pub loop-rows-smaller : goal.loop-rows-smaller
+loop-rows-smaller g c =
+    let atoms = map plain_atom c.args.judge.now.atoms.now in
+    let few = few-rows (length (kept_lists c.loop-rows.explored.residuals.keys)) (row_of atoms) (row-some atoms) c.loop-rows.invariant.explored.few in
+    let smaller : 4194304 - (c.loop-rows.rows + 1) < 4194304 - c.loop-rows.rows = omega (arith, few, c.loop-rows-test.true, c.len.ensures.len, kept-length c.loop-rows.explored.residuals.keys) in
+    smaller

@@ -1,4 +1,5 @@
-use Rattle.std.proofs.Common.{◌≡◌, ◌-◌, ◌*◌, ◌^◌, ◌≤◌, length, map}
+use Rattle.std.proofs.Common.{◌≡◌, ◌-◌, ◌*◌, ◌^◌, ◌<◌, ◌≤◌, length, map}
+use Rattle.hy_formula.specs.Quantifiers.{Each}
 use Rattle.fin_monitor.specs.Codes.{plain_atom}
 use Rattle.fin_monitor.specs.Lefts.{kept_lists}
 use Rattle.fin_monitor.specs.Tables.{AreAllLefts, IsExplored}
@@ -10,7 +11,8 @@ invariant-loop-rows g l =
       explored : IsExplored l.judge.closure.now.nodes l.root (map plain_atom l.judge.atoms.now) (kept_lists l.explored.residuals.keys) l.explored.table;
       rows : length l.explored.table ≡ l.rows * 2 ^ length l.judge.atoms.now;
       within : l.rows ≤ length l.explored.residuals.keys;
-      lefts : AreAllLefts l.judge.closure.now.nodes (map plain_atom l.judge.atoms.now) l.explored.lefts.code (kept_lists l.explored.lefts.lists);
+      some : 0 < length l.explored.lefts.kept.items;
+      lefts : Each (λ k. AreAllLefts l.judge.closure.now.nodes (map plain_atom l.judge.atoms.now) k.code (kept_lists k.lists)) l.explored.lefts.kept.items;
     }
 
 abbrev pub decreases-loop-rows : goal.decreases-loop-rows

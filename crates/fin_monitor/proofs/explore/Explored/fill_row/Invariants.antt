@@ -1,7 +1,9 @@
 use Rattle.std.proofs.Common.{◌≡◌, ◌+◌, ◌*◌, ◌^◌, ◌<◌, length, map}
+use Rattle.hy_formula.specs.Quantifiers.{Each}
 use Rattle.fin_monitor.specs.Codes.{plain_atom}
 use Rattle.fin_monitor.specs.Duties.{residual_at}
 use Rattle.fin_monitor.specs.Lefts.{kept_lists}
+use Rattle.fin_monitor.specs.Reductions.{LeaveAlike}
 use Rattle.fin_monitor.specs.Tables.{AreAllLefts, IsExplored}
 use Rattle.fin_monitor.proofs.explore.Explored.fill_row.Given as goal
 
@@ -11,6 +13,7 @@ invariant-loop-code g l =
       explored : IsExplored l.judge.closure.now.nodes l.root (map plain_atom l.judge.atoms.now) (kept_lists l.self.residuals.keys) l.self.table;
       long : length l.self.table ≡ l.row * 2 ^ length l.judge.atoms.now + l.code;
       there : l.row < length l.self.residuals.keys;
-      same : l.residual.items ≡ residual_at (kept_lists l.self.residuals.keys) l.row;
-      lefts : AreAllLefts l.judge.closure.now.nodes (map plain_atom l.judge.atoms.now) l.self.lefts.code (kept_lists l.self.lefts.lists);
+      same : LeaveAlike l.judge.closure.now.nodes l.residual.items (residual_at (kept_lists l.self.residuals.keys) l.row);
+      some : 0 < length l.self.lefts.kept.items;
+      lefts : Each (λ k. AreAllLefts l.judge.closure.now.nodes (map plain_atom l.judge.atoms.now) k.code (kept_lists k.lists)) l.self.lefts.kept.items;
     }

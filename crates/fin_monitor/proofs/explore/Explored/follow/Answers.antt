@@ -1,9 +1,11 @@
 use Rattle.std.proofs.Common.{◌≡◌, ◌<◌, ◌≤◌, ◌*◌, ◌^◌, List, ℕ, map, length, sym, ap, ◌∙◌, subst, arith}
+use Rattle.hy_formula.specs.Quantifiers.{Each}
 use Rattle.fin_monitor.specs.Codes.{plain_atom, letter_of}
 use Rattle.fin_monitor.specs.Duties.{Duty, residual_at, residual_step, Same, IsReached, later}
 use Rattle.fin_monitor.specs.Lefts.{kept_lists, AreLefts}
 use Rattle.fin_monitor.specs.Tables.{row_of, AreAllLefts, Puts, Follows, IsPutRefusal, IsTableRefusal}
 use Rattle.fin_monitor.proofs.Exploring.{same-back, all-lefts, step-same, follows-put, put-refusal, row-power, ok-both, on-ok, err-map}
+use Rattle.fin_monitor.proofs.Outdoing.{step-alike}
 use Rattle.fin_monitor.proofs.Stepping.{kept-length}
 use Rattle.fin_monitor.proofs.explore.Explored.follow.Goals as goal
 
@@ -15,18 +17,13 @@ returns g c =
     let new = kept_lists c.number.new.self.residuals.keys in
     let r = c.in_ok-left.left.items in
     let code = c.args.code in
-    let turned = c.in_ok-turn.ensures in
-    let A : ℕ → Type 0 = λ k. AreLefts nodes atoms k (kept_lists c.turn.new.self.lists) (length c.turn.new.self.lists) in
-    let all = all-lefts nodes atoms c.turn.new.self.code c.turn.new.self.lists turned.long (subst A (sym turned.code) turned.lefts) in
-    let B : ℕ → Type 0 = λ k. Same r (residual_step nodes (letter_of atoms k) c.args.residual.now) in
-    let C : List Duty → Type 0 = λ l. Same r (residual_step nodes (letter_of atoms code) l) in
-    let same = subst C c.requires.residual
-    (subst B turned.code (step-same nodes c.args.root atoms c.turn.new.self.code (kept_lists c.turn.new.self.lists) c.args.residual.now r all c.in_ok-left.ensures.family c.in_ok-left.ensures.alike)) in
+    let same = step-alike nodes (letter_of atoms code) c.args.residual.now (residual_at old c.args.row) r c.in_ok-left.ensures.family c.requires.residual c.in_ok-left.ensures.same in
     let there : c.args.row < length old = omega (arith, kept-length c.args.self.now.residuals.keys, c.requires.there) in
     let reach = later {nodes = nodes} {root = c.args.root} (letter_of atoms code) (residual_at old c.args.row) (c.requires.explored.reached.only c.args.row there) (same-back r _ same) in
     record {
       table = c.number.ensures.table;
-      lefts = on-ok _ c.number.result (subst (λ l. AreAllLefts nodes atoms l.code (kept_lists l.lists)) (sym c.number.ensures.lefts) all);
+      some = on-ok _ c.number.result (subst (λ l. 0 < length l.kept.items) (sym c.number.ensures.lefts) c.in_ok-left.ensures.some);
+      lefts = on-ok _ c.number.result (subst (λ l. Each (λ k. AreAllLefts nodes atoms k.code (kept_lists k.lists)) l.kept.items) (sym c.number.ensures.lefts) c.in_ok-left.ensures.kept);
       follows = ok-both (Puts old r new) (Follows nodes c.args.root atoms old new c.args.self.now.table c.args.row code) c.number.result c.number.ensures.few c.number.ensures.put
           (λ n few puts.
           let D : ℕ → Type 0 = λ k. k * row_of atoms ≤ 4194304 in

@@ -17,5 +17,6 @@ returns g c =
           (explored-start nodes c.args.root atoms (kept_lists c.new-residuals.result.keys) (kept_lists c.put.new.residuals.keys) c.in_ok-start.start.items c.in_ok-put.field-0 c.new.result
           (ap (λ l. kept_lists l) c.new-residuals.ensures.empty) (c.in_ok-start.ensures ∙ ap (λ d. d ∷ []) c.strongly.ensures) c.in_ok-put.ensures (ap length c.new.ensures) few);
       none = ap length c.new.ensures;
-      lefts = all-lefts nodes atoms c.in_ok-new.field-0.code c.in_ok-new.field-0.lists c.in_ok-new.ensures.long c.in_ok-new.ensures.lefts;
+      some = c.in_ok-new.ensures.some;
+      lefts = c.in_ok-new.ensures.kept;
     }

@@ -4,7 +4,7 @@ use Rattle.fin_monitor.specs.Duties.{Duty, joined, AreAlike}
 use Rattle.fin_monitor.specs.Lefts.{kept_lists, list_at, IsUnionsBelow}
 use Rattle.fin_monitor.proofs.Stepping.{list-there, unions-none, unions-has, unions-not, kept-length}
 use Rattle.fin_monitor.proofs.lefts.Lefts.unions.Goals as goal
-use Rattle.fin_monitor.proofs.lefts.Lefts.unions.Goals.{then-has+in_ok-add_joined, else-has}
+use Rattle.fin_monitor.proofs.lefts.Lefts.unions.Goals.{then-has+in_ok-join, else-has}
 
 pub loop-k-init : goal.loop-k-init
 loop-k-init g c = unions-none (kept_lists c.args.self.now.lists) c.args.self.now.code c.args.set.now c.in_ok-made.made.items (c.in_ok-made.ensures ∙ ap (λ d. d ∷ []) c.none.ensures)
@@ -13,13 +13,11 @@ pub loop-k-preserved : goal.loop-k-preserved
 loop-k-preserved g c =
     let inside : c.loop-k.k < length (kept_lists c.args.self.now.lists) = omega (arith, kept-length c.args.self.now.lists, c.len-k-end.ensures, c.loop-k-test.true) in
     elim c.if-has.branch [
-      | then-has+in_ok-add_joined w ↦
-          let P : List Duty → Type 0 = λ l. AreAlike w.add_joined.new.family.items (l ++ joined w.deref.result.now w.deref-then-has.result.now) in
-          let Q : List Duty → Type 0 = λ l. AreAlike w.add_joined.new.family.items ([] ++ joined w.deref.result.now l) in
+      | then-has+in_ok-join w ↦
           rw w.made-is
-          (unions-has (kept_lists c.args.self.now.lists) c.args.self.now.code c.args.set.now c.loop-k.k c.loop-k.made.items w.deref.result.now w.add_joined.new.family.items inside c.loop-k.invariant
+          (unions-has (kept_lists c.args.self.now.lists) c.args.self.now.code c.args.set.now c.loop-k.k c.loop-k.made.items w.deref.result.now w.join.new.made.items inside c.loop-k.invariant
           (sym c.has.ensures ∙ w.if-has.true) (list-there c.args.self.now.lists c.loop-k.k _ w.at.ensures ∙ sym w.deref.ensures.value)
-          (subst Q w.deref-then-has.ensures.value (subst P w.new-more.ensures.items w.in_ok-add_joined.ensures.added)))
+          w.in_ok-join.ensures)
       | else-has w ↦ rw w.made-is (unions-not (kept_lists c.args.self.now.lists) c.args.self.now.code c.args.set.now c.loop-k.k c.loop-k.made.items c.loop-k.invariant (sym c.has.ensures ∙ w.if-has.false))
     ]
 
