@@ -31,7 +31,6 @@ mod case;
 mod escape;
 mod lassos;
 mod report;
-mod running;
 
 use anyhow::{Context, Result};
 use case::Case;
