@@ -8,8 +8,6 @@ mod literal;
 mod logs;
 mod partial;
 mod printing;
-#[cfg(test)]
-mod tests;
 
 pub use checking::check;
 pub use clauses::{Clauses, Cnf};

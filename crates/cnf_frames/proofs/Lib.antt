@@ -6,7 +6,6 @@ pub mod States
 pub mod Surviving
 pub mod Values
 pub mod Meanings
-pub mod Examples
 pub mod FramePaths
 pub mod Distinct
 pub mod Keeping

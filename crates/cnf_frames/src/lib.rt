@@ -10,8 +10,6 @@ mod laws;
 mod queries;
 mod reading;
 mod stating;
-#[cfg(test)]
-mod tests;
 mod writing;
 
 pub use facts::{Fact, Inv};

@@ -10,8 +10,6 @@ mod pairing;
 mod reached;
 mod rows;
 mod symmetry;
-#[cfg(test)]
-mod tests;
 
 pub use compare::{Compare, WordList, dominates};
 pub use symmetry::symmetric;

@@ -12,8 +12,6 @@ mod questions;
 mod rank_proof;
 mod ranking;
 mod solve;
-#[cfg(test)]
-mod tests;
 
 pub use decision::{Both, Decision};
 pub use ea_error::EaError;

@@ -8,8 +8,6 @@ pub mod laws;
 mod plan;
 mod plans;
 mod reduce_error;
-#[cfg(test)]
-mod tests;
 
 pub use joint::{Joint, WordList, back};
 pub use plan::Plan;

@@ -7,8 +7,6 @@ mod found;
 mod lasso;
 mod pass;
 mod path;
-#[cfg(test)]
-mod tests;
 
 pub use fair_walk::search;
 pub use found::{FairLasso, Found};

@@ -15,8 +15,6 @@ mod monitor;
 mod monitor_error;
 mod reducing;
 mod settling;
-#[cfg(test)]
-mod tests;
 
 pub use monitor::Monitor;
 pub use monitor_error::MonitorError;

@@ -14,8 +14,6 @@ mod shelf;
 mod sink;
 mod std_sink;
 mod steps;
-#[cfg(test)]
-mod tests;
 mod writing;
 
 pub use disk_shelf::DiskShelf;

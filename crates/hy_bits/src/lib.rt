@@ -5,8 +5,6 @@
 mod bit_row;
 mod case_table;
 mod letter_mask;
-#[cfg(test)]
-mod tests;
 mod widths;
 
 pub use bit_row::BitRow;

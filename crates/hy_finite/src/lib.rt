@@ -14,8 +14,6 @@ mod number;
 mod rows;
 mod rule;
 mod sets;
-#[cfg(test)]
-mod tests;
 mod trace;
 
 pub use checks::{LineCheck, check_line};

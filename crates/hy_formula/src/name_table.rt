@@ -129,21 +129,3 @@ impl NameTable {
         Ok(())
     }
 }
-
-#[cfg(test)]
-mod tests {
-    use super::*;
-
-    #[test]
-    fn numbers_names_in_order(rt: HostRuntime) -> M<()> {
-        let mut table = NameTable::new(rt.alloc())?;
-        assert_eq!(rt; table.add(rt.alloc(), b"go"), Ok(0));
-        assert_eq!(rt; table.add(rt.alloc(), b""), Ok(1));
-        assert_eq!(rt; table.add(rt.alloc(), b"go"), Ok(0));
-        assert_eq!(rt; table.find(b""), Some(1));
-        assert_eq!(rt; table.find(b"g"), None);
-        assert_eq!(rt; table.at(0), b"go".as_slice());
-        assert_eq!(rt; table.len(), 2);
-        Ok(())
-    }
-}

@@ -12,8 +12,6 @@ mod print;
 mod read;
 mod row;
 mod shorten;
-#[cfg(test)]
-mod tests;
 
 pub use choices::holds;
 pub use error::HoldsError;

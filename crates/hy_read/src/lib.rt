@@ -19,8 +19,6 @@ mod scope;
 mod survey;
 mod symbol;
 mod table;
-#[cfg(test)]
-mod tests;
 mod token;
 mod variable;
 mod word;

@@ -9,8 +9,6 @@ mod line_error;
 mod lines;
 mod names;
 mod sets;
-#[cfg(test)]
-mod tests;
 mod words;
 
 pub use bytes::{begins_with_letter, is_variable, is_word_byte, past_blanks, past_byte};

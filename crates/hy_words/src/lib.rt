@@ -5,8 +5,6 @@ mod command;
 pub mod laws;
 mod orders;
 mod parser;
-#[cfg(test)]
-mod tests;
 mod tool;
 mod value;
 

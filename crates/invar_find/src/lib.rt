@@ -6,8 +6,6 @@ mod finding;
 mod kept;
 mod left;
 mod sifting;
-#[cfg(test)]
-mod tests;
 
 pub use finding::invariants;
 pub use kept::{Kept, SpentGroup, SpentList};

@@ -4,8 +4,6 @@
 
 mod asking;
 mod proving;
-#[cfg(test)]
-mod tests;
 mod verdict;
 
 pub use proving::prove;

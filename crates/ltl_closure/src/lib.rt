@@ -7,8 +7,6 @@ mod job;
 pub mod laws;
 mod node;
 mod numbering;
-#[cfg(test)]
-mod tests;
 
 pub use closure::{Closure, Obl};
 pub use closure_error::ClosureError;

@@ -12,8 +12,6 @@ mod skips;
 mod steps;
 mod tableau;
 mod tableau_error;
-#[cfg(test)]
-mod tests;
 
 pub use branch::{Branch, BranchList, postpones};
 pub use collect::branches;

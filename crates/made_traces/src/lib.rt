@@ -3,7 +3,5 @@
 
 mod generator;
 mod making;
-#[cfg(test)]
-mod tests;
 
 pub use making::make_traces;

@@ -10,8 +10,6 @@ mod rv;
 mod rv_error;
 mod saved;
 mod sessions;
-#[cfg(test)]
-mod tests;
 mod watches;
 
 pub use reply::Reply;

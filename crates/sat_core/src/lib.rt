@@ -9,8 +9,6 @@ mod marks;
 mod order;
 mod solver;
 mod solving;
-#[cfg(test)]
-mod tests;
 mod watches;
 mod watching;
 

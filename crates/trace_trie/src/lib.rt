@@ -9,8 +9,6 @@ mod cursor;
 mod forest;
 mod node;
 mod numbers;
-#[cfg(test)]
-mod tests;
 mod version;
 
 pub use cursor::Cursor;

@@ -4,8 +4,6 @@
 mod chosen;
 mod join;
 mod run;
-#[cfg(test)]
-mod tests;
 mod tuple;
 mod walk;
 mod watch;

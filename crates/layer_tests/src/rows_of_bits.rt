@@ -1,0 +1,42 @@
+//! What no clause says: which width `each_width!` takes, and that letters are remade.
+
+ghost use Rattle.std.specs.Prelude.{◌<◌, ◌≤◌};
+
+use hy_base::Remake;
+use hy_bits::{BitRow, LetterMask, each_width};
+
+/// The width, by way of the greatest number for which its rows have room.
+fn room<const W: usize>(count: usize) -> usize
+    requires width { W ≤ 16 }
+    requires within { 0 < W }
+{
+    let last = 64 * W - 1;
+    if BitRow::<W>::empty().with(last).has(last) {
+        64 * W
+    } else {
+        count
+    }
+}
+
+#[test]
+fn takes_the_least_width(rt: HostRuntime) {
+    for (count, wanted) in [
+        (0, 64),
+        (64, 64),
+        (65, 128),
+        (128, 128),
+        (256, 256),
+        (257, 512),
+        (512, 512),
+        (513, 1024),
+        (1024, 1024),
+    ] {
+        assert_eq!(rt; each_width!(count, room(count)), wanted);
+    }
+}
+
+#[test]
+fn is_remade(rt: HostRuntime) {
+    let letter = LetterMask::empty().with(3);
+    assert_eq!(rt; letter.remake(rt.alloc()), Ok(letter));
+}

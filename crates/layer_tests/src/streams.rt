@@ -1,0 +1,93 @@
+//! What no clause says: that memory and calls can succeed, and what real files and streams do.
+
+use hy_base::{
+    DiskShelf, File, FileError, FileList, List, MemShelf, MemSink, NumList, StdSink, Text,
+    read_all, write_all, write_pieces,
+};
+use std::alloc::Global;
+use std::fs;
+
+fn text_of(alloc: Global, bytes: &[u8]) -> hy_base::M<Text> {
+    let mut text = Text::new(alloc);
+    text.extend(bytes)?;
+    Ok(text)
+}
+
+fn numbers_of(alloc: Global, numbers: &[u32]) -> hy_base::M<NumList> {
+    let mut list = NumList::new(alloc);
+    for n in numbers {
+        list.push(*n)?;
+    }
+    list.copy(alloc)
+}
+
+fn shelf_of(alloc: Global, fail: &[u32]) -> hy_base::M<MemShelf> {
+    let mut files = FileList::new(alloc);
+    for (name, bytes) in [("a", "first"), ("b", "other"), ("a", "second")] {
+        files.push(File {
+            name: text_of(alloc, name.as_bytes())?,
+            bytes: text_of(alloc, bytes.as_bytes())?,
+        })?;
+    }
+    Ok(MemShelf::new(files.copy(alloc)?, numbers_of(alloc, fail)?))
+}
+
+#[test]
+fn reads_files_in_memory(rt: HostRuntime) -> Result<(), FileError> {
+    let alloc = rt.alloc();
+    let mut shelf = shelf_of(alloc, &[6])?;
+    assert_eq!(rt;
+        read_all(alloc, &mut shelf, "a")?.as_slice(),
+        "first".as_bytes()
+    );
+    assert_eq!(rt;
+        read_all(alloc, &mut shelf, "c").err(),
+        Some(FileError::OpenFailed)
+    );
+    assert_eq!(rt;
+        read_all(alloc, &mut shelf, "b").err(),
+        Some(FileError::ReadFailed)
+    );
+    assert_eq!(rt;
+        read_all(alloc, &mut shelf, "b")?.as_slice(),
+        "other".as_bytes()
+    );
+    Ok(())
+}
+
+#[test]
+fn writes_to_memory(rt: HostRuntime) -> hy_base::M<()> {
+    let alloc = rt.alloc();
+    let mut sink = MemSink::new(alloc, 8, 2, numbers_of(alloc, &[])?)?;
+    assert!(rt; write_pieces(&mut sink, &[b"abc", b"", b"de"]).is_ok());
+    assert!(rt; write_all(&mut sink, b"fghi").is_err());
+    assert_eq!(rt; sink.bytes(), "abcdefgh".as_bytes());
+    Ok(())
+}
+
+#[test]
+fn reads_real_files(rt: HostRuntime) -> Result<(), FileError> {
+    let alloc = rt.alloc();
+    let name = "hy_base_reads_real_files";
+    let bytes = [b'x'; 100_000];
+    assert!(rt; fs::write(&rt, name, &bytes[..]).is_ok());
+    let mut shelf = DiskShelf::new(&rt);
+    let text = read_all(alloc, &mut shelf, name)?;
+    assert!(rt; fs::remove_file(&rt, name).is_ok());
+    assert!(rt; text.as_slice() == &bytes[..]);
+    assert_eq!(rt;
+        read_all(alloc, &mut shelf, name).err(),
+        Some(FileError::OpenFailed)
+    );
+    assert_eq!(rt;
+        read_all(alloc, &mut shelf, ".").err(),
+        Some(FileError::ReadFailed)
+    );
+    Ok(())
+}
+
+#[test]
+fn writes_to_standard_output(rt: HostRuntime) {
+    let mut sink = StdSink::new(rt.stdout());
+    assert!(rt; write_all(&mut sink, b"standard output\n").is_ok());
+}

@@ -1,0 +1,95 @@
+//! Versions that were worked out by hand, with ample memory.
+
+ghost use Rattle.std.specs.Prelude.{◌<◌};
+
+use hy_base::List;
+use hy_bits::LetterMask;
+use hy_finite::Trace;
+use std::alloc::Global;
+use std::process::Abort;
+use std::test::Fail;
+use trace_trie::{Cursor, Version};
+
+/// The letter of one name.
+fn of(name: usize) -> LetterMask
+    requires { name < 64 }
+{
+    LetterMask::empty().with(name)
+}
+
+/// The trace of these letters.
+fn trace_of(alloc: Global, letters: &[LetterMask]) -> Result<Trace, Fail> {
+    let mut list = List::new(alloc);
+    for letter in letters {
+        list.push(*letter)?;
+    }
+    Ok(Trace::new(list).ok_or("no trace")?)
+}
+
+/// The version of two traces, numbered 0 and 1.
+fn of_two(alloc: Global, first: &[LetterMask], second: &[LetterMask]) -> Result<Version, Fail> {
+    let first = trace_of(alloc, first)?;
+    let second = trace_of(alloc, second)?;
+    let one = Version::new(alloc).insert(0, &first)?;
+    Ok(one.insert(1, &second)?)
+}
+
+/// Tries that the trace of a number is the given one.
+fn has_trace<R: Abort>(
+    rt: &R,
+    version: &Version,
+    number: u32,
+    letters: &[LetterMask],
+) -> Result<(), Fail> {
+    assert!(rt; version.has(number));
+    let trace = version.trace(number)?.ok_or("no trace")?;
+    assert_eq!(rt; trace.as_slice(), letters);
+    Ok(())
+}
+
+/// Tries that a node has one child, and takes its letter and the number of a trace behind it.
+fn only_child<'a, R: Abort>(rt: &R, cursor: Cursor<'a>) -> (LetterMask, Cursor<'a>) {
+    assert!(rt; cursor.len() == 1);
+    (cursor.letter(0), cursor.child(0))
+}
+
+/// A version stays as it was beside one with a trace less.
+#[test]
+fn versions(rt: HostRuntime) -> Result<(), Fail> {
+    let alloc = rt.alloc();
+    let (a, b) = (of(0), of(1));
+    let both = of_two(alloc, &[a], &[a, b])?;
+    let second = both.without(0)?;
+    has_trace(&rt, &both, 0, &[a])?;
+    has_trace(&rt, &both, 1, &[a, b])?;
+    has_trace(&rt, &second, 1, &[a, b])?;
+    assert!(rt; !second.has(0));
+    Ok(())
+}
+
+/// What is shared is equal.
+#[test]
+fn shares(rt: HostRuntime) -> Result<(), Fail> {
+    let alloc = rt.alloc();
+    let shared = of_two(alloc, &[of(0)], &[of(63)])?.share()?;
+    has_trace(&rt, &shared, 0, &[of(0)])?;
+    has_trace(&rt, &shared, 1, &[of(63)])?;
+    assert_eq!(rt; shared.root().len(), 2);
+    Ok(())
+}
+
+/// Down a path.
+#[test]
+fn cursors(rt: HostRuntime) -> Result<(), Fail> {
+    let alloc = rt.alloc();
+    let (a, b) = (of(0), of(1));
+    let version = of_two(alloc, &[a], &[a, b])?;
+    let (letter, after) = only_child(&rt, version.root());
+    assert!(rt; letter == a);
+    assert_eq!(rt; after.first(), Some(0));
+    let (last, end) = only_child(&rt, after);
+    assert!(rt; last == b);
+    assert_eq!(rt; end.first(), Some(1));
+    assert_eq!(rt; end.below(), Some(1));
+    Ok(())
+}
