@@ -160,7 +160,7 @@ module _ (nodes : List Node) (root : ℕ) (atoms : List IndexedAtom) where
             few = few;
           };
           more = grow;
-          stays = kept row lt;
+          stays = kept;
           inside = puts.within;
           follows = subst B (sym (kept row lt)) (subst C (sym puts.at) (same-back r _ same));
         }
@@ -232,6 +232,10 @@ ok-both P Q (Err e) a p f = tt
 pub on-ok : {T E : Type 0} (A : Type 0) (r : Result T E) → A → OnOk r A
 on-ok A (Ok x) a = a
 on-ok A (Err e) a = tt
+
+pub on-ok-map : {T E A B : Type 0} (r : Result T E) → OnOk r A → (A → B) → OnOk r B
+on-ok-map (Ok x) a f = f a
+on-ok-map (Err e) a f = tt
 
 pub err-map : {T E : Type 0} (P Q : E → Type 0) (r : Result T E) → ((e : E) → P e → Q e) → IfErr r P → IfErr r Q
 err-map P Q (Ok x) f p = tt
@@ -314,3 +318,18 @@ copied nodes root atoms masks list table row code mask next residual long asked 
     let C : List Duty → Type 0 = λ r. Same t (minimal r) in
     let back = step-alike nodes (letter_of atoms low) s residual t family (alike-both_ways nodes residual s same) (same-back _ t here) in
     (inside, same-back t _ (step-alike nodes (letter_of atoms code) residual s t family same (subst C (sym e) back)))
+
+-- a row that is copied for a residual that leaves the same
+pub copied-row : (nodes : List Node) (root : ℕ) (atoms : List IndexedAtom) (list : List (List Duty)) (table : List ℕ) (row earlier code next : ℕ) → IsExplored nodes root atoms list table → earlier * row_of atoms + code < length table → code < row_of atoms
+    → LeaveAlike nodes (residual_at list earlier) (residual_at list row) → get_or table (earlier * row_of atoms + code) 0 ≡ next
+    → (next < length list) × Same (residual_step nodes (letter_of atoms code) (residual_at list row)) (residual_at list next)
+copied-row nodes root atoms list table row earlier code next is within lt alike at =
+    let w : ℕ = row_of atoms in
+    let p : ℕ = earlier * w + code in
+    let entry = is.entries p within in
+    let A : ℕ → Type 0 = λ x. x < length list in
+    let B : ℕ → ℕ → ℕ → Type 0 = λ x y z. Same (residual_step nodes (letter_of atoms x) (residual_at list y)) (residual_at list z) in
+    let here = subst (λ x. B x earlier next) (mod-mul-add earlier w code lt) (subst (λ y. B (p % w) y next) (div-mul-add earlier w code lt) (subst (λ z. B (p % w) (p / w) z) at entry.follows)) in
+    let inside = subst A at entry.inside in
+    let t = residual_at list next in
+    (inside, same-back t _ (step-alike nodes (letter_of atoms code) (residual_at list earlier) (residual_at list row) t (is.families next inside) alike (same-back _ t here)))
