@@ -75,9 +75,9 @@ loop-code-preserved g c =
       there = omega (arith, kept-length c.if-asked-code.self.residuals.keys, ready.there);
       same = ready.same;
       grows = ready.lefts.0;
-      stays = ready.lefts.1.0;
-      some = ready.lefts.1.1.0;
-      lefts = ready.lefts.1.1.1;
+      stays = ready.lefts.1;
+      some = ready.lefts.2;
+      lefts = ready.lefts.3;
     }
 
 pub returns : goal.returns
@@ -86,35 +86,3 @@ returns g c =
     let power = small-power (length c.args.judge.now.atoms.now) (omega (arith, c.requires.few)) in
     let end : c.loop-code.code ≡ 2 ^ length c.args.judge.now.atoms.now = omega (arith, c.loop-code-test.false, c.loop-code.auto.code-end, power) in
     record { rows = omega (arith, inv.long, end); more = inv.there; explored = inv.explored; stays = inv.stays; some = inv.some; lefts = inv.lefts; refused = tt }
-
-pub follow-requires : goal.follow-requires
-follow-requires g c =
-    let inv = c.loop-code.invariant in
-    let P : List Duty → Type 0 = λ l. LeaveAlike c.args.judge.now.closure.now.nodes l (residual_at (kept_lists c.loop-code.self.residuals.keys) c.args.row) in (
-      search rules,
-      (
-        search rules,
-        (
-          c.requires.width,
-          (
-            c.requires.members,
-            (
-              c.requires.few,
-              (
-                c.requires.masks,
-                (
-                  c.requires.asked,
-                  (
-                    inv.there,
-                    (
-                      subst P (sym c.deref-then-asked-code.ensures.value) inv.same,
-                      (inv.explored, (inv.some, inv.lefts)),
-                    ),
-                  ),
-                ),
-              ),
-            ),
-          ),
-        ),
-      ),
-    )
