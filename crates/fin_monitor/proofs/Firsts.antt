@@ -10,24 +10,6 @@ use Rattle.fin_monitor.proofs.Alike.{alike-through}
 use Rattle.fin_monitor.proofs.Outdoing.{alike-both_ways}
 use Rattle.fin_monitor.proofs.Masks.{last-of}
 
-module _ (keys new : List (List Duty)) (firsts : List ℕ) (r : List Duty) (row n : ℕ) (puts : Puts keys r new n) (long : length firsts ≡ length keys) where
-  pub row-known : (first : ℕ) → n < length firsts → get_or firsts n 0 ≡ first → IsFirstRow keys firsts r row new firsts (Some first)
-  row-known first lt at = step puts.is_new refl puts.list
-    where
-      less : n < length keys
-      less = omega (arith, long, lt)
-
-      step : (b : Bool) → puts.is_new ≡ b → new ≡ cond b (keys ++ r ∷ []) keys → IsFirstRow keys firsts r row new firsts (Some first)
-      step true is e = absurd (puts.was is n less (sym (ap (λ l. residual_at l n) e ∙ get_or_append_left keys (r ∷ []) [] n less) ∙ puts.at))
-      step false is e = (e, refl, n, less, ap (λ l. residual_at l n) (sym e) ∙ puts.at, at)
-
-  pub row-new : (firsts' : List ℕ) → (n < length firsts → ⊥) → firsts' ≡ firsts ++ row ∷ [] → IsFirstRow keys firsts r row new firsts' None
-  row-new firsts' no added = step puts.is_new puts.list
-    where
-      step : (b : Bool) → new ≡ cond b (keys ++ r ∷ []) keys → IsFirstRow keys firsts r row new firsts' None
-      step true e = (e, added)
-      step false e = absurd (no (let l = ap length e in let lt = puts.within in omega (arith, l, lt, long)))
-
 module _ (nodes : List Node) (list keys : List (List Duty)) (firsts : List ℕ) (row : ℕ) (is : AreFirsts nodes list keys firsts row) where
   pub firsts-kept : (keys' : List (List Duty)) (firsts' : List ℕ) → keys' ≡ keys → firsts' ≡ firsts → AreFirsts nodes list keys' firsts' (row + 1)
   firsts-kept keys' firsts' e f =
@@ -94,10 +76,10 @@ module _ (nodes : List Node) (list keys new : List (List Duty)) (firsts firsts' 
 
   -- one whose row is new, after it is filled
   pub new-row : (more : List (List Duty)) → ((first : ℕ) → o ≡ Some first → ⊥) → row < length list → ((q : ℕ) → q < length list → residual_at more q ≡ residual_at list q) → AreFirsts nodes more new firsts' (row + 1)
-  new-row more no there stays = step o refl
+  new-row more other there stays = step o refl
     where
       step : (x : Option ℕ) → o ≡ x → AreFirsts nodes more new firsts' (row + 1)
-      step (Some first) at = absurd (no first at)
+      step (Some first) at = absurd (other first at)
       step None at =
           let P : Option ℕ → Type 0 = IsFirstRow keys firsts r row new firsts' in
           let (e, f) = subst P at found in firsts-more nodes list keys firsts row is more new firsts' r e f there stays same

@@ -1,6 +1,6 @@
 //! Rows of the table that are the same, found by reduced residuals.
 
-ghost use Rattle.std.specs.Prelude.{◌≡◌, [], length, IfOk};
+ghost use Rattle.std.specs.Prelude.{◌≡◌, ◌≤◌, [], length, IfOk};
 ghost use Rattle.fin_monitor.specs.Lefts.{kept_lists};
 ghost use Rattle.fin_monitor.specs.Reductions.{IsFirstRow};
 
@@ -21,6 +21,7 @@ pub struct Repeats<const W: usize> {
 impl<const W: usize> Repeats<W> {
     /// None.
     pub fn new(alloc: Global) -> Repeats<W>
+        requires { W ≤ 16 }
         ensures reduced { kept_lists result.reduced.keys ≡ [] }
         ensures firsts { result.firsts ≡ [] }
     {
