@@ -1,16 +1,15 @@
 -- Residuals are explored, entry by entry.
-use Rattle.std.proofs.Common.{◌≡◌, ◌⊎◌, ◌↔◌, ◌+◌, ◌*◌, ◌/◌, ◌%◌, ◌^◌, ◌<◌, ◌≤◌, ℕ, zero, suc, Bool, true, false, cond, List, [], ◌∷◌, ◌++◌, length, map, get_or, slice_get, Some, Vec, Result, Ok, Err, IfOk, OnOk, IfErr, inl, inr, refl, sym, ap, ◌∙◌, subst, arith, bit_and, length-append}
-use Rattle.std.specs.List.{Contains}
+use Rattle.std.proofs.Common.{◌≡◌, ◌⊎◌, ◌+◌, ◌*◌, ◌/◌, ◌%◌, ◌^◌, ◌<◌, ◌≤◌, ℕ, zero, suc, Bool, true, false, cond, List, [], ◌∷◌, ◌++◌, length, map, get_or, Vec, Result, Ok, Err, IfOk, OnOk, IfErr, inl, inr, refl, sym, ap, ◌∙◌, subst, arith, bit_and, length-append}
 use Rattle.std.proofs.Math.Nat.{div-lt_iff_lt-mul, mul-le-mul_right}
 use Rattle.std.proofs.Math.Pow.{pow_mono}
 use Rattle.std.proofs.lemmas.Nat.{div-mul-add, mod-mul-add, pow_pos, and_le_l}
 use Rattle.std.proofs.Math.Arith.{lt_of_le-ne}
-use Rattle.std.proofs.lemmas.Bool.{cases_lt, cases_eq}
+use Rattle.std.proofs.lemmas.Bool.{cases_lt}
 use Rattle.std.proofs.lemmas.List.{get_or_append_left, length-map}
 use Rattle.hy_formula.specs.declared.atom.Atom.{Atom}
 use Rattle.ltl_closure.specs.Nodes.{Node}
 use Rattle.fin_monitor.specs.Codes.{IndexedAtom, plain_atom, letter_of}
-use Rattle.fin_monitor.specs.Duties.{Duty, strongly, after_each, minimal, residual_step, Same, IsReached, first, later, SomeReached, residual_at, AreAlike}
+use Rattle.fin_monitor.specs.Duties.{Duty, strongly, after_each, minimal, residual_step, Same, IsReached, first, SomeReached, residual_at}
 use Rattle.fin_monitor.specs.Lefts.{IsFamily, AreLefts, AreAsked, IsAskedAll, IsStepOf, kept_lists}
 use Rattle.fin_monitor.specs.Reductions.{LeaveAlike}
 use Rattle.fin_monitor.specs.Tables.{row_of, AreAllLefts, Puts, Follows, IsEntry, IsExplored, IsPutRefusal, IsTableRefusal}
@@ -19,7 +18,7 @@ use Rattle.fin_monitor.specs.declared.monitor_error.MonitorError.TheVariants.{Li
 use Rattle.hy_base.specs.declared.limit.Kind.TheVariants as kind
 use Rattle.fin_monitor.proofs.FamilySteps.{family-minimal, family-single, same-family}
 use Rattle.fin_monitor.proofs.Outdoing.{alike-both_ways, step-alike}
-use Rattle.fin_monitor.proofs.Masks.{get-some, last-of}
+use Rattle.fin_monitor.proofs.Masks.{last-of}
 use Rattle.fin_monitor.proofs.Stepping.{kept-length}
 use Rattle.fin_monitor.proofs.CodeBits.{masked-agrees}
 use Rattle.fin_monitor.proofs.Unrolled.{each-asked}

@@ -1,11 +1,10 @@
 -- Reduced residuals and the first rows that are theirs.
-use Rattle.std.proofs.Common.{◌≡◌, ◌+◌, ◌<◌, ◌≤◌, ℕ, Bool, true, false, cond, List, [], ◌∷◌, ◌++◌, length, get_or, Option, Some, None, inl, inr, refl, sym, ap, ◌∙◌, subst, arith, length-append}
+use Rattle.std.proofs.Common.{◌≡◌, ◌+◌, ◌<◌, ◌≤◌, ℕ, List, [], ◌∷◌, ◌++◌, length, get_or, Option, Some, None, inl, inr, refl, sym, ap, ◌∙◌, subst, arith, length-append}
 use Rattle.std.proofs.lemmas.Bool.{cases_lt}
 use Rattle.std.proofs.lemmas.List.{get_or_append_left}
 use Rattle.ltl_closure.specs.Nodes.{Node}
 use Rattle.fin_monitor.specs.Duties.{Duty, after_each, residual_at}
 use Rattle.fin_monitor.specs.Reductions.{LeaveAlike, IsFirstRow, AreFirsts}
-use Rattle.fin_monitor.specs.Tables.{Puts}
 use Rattle.fin_monitor.proofs.Alike.{alike-through}
 use Rattle.fin_monitor.proofs.Outdoing.{alike-both_ways}
 use Rattle.fin_monitor.proofs.Masks.{last-of}

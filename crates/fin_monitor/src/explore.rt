@@ -142,13 +142,7 @@ impl<const W: usize> Explored<W> {
     }
 
     /// Copies a row for a residual that leaves the same as the one of that row.
-    fn copy_row(
-        &mut self,
-        judge: &Judge,
-        root: u32,
-        row: usize,
-        first: usize,
-    ) -> M<()>
+    fn copy_row(&mut self, judge: &Judge, root: u32, row: usize, first: usize) -> M<()>
         requires few { length judge.now.atoms.now ≤ 16 }
         requires there { row < length self.old.residuals.keys }
         requires before { first < row }

@@ -32,12 +32,7 @@ impl<const W: usize> Repeats<W> {
     }
 
     /// The first row of a reduced residual; where there is none it becomes `row`.
-    pub fn first_row(
-        &mut self,
-        alloc: Global,
-        residual: &[Duty<W>],
-        row: u32,
-    ) -> M<Option<u32>>
+    pub fn first_row(&mut self, alloc: Global, residual: &[Duty<W>], row: u32) -> M<Option<u32>>
         requires { length self.old.firsts ≡ length self.old.reduced.keys }
         ensures { IfOk result (λ first. IsFirstRow (kept_lists self.old.reduced.keys)
             self.old.firsts residual.now row (kept_lists self.new.reduced.keys)

@@ -1,10 +1,10 @@
-use Rattle.std.proofs.Common.{◌≡◌, ◌∷◌, [], ◌++◌, ◌+◌, ◌*◌, ◌^◌, ◌<◌, ◌≤◌, List, ℕ, suc, get_or, map, length, sym, ap, ◌∙◌, subst, arith, length-append}
+use Rattle.std.proofs.Common.{◌≡◌, ◌∷◌, [], ◌+◌, ◌*◌, ◌^◌, ◌<◌, ◌≤◌, List, ℕ, suc, get_or, map, length, sym, ap, subst, arith, length-append}
 use Rattle.std.proofs.Math.Nat.{mod-eq_of_lt, mul-le-mul_right}
 use Rattle.fin_monitor.specs.Codes.{plain_atom}
 use Rattle.fin_monitor.specs.Duties.{residual_at}
 use Rattle.fin_monitor.specs.Lefts.{kept_lists}
 use Rattle.fin_monitor.specs.Tables.{row_of, IsExplored}
-use Rattle.fin_monitor.proofs.Exploring.{Ready, explored-push, copied-row, row-power}
+use Rattle.fin_monitor.proofs.Exploring.{explored-push, copied-row, row-power}
 use Rattle.fin_monitor.proofs.CodeBits.{small-power}
 use Rattle.fin_monitor.proofs.Masks.{get-some}
 use Rattle.fin_monitor.proofs.Stepping.{kept-length}

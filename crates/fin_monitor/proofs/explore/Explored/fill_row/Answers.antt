@@ -1,8 +1,8 @@
-use Rattle.std.proofs.Common.{rules, ◌≡◌, ◌∷◌, [], ◌++◌, ◌+◌, ◌*◌, ◌^◌, ◌<◌, ◌≤◌, List, ℕ, bit_and, get_or, map, length, refl, sym, ap, ◌∙◌, subst, arith, length-append}
+use Rattle.std.proofs.Common.{◌≡◌, ◌∷◌, [], ◌+◌, ◌*◌, ◌^◌, ◌<◌, ◌≤◌, List, ℕ, bit_and, get_or, map, length, refl, sym, ap, ◌∙◌, subst, arith, length-append}
 use Rattle.hy_formula.specs.Quantifiers.{Each}
 use Rattle.fin_monitor.specs.Codes.{plain_atom}
-use Rattle.fin_monitor.specs.Duties.{Duty, residual_at}
-use Rattle.fin_monitor.specs.Lefts.{kept_lists, AreAsked, IsAskedAll}
+use Rattle.fin_monitor.specs.Duties.{residual_at}
+use Rattle.fin_monitor.specs.Lefts.{kept_lists, AreAsked}
 use Rattle.fin_monitor.specs.Reductions.{LeaveAlike}
 use Rattle.fin_monitor.specs.Tables.{row_of, AreAllLefts, IsExplored}
 use Rattle.fin_monitor.proofs.Exploring.{Ready, explored-push, copied, row-power}
@@ -28,8 +28,8 @@ loop-code-preserved g c =
     let long : length c.loop-code.self.table ≡ row * row_of atoms + code = subst W (sym w) inv.long in
     let less : code < row_of atoms = omega (arith, c.loop-code-test.true, small-power (length c.args.judge.now.atoms.now) (omega (arith, c.requires.few)), w) in
     let Kept : Type 0 = (length (kept_lists c.args.self.now.residuals.keys) ≤ length (kept_lists c.if-asked-code.self.residuals.keys))
-        × ((q : ℕ) → q < length c.args.self.now.residuals.keys → residual_at (kept_lists c.if-asked-code.self.residuals.keys) q ≡ residual_at (kept_lists c.args.self.now.residuals.keys) q)
-        × (0 < length c.if-asked-code.self.lefts.kept.items) × Each (λ k. AreAllLefts nodes atoms k.code (kept_lists k.lists)) c.if-asked-code.self.lefts.kept.items in
+    × ((q : ℕ) → q < length c.args.self.now.residuals.keys → residual_at (kept_lists c.if-asked-code.self.residuals.keys) q ≡ residual_at (kept_lists c.args.self.now.residuals.keys) q)
+    × (0 < length c.if-asked-code.self.lefts.kept.items) × Each (λ k. AreAllLefts nodes atoms k.code (kept_lists k.lists)) c.if-asked-code.self.lefts.kept.items in
     let ready : Ready nodes c.args.root atoms (kept_lists c.if-asked-code.self.residuals.keys) c.if-asked-code.self.table row code c.if-asked-code.next c.args.residual.now Kept =
     elim c.if-asked-code.branch [
       | then-asked-code+in_ok-next w' ↦
