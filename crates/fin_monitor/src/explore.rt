@@ -1,6 +1,6 @@
 //! The residuals that joint letters lead to, found row by row.
 
-ghost use Rattle.std.specs.Prelude.{◌≡◌, ℕ, ◌≤◌, ◌<◌, ◌*◌, ◌^◌, ◌+◌, length, map, IfOk, OnOk, IfErr, OnErr};
+ghost use Rattle.std.specs.Prelude.{◌≡◌, ℕ, ◌≤◌, ◌<◌, ◌*◌, ◌^◌, ◌+◌, length, map, IfOk, OnOk, IfErr};
 ghost use Rattle.hy_formula.specs.Quantifiers.{Each};
 ghost use Rattle.fin_monitor.specs.Codes.{plain_atom};
 ghost use Rattle.fin_monitor.specs.Duties.{residual_at, accepts};
