@@ -1,11 +1,8 @@
 -- The atoms of bodies in lists.
-use Rattle.std.proofs.Common.{◌≡◌, ◌⊎◌, ◌+◌, ◌^◌, ◌<◌, ◌≤◌, ℕ, zero, suc, Bool, true, false, ◌||◌, ◌&&◌, cond, nat_eq, List, [], ◌∷◌, ◌++◌, length, take, map, get_or, Result, Ok, Err, inl, inr, refl, sym, ap, ◌∙◌, subst, arith, length-append}
+use Rattle.std.proofs.Common.{◌≡◌, ◌^◌, ◌<◌, ◌≤◌, ℕ, zero, suc, Bool, true, false, ◌&&◌, cond, nat_eq, List, [], ◌∷◌, ◌++◌, length, take, map, get_or, Result, Ok, Err, refl, sym, ap, ◌∙◌, subst, arith, length-append}
 use Rattle.std.specs.List.{list_any}
 use Rattle.std.specs.Result.{IfErr, IsErrAnd}
 use Rattle.std.proofs.lemmas.List.{get_or-map, length-map}
-use Rattle.std.proofs.lemmas.List.Folds.{list_any-append}
-use Rattle.std.proofs.lemmas.Bool.{eq-eqb}
-use Rattle.hy_base.specs.declared.limit.Kind.{Kind}
 use Rattle.hy_base.specs.declared.limit.Kind.TheVariants as kind
 use Rattle.hy_formula.specs.declared.atom.Atom.{Atom}
 use Rattle.hy_formula.specs.Trees.{Tree, always, never, atom, not, next, finally, globally, and, or, implies, iff, until, release, weak}
@@ -14,8 +11,8 @@ use Rattle.fin_monitor.specs.declared.monitor_error.MonitorError.TheVariants.{Li
 use Rattle.fin_monitor.specs.Codes.{IndexedAtom, plain_atom, is_atom, with_atom, with_atoms, letter_of}
 use Rattle.fin_monitor.specs.Lefts.{IsAtomMask}
 use Rattle.fin_monitor.specs.Limits.{IsAtomsRefusal}
-use Rattle.fin_monitor.proofs.CodeBits.{letter-at, letter-past, mask-at, mask-past}
-use Rattle.fin_monitor.proofs.Sets.{or-left, or-right, and-true}
+use Rattle.fin_monitor.proofs.CodeBits.{letter-at, mask-at}
+use Rattle.fin_monitor.proofs.Sets.{or-left, or-right}
 use Rattle.hy_bits.specs.Binary.{has_one}
 
 pub any-at : {A : Type 0} (p : A → Bool) (xs : List A) (i : ℕ) (d : A) → i < length xs → p (get_or xs i d) ≡ true → list_any p xs ≡ true

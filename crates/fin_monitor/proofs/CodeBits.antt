@@ -1,11 +1,11 @@
 -- The bits of codes of joint letters.
-use Rattle.std.proofs.Common.{◌≡◌, ◌≢◌, ◌⊎◌, ◌+◌, ◌*◌, ◌/◌, ◌%◌, ◌^◌, ◌<◌, ◌≤◌, ℕ, zero, suc, Bool, true, false, ◌||◌, ◌&&◌, cond, nat_eq, min, max, List, [], ◌∷◌, ◌++◌, length, take, drop, map, get_or, slice_get, Some, length-drop, inl, inr, refl, sym, ap, ◌∙◌, subst, arith, bit_and, bit_or}
+use Rattle.std.proofs.Common.{◌≡◌, ◌⊎◌, ◌+◌, ◌*◌, ◌/◌, ◌%◌, ◌^◌, ◌<◌, ◌≤◌, ℕ, zero, suc, Bool, true, false, ◌||◌, cond, nat_eq, min, max, List, [], ◌∷◌, length, take, drop, map, get_or, slice_get, Some, length-drop, inl, inr, refl, sym, ap, ◌∙◌, arith, bit_and, bit_or}
 use Rattle.std.specs.Int.{bit_at}
 use Rattle.std.specs.List.{list_any}
 use Rattle.std.proofs.Math.Nat.{pow-succ', mod-eq_of_lt}
 use Rattle.std.proofs.lemmas.Bool.{eqb-true}
 use Rattle.std.proofs.lemmas.Nat.{pow_below}
-use Rattle.std.proofs.lemmas.Nat.Bits.{bit_at-suc, bit_at_lowest, bit_at-zero, bit_at_or, bit_at_and, bit_at-lt, bit_at-pow_same, bit_at-pow_other, same_from_bits}
+use Rattle.std.proofs.lemmas.Nat.Bits.{bit_at-suc, bit_at_lowest, bit_at-zero, bit_at_or, bit_at_and, bit_at-lt, bit_at-pow_same, same_from_bits}
 use Rattle.std.proofs.Math.Pow.{pow_mono}
 use Rattle.hy_bits.specs.Binary.{has_one}
 use Rattle.hy_formula.specs.declared.atom.Atom.{Atom}

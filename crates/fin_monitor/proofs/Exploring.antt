@@ -1,16 +1,15 @@
 -- Residuals are explored, entry by entry.
-use Rattle.std.proofs.Common.{◌≡◌, ◌⊎◌, ◌↔◌, ◌+◌, ◌*◌, ◌/◌, ◌%◌, ◌^◌, ◌<◌, ◌≤◌, ℕ, zero, suc, Bool, true, false, cond, List, [], ◌∷◌, ◌++◌, length, map, get_or, slice_get, Some, Vec, Result, Ok, Err, IfOk, OnOk, IfErr, inl, inr, refl, sym, ap, ◌∙◌, subst, arith, bit_and, length-append}
-use Rattle.std.specs.List.{Contains}
+use Rattle.std.proofs.Common.{◌≡◌, ◌⊎◌, ◌+◌, ◌*◌, ◌/◌, ◌%◌, ◌^◌, ◌<◌, ◌≤◌, ℕ, zero, suc, Bool, true, false, cond, List, [], ◌∷◌, ◌++◌, length, map, get_or, Vec, Result, Ok, Err, IfOk, OnOk, IfErr, inl, inr, refl, sym, ap, ◌∙◌, subst, arith, bit_and, length-append}
 use Rattle.std.proofs.Math.Nat.{div-lt_iff_lt-mul, mul-le-mul_right}
 use Rattle.std.proofs.Math.Pow.{pow_mono}
 use Rattle.std.proofs.lemmas.Nat.{div-mul-add, mod-mul-add, pow_pos, and_le_l}
 use Rattle.std.proofs.Math.Arith.{lt_of_le-ne}
-use Rattle.std.proofs.lemmas.Bool.{cases_lt, cases_eq}
+use Rattle.std.proofs.lemmas.Bool.{cases_lt}
 use Rattle.std.proofs.lemmas.List.{get_or_append_left, length-map}
 use Rattle.hy_formula.specs.declared.atom.Atom.{Atom}
 use Rattle.ltl_closure.specs.Nodes.{Node}
 use Rattle.fin_monitor.specs.Codes.{IndexedAtom, plain_atom, letter_of}
-use Rattle.fin_monitor.specs.Duties.{Duty, strongly, after_each, minimal, residual_step, Same, IsReached, first, later, SomeReached, residual_at, AreAlike}
+use Rattle.fin_monitor.specs.Duties.{Duty, strongly, after_each, minimal, residual_step, Same, IsReached, first, SomeReached, residual_at}
 use Rattle.fin_monitor.specs.Lefts.{IsFamily, AreLefts, AreAsked, IsAskedAll, IsStepOf, kept_lists}
 use Rattle.fin_monitor.specs.Reductions.{LeaveAlike}
 use Rattle.fin_monitor.specs.Tables.{row_of, AreAllLefts, Puts, Follows, IsEntry, IsExplored, IsPutRefusal, IsTableRefusal}
@@ -19,7 +18,7 @@ use Rattle.fin_monitor.specs.declared.monitor_error.MonitorError.TheVariants.{Li
 use Rattle.hy_base.specs.declared.limit.Kind.TheVariants as kind
 use Rattle.fin_monitor.proofs.FamilySteps.{family-minimal, family-single, same-family}
 use Rattle.fin_monitor.proofs.Outdoing.{alike-both_ways, step-alike}
-use Rattle.fin_monitor.proofs.Masks.{get-some, last-of}
+use Rattle.fin_monitor.proofs.Masks.{last-of}
 use Rattle.fin_monitor.proofs.Stepping.{kept-length}
 use Rattle.fin_monitor.proofs.CodeBits.{masked-agrees}
 use Rattle.fin_monitor.proofs.Unrolled.{each-asked}
@@ -160,7 +159,7 @@ module _ (nodes : List Node) (root : ℕ) (atoms : List IndexedAtom) where
             few = few;
           };
           more = grow;
-          stays = kept row lt;
+          stays = kept;
           inside = puts.within;
           follows = subst B (sym (kept row lt)) (subst C (sym puts.at) (same-back r _ same));
         }
@@ -232,6 +231,10 @@ ok-both P Q (Err e) a p f = tt
 pub on-ok : {T E : Type 0} (A : Type 0) (r : Result T E) → A → OnOk r A
 on-ok A (Ok x) a = a
 on-ok A (Err e) a = tt
+
+pub on-ok-map : {T E A B : Type 0} (r : Result T E) → OnOk r A → (A → B) → OnOk r B
+on-ok-map (Ok x) a f = f a
+on-ok-map (Err e) a f = tt
 
 pub err-map : {T E : Type 0} (P Q : E → Type 0) (r : Result T E) → ((e : E) → P e → Q e) → IfErr r P → IfErr r Q
 err-map P Q (Ok x) f p = tt
@@ -314,3 +317,18 @@ copied nodes root atoms masks list table row code mask next residual long asked 
     let C : List Duty → Type 0 = λ r. Same t (minimal r) in
     let back = step-alike nodes (letter_of atoms low) s residual t family (alike-both_ways nodes residual s same) (same-back _ t here) in
     (inside, same-back t _ (step-alike nodes (letter_of atoms code) residual s t family same (subst C (sym e) back)))
+
+-- a row that is copied for a residual that leaves the same
+pub copied-row : (nodes : List Node) (root : ℕ) (atoms : List IndexedAtom) (list : List (List Duty)) (table : List ℕ) (row earlier code next : ℕ) → IsExplored nodes root atoms list table → earlier * row_of atoms + code < length table → code < row_of atoms
+    → LeaveAlike nodes (residual_at list earlier) (residual_at list row) → get_or table (earlier * row_of atoms + code) 0 ≡ next
+    → (next < length list) × Same (residual_step nodes (letter_of atoms code) (residual_at list row)) (residual_at list next)
+copied-row nodes root atoms list table row earlier code next is within lt alike at =
+    let w : ℕ = row_of atoms in
+    let p : ℕ = earlier * w + code in
+    let entry = is.entries p within in
+    let A : ℕ → Type 0 = λ x. x < length list in
+    let B : ℕ → ℕ → ℕ → Type 0 = λ x y z. Same (residual_step nodes (letter_of atoms x) (residual_at list y)) (residual_at list z) in
+    let here = subst (λ x. B x earlier next) (mod-mul-add earlier w code lt) (subst (λ y. B (p % w) y next) (div-mul-add earlier w code lt) (subst (λ z. B (p % w) (p / w) z) at entry.follows)) in
+    let inside = subst A at entry.inside in
+    let t = residual_at list next in
+    (inside, same-back t _ (step-alike nodes (letter_of atoms code) (residual_at list earlier) (residual_at list row) t (is.families next inside) alike (same-back _ t here)))

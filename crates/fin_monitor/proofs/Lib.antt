@@ -23,3 +23,4 @@ pub mod Making
 pub mod Places
 pub mod KeptLefts
 pub mod Outdoing
+pub mod Firsts

@@ -1,5 +1,5 @@
 -- Elements of lists: those that pass a test, and what holds of each.
-use Rattle.std.proofs.Common.{◌≡◌, ◌⊎◌, ℕ, Bool, true, false, not, ◌||◌, ◌&&◌, cond, List, [], ◌∷◌, ◌++◌, filter, take, drop, map, inl, inr, refl, sym, ap, ◌∙◌, subst, arith, get_or}
+use Rattle.std.proofs.Common.{◌≡◌, ◌⊎◌, Bool, true, false, cond, List, [], ◌∷◌, ◌++◌, filter, inl, inr, refl, sym, ap, ◌∙◌, subst}
 use Rattle.std.specs.List.{Contains, list_all, list_any}
 use Rattle.hy_formula.specs.Quantifiers.{Each}
 use Rattle.hy_formula.proofs.Tuples.{contains-here, contains-later, contains-cases, contains-none}

@@ -1,5 +1,5 @@
 -- The literals of the closure of a body are among its atoms.
-use Rattle.std.proofs.Common.{◌≡◌, ◌⊎◌, ◌+◌, ◌<◌, ◌≤◌, ℕ, zero, suc, Bool, true, false, not, ◌||◌, cond, List, [], ◌∷◌, ◌++◌, length, get_or, inl, inr, refl, sym, ap, ◌∙◌, subst, arith, length-append}
+use Rattle.std.proofs.Common.{◌≡◌, ◌<◌, ℕ, Bool, true, false, cond, List, [], ◌∷◌, ◌++◌, length, inl, inr, refl, sym, ap, ◌∙◌, subst, arith, length-append}
 use Rattle.std.specs.List.{list_any}
 use Rattle.std.proofs.lemmas.Bool.{cases_lt, eq-eqb}
 use Rattle.std.proofs.lemmas.List.{get_or_append_left, get_or-map, length-map}
@@ -9,12 +9,12 @@ use Rattle.hy_formula.specs.Trees.{Tree}
 use Rattle.hy_formula.specs.Normals.{Normal, always, never, literal, and, or, next, weak_next, until, release, normal_form}
 use Rattle.ltl_closure.specs.Nodes as node
 use Rattle.ltl_closure.specs.Nodes.{Node, node_at}
-use Rattle.ltl_closure.specs.Closures.{same_form, with_new, with_form, closure, form_in, node_of, nodes_of}
+use Rattle.ltl_closure.specs.Closures.{same_form, with_new, with_form, closure, form_in, node_of}
 use Rattle.ltl_closure.proofs.Closing.{last-form}
 use Rattle.fin_monitor.specs.Codes.{IndexedAtom, is_atom, with_atom, with_atoms, atoms_of, code_of, letter_of}
 use Rattle.fin_monitor.specs.Duties.{body_nodes}
 use Rattle.fin_monitor.proofs.CodeBits.{letter-code}
-use Rattle.fin_monitor.proofs.Sets.{or-left, or-right, or-cases, and-true}
+use Rattle.fin_monitor.proofs.Sets.{or-left, or-right, and-true}
 use Rattle.fin_monitor.proofs.Steps.{SameAtoms}
 
 abbrev pub IsKnown : List IndexedAtom → ℕ → ℕ → Type 0

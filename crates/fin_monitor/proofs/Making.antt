@@ -8,7 +8,7 @@ use Rattle.fin_monitor.specs.declared.automaton.Automaton.{Automaton}
 use Rattle.fin_monitor.specs.declared.monitor_error.MonitorError.{MonitorError}
 use Rattle.fin_monitor.specs.Codes.{IndexedAtom, plain_atom, atoms_of}
 use Rattle.fin_monitor.specs.Duties.{body_nodes, body_root}
-use Rattle.fin_monitor.specs.Limits.{HasSmallClosure, HasFewAtoms, HasSmallTable, IsTaken, IsRefusal}
+use Rattle.fin_monitor.specs.Limits.{HasSmallClosure, HasFewAtoms, IsTaken, IsRefusal}
 use Rattle.fin_monitor.specs.Machines.{Machine, IsMonitor}
 use Rattle.fin_monitor.specs.Tables.{row_of, IsAutomaton, IsTableOf, IsTableRefusal, IsSettling}
 use Rattle.fin_monitor.proofs.Exploring.{small-row, row-power}

@@ -1,9 +1,8 @@
 -- Masks of the atoms that are asked.
-use Rattle.std.proofs.Common.{◌≡◌, ◌⊎◌, ◌+◌, ◌<◌, ◌≤◌, ℕ, zero, suc, Bool, true, false, ◌||◌, List, [], ◌∷◌, ◌++◌, length, take, map, get_or, slice_get, Some, inl, inr, refl, sym, ap, ◌∙◌, subst, arith, bit_or}
+use Rattle.std.proofs.Common.{◌≡◌, ◌+◌, ◌<◌, ℕ, zero, suc, true, false, ◌||◌, List, [], ◌∷◌, ◌++◌, length, take, get_or, slice_get, Some, inl, inr, refl, sym, ap, ◌∙◌, subst, arith, bit_or}
 use Rattle.std.specs.FinSet.{contains}
-use Rattle.std.proofs.lemmas.Bool.{cases_eq, cases_lt}
+use Rattle.std.proofs.lemmas.Bool.{cases_eq}
 use Rattle.std.proofs.lemmas.List.{take_more, get_or_append_left}
-use Rattle.hy_formula.specs.Quantifiers.{Each}
 use Rattle.ltl_closure.specs.Nodes.{Node, node_at, PartsBelow}
 use Rattle.fin_monitor.specs.Codes.{IndexedAtom}
 use Rattle.fin_monitor.specs.Duties.{Duty}

@@ -1,7 +1,7 @@
 -- The order of duties, and families: each set of duties is one family at most.
-use Rattle.std.proofs.Common.{◌≡◌, ◌⊎◌, ◌<◌, ◌≤◌, ℕ, Bool, true, false, not, ◌||◌, ◌&&◌, nat_eq, nat_lt, cond, List, [], ◌∷◌, ◌++◌, filter, take, drop, inl, inr, refl, sym, ap, ◌∙◌, subst, arith}
+use Rattle.std.proofs.Common.{◌≡◌, ◌⊎◌, ◌<◌, Bool, true, false, ◌&&◌, nat_eq, nat_lt, cond, List, [], ◌∷◌, ◌++◌, filter, inl, inr, refl, sym, ap, ◌∙◌, subst, arith}
 use Rattle.std.specs.List.{Contains}
-use Rattle.std.proofs.lemmas.Bool.{cases_lt, cases_eq, eq-eqb, eqb-true, ltb-true, lt-ltb}
+use Rattle.std.proofs.lemmas.Bool.{cases_lt, eq-eqb, eqb-true, ltb-true, lt-ltb}
 use Rattle.hy_bits.specs.Sets.{NumberSet}
 use Rattle.hy_bits.specs.Binary.{number, ones}
 use Rattle.hy_bits.specs.BinaryLaws.{ones-number}
@@ -9,7 +9,7 @@ use Rattle.hy_formula.specs.Quantifiers.{Each}
 use Rattle.hy_formula.proofs.Tuples.{contains-here, contains-later, contains-cases, contains-none}
 use Rattle.fin_monitor.specs.Duties.{Duty, Same}
 use Rattle.fin_monitor.specs.Lefts.{precedes, IsAscending}
-use Rattle.fin_monitor.proofs.Lists.{each-at, each-from}
+use Rattle.fin_monitor.proofs.Lists.{each-at}
 use Rattle.fin_monitor.proofs.Sets.{both-true, and-true, or-cases, or-left, or-right}
 
 pub same-number : (s t : NumberSet) → number s ≡ number t → s ≡ t

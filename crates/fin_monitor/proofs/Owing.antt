@@ -2,7 +2,7 @@
 use Rattle.std.proofs.Common.{◌≡◌, ℕ, zero, suc, ◌+◌, ◌<◌, ◌≤◌, ◌⊎◌, ◌↔◌, Bool, true, false, cond, List, [], ◌∷◌, ◌++◌, length, map, inl, inr, refl, sym, ap, ◌∙◌, subst, arith}
 use Rattle.std.specs.Bool.{beq}
 use Rattle.std.specs.List.{Contains}
-use Rattle.std.specs.FinSet.{empty, contains, union}
+use Rattle.std.specs.FinSet.{empty, contains}
 use Rattle.std.proofs.lemmas.Bool.{cases_eq, eq-eqb, ne_eqb}
 use Rattle.hy_bits.specs.Sets.{NumberSet}
 use Rattle.hy_formula.specs.Temporal.{Span, Within, Words, IsDecided}

@@ -1,16 +1,14 @@
 -- Families that are put into a set of families.
-use Rattle.std.proofs.Common.{◌≡◌, ◌⊎◌, ◌+◌, ◌<◌, ◌≤◌, ℕ, zero, suc, Bool, true, false, not, ◌||◌, ◌&&◌, nat_eq, cond, if◌then◌else◌, List, [], ◌∷◌, ◌++◌, length, map, get_or, slice_get, Some, Vec, vec_items, inl, inr, refl, sym, ap, ◌∙◌, subst, arith, length-append}
+use Rattle.std.proofs.Common.{◌≡◌, ◌<◌, ℕ, zero, suc, Bool, true, false, not, ◌||◌, ◌&&◌, nat_eq, cond, if◌then◌else◌, List, [], ◌∷◌, ◌++◌, length, get_or, slice_get, Some, Vec, vec_items, refl, sym, ap, ◌∙◌, subst, arith}
 use Rattle.std.specs.List.{list_any}
 use Rattle.std.specs.Cmp.Lexicographic.{pointwise}
-use Rattle.std.proofs.lemmas.Bool.{eq-eqb, eqb-true, cases_lt}
+use Rattle.std.proofs.lemmas.Bool.{eq-eqb, eqb-true}
 use Rattle.hy_bits.specs.Binary.{number}
 use Rattle.fin_monitor.specs.Duties.{Duty, residual_at}
-use Rattle.fin_monitor.specs.Lefts.{kept_lists, list_at}
+use Rattle.fin_monitor.specs.Lefts.{kept_lists}
 use Rattle.fin_monitor.specs.Tables.{Puts}
-use Rattle.fin_monitor.proofs.AtomLists.{any-at}
-use Rattle.fin_monitor.proofs.Masks.{get-some, last-of}
 use Rattle.fin_monitor.proofs.Order.{duty-by, same-number}
-use Rattle.fin_monitor.proofs.Sets.{both-true, and-true, or-cases}
+use Rattle.fin_monitor.proofs.Sets.{both-true, and-true}
 use Rattle.fin_monitor.proofs.Stepping.{kept-push, kept-length, list-there}
 
 -- what `==` of duties computes

@@ -1,5 +1,5 @@
 -- Why a body has no monitor, by which of its parts is too large.
-use Rattle.std.proofs.Common.{◌≤◌, ℕ, List, [], length}
+use Rattle.std.proofs.Common.{[]}
 use Rattle.hy_base.specs.declared.limit.Kind.TheVariants as kind
 use Rattle.hy_formula.specs.Trees.{Tree}
 use Rattle.fin_monitor.specs.declared.monitor_error.MonitorError.{MonitorError}

@@ -1,7 +1,6 @@
 -- The residual after the letters of finite words accepts exactly where the body holds of them.
-use Rattle.std.proofs.Common.{◌≡◌, ℕ, zero, suc, ◌+◌, ◌<◌, ◌≤◌, ◌⊎◌, ◌↔◌, Bool, true, false, ◌||◌, cond, nat_eq, List, [], ◌∷◌, ◌++◌, length, map, inl, inr, refl, sym, ap, ◌∙◌, subst, arith}
+use Rattle.std.proofs.Common.{◌≡◌, ℕ, zero, suc, ◌+◌, ◌<◌, ◌≤◌, ◌⊎◌, ◌↔◌, Bool, true, false, cond, nat_eq, List, [], ◌∷◌, length, map, inl, inr, sym, subst, arith}
 use Rattle.std.specs.Bool.{beq}
-use Rattle.std.specs.List.{Contains, list_any}
 use Rattle.std.specs.FinSet.{empty, contains, is_subset, is_subset-contains, contains-is_subset}
 use Rattle.std.specs.Cmp.{nat_cmp_total}
 use Rattle.std.proofs.lemmas.List.{length-map}
@@ -10,13 +9,12 @@ use Rattle.hy_formula.specs.Trees.{Tree}
 use Rattle.hy_formula.specs.Temporal.{Span, below, Words, SatisfiesAt}
 use Rattle.hy_formula.specs.Normals.{Normal, HoldsAt, normal_form}
 use Rattle.hy_formula.specs.Quantifiers.{Each}
-use Rattle.hy_formula.proofs.Tuples.{contains-here, contains-later, contains-cases, contains-none}
 use Rattle.hy_formula.proofs.Deciding.{decided-below}
 use Rattle.hy_formula.proofs.Normalising.{normal-right}
 use Rattle.ltl_closure.specs.Nodes.{Node, always, never, literal, and, or, next, weak_next, until, release, node_at, PartsBelow, Numbers}
 use Rattle.ltl_closure.specs.Closures.{closure, form_in, node_of}
 use Rattle.ltl_closure.proofs.Closing.{grown-form, number-found, closure-numbers}
-use Rattle.fin_monitor.specs.Duties.{Duty, no_duty, strongly, weakly, both, joined, after_node, after_below, after, after_members, after_duty, after_each, within, minimal, residual_step, residual_after, accepts, body_nodes, body_root}
+use Rattle.fin_monitor.specs.Duties.{Duty, no_duty, strongly, weakly, both, joined, after_node, after_below, after, after_members, after_duty, after_each, within, minimal, residual_after, accepts, body_nodes, body_root}
 use Rattle.fin_monitor.proofs.Sets.{Has, has-cases, has-none, has-union, both-true}
 use Rattle.fin_monitor.proofs.Minimal.{minimal-from, minimal-under}
 use Rattle.fin_monitor.proofs.Lists.{each-append, each-from, each-at, any-from, any-of}

@@ -1,6 +1,6 @@
 -- The machine accepts as the residuals do.
-use Rattle.std.proofs.Common.{◌≡◌, ◌⊎◌, ◌↔◌, ◌+◌, ◌-◌, ◌*◌, ◌/◌, ◌%◌, ◌^◌, ◌<◌, ◌≤◌, ℕ, zero, suc, Bool, true, false, cond, IsTrue, List, [], ◌∷◌, ◌++◌, length, map, replicate, get_or, inl, inr, refl, sym, ap, ◌∙◌, subst, arith, length-append}
-use Rattle.std.proofs.Math.Nat.{div-lt_iff_lt-mul, mul-le-mul_right, mul-le-mul_left}
+use Rattle.std.proofs.Common.{◌≡◌, ◌⊎◌, ◌↔◌, ◌+◌, ◌-◌, ◌*◌, ◌%◌, ◌^◌, ◌<◌, ◌≤◌, ℕ, zero, suc, Bool, true, false, cond, IsTrue, List, [], ◌∷◌, ◌++◌, length, map, replicate, get_or, inl, inr, refl, sym, ap, ◌∙◌, subst, arith, length-append}
+use Rattle.std.proofs.Math.Nat.{mul-le-mul_right, mul-le-mul_left}
 use Rattle.std.proofs.lemmas.Nat.{div-mul-add, mod-mul-add}
 use Rattle.std.proofs.lemmas.Bool.{cases_lt}
 use Rattle.std.proofs.lemmas.List.{get_or_append_left, get_or-map, length-map}
@@ -11,10 +11,10 @@ use Rattle.hy_finite.specs.Traces.{Trace, judged, trace_words, Meets}
 use Rattle.ltl_closure.specs.Nodes.{Node}
 use Rattle.fin_monitor.specs.declared.automaton.Automaton.{Automaton}
 use Rattle.fin_monitor.specs.Codes.{IndexedAtom, code_of, letter_of, atoms_of}
-use Rattle.fin_monitor.specs.Duties.{Duty, strongly, residual_step, residual_after, residual_at, accepts, Same, IsReached, first, later, AreReached, body_nodes, body_root}
+use Rattle.fin_monitor.specs.Duties.{Duty, strongly, residual_step, residual_after, residual_at, accepts, Same, IsReached, first, later, body_nodes, body_root}
 use Rattle.fin_monitor.specs.Limits.{HasSmallTable}
 use Rattle.fin_monitor.specs.Machines.{Machine, codes, states_of, next_state, is_accepting, code_at, state_after, settled_state, IsMonitor}
-use Rattle.fin_monitor.specs.Tables.{row_of, IsExplored, IsAutomaton, IsTableOf, AreSettled, IsSettling, standing, flag_at}
+use Rattle.fin_monitor.specs.Tables.{row_of, IsAutomaton, IsTableOf, IsSettling, standing, flag_at}
 use Rattle.fin_monitor.proofs.CodeBits.{code-lt}
 use Rattle.fin_monitor.proofs.Exploring.{same-through, same-back, row-some}
 use Rattle.fin_monitor.proofs.Literals.{body-atoms}

@@ -1,5 +1,5 @@
 -- Members of sets, and sets within others.
-use Rattle.std.proofs.Common.{◌≡◌, ℕ, ◌⊎◌, ◌↔◌, Bool, true, false, ◌||◌, ◌&&◌, inl, inr, refl, sym, ap, ◌∙◌, subst}
+use Rattle.std.proofs.Common.{◌≡◌, ℕ, ◌⊎◌, ◌↔◌, Bool, true, false, ◌||◌, ◌&&◌, inl, inr, refl, sym, ◌∙◌}
 use Rattle.std.specs.Ordering.{nat_cmp}
 use Rattle.std.specs.Cmp.{nat_cmp_total}
 use Rattle.std.specs.FinSet.{empty, insert, contains, contains-empty, union, contains-union, is_subset, is_subset-contains, contains-is_subset, same_set, nat_cmp-IsAntisymmetric}

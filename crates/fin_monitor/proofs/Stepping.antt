@@ -1,16 +1,16 @@
 -- What members and residuals leave after the joint letter of a code, by families.
-use Rattle.std.proofs.Common.{◌≡◌, ◌⊎◌, ◌+◌, ◌<◌, ◌≤◌, ℕ, zero, suc, Bool, true, false, cond, List, [], ◌∷◌, ◌++◌, length, take, map, get_or, slice_get, Some, set, Result, Ok, Err, IfOk, Vec, vec_items, ◌≢◌, bit_and, inl, inr, refl, sym, ap, ◌∙◌, subst, arith, append_assoc}
+use Rattle.std.proofs.Common.{◌≡◌, ◌+◌, ◌<◌, ◌≤◌, ℕ, zero, suc, Bool, true, false, cond, List, [], ◌∷◌, ◌++◌, length, take, get_or, slice_get, Some, set, Result, Ok, Err, IfOk, Vec, vec_items, ◌≢◌, bit_and, inl, inr, refl, sym, ap, ◌∙◌, subst, arith, append_assoc}
 use Rattle.std.specs.FinSet.{contains}
-use Rattle.std.proofs.lemmas.Bool.{cases_eq, cases_lt}
-use Rattle.std.proofs.lemmas.List.{take_more, take_all, get_or_append_left, get_or-map, length-map, append-nil, get_or-set_same, get_or-set_other, length-set}
+use Rattle.std.proofs.lemmas.Bool.{cases_eq}
+use Rattle.std.proofs.lemmas.List.{take_more, get_or_append_left, append-nil, get_or-set_same, get_or-set_other, length-set}
 use Rattle.hy_bits.specs.Sets.{NumberSet}
-use Rattle.ltl_closure.specs.Nodes.{Node, always, never, literal, and, or, next, weak_next, until, release, node_at, PartsBelow}
+use Rattle.ltl_closure.specs.Nodes.{Node, and, or, until, release, node_at}
 use Rattle.fin_monitor.specs.Codes.{IndexedAtom, letter_of}
-use Rattle.fin_monitor.specs.Duties.{Duty, no_duty, strongly, weakly, both, joined, after_node, after, after_members, after_duty, after_each, AreAlike}
+use Rattle.fin_monitor.specs.Duties.{Duty, no_duty, strongly, weakly, joined, after, after_members, after_duty, after_each, AreAlike}
 use Rattle.fin_monitor.specs.Lefts.{IsFamily, IsFamilyOf, IsLeft, AreLefts, IsUnionsBelow, IsStepOf, IsAsked, kept_lists, list_at}
 use Rattle.fin_monitor.proofs.Alike.{alike-itself, alike-through, alike-append, alike-joined}
-use Rattle.fin_monitor.proofs.FamilySteps.{alike-more, alike-nothing, family-none, family-single, joined-append}
-use Rattle.fin_monitor.proofs.Masks.{get-some, last-of}
+use Rattle.fin_monitor.proofs.FamilySteps.{alike-more, family-none, family-single}
+use Rattle.fin_monitor.proofs.Masks.{last-of}
 use Rattle.fin_monitor.proofs.Unrolled.{left-by, family-like}
 
 -- the list at a place

@@ -1,15 +1,14 @@
 -- What a member leaves, by what its parts leave.
-use Rattle.std.proofs.Common.{◌≡◌, ◌⊎◌, ◌+◌, ◌<◌, ◌≤◌, ℕ, zero, suc, Bool, true, false, ◌||◌, cond, nat_eq, List, [], ◌∷◌, ◌++◌, length, take, map, get_or, inl, inr, refl, sym, ap, ◌∙◌, subst, arith, bit_and, bit_or}
+use Rattle.std.proofs.Common.{◌≡◌, ◌<◌, ◌≤◌, ℕ, zero, suc, Bool, true, false, cond, List, [], ◌∷◌, ◌++◌, length, get_or, inl, inr, refl, sym, ap, ◌∙◌, subst, arith, bit_and}
 use Rattle.std.specs.Bool.{beq}
 use Rattle.std.specs.FinSet.{contains}
-use Rattle.std.proofs.lemmas.Bool.{cases_eq, cases_lt, eq-eqb, ne_eqb}
+use Rattle.std.proofs.lemmas.Bool.{cases_lt, eq-eqb, ne_eqb}
 use Rattle.hy_bits.specs.Sets.{NumberSet}
-use Rattle.hy_formula.specs.Quantifiers.{Each}
 use Rattle.ltl_closure.specs.Nodes.{Node, always, never, literal, and, or, next, weak_next, until, release, node_at, PartsBelow}
 use Rattle.fin_monitor.specs.Codes.{IndexedAtom, letter_of}
-use Rattle.fin_monitor.specs.Duties.{Duty, no_duty, strongly, weakly, both, joined, after_node, after_below, after, after_members, after_duty, after_each, AreAlike}
-use Rattle.fin_monitor.specs.Lefts.{IsAsked, AreAsked, IsAskedNode, IsAskedAll, IsPart, IsFamilyOf, IsLeft, AreLefts, list_at}
-use Rattle.fin_monitor.proofs.Alike.{alike-itself, alike-through, alike-append, alike-joined}
+use Rattle.fin_monitor.specs.Duties.{Duty, no_duty, strongly, weakly, joined, after_node, after_below, after, after_members, after_each, AreAlike}
+use Rattle.fin_monitor.specs.Lefts.{IsAsked, AreAsked, IsAskedNode, IsAskedAll, IsPart, IsFamilyOf, IsLeft}
+use Rattle.fin_monitor.proofs.Alike.{alike-through}
 use Rattle.fin_monitor.proofs.CodeBits.{agree-part}
 use Rattle.fin_monitor.proofs.Sets.{or-left, or-right}
 

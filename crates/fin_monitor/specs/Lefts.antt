@@ -6,7 +6,7 @@ use Rattle.std.specs.Int.RustNames.{bit_and}
 use Rattle.hy_bits.specs.Binary.{number}
 use Rattle.hy_bits.specs.Sets.{NumberSet}
 use Rattle.hy_formula.specs.Quantifiers.{Each}
-use Rattle.ltl_closure.specs.Nodes.{Node, always, never, literal, and, or, next, weak_next, until, release}
+use Rattle.ltl_closure.specs.Nodes.{Node, literal, and, or, until, release}
 use Rattle.fin_monitor.specs.Codes.{IndexedAtom, letter_of}
 use Rattle.fin_monitor.specs.Duties.{Duty, within, after, after_members, after_each, AreAlike}
 

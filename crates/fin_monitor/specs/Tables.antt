@@ -46,7 +46,7 @@ pub record AreAllLefts (nodes : List Node) (atoms : List IndexedAtom) (code : �
 pub record Follows (nodes : List Node) (root : ℕ) (atoms : List IndexedAtom) (old new : List (List Duty)) (table : List ℕ) (row code next : ℕ) : Type 0 where
   pub explored : IsExplored nodes root atoms new table
   pub more : length old ≤ length new
-  pub stays : residual_at new row ≡ residual_at old row
+  pub stays : (q : ℕ) → q < length old → residual_at new q ≡ residual_at old q
   pub inside : next < length new
   pub follows : Same (residual_step nodes (letter_of atoms code) (residual_at new row)) (residual_at new next)
 

@@ -1,11 +1,11 @@
 //! The residuals that joint letters lead to, found row by row.
 
-ghost use Rattle.std.specs.Prelude.{◌≡◌, ◌≤◌, ◌<◌, ◌*◌, ◌^◌, ◌+◌, length, map, IfOk, OnOk, IfErr, OnErr};
+ghost use Rattle.std.specs.Prelude.{◌≡◌, ℕ, ◌≤◌, ◌<◌, ◌*◌, ◌^◌, ◌+◌, length, map, IfOk, OnOk, IfErr};
 ghost use Rattle.hy_formula.specs.Quantifiers.{Each};
 ghost use Rattle.fin_monitor.specs.Codes.{plain_atom};
 ghost use Rattle.fin_monitor.specs.Duties.{residual_at, accepts};
 ghost use Rattle.fin_monitor.specs.Lefts.{kept_lists, AreAsked};
-ghost use Rattle.fin_monitor.specs.Reductions.{LeaveAlike};
+ghost use Rattle.fin_monitor.specs.Reductions.{LeaveAlike, AreFirsts};
 ghost use Rattle.fin_monitor.specs.Tables.{AreAllLefts, Puts, Follows, IsExplored, IsPutRefusal, IsTableRefusal, IsAutomaton};
 
 use crate::automaton::Automaton;
@@ -16,6 +16,7 @@ use crate::lefts_by_code::LeftsByCode;
 use crate::members::{asked_in, asked_masks};
 use crate::monitor_error::MonitorError;
 use crate::reducing::reduced;
+use crate::repeats::Repeats;
 use hy_base::{Kind, List, M, NumList};
 use indexmap::IndexSet;
 use ltl_closure::{Closure, Obl};
@@ -50,9 +51,10 @@ pub fn explore<const W: usize>(
 {
     let masks = asked_masks(alloc, judge.closure, judge.atoms)?;
     let mut explored = Explored::<W>::new(alloc, judge, root)?;
+    let mut repeats = Repeats::<W>::new(alloc);
     let mut rows = 0;
     while rows < explored.residuals.len() {
-        explored.fill_row(alloc, judge, &masks, root, rows)?;
+        explored.add_row(alloc, judge, &masks, root, &mut repeats, rows)?;
         rows += 1;
     }
     let accepting = all_accepting(alloc, explored.residuals.as_slice())?;
@@ -87,13 +89,15 @@ impl<const W: usize> Explored<W> {
         })
     }
 
-    /// Fills the row of a residual. Codes that agree where its obligations ask share one computation.
-    fn fill_row(
+    /// Adds the row of a residual: a copy of the one of a residual that leaves the same, where
+    /// there is one.
+    fn add_row(
         &mut self,
         alloc: Global,
         judge: &Judge,
         masks: &NumList,
         root: u32,
+        repeats: &mut Repeats<W>,
         row: usize,
     ) -> Result<(), MonitorError>
         requires width { W ≤ 16 }
@@ -110,6 +114,12 @@ impl<const W: usize> Explored<W> {
         requires lefts { Each (λ k. AreAllLefts judge.now.closure.now.nodes
             (map plain_atom judge.now.atoms.now) k.code (kept_lists k.lists))
             self.old.lefts.kept.items }
+        requires repeats { AreFirsts judge.now.closure.now.nodes
+            (kept_lists self.old.residuals.keys) (kept_lists repeats.old.reduced.keys)
+            repeats.old.firsts row }
+        ensures repeats { OnOk result (AreFirsts judge.now.closure.now.nodes
+            (kept_lists self.new.residuals.keys) (kept_lists repeats.new.reduced.keys)
+            repeats.new.firsts (row + 1)) }
         ensures rows { OnOk result (length self.new.table
             ≡ (row + 1) * 2 ^ length judge.now.atoms.now) }
         ensures more { OnOk result (row < length self.new.residuals.keys) }
@@ -124,12 +134,88 @@ impl<const W: usize> Explored<W> {
             (map plain_atom judge.now.atoms.now)) }
     {
         let residual = reduced_of(alloc, judge.closure, &self.residuals, row)?;
-        let mask = asked_in(&residual, masks);
+        if let Some(first) = repeats.first_row(alloc, &residual, row as u32)? {
+            self.copy_row(judge, root, row, first as usize)?;
+            return Ok(());
+        }
+        self.fill_row(alloc, judge, masks, root, &residual, row)
+    }
+
+    /// Copies a row for a residual that leaves the same as the one of that row.
+    fn copy_row(&mut self, judge: &Judge, root: u32, row: usize, first: usize) -> M<()>
+        requires few { length judge.now.atoms.now ≤ 16 }
+        requires there { row < length self.old.residuals.keys }
+        requires before { first < row }
+        requires rows { length self.old.table ≡ row * 2 ^ length judge.now.atoms.now }
+        requires explored { IsExplored judge.now.closure.now.nodes root
+            (map plain_atom judge.now.atoms.now) (kept_lists self.old.residuals.keys) self.old.table }
+        requires alike { LeaveAlike judge.now.closure.now.nodes
+            (residual_at (kept_lists self.old.residuals.keys) first)
+            (residual_at (kept_lists self.old.residuals.keys) row) }
+        ensures residuals { self.new.residuals ≡ self.old.residuals }
+        ensures lefts { self.new.lefts ≡ self.old.lefts }
+        ensures rows { OnOk result (length self.new.table
+            ≡ (row + 1) * 2 ^ length judge.now.atoms.now) }
+        ensures explored { OnOk result (IsExplored judge.now.closure.now.nodes root
+            (map plain_atom judge.now.atoms.now) (kept_lists self.old.residuals.keys)
+            self.new.table) }
+    {
+        let start = first << judge.atoms.len();
+        for code in 0..1 << judge.atoms.len() {
+            let next = *self.table.at(start + code);
+            self.table.push(next)?;
+        }
+        Ok(())
+    }
+
+    /// Fills the row of a residual. Codes that agree where its obligations ask share one computation.
+    fn fill_row(
+        &mut self,
+        alloc: Global,
+        judge: &Judge,
+        masks: &NumList,
+        root: u32,
+        residual: &[Duty<W>],
+        row: usize,
+    ) -> Result<(), MonitorError>
+        requires width { W ≤ 16 }
+        requires members { length judge.now.closure.now.nodes ≤ 64 * W }
+        requires few { length judge.now.atoms.now ≤ 16 }
+        requires masks { length masks.now ≡ length judge.now.closure.now.nodes }
+        requires asked { AreAsked judge.now.closure.now.nodes (map plain_atom judge.now.atoms.now)
+            masks.now (length masks.now) }
+        requires there { row < length self.old.residuals.keys }
+        requires rows { length self.old.table ≡ row * 2 ^ length judge.now.atoms.now }
+        requires explored { IsExplored judge.now.closure.now.nodes root
+            (map plain_atom judge.now.atoms.now) (kept_lists self.old.residuals.keys) self.old.table }
+        requires some { 0 < length self.old.lefts.kept.items }
+        requires lefts { Each (λ k. AreAllLefts judge.now.closure.now.nodes
+            (map plain_atom judge.now.atoms.now) k.code (kept_lists k.lists))
+            self.old.lefts.kept.items }
+        requires residual { LeaveAlike judge.now.closure.now.nodes residual.now
+            (residual_at (kept_lists self.old.residuals.keys) row) }
+        ensures stays { OnOk result ((q : ℕ) → q < length self.old.residuals.keys
+            → residual_at (kept_lists self.new.residuals.keys) q
+            ≡ residual_at (kept_lists self.old.residuals.keys) q) }
+        ensures rows { OnOk result (length self.new.table
+            ≡ (row + 1) * 2 ^ length judge.now.atoms.now) }
+        ensures more { OnOk result (row < length self.new.residuals.keys) }
+        ensures explored { OnOk result (IsExplored judge.now.closure.now.nodes root
+            (map plain_atom judge.now.atoms.now) (kept_lists self.new.residuals.keys)
+            self.new.table) }
+        ensures some { OnOk result (0 < length self.new.lefts.kept.items) }
+        ensures lefts { OnOk result (Each (λ k. AreAllLefts judge.now.closure.now.nodes
+            (map plain_atom judge.now.atoms.now) k.code (kept_lists k.lists))
+            self.new.lefts.kept.items) }
+        ensures refused { IfErr result (IsTableRefusal judge.now.closure.now.nodes root
+            (map plain_atom judge.now.atoms.now)) }
+    {
+        let mask = asked_in(residual, masks);
         let first = self.table.len();
         for code in 0..1 << judge.atoms.len() {
             let asked = code & mask;
             let next = if asked == code {
-                self.follow(alloc, judge, masks, root, &residual, row, code)?
+                self.follow(alloc, judge, masks, root, residual, row, code)?
             } else {
                 *self.table.at(first + asked as usize)
             };
@@ -200,7 +286,7 @@ impl<const W: usize> Explored<W> {
 }
 
 /// Puts a residual last where it is new, and answers its place.
-fn put<const W: usize>(residuals: &mut IndexSet<Family<W>>, residual: Family<W>) -> M<usize>
+pub fn put<const W: usize>(residuals: &mut IndexSet<Family<W>>, residual: Family<W>) -> M<usize>
     ensures { IfOk result (Puts (kept_lists residuals.old.keys) residual.entry.items
         (kept_lists residuals.new.keys)) }
 {

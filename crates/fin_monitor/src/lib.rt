@@ -14,6 +14,7 @@ mod members;
 mod monitor;
 mod monitor_error;
 mod reducing;
+mod repeats;
 mod settling;
 
 pub use monitor::Monitor;

@@ -1,6 +1,6 @@
 //! Residuals without the duties that leave nothing, after any letter, that others do not.
 
-ghost use Rattle.std.specs.Prelude.{◌≡◌, ◌≤◌, ◌<◌, ◌*◌, length, IfOk, IsTrue};
+ghost use Rattle.std.specs.Prelude.{◌≤◌, ◌<◌, ◌*◌, length, IfOk, IsTrue};
 ghost use Rattle.fin_monitor.specs.Reductions.{Outdoes, OutdoesSome, OutdoesDuty, OutdoneBy, LeaveAlike};
 
 use crate::duty::Duty;

@@ -1,4 +1,4 @@
-use Rattle.std.proofs.Common.{◌≡◌, ◌*◌, ◌^◌, ◌%◌, map, take, sym, ap, ◌∙◌, ℕ, false, List, subst, arith}
+use Rattle.std.proofs.Common.{◌≡◌, map, sym, ◌∙◌, ℕ, false, List, subst, arith}
 use Rattle.std.specs.List.{list_any}
 use Rattle.std.proofs.lemmas.List.{take_all}
 use Rattle.hy_formula.specs.declared.atom.Atom.{Atom}

@@ -1,4 +1,4 @@
-use Rattle.std.proofs.Common.{◌≡◌, ◌<◌, ◌≤◌, List, ℕ, Err, length, sym, ap, ◌∙◌, subst}
+use Rattle.std.proofs.Common.{◌<◌, ◌≤◌, List, Err, length, ap, ◌∙◌, subst}
 use Rattle.hy_formula.specs.Trees.{tree_of}
 use Rattle.ltl_closure.specs.Nodes.{Node}
 use Rattle.ltl_closure.specs.Jobs.{Rooted}

@@ -1,6 +1,6 @@
 use Rattle.std.proofs.Common.{◌≡◌, ◌++◌, ◌+◌, [], ◌∷◌, true, List, ℕ, length, refl, sym, ap, ◌∙◌, subst, arith}
 use Rattle.ltl_closure.specs.declared.job.Job.{Job}
-use Rattle.fin_monitor.specs.OneJob.{IsSame, IsOneJob}
+use Rattle.fin_monitor.specs.OneJob.{IsSame}
 use Rattle.fin_monitor.proofs.JobClosure.{same-more}
 use Rattle.fin_monitor.proofs.building.one_job.Goals as goal
 

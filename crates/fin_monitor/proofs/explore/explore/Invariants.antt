@@ -2,6 +2,7 @@ use Rattle.std.proofs.Common.{◌≡◌, ◌-◌, ◌*◌, ◌^◌, ◌<◌, ◌
 use Rattle.hy_formula.specs.Quantifiers.{Each}
 use Rattle.fin_monitor.specs.Codes.{plain_atom}
 use Rattle.fin_monitor.specs.Lefts.{kept_lists}
+use Rattle.fin_monitor.specs.Reductions.{AreFirsts}
 use Rattle.fin_monitor.specs.Tables.{AreAllLefts, IsExplored}
 use Rattle.fin_monitor.proofs.explore.explore.Given as goal
 
@@ -11,6 +12,7 @@ invariant-loop-rows g l =
       explored : IsExplored l.judge.closure.now.nodes l.root (map plain_atom l.judge.atoms.now) (kept_lists l.explored.residuals.keys) l.explored.table;
       rows : length l.explored.table ≡ l.rows * 2 ^ length l.judge.atoms.now;
       within : l.rows ≤ length l.explored.residuals.keys;
+      repeats : AreFirsts l.judge.closure.now.nodes (kept_lists l.explored.residuals.keys) (kept_lists l.repeats.reduced.keys) l.repeats.firsts l.rows;
       some : 0 < length l.explored.lefts.kept.items;
       lefts : Each (λ k. AreAllLefts l.judge.closure.now.nodes (map plain_atom l.judge.atoms.now) k.code (kept_lists k.lists)) l.explored.lefts.kept.items;
     }

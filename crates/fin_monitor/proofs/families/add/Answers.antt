@@ -1,4 +1,4 @@
-use Rattle.std.proofs.Common.{◌≡◌, [], ◌∷◌, ◌++◌, true, false, take, drop, List, ℕ, sym, ap, ◌∙◌, subst, arith}
+use Rattle.std.proofs.Common.{◌≡◌, [], ◌∷◌, ◌++◌, true, false, take, drop, List, sym, ap, ◌∙◌, subst, arith}
 use Rattle.std.specs.List.{list_any}
 use Rattle.fin_monitor.specs.Duties.{Duty, within, AreAlike}
 use Rattle.fin_monitor.specs.Lefts.{kept, IsFamily, IsPlaceFor}

@@ -1,7 +1,7 @@
-use Rattle.std.proofs.Common.{◌++◌, take, length, List, sym, subst, arith}
-use Rattle.std.proofs.lemmas.List.{take_more, take_all}
+use Rattle.std.proofs.Common.{◌++◌, List, subst, arith}
+use Rattle.std.proofs.lemmas.List.{take_all}
 use Rattle.fin_monitor.specs.Duties.{Duty, AreAlike}
-use Rattle.fin_monitor.proofs.FamilySteps.{alike-nothing, alike-more, alike-item}
+use Rattle.fin_monitor.proofs.FamilySteps.{alike-nothing, alike-item}
 use Rattle.fin_monitor.proofs.families.add_all.Goals as goal
 
 pub loop-d-init : goal.loop-d-init

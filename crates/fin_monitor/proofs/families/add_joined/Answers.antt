@@ -1,4 +1,4 @@
-use Rattle.std.proofs.Common.{◌++◌, [], ◌∷◌, take, length, List, sym, ap, ◌∙◌, subst, arith}
+use Rattle.std.proofs.Common.{◌++◌, List, subst, arith}
 use Rattle.std.proofs.lemmas.List.{take_all}
 use Rattle.fin_monitor.specs.Duties.{Duty, joined, AreAlike}
 use Rattle.fin_monitor.proofs.FamilySteps.{alike-nothing, alike-joining}

@@ -1,6 +1,6 @@
-use Rattle.std.proofs.Common.{◌++◌, [], ◌∷◌, map, take, length, List, sym, ap, ◌∙◌, subst, arith}
+use Rattle.std.proofs.Common.{◌++◌, map, List, sym, ap, ◌∙◌, subst, arith}
 use Rattle.std.proofs.lemmas.List.{take_all, append-nil}
-use Rattle.fin_monitor.specs.Duties.{Duty, both, joined, AreAlike}
+use Rattle.fin_monitor.specs.Duties.{Duty, both, AreAlike}
 use Rattle.fin_monitor.proofs.FamilySteps.{alike-nothing, alike-with}
 use Rattle.fin_monitor.proofs.families.add_with.Goals as goal
 

@@ -1,4 +1,4 @@
-use Rattle.std.proofs.Common.{not, length}
+use Rattle.std.proofs.Common.{not}
 use Rattle.std.proofs.lemmas.List.Filters.{FiltersInPlace}
 use Rattle.fin_monitor.specs.Duties.{Duty, within}
 use Rattle.fin_monitor.proofs.families.drop_with.Given as goal

@@ -1,5 +1,5 @@
-use Rattle.std.proofs.Common.{◌++◌, ◌∷◌, [], List, subst}
-use Rattle.fin_monitor.specs.Duties.{Duty, joined, AreAlike}
+use Rattle.std.proofs.Common.{◌++◌, List, subst}
+use Rattle.fin_monitor.specs.Duties.{Duty, AreAlike}
 use Rattle.fin_monitor.proofs.Stepping.{of-two}
 use Rattle.fin_monitor.proofs.lefts.disjunction.Goals as goal
 

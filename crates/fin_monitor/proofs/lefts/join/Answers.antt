@@ -1,4 +1,4 @@
-use Rattle.std.proofs.Common.{◌++◌, [], List, arith, subst}
+use Rattle.std.proofs.Common.{◌++◌, List, arith, subst}
 use Rattle.fin_monitor.specs.Duties.{Duty, joined, AreAlike}
 use Rattle.fin_monitor.proofs.FamilySteps.{alike-singles}
 use Rattle.fin_monitor.proofs.lefts.join.Goals as goal

@@ -1,4 +1,4 @@
-use Rattle.std.proofs.Common.{[], ◌∷◌, List, Bool, false, subst, sym, ap, ◌∙◌, cond, Vec, Global}
+use Rattle.std.proofs.Common.{[], ◌∷◌, List, Bool, false, subst, sym, ap, ◌∙◌, cond}
 use Rattle.fin_monitor.specs.Duties.{Duty, no_duty}
 use Rattle.fin_monitor.specs.Lefts.{IsFamilyOf}
 use Rattle.fin_monitor.proofs.Stepping.{of-none, of-single, ok-map}

@@ -1,4 +1,4 @@
-use Rattle.std.proofs.Common.{take, List, subst, arith}
+use Rattle.std.proofs.Common.{List, subst}
 use Rattle.std.proofs.lemmas.List.{take_all}
 use Rattle.fin_monitor.specs.Duties.{Duty}
 use Rattle.fin_monitor.specs.Lefts.{IsAskedAll}

@@ -1,4 +1,4 @@
-use Rattle.std.proofs.Common.{◌≡◌, ◌∷◌, [], ◌++◌, ◌+◌, ℕ, List, length, map, sym, ap, ◌∙◌, subst, arith, length-append}
+use Rattle.std.proofs.Common.{◌∷◌, [], ◌+◌, ℕ, List, length, map, sym, ap, ◌∙◌, subst, arith, length-append}
 use Rattle.ltl_closure.specs.Plain.{plain_node}
 use Rattle.fin_monitor.specs.Codes.{plain_atom}
 use Rattle.fin_monitor.specs.Lefts.{AreAsked}

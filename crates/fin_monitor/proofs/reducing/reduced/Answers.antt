@@ -1,4 +1,4 @@
-use Rattle.std.proofs.Common.{◌≡◌, ◌+◌, ◌-◌, ◌<◌, ℕ, List, drop, length, sym, ap, subst, arith}
+use Rattle.std.proofs.Common.{◌≡◌, ◌+◌, ◌-◌, ◌<◌, ℕ, List, drop, length, sym, subst, arith}
 use Rattle.fin_monitor.specs.Duties.{Duty}
 use Rattle.fin_monitor.specs.Reductions.{OutdoneBy, LeaveAlike}
 use Rattle.fin_monitor.proofs.Outdoing.{alike-kept_duty, alike-dropped_duty}

@@ -1,4 +1,4 @@
-use Rattle.std.proofs.Common.{◌≡◌, ◌++◌, map, take, replicate, length}
+use Rattle.std.proofs.Common.{◌≡◌, ◌++◌, map, take, replicate}
 use Rattle.fin_monitor.specs.Tables.{standing}
 use Rattle.fin_monitor.proofs.settling.merged.Given as goal
 

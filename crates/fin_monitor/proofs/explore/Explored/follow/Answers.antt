@@ -1,10 +1,10 @@
-use Rattle.std.proofs.Common.{◌≡◌, ◌<◌, ◌≤◌, ◌*◌, ◌^◌, List, ℕ, map, length, sym, ap, ◌∙◌, subst, arith}
+use Rattle.std.proofs.Common.{◌<◌, ◌≤◌, ◌*◌, ℕ, map, length, sym, subst, arith}
 use Rattle.hy_formula.specs.Quantifiers.{Each}
 use Rattle.fin_monitor.specs.Codes.{plain_atom, letter_of}
-use Rattle.fin_monitor.specs.Duties.{Duty, residual_at, residual_step, Same, IsReached, later}
-use Rattle.fin_monitor.specs.Lefts.{kept_lists, AreLefts}
+use Rattle.fin_monitor.specs.Duties.{residual_at, later}
+use Rattle.fin_monitor.specs.Lefts.{kept_lists}
 use Rattle.fin_monitor.specs.Tables.{row_of, AreAllLefts, Puts, Follows, IsPutRefusal, IsTableRefusal}
-use Rattle.fin_monitor.proofs.Exploring.{same-back, all-lefts, step-same, follows-put, put-refusal, row-power, ok-both, on-ok, err-map}
+use Rattle.fin_monitor.proofs.Exploring.{same-back, follows-put, put-refusal, row-power, ok-both, on-ok, err-map}
 use Rattle.fin_monitor.proofs.Outdoing.{step-alike}
 use Rattle.fin_monitor.proofs.Stepping.{kept-length}
 use Rattle.fin_monitor.proofs.explore.Explored.follow.Goals as goal

@@ -1,9 +1,9 @@
-use Rattle.std.proofs.Common.{◌≡◌, ◌≤◌, ◌∷◌, [], List, ℕ, map, length, sym, ap, ◌∙◌, subst, arith}
+use Rattle.std.proofs.Common.{◌≤◌, ◌∷◌, [], List, map, length, sym, ap, ◌∙◌, subst, arith}
 use Rattle.fin_monitor.specs.Codes.{plain_atom}
-use Rattle.fin_monitor.specs.Duties.{Duty, strongly}
+use Rattle.fin_monitor.specs.Duties.{Duty}
 use Rattle.fin_monitor.specs.Lefts.{kept_lists}
 use Rattle.fin_monitor.specs.Tables.{row_of, IsExplored}
-use Rattle.fin_monitor.proofs.Exploring.{explored-start, all-lefts, small-row}
+use Rattle.fin_monitor.proofs.Exploring.{explored-start, small-row}
 use Rattle.fin_monitor.proofs.explore.Explored.new.Goals as goal
 
 pub returns : goal.returns

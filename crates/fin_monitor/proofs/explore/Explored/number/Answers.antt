@@ -1,6 +1,5 @@
-use Rattle.std.proofs.Common.{◌≡◌, ◌<◌, ◌^◌, ◌*◌, ℕ, length, sym, ap, ◌∙◌, subst, arith}
+use Rattle.std.proofs.Common.{◌<◌, ◌^◌, ◌*◌, ℕ, sym, ◌∙◌, subst}
 use Rattle.std.proofs.lemmas.Nat.{pow_pos}
-use Rattle.fin_monitor.specs.Lefts.{kept_lists}
 use Rattle.fin_monitor.proofs.Exploring.{many-entries}
 use Rattle.fin_monitor.proofs.Stepping.{kept-length}
 use Rattle.fin_monitor.proofs.explore.Explored.number.Goals as goal

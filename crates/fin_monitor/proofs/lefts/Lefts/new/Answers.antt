@@ -1,4 +1,4 @@
-use Rattle.std.proofs.Common.{rules, ◌≡◌, ◌∷◌, [], ◌++◌, ◌+◌, List, ℕ, length, map, sym, ap, ◌∙◌, subst, arith, length-append}
+use Rattle.std.proofs.Common.{rules, ◌∷◌, [], ◌+◌, ℕ, length, map, sym, ap, ◌∙◌, subst, arith, length-append}
 use Rattle.fin_monitor.specs.Codes.{plain_atom}
 use Rattle.fin_monitor.specs.Lefts.{kept_lists, AreLefts}
 use Rattle.fin_monitor.proofs.Stepping.{lefts-more}

@@ -1,4 +1,4 @@
-use Rattle.std.proofs.Common.{◌≡◌, ◌∷◌, [], ◌++◌, List, ℕ, length, take, sym, ap, ◌∙◌, subst, arith}
+use Rattle.std.proofs.Common.{◌++◌, List, ℕ, length, sym, ap, subst}
 use Rattle.std.proofs.lemmas.List.{take_all}
 use Rattle.hy_bits.specs.Sets.{NumberSet}
 use Rattle.fin_monitor.specs.Duties.{Duty, joined, AreAlike}

@@ -1,7 +1,5 @@
-use Rattle.std.proofs.Common.{◌≡◌, ◌<◌, ◌∷◌, [], ◌++◌, List, ℕ, length, sym, ap, ◌∙◌, subst, arith}
-use Rattle.std.specs.FinSet.{contains}
-use Rattle.fin_monitor.specs.Duties.{Duty, joined, AreAlike}
-use Rattle.fin_monitor.specs.Lefts.{kept_lists, list_at, IsUnionsBelow}
+use Rattle.std.proofs.Common.{◌≡◌, ◌<◌, ◌∷◌, [], ℕ, length, sym, ap, ◌∙◌, subst, arith}
+use Rattle.fin_monitor.specs.Lefts.{kept_lists, IsUnionsBelow}
 use Rattle.fin_monitor.proofs.Stepping.{list-there, unions-none, unions-has, unions-not, kept-length}
 use Rattle.fin_monitor.proofs.lefts.Lefts.unions.Goals as goal
 use Rattle.fin_monitor.proofs.lefts.Lefts.unions.Goals.{then-has+in_ok-join, else-has}

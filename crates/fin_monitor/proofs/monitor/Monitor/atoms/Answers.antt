@@ -1,4 +1,4 @@
-use Rattle.std.proofs.Common.{◌≡◌, length, sym, ap, map, arith}
+use Rattle.std.proofs.Common.{length, ap, map, arith}
 use Rattle.std.proofs.lemmas.List.{length-map}
 use Rattle.fin_monitor.specs.Codes.{plain_atom}
 use Rattle.fin_monitor.proofs.monitor.Monitor.atoms.Goals as goal

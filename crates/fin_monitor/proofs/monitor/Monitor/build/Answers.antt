@@ -1,7 +1,5 @@
-use Rattle.std.proofs.Common.{◌≡◌, ◌^◌, ℕ, List, length, map, sym, ap, ◌∙◌, subst, arith, slice_index}
+use Rattle.std.proofs.Common.{◌≡◌, ◌^◌, ℕ, List, sym, ap, ◌∙◌, subst, slice_index}
 use Rattle.hy_formula.specs.Trees.{tree_of}
-use Rattle.fin_monitor.specs.declared.automaton.Automaton.{Automaton}
-use Rattle.fin_monitor.specs.Codes.{plain_atom}
 use Rattle.fin_monitor.specs.Duties.{body_root}
 use Rattle.fin_monitor.specs.Limits.{IsRefusal}
 use Rattle.fin_monitor.specs.Machines.{Machine}

@@ -1,5 +1,4 @@
-use Rattle.std.proofs.Common.{◌≡◌, ◌≤◌, ◌&&◌, nat_eq, drop, length, map}
-use Rattle.std.specs.FinSet.{contains}
+use Rattle.std.proofs.Common.{◌≡◌, ◌≤◌, drop, length, map}
 use Rattle.fin_monitor.specs.Codes.{plain_atom, code_of, joint_letter}
 use Rattle.fin_monitor.proofs.monitor.Monitor.joint.Given as goal
 

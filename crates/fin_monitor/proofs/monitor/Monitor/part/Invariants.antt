@@ -1,6 +1,6 @@
 use Rattle.std.proofs.Common.{◌≡◌, ◌≤◌, ◌&&◌, nat_eq, drop, length, map}
 use Rattle.std.specs.FinSet.{contains}
-use Rattle.fin_monitor.specs.Codes.{plain_atom, code_of, joint_letter}
+use Rattle.fin_monitor.specs.Codes.{plain_atom, code_of}
 use Rattle.fin_monitor.proofs.monitor.Monitor.part.Given as goal
 
 abbrev pub invariant-loop-i : goal.invariant-loop-i
