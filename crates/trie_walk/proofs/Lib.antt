@@ -1,5 +1,9 @@
 pub mod Choosing
 pub mod Ending
 pub mod Lists
+pub mod Longest
+pub mod Nexts
+pub mod Placing
+pub mod Starting
 pub mod Stepping
 pub mod Ways

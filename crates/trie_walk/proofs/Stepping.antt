@@ -38,7 +38,7 @@ forward lengths Gap rests x h c =
     let P : Trace → Type 0 = λ u. Contains rests (x.0, u) in
     (ap entry is, subst P (is ∙ ap tail (sym is)) c)
 
-back : (lengths : Lengths) (t : Taken) (rests : List Numbered) (y : Numbered)
+pub back : (lengths : Lengths) (t : Taken) (rests : List Numbered) (y : Numbered)
     → IsMovedTo lengths t rests → Contains rests y
     → (x : Numbered) × Contains (whole_behind t rests) x × (x.0 ≡ y.0) × (tail x.1 ≡ y.1)
 back lengths Nothing rests y h c = absurd h
@@ -147,7 +147,7 @@ tuple-back lengths places m us h =
 
 -- ---- lengths
 
-length-tail : (t : Trace) → length (tail t) ≡ length t - 1
+pub length-tail : (t : Trace) → length (tail t) ≡ length t - 1
 length-tail [] = refl
 length-tail (a ∷ t) = omega arith
 
@@ -187,7 +187,7 @@ none-of_two : (lengths : Lengths) (a b : ℕ) → a ≡ 0 → b ≡ 0 → of_two
 none-of_two Min a b h k = omega arith
 none-of_two Pad a b h k = omega arith
 
-none-judged : (lengths : Lengths) (ts : List Trace) → list_any is_letter (map entry ts) ≡ false
+pub none-judged : (lengths : Lengths) (ts : List Trace) → list_any is_letter (map entry ts) ≡ false
     → judged lengths ts ≡ 0
 none-judged lengths [] e = refl
 none-judged lengths ([] ∷ []) e = refl

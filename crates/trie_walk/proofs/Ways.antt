@@ -8,7 +8,8 @@ use Rattle.trace_trie.specs.Numbered.{Numbered, same_letter, begins, tail, under
 use Rattle.trace_trie.proofs.Lettering.{equal-letter, letter-itself}
 use Rattle.trie_walk.specs.Finds.{traces_of}
 use Rattle.trie_walk.specs.JointPrefixes.{entry}
-use Rattle.trie_walk.specs.Places.{IsWay}
+use Rattle.trace_trie.specs.Cursors.{AreLetters}
+use Rattle.trie_walk.specs.Places.{first_letter, IsWay}
 use Rattle.trie_walk.proofs.Lists.{long-map, map-of, map-from}
 
 -- the only member
@@ -126,3 +127,16 @@ gap-way n rests c = record {
         → Contains (traces_of ((n, []) ∷ [])) t
     whole [] c e = contains-here [] []
     whole (b ∷ t) c e = absurd (cc)
+
+pub alone-letters : (n : ℕ) (t : Trace) → AreLetters (first_letter t) ((n, t) ∷ [])
+alone-letters n [] = record { distinct = tt; some = tt; whole = (tt, tt) }
+alone-letters n (a ∷ t) = record {
+  distinct = (tt, tt);
+  some = (
+    let P : Bool → Type 0 = λ b. 0 < length (map (λ (p : Numbered). (p.0, tail p.1))
+    (cond b ((n, a ∷ t) ∷ []) [])) in
+    subst P (sym (letter-itself a)) (omega arith),
+    tt,
+  );
+  whole = (contains-here a [], tt);
+}

@@ -47,6 +47,7 @@ pub fn find<'a, L: Ledger>(
         (machine_of monitor.now).variables rows → Contains prefixes rows)
         → steps.new ≤ steps.old + (machine_of monitor.now).variables * length prefixes }
 {
+    version.numbers_ascend();
     let walk = Walk {
         alloc,
         monitor,
@@ -85,6 +86,7 @@ pub fn find_first<'a, L: Ledger>(
         (machine_of monitor.now).variables rows → Contains prefixes rows)
         → steps.new ≤ steps.old + length prefixes }
 {
+    version.numbers_ascend();
     let walk = Walk {
         alloc,
         monitor,

@@ -1,13 +1,15 @@
-use Rattle.std.proofs.Common.{rules, ◌≡◌, ◌+◌, ◌*◌, ◌≤◌, ◌∷◌, ◌<◌, [], ℕ, List, length, replicate, set, take, IfSome, IfNone, ◌-◌, ◌/◌, ◌%◌, Bool, true, false, nat_eq, nat_lt, ◌++◌, slice_index_or, bit_and, bit_or, Fits, w8, w32, w64, Bor, MutBor}
-use Rattle.std.specs.List.{Contains}
-use Rattle.hy_formula.specs.Quantifiers.{Each}
-use Rattle.fin_monitor.specs.Seen.{machine_of}
-use Rattle.trie_walk.specs.Finds.{AreViolating, AllMeet, FirstMeet, IsFirst, traces_of}
-use Rattle.trie_walk.specs.Four.{four, rests}
-use Rattle.trie_walk.specs.Places.{IsOpen}
-use Rattle.trie_walk.specs.JointPrefixes.{Row, IsJointPrefix, IsFirstPrefix}
+use Rattle.std.proofs.Common.{◌∷◌, [], map, ap, ◌∙◌}
+use Rattle.trie_walk.specs.Places.{rests_of}
+use Rattle.trie_walk.specs.Four.{four}
+use Rattle.trie_walk.proofs.Starting.{start-rests}
+use Rattle.trie_walk.proofs.Stepping.{left_at}
 use Rattle.trie_walk.proofs.finds.start.Goals as goal
 
--- src/finds.rt:98:1
 pub returns-clause-rests : goal.returns-clause-rests
-returns-clause-rests c = ?
+returns-clause-rests c n =
+    start-rests n (four c.with.result) (four c.all.result) c.args.place c.at-alone.result
+    (c.args.version.now ∷ c.args.version.now ∷ c.args.version.now ∷ c.args.version.now ∷ [])
+    ((c.args.number, c.args.trace.now) ∷ []) c.with.ensures
+    (ap (map left_at) c.all.ensures
+    ∙ (λ i. c.root.ensures i ∷ c.root.ensures i ∷ c.root.ensures i ∷ c.root.ensures i ∷ []))
+    (ap rests_of c.at-alone.ensures.spot)

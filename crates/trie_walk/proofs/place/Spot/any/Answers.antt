@@ -1,19 +1,32 @@
-use Rattle.std.proofs.Common.{rules, ◌≡◌, ◌<◌, ℕ, [], length, map, replicate, set, slice_get, Some, None, IfSome, IfNone, ◌+◌, ◌-◌, ◌*◌, ◌≤◌, ◌/◌, ◌%◌, Bool, true, false, nat_eq, nat_lt, List, ◌∷◌, ◌++◌, slice_index_or, bit_and, bit_or, Fits, w8, w32, w64, Bor, MutBor}
+use Rattle.std.proofs.Common.{◌≡◌, ℕ, [], ◌∷◌, sym, subst}
+use Rattle.std.proofs.lemmas.Option.{IfSome_then}
 use Rattle.std.specs.List.{Contains}
-use Rattle.hy_bits.specs.Letter.{Letter as NameSet}
-use Rattle.hy_finite.specs.declared.lengths.Lengths.{Lengths}
-use Rattle.hy_finite.specs.declared.lengths.Lengths.TheVariants.{Pad}
+use Rattle.hy_formula.proofs.Tuples.{contains-here}
 use Rattle.hy_finite.specs.Traces.{Trace}
-use Rattle.trace_trie.specs.Cursors.{AreLetters}
-use Rattle.trie_walk.specs.Places.{rests_of, letters_at, whole_of, open_at, taken_of, letter_or, HasEnded, IsMoved, IsWay}
-use Rattle.trie_walk.specs.Four.{four}
-use Rattle.trie_walk.specs.declared.place.Taken.TheVariants.{Nothing}
+use Rattle.trace_trie.specs.Cursors.{rests_at}
+use Rattle.trie_walk.specs.declared.place.Spot.{Spot}
+use Rattle.trie_walk.specs.Places.{rests_of, HasEnded}
 use Rattle.trie_walk.proofs.place.Spot.any.Goals as goal
 
--- src/place.rt:57:5
 pub returns-in-Alone-clause-some : goal.returns-in-Alone-clause-some
-returns-in-Alone-clause-some c = ?
+returns-in-Alone-clause-some c =
+    let rest = c.in-Alone.field-1.now in
+    let P : Spot → Type 0 = λ s. Contains (rests_of s) (c.in-Alone.number, rest) in (
+      rest,
+      subst P (sym c.in-Alone.is) (contains-here (c.in-Alone.number, rest) []),
+      λ h. absurd (c.in-None.ensures.none h),
+    )
 
--- src/place.rt:57:5
 pub returns-in-Node-clause-some : goal.returns-in-Node-clause-some
-returns-in-Node-clause-some c = ?
+returns-in-Node-clause-some c =
+    IfSome_then c.below.result
+    {P = λ (n : ℕ). (t : Trace) × Contains (rests_at c.in-Node.cursor) (n, t)}
+    {Q = λ (n : ℕ). (t : Trace) × Contains (rests_of c.args.self.now) (n, t)
+    × (HasEnded (rests_of c.args.self.now) → t ≡ [])}
+    c.below.ensures.some
+    (λ n (t, h).
+    let P : Spot → Type 0 = λ s. Contains (rests_of s) (n, t) in (
+      t,
+      subst P (sym c.in-Node.is) h,
+      λ h. absurd (c.in-None.ensures.none h),
+    ))
