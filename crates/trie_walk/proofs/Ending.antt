@@ -24,12 +24,12 @@ ended-trace l c =
 none-ended : (ls : List (List Numbered)) (ts : List Trace)
     → ((l : List Numbered) → Contains ls l → ¬ HasEnded l) → IsTupleOf ls ts
     → Each (λ (t : Trace). 0 < length t) ts
-none-ended [] [] no h = tt
-none-ended [] (t ∷ ts) no h = absurd h
-none-ended (l ∷ ls) [] no h = absurd h
-none-ended (l ∷ ls) ([] ∷ ts) no h = absurd (no l (contains-here l ls) (ended-trace l h.0))
-none-ended (l ∷ ls) ((a ∷ t) ∷ ts) no h =
-    (omega arith, none-ended ls ts (λ k c. no k (contains-later l k ls c)) h.1)
+none-ended [] [] none_so h = tt
+none-ended [] (t ∷ ts) none_so h = absurd h
+none-ended (l ∷ ls) [] none_so h = absurd h
+none-ended (l ∷ ls) ([] ∷ ts) none_so h = absurd (none_so l (contains-here l ls) (ended-trace l h.0))
+none-ended (l ∷ ls) ((a ∷ t) ∷ ts) none_so h =
+    (omega arith, none-ended ls ts (λ k c. none_so k (contains-later l k ls c)) h.1)
 
 all-ended : (ls : List (List Numbered)) (ts : List Trace) → IsTupleOf ls ts
     → judged Pad ts ≡ 0 → Each HasEnded ls
@@ -54,11 +54,11 @@ length-of (l ∷ ls) (t ∷ ts) h = ap suc (length-of ls ts h.1)
 -- where none can stop each tuple has a position
 pub goes-on : (lengths : Lengths) (ls : List (List Numbered)) → 0 < length ls
     → (¬ CanStop lengths ls) → (ts : List Trace) → IsTupleOf ls ts → ¬ (judged lengths ts ≡ 0)
-goes-on Min ls some no ts h e =
+goes-on Min ls some none_so ts h e =
     let long = all-judged Min ts (omega (arith, length-of ls ts h))
-    (none-ended ls ts (λ l c ended. no (l, c, ended)) h) in
+    (none-ended ls ts (λ l c ended. none_so (l, c, ended)) h) in
     omega arith
-goes-on Pad ls some no ts h e = no (all-ended ls ts h e)
+goes-on Pad ls some none_so ts h e = none_so (all-ended ls ts h e)
 
 pub ended-from : (ls : List (List Numbered)) (ps : List Numbered) → AreEnded ls ps → AreFrom ls ps
 ended-from [] [] h = tt

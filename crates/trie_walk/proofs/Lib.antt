@@ -4,6 +4,7 @@ pub mod Lists
 pub mod Longest
 pub mod Nexts
 pub mod Placing
+pub mod Scanning
 pub mod Starting
 pub mod Stepping
 pub mod Ways

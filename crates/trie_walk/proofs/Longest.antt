@@ -69,13 +69,15 @@ letter-long Gap rests some e = absurd (cc)
 some-long : (places : List Place) → AreSome (map whole_of places)
     → list_any is_letter (map taken_of places) ≡ true → 0 < longest (map whole_of places)
 some-long [] some e = absurd (cc)
-some-long (p ∷ places) some e = at (is_letter (taken_of p)) refl e
+some-long (p ∷ places) some e =
+    at (is_letter (taken_of p)) refl e (some-long places some.1)
   where
     at : (b : Bool) → is_letter (taken_of p) ≡ b
         → (b || list_any is_letter (map taken_of places)) ≡ true
+        → (list_any is_letter (map taken_of places) ≡ true → 0 < longest (map whole_of places))
         → 0 < longest (map whole_of (p ∷ places))
-    at true f e = omega (arith, letter-long p.taken (left_at p) some.0 f)
-    at false f e = omega (arith, some-long places some.1 e)
+    at true f e more = omega (arith, letter-long p.taken (left_at p) some.0 f)
+    at false f e more = omega (arith, more e)
 
 -- with a step by a letter fewer are left
 pub longest-step : (lengths : Lengths) (places : List Place) → Each (IsMoved lengths) places

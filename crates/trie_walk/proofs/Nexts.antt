@@ -22,7 +22,7 @@ use Rattle.trie_walk.proofs.Longest.{longest, longest-set}
 use Rattle.trie_walk.proofs.Placing.{wholes-set, some-set, at-place, open-wholes}
 use Rattle.trie_walk.proofs.Stepping.{left_at, tuple-forward, none-judged, taken-code, step-accepted, step-rejected}
 
-long-take : {A : Type 0} (n : ℕ) (xs : List A) → n ≤ length xs → length (take n xs) ≡ n
+pub long-take : {A : Type 0} (n : ℕ) (xs : List A) → n ≤ length xs → length (take n xs) ≡ n
 long-take zero xs le = refl
 long-take (suc n) [] le = absurd (omega arith)
 long-take (suc n) (x ∷ xs) le = ap suc (long-take n xs (omega arith))
@@ -32,7 +32,7 @@ pub long-places : (n : ℕ) (f : Place → List Numbered) (ps : List Place) → 
 long-places n f ps le = long-map f (take n ps) ∙ long-take n ps le
 
 module _ (n i : ℕ) (ps next : List Place) (p x : Place) (lt : i < n) (le : n ≤ length ps)
-    (at : slice_get ps i ≡ Some p) (open : Each IsOpen (drop i (take n ps)))
+    (at : slice_get ps i ≡ Some p) (opens : Each IsOpen (drop i (take n ps)))
     (is : next ≡ set ps i x) (e : Option Letter) (way : IsWay (left_at p) e (whole_of x)) where
   abbrev old_wholes : List (List Numbered)
   old_wholes = map whole_of (take n ps)
@@ -46,7 +46,7 @@ module _ (n i : ℕ) (ps next : List Place) (p x : Place) (lt : i < n) (le : n �
   way-here : IsWay (get_or old_wholes i []) e (whole_of x)
   way-here =
       let P : List Numbered → Type 0 = λ l. IsWay l e (whole_of x) in
-      subst P (sym (at-place n i ps p lt at open)) way
+      subst P (sym (at-place n i ps p lt at opens)) way
 
   within : i < length old_wholes
   within = omega (arith, long-places n whole_of ps le)
@@ -119,7 +119,7 @@ module _ (n i : ℕ) (ps next : List Place) (p x : Place) (lt : i < n) (le : n �
 -- the choices at a place, by letter and past the end
 module _ (m : Machine) (lengths : Lengths) (q n i : ℕ) (ps : List Place) (p : Place) (lt : i < n)
     (le : n ≤ length ps) (at : slice_get ps i ≡ Some p)
-    (open : Each IsOpen (drop i (take n ps))) (letters : List Letter)
+    (opens : Each IsOpen (drop i (take n ps))) (letters : List Letter)
     (are : AreLetters letters (left_at p)) where
   abbrev all_wholes : List (List Numbered)
   all_wholes = map whole_of (take n ps)
@@ -128,7 +128,9 @@ module _ (m : Machine) (lengths : Lengths) (q n i : ℕ) (ps : List Place) (p : 
   inside = omega (arith, long-places n whole_of ps le)
 
   letters-here : AreLetters letters (get_or all_wholes i [])
-  letters-here = let P = AreLetters letters in subst P (sym (at-place n i ps p lt at open)) are
+  letters-here =
+      let P : List Numbered → Type 0 = AreLetters letters in
+      subst P (sym (at-place n i ps p lt at opens)) are
 
   pub all-accepted : AreAcceptedBy m lengths q i letters all_wholes
       → ((tuple : List Trace) → IsTupleOf all_wholes tuple → 1 ≤ judged lengths tuple
@@ -140,8 +142,8 @@ module _ (m : Machine) (lengths : Lengths) (q n i : ℕ) (ps : List Place) (p : 
   pub no-gap-accepted : HasNoGap lengths (left_at p)
       → AreAcceptedBy m lengths q i letters all_wholes → AreAccepted m lengths q 1 all_wholes
   no-gap-accepted none by_letter =
-      let P = HasNoGap lengths in
-      let gap = subst P (sym (at-place n i ps p lt at open)) none in
+      let P : List Numbered → Type 0 = HasNoGap lengths in
+      let gap = subst P (sym (at-place n i ps p lt at opens)) none in
       all-accepted by_letter (λ tuple h some e.
       absurd (none-gaps lengths all_wholes i inside gap tuple h some e))
 
@@ -190,3 +192,29 @@ step-search m lengths q code next places moved letter steps is ls e None s =
     step-accepted m lengths q code next places moved letter steps
     (λ ts f. is ∙ taken-code m (map letter_or (map taken_of places)) ts (ap (map letter_or) f))
     (subst P e s)
+
+pub at-some : {A : Type 0} (xs : List A) (k : ℕ) → k < length xs
+    → (a : A) × (slice_get xs k ≡ Some a)
+at-some [] k lt = absurd (omega arith)
+at-some (x ∷ xs) zero lt = (x, refl)
+at-some (x ∷ xs) (suc k) lt = at-some xs k (omega arith)
+
+pub take-whole : {A : Type 0} (k : ℕ) (xs : List A) → length xs ≤ k → take k xs ≡ xs
+take-whole zero [] le = refl
+take-whole (suc k) [] le = refl
+take-whole zero (x ∷ xs) le = absurd (omega arith)
+take-whole (suc k) (x ∷ xs) le = ap (λ ys. x ∷ ys) (take-whole k xs (omega arith))
+
+pub gap-search : (m : Machine) (lengths : Lengths) (q n i : ℕ) (ps next : List Place)
+    (p x : Place) (lt : i < n) (le : n ≤ length ps) (at : slice_get ps i ≡ Some p)
+    (opens : Each IsOpen (drop i (take n ps))) → next ≡ set ps i x
+    → IsWay (left_at p) None (whole_of x) → (letters : List Letter)
+    → AreLetters letters (left_at p)
+    → AreAcceptedBy m lengths q i letters (map whole_of (take n ps)) → (r : Option (List ℕ))
+    → IsSearch m lengths q 1 (map whole_of (take n next)) r
+    → IsSearch m lengths q 1 (map whole_of (take n ps)) r
+gap-search m lengths q n i ps next p x lt le at openss is way letters are by_letter (Some numbers) s =
+    next-rejected n i ps next p x lt le at opens is None way m lengths q numbers s
+gap-search m lengths q n i ps next p x lt le at openss is way letters are by_letter None s =
+    all-accepted m lengths q n i ps p lt le at opens letters are by_letter
+    (next-accepted n i ps next p x lt le at opens is None way m lengths q s)

@@ -28,9 +28,9 @@ wholes-set n ps i p next e =
 
 pub moved-more : {A : Type 0} (P : A → Type 0) (i : ℕ) (xs : List A) (x : A) (next : List A)
     → i < length xs → next ≡ set xs i x → Each P (take i xs) → P x → Each P (take (i + 1) next)
-moved-more P i xs x next lt e h p =
-    let Q = λ (k : ℕ). Each P (take k next) in
-    let R = λ ys. Each P (take (suc i) ys) in
+moved-more {A} P i xs x next lt e h p =
+    let Q : ℕ → Type 0 = λ k. Each P (take k next) in
+    let R : List A → Type 0 = λ ys. Each P (take (suc i) ys) in
     let is : suc i ≡ i + 1 = omega arith in
     subst Q is (subst R (sym e) (more i xs lt h))
   where
@@ -43,9 +43,9 @@ moved-more P i xs x next lt e h p =
 
 pub open-less : {A : Type 0} (P : A → Type 0) (i n : ℕ) (xs : List A) (x : A) (next : List A)
     → next ≡ set xs i x → Each P (drop i (take n xs)) → Each P (drop (i + 1) (take n next))
-open-less P i n xs x next e h =
-    let Q = λ (k : ℕ). Each P (drop k (take n next)) in
-    let R = λ ys. Each P (drop (suc i) ys) in
+open-less {A} P i n xs x next e h =
+    let Q : ℕ → Type 0 = λ k. Each P (drop k (take n next)) in
+    let R : List A → Type 0 = λ ys. Each P (drop (suc i) ys) in
     let is : suc i ≡ i + 1 = omega arith in
     subst Q is (subst R (sym (ap (take n) e ∙ take-set n xs i x)) (less i (take n xs) h))
   where
@@ -106,7 +106,8 @@ opened-left n ps next e = ap (λ qs. map left_at (take n qs)) e ∙ same n ps
 
 pub opened-open : (n : ℕ) (ps next : List Place) → next ≡ map open_at ps
     → Each IsOpen (take n next)
-opened-open n ps next e = let P = λ qs. Each IsOpen (take n qs) in subst P (sym e) (all n ps)
+opened-open n ps next e =
+    let P : List Place → Type 0 = λ qs. Each IsOpen (take n qs) in subst P (sym e) (all n ps)
   where
     all : (n : ℕ) (ps : List Place) → Each IsOpen (take n (map open_at ps))
     all zero ps = tt

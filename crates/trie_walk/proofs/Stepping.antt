@@ -18,6 +18,7 @@ use Rattle.trie_walk.specs.Finds.{numbers_of, traces_of}
 use Rattle.trie_walk.specs.JointPrefixes.{Row, entry, rows_of, IsPrefixOf}
 use Rattle.trie_walk.specs.Places.{rests_of, whole_behind, whole_of, IsMovedTo, IsMoved, AreSome, taken_entry, taken_of, letter_or, is_letter}
 use Rattle.trie_walk.specs.Searches.{state_over, IsAccepted, AreFrom, IsTupleOf, AreRejected, AreAccepted, AreApart, IsPrefixIn, AreSteps}
+use Rattle.trie_walk.proofs.Ways.{long-led}
 use Rattle.trie_walk.proofs.Lists.{long-map, map-of, map-from, each-at, each-map, each-like, apart-map}
 
 abbrev pub left_at : Place → List Numbered
@@ -62,7 +63,7 @@ some-whole : (t : Taken) (rests : List Numbered) → 0 < length (whole_behind t 
     → 0 < length rests
 some-whole Nothing rests lt = lt
 some-whole (Letter a) rests lt =
-    omega (arith, long-map (λ (q : Numbered). (q.0, a ∷ q.1)) rests)
+    omega (arith, long-led a rests)
 some-whole Gap rests lt = lt
 
 pub some-left : (places : List Place) → AreSome (map whole_of places) → AreSome (map left_at places)

@@ -10,7 +10,7 @@ use Rattle.trie_walk.specs.Finds.{traces_of}
 use Rattle.trie_walk.specs.JointPrefixes.{entry}
 use Rattle.trace_trie.specs.Cursors.{AreLetters}
 use Rattle.trie_walk.specs.Places.{first_letter, IsWay}
-use Rattle.trie_walk.proofs.Lists.{long-map, map-of, map-from}
+use Rattle.trie_walk.proofs.Lists.{map-of, map-from}
 
 -- the only member
 pub contains-one : {A : Type 0} (x y : A) → Contains (x ∷ []) y → x ≡ y
@@ -78,10 +78,14 @@ to-under a ((k, b ∷ u) ∷ rests) n t c = step (to-under a rests n t) (same_le
           | inr later ↦ ih later
         ]
 
+pub long-led : (a : Letter) (ps : List Numbered) → length (led_by a ps) ≡ length ps
+long-led a [] = refl
+long-led a (p ∷ ps) = ap suc (long-led a ps)
+
 pub letter-way : (a : Letter) (rests : List Numbered) → 0 < length (under a rests)
     → IsWay rests (Some a) (led_by a (under a rests))
 letter-way a rests some = record {
-  some = omega (arith, long-map (λ (p : Numbered). (p.0, a ∷ p.1)) (under a rests));
+  some = omega (arith, long-led a (under a rests));
   part = from-under a rests;
   first = λ p c.
       let (q, d, e) = map-from (λ (q : Numbered). (q.0, a ∷ q.1)) (under a rests) p c in
@@ -128,15 +132,19 @@ gap-way n rests c = record {
     whole [] c e = contains-here [] []
     whole (b ∷ t) c e = absurd (cc)
 
+some-under : (n : ℕ) (a : Letter) (t : Trace) → 0 < length (under a ((n, a ∷ t) ∷ []))
+some-under n a t = at (same_letter a a) (letter-itself a)
+  where
+    at : (b : Bool) → b ≡ true
+        → 0 < length (map {B = Numbered} (λ (p : Numbered). (p.0, tail p.1))
+        (cond b ((n, a ∷ t) ∷ []) []))
+    at true e = omega arith
+    at false e = absurd (cc)
+
 pub alone-letters : (n : ℕ) (t : Trace) → AreLetters (first_letter t) ((n, t) ∷ [])
 alone-letters n [] = record { distinct = tt; some = tt; whole = (tt, tt) }
 alone-letters n (a ∷ t) = record {
   distinct = (tt, tt);
-  some = (
-    let P : Bool → Type 0 = λ b. 0 < length (map (λ (p : Numbered). (p.0, tail p.1))
-    (cond b ((n, a ∷ t) ∷ []) [])) in
-    subst P (sym (letter-itself a)) (omega arith),
-    tt,
-  );
+  some = (some-under n a t, tt);
   whole = (contains-here a [], tt);
 }

@@ -89,6 +89,12 @@ abbrev pub is_letter : Option NameSet → Bool
 is_letter None = false
 is_letter (Some a) = true
 
+abbrev pub letter_taken : Place → NameSet
+letter_taken p = letter_or (taken_of p)
+
+abbrev pub has_taken : Place → Bool
+has_taken p = is_letter (taken_of p)
+
 -- the place with nothing taken
 abbrev pub open_at : Place → Place
 open_at p = record { taken = Nothing; spot = p.spot }

@@ -7,7 +7,7 @@ ghost use Rattle.hy_finite.specs.declared.lengths.Lengths.{Lengths};
 ghost use Rattle.hy_finite.specs.declared.lengths.Lengths.TheVariants.{Pad};
 ghost use Rattle.hy_finite.specs.Traces.{Trace};
 ghost use Rattle.trace_trie.specs.Cursors.{AreLetters};
-ghost use Rattle.trie_walk.specs.Places.{rests_of, letters_at, whole_of, open_at, taken_of, letter_or, HasEnded, IsMoved, IsWay};
+ghost use Rattle.trie_walk.specs.Places.{rests_of, letters_at, whole_of, open_at, letter_taken, has_taken, HasEnded, IsMoved, IsWay};
 ghost use Rattle.trie_walk.specs.Four.{four};
 ghost use Rattle.trie_walk.specs.declared.place.Taken.TheVariants.{Nothing};
 
@@ -139,13 +139,24 @@ impl<'a> Place<'a> {
     }
 
     /// The letter that is taken, empty where there is none.
-    pub(crate) fn letter(&self) -> LetterMask
-        ensures { result ≡ letter_or (taken_of self.now) }
+    fn letter(&self) -> LetterMask
+        ensures { result ≡ letter_taken self.now }
     {
         match self.taken {
             Taken::Letter(letter) => letter,
             Taken::Gap => LetterMask::empty(),
             Taken::Nothing => LetterMask::empty(),
+        }
+    }
+
+    /// Whether a letter is taken.
+    fn has_letter(&self) -> bool
+        ensures { result ≡ has_taken self.now }
+    {
+        match self.taken {
+            Taken::Letter(_) => true,
+            Taken::Gap => false,
+            Taken::Nothing => false,
         }
     }
 
@@ -192,6 +203,32 @@ impl<'a> Places<'a> {
             1 => self.second.copied(),
             2 => self.third.copied(),
             _ => self.fourth.copied(),
+        }
+    }
+
+    /// The letter that is taken at place `i`, empty where there is none.
+    pub(crate) fn letter(&self, i: usize) -> LetterMask
+        requires { i < 4 }
+        ensures { slice_get (map letter_taken (four self.now)) i ≡ Some result }
+    {
+        match i {
+            0 => self.first.letter(),
+            1 => self.second.letter(),
+            2 => self.third.letter(),
+            _ => self.fourth.letter(),
+        }
+    }
+
+    /// Whether a letter is taken at place `i`.
+    pub(crate) fn has_letter(&self, i: usize) -> bool
+        requires { i < 4 }
+        ensures { slice_get (map has_taken (four self.now)) i ≡ Some result }
+    {
+        match i {
+            0 => self.first.has_letter(),
+            1 => self.second.has_letter(),
+            2 => self.third.has_letter(),
+            _ => self.fourth.has_letter(),
         }
     }
 

@@ -15,7 +15,7 @@ ghost use Rattle.trie_walk.specs.Places.{whole_of, rests_of, taken_of, letter_or
 ghost use Rattle.trie_walk.specs.Searches.{IsSearch, IsSearchBy, IsTupleOf, CanStop, AreEnded, AreSteps, AreStepsBy};
 ghost use Rattle.trie_walk.specs.Walks.{machine_in, places_in, rests_in, wholes_in};
 
-use crate::place::{Place, Places, Spot, Taken};
+use crate::place::{Place, Places, Spot};
 use fin_monitor::Monitor;
 use hy_base::Steps;
 use hy_finite::Lengths;
@@ -90,7 +90,9 @@ impl<'a> Walk<'a> {
             Some(tuple) => return Some(tuple),
             None => {}
         }
-        match self.gap(&places.at(i).spot) {
+        let spot = places.at(i).spot;
+        spot.letters_differ();
+        match self.gap(&spot) {
             Some(place) => self.choose(&places.with(i, &place), i + 1, q, steps),
             None => None,
         }
@@ -119,6 +121,7 @@ impl<'a> Walk<'a> {
             (steps.new - steps.old) }
     {
         let spot = places.at(i).spot;
+        spot.letters_differ();
         for k in 0..spot.len() {
             let next = places.with(i, &spot.letter(k));
             match self.choose(&next, i + 1, q, steps) {
@@ -240,10 +243,8 @@ impl<'a> Walk<'a> {
         ensures { result ≡ list_any is_letter (map taken_of (places_in self.now places.now)) }
     {
         for i in 0..self.monitor.vars() as usize {
-            match places.at(i).taken {
-                Taken::Letter(_) => return true,
-                Taken::Gap => {}
-                Taken::Nothing => {}
+            if places.has_letter(i) {
+                return true;
             }
         }
         false
@@ -255,12 +256,10 @@ impl<'a> Walk<'a> {
             (places_in self.now places.now)))) (machine_in self.now).atoms }
         ensures within { result < codes (machine_in self.now) }
     {
-        let letters = [
-            places.at(0).letter(),
-            places.at(1).letter(),
-            places.at(2).letter(),
-            places.at(3).letter(),
-        ];
-        self.monitor.joint(&letters[..self.monitor.vars() as usize])
+        let mut code = 0;
+        for i in 0..self.monitor.vars() {
+            code |= self.monitor.part(i, places.letter(i as usize));
+        }
+        code
     }
 }

@@ -1,30 +1,29 @@
-use Rattle.std.proofs.Common.{◌≡◌, ◌-◌, ◌<◌, ◌≤◌, true, false, List, map, take, drop, IfSome, IfNone, None, ℕ, ◌+◌, ◌*◌, length}
-use Rattle.std.specs.Bool.{OnTrue, OnFalse}
-use Rattle.std.specs.List.{list_any}
-use Rattle.hy_formula.specs.Quantifiers.{Each}
-use Rattle.hy_finite.specs.declared.lengths.Lengths.TheVariants.{Min, Pad}
-use Rattle.hy_finite.specs.Traces.{Trace, judged}
-use Rattle.fin_monitor.specs.Codes.{code_of, joint_letter}
-use Rattle.fin_monitor.specs.Machines.{codes, is_accepting, states_of}
-use Rattle.trace_trie.specs.Numbered.{Numbered}
-use Rattle.trie_walk.specs.Finds.{numbers_of}
-use Rattle.trie_walk.specs.Four.{four, first_places, letters_in}
-use Rattle.trie_walk.specs.Places.{whole_of, rests_of, taken_of, letter_or, is_letter, HasNoGap, IsOpen, IsMoved, IsWay, AreSome}
-use Rattle.trie_walk.specs.Searches.{IsSearch, IsSearchBy, IsTupleOf, CanStop, AreEnded, AreSteps, AreStepsBy}
-use Rattle.trie_walk.specs.Walks.{machine_in, places_in, rests_in, wholes_in}
+use Rattle.std.proofs.Common.{◌+◌, ◌*◌, ◌-◌, ◌≤◌, ℕ, take}
+use Rattle.trie_walk.specs.Four.{four, letters_in}
+use Rattle.trie_walk.specs.Searches.{AreAcceptedBy, AreStepsBy}
+use Rattle.trie_walk.specs.Walks.{machine_in, rests_in, wholes_in}
+use Rattle.trie_walk.proofs.Longest.{longest}
 use Rattle.trie_walk.proofs.walk.Walk.+walk.Given as goal
 
 abbrev pub decreases-advance : goal.decreases-advance
-decreases-advance g l = ?
+decreases-advance g l = 11 * longest (wholes_in l.self.now l.places.now)
 
 abbrev pub decreases-choose : goal.decreases-choose
-decreases-choose g l = ?
+decreases-choose g l = 11 * longest (wholes_in l.self.now l.places.now) + (9 - 2 * l.i)
 
 abbrev pub decreases-choose_letter : goal.decreases-choose_letter
-decreases-choose_letter g l = ?
+decreases-choose_letter g l = 11 * longest (wholes_in l.self.now l.places.now) + (8 - 2 * l.i)
 
 abbrev pub decreases-search : goal.decreases-search
-decreases-search g l = ?
+decreases-search g l = 11 * longest (rests_in l.self.now l.places.now) + 10
 
 abbrev pub invariant-choose_letter-loop-k : goal.invariant-choose_letter-loop-k
-invariant-choose_letter-loop-k g l = ?
+invariant-choose_letter-loop-k g l =
+    let letters = take l.k (letters_in l.i (four l.places)) in
+    record {
+      accepted : AreAcceptedBy (machine_in l.self) l.self.lengths l.q l.i letters
+          (wholes_in l.self l.places);
+      steps : l.fn.steps ≤ l.steps;
+      counted : AreStepsBy l.self.lengths l.i letters (wholes_in l.self l.places)
+          (l.steps - l.fn.steps);
+    }

@@ -1,19 +1,15 @@
-use Rattle.std.proofs.Common.{rules, ◌≡◌, ◌-◌, ◌<◌, ◌≤◌, true, false, List, map, take, drop, IfSome, IfNone, None, ℕ, ◌+◌, ◌*◌, length, ◌/◌, ◌%◌, Bool, nat_eq, nat_lt, [], ◌∷◌, ◌++◌, slice_index_or, slice_set, bit_and, bit_or, Fits, w8, w32, w64, Bor, MutBor}
-use Rattle.std.specs.Bool.{OnTrue, OnFalse}
-use Rattle.std.specs.List.{list_any}
-use Rattle.hy_formula.specs.Quantifiers.{Each}
-use Rattle.hy_finite.specs.declared.lengths.Lengths.TheVariants.{Min, Pad}
-use Rattle.hy_finite.specs.Traces.{Trace, judged}
-use Rattle.fin_monitor.specs.Codes.{code_of, joint_letter}
-use Rattle.fin_monitor.specs.Machines.{codes, is_accepting, states_of}
-use Rattle.trace_trie.specs.Numbered.{Numbered}
-use Rattle.trie_walk.specs.Finds.{numbers_of}
-use Rattle.trie_walk.specs.Four.{four, first_places, letters_in}
-use Rattle.trie_walk.specs.Places.{whole_of, rests_of, taken_of, letter_or, is_letter, HasNoGap, IsOpen, IsMoved, IsWay, AreSome}
-use Rattle.trie_walk.specs.Searches.{IsSearch, IsSearchBy, IsTupleOf, CanStop, AreEnded, AreSteps, AreStepsBy}
-use Rattle.trie_walk.specs.Walks.{machine_in, places_in, rests_in, wholes_in}
+use Rattle.std.proofs.Common.{◌≤◌, arith}
+use Rattle.trie_walk.specs.Four.{four}
+use Rattle.trie_walk.specs.Walks.{machine_in, rests_in}
+use Rattle.trie_walk.proofs.Nexts.{long-places}
+use Rattle.trie_walk.proofs.Scanning.{rejects-accepts}
+use Rattle.trie_walk.proofs.Stepping.{left_at}
 use Rattle.trie_walk.proofs.walk.Walk.rejects.Goals as goal
 
--- src/walk.rt:170:5
 pub returns-else-accepts-clause-accepts : goal.returns-else-accepts-clause-accepts
-returns-else-accepts-clause-accepts c = ?
+returns-else-accepts-clause-accepts c =
+    let w = c.args.self.now in
+    let few : (machine_in w).variables ≤ 4 = w.monitor.now.right.few in
+    let long = long-places (machine_in w).variables left_at (four c.args.places.now) few in
+    rejects-accepts (machine_in w) w.lengths c.args.q (rests_in w c.args.places.now)
+    c.stops.result (omega (arith, long, c.requires.some)) c.stops.ensures.no

@@ -1,31 +1,43 @@
-use Rattle.std.proofs.Common.{rules, ◌≡◌, ◌-◌, ◌<◌, ◌≤◌, true, false, List, map, take, drop, IfSome, IfNone, None, ℕ, ◌+◌, ◌*◌, length, ◌/◌, ◌%◌, Bool, nat_eq, nat_lt, [], ◌∷◌, ◌++◌, slice_index_or, slice_set, bit_and, bit_or, Fits, w8, w32, w64, Bor, MutBor}
-use Rattle.std.specs.Bool.{OnTrue, OnFalse}
-use Rattle.std.specs.List.{list_any}
-use Rattle.hy_formula.specs.Quantifiers.{Each}
-use Rattle.hy_finite.specs.declared.lengths.Lengths.TheVariants.{Min, Pad}
-use Rattle.hy_finite.specs.Traces.{Trace, judged}
-use Rattle.fin_monitor.specs.Codes.{code_of, joint_letter}
-use Rattle.fin_monitor.specs.Machines.{codes, is_accepting, states_of}
+use Rattle.std.proofs.Common.{◌≡◌, ◌<◌, ◌≤◌, ℕ, List, [], length, get_or, sym, ◌∙◌, subst, arith, below_more}
+use Rattle.std.proofs.lemmas.List.{get_or_default}
 use Rattle.trace_trie.specs.Numbered.{Numbered}
-use Rattle.trie_walk.specs.Finds.{numbers_of}
-use Rattle.trie_walk.specs.Four.{four, first_places, letters_in}
-use Rattle.trie_walk.specs.Places.{whole_of, rests_of, taken_of, letter_or, is_letter, HasNoGap, IsOpen, IsMoved, IsWay, AreSome}
-use Rattle.trie_walk.specs.Searches.{IsSearch, IsSearchBy, IsTupleOf, CanStop, AreEnded, AreSteps, AreStepsBy}
-use Rattle.trie_walk.specs.Walks.{machine_in, places_in, rests_in, wholes_in}
+use Rattle.trie_walk.specs.Four.{four}
+use Rattle.trie_walk.specs.Places.{HasEnded}
+use Rattle.trie_walk.specs.Walks.{machine_in, rests_in}
+use Rattle.trie_walk.proofs.Nexts.{long-places}
+use Rattle.trie_walk.proofs.Placing.{at-left}
+use Rattle.trie_walk.proofs.Scanning.{at-member, has-ended, none-ended}
+use Rattle.trie_walk.proofs.Stepping.{left_at}
 use Rattle.trie_walk.proofs.walk.Walk.some_ended.Goals as goal
 
--- src/walk.rt:202:9
 pub loop-i-init : goal.loop-i-init
-loop-i-init c = ?
+loop-i-init c = λ k lt. absurd (omega arith)
 
--- src/walk.rt:204:17
 pub returns-then-is_some-clause-yes : goal.returns-then-is_some-clause-yes
-returns-then-is_some-clause-yes c = ?
+returns-then-is_some-clause-yes c = (
+  left_at c.at.result,
+  at-member (machine_in c.args.self.now).variables c.loop-i.i (four c.args.places.now) c.at.result
+      (omega (arith, c.vars-i-end.ensures.vars)) c.at.ensures,
+  has-ended c.ended.result (left_at c.at.result) (sym c.is_some.ensures ∙ c.if-is_some.true)
+      c.ended.ensures.some,
+)
 
--- src/walk.rt:202:9
 pub loop-i-preserved : goal.loop-i-preserved
-loop-i-preserved c = ?
+loop-i-preserved c =
+    let n = (machine_in c.args.self.now).variables in
+    let P : List Numbered → Type 0 = λ l. ¬ HasEnded l in
+    below_more (λ k. ¬ HasEnded (get_or (rests_in c.args.self.now c.args.places.now) k [])) _
+    c.loop-i.invariant
+    (subst P (sym (at-left n c.loop-i.i (four c.args.places.now) c.at.result
+    (omega (arith, c.vars-i-end.ensures.vars)) c.at.ensures))
+    (none-ended c.ended.result (left_at c.at.result) (sym c.is_some.ensures ∙ c.if-is_some.false)
+    c.ended.ensures.none))
 
--- src/walk.rt:198:5
 pub returns-clause-no : goal.returns-clause-no
-returns-clause-no c = ?
+returns-clause-no c = λ (l, (k, lt, e), ended).
+    let w = c.args.self.now in
+    let rests = rests_in w c.args.places.now in
+    let few : (machine_in w).variables ≤ 4 = w.monitor.now.right.few in
+    let long = long-places (machine_in w).variables left_at (four c.args.places.now) few in
+    let is : get_or rests k [] ≡ l = get_or_default rests k [] l lt ∙ e in
+    c.loop-i.invariant k (omega (arith, c.vars-i-end.ensures.vars, long)) (subst HasEnded (sym is) ended)

@@ -1,31 +1,44 @@
-use Rattle.std.proofs.Common.{rules, ◌≡◌, ◌-◌, ◌<◌, ◌≤◌, true, false, List, map, take, drop, IfSome, IfNone, None, ℕ, ◌+◌, ◌*◌, length, ◌/◌, ◌%◌, Bool, nat_eq, nat_lt, [], ◌∷◌, ◌++◌, slice_index_or, slice_set, bit_and, bit_or, Fits, w8, w32, w64, Bor, MutBor}
-use Rattle.std.specs.Bool.{OnTrue, OnFalse}
+use Rattle.std.proofs.Common.{◌≡◌, ◌+◌, ◌<◌, ◌≤◌, ℕ, suc, List, true, false, length, map, take, refl, sym, ap, ◌∙◌, subst, arith}
 use Rattle.std.specs.List.{list_any}
-use Rattle.hy_formula.specs.Quantifiers.{Each}
-use Rattle.hy_finite.specs.declared.lengths.Lengths.TheVariants.{Min, Pad}
-use Rattle.hy_finite.specs.Traces.{Trace, judged}
-use Rattle.fin_monitor.specs.Codes.{code_of, joint_letter}
-use Rattle.fin_monitor.specs.Machines.{codes, is_accepting, states_of}
-use Rattle.trace_trie.specs.Numbered.{Numbered}
-use Rattle.trie_walk.specs.Finds.{numbers_of}
-use Rattle.trie_walk.specs.Four.{four, first_places, letters_in}
-use Rattle.trie_walk.specs.Places.{whole_of, rests_of, taken_of, letter_or, is_letter, HasNoGap, IsOpen, IsMoved, IsWay, AreSome}
-use Rattle.trie_walk.specs.Searches.{IsSearch, IsSearchBy, IsTupleOf, CanStop, AreEnded, AreSteps, AreStepsBy}
-use Rattle.trie_walk.specs.Walks.{machine_in, places_in, rests_in, wholes_in}
+use Rattle.trie_walk.specs.Four.{four}
+use Rattle.trie_walk.specs.Places.{taken_of, has_taken, is_letter}
+use Rattle.trie_walk.specs.Walks.{machine_in, places_in}
+use Rattle.trie_walk.proofs.Lists.{long-map}
+use Rattle.trie_walk.proofs.Nexts.{long-take, take-whole}
+use Rattle.trie_walk.proofs.Scanning.{any-more, any-of, get-map, get-unmap}
 use Rattle.trie_walk.proofs.walk.Walk.some_letter.Goals as goal
 
--- src/walk.rt:242:9
 pub loop-i-init : goal.loop-i-init
-loop-i-init c = ?
+loop-i-init c = refl
 
--- src/walk.rt:244:37
-pub returns-in-Letter : goal.returns-in-Letter
-returns-in-Letter c = ?
+pub returns-then-has_letter : goal.returns-then-has_letter
+returns-then-has_letter c =
+    let w = c.args.self.now in
+    let n = (machine_in w).variables in
+    let ps = four c.args.places.now in
+    let (p, at, is) = get-unmap has_taken ps c.loop-i.i c.has_letter.result c.has_letter.ensures in
+    sym (any-of is_letter (map taken_of (take n ps)) c.loop-i.i (taken_of p)
+    (get-map taken_of n ps c.loop-i.i p (omega (arith, c.vars-i-end.ensures.vars)) at)
+    (is ∙ c.if-has_letter.true))
 
--- src/walk.rt:242:9
 pub loop-i-preserved : goal.loop-i-preserved
-loop-i-preserved c = ?
+loop-i-preserved c =
+    let w = c.args.self.now in
+    let n = (machine_in w).variables in
+    let ps = four c.args.places.now in
+    let (p, at, is) = get-unmap has_taken ps c.loop-i.i c.has_letter.result c.has_letter.ensures in
+    let one : suc c.loop-i.i ≡ c.loop-i.i + 1 = omega arith in
+    ap (λ k. list_any is_letter (take k (map taken_of (take n ps)))) (sym one)
+    ∙ any-more is_letter (map taken_of (take n ps)) c.loop-i.i (taken_of p)
+    (get-map taken_of n ps c.loop-i.i p (omega (arith, c.vars-i-end.ensures.vars)) at)
+    (is ∙ c.if-has_letter.false) c.loop-i.invariant
 
--- src/walk.rt:239:5
 pub returns : goal.returns
-returns c = ?
+returns c =
+    let w = c.args.self.now in
+    let n = (machine_in w).variables in
+    let ps = four c.args.places.now in
+    let few : n ≤ 4 = w.monitor.now.right.few in
+    let long = long-map taken_of (take n ps) ∙ long-take n ps few in
+    sym (ap (list_any is_letter) (sym (take-whole c.loop-i.i (map taken_of (take n ps))
+    (omega (arith, c.vars-i-end.ensures.vars, long)))) ∙ c.loop-i.invariant)
