@@ -1,12 +1,12 @@
 -- Places looked at one by one.
-use Rattle.std.proofs.Common.{◌≡◌, ℕ, zero, suc, ◌+◌, ◌*◌, ◌<◌, ◌≤◌, Bool, true, false, ◌||◌, ◌&&◌, nat_eq, List, [], ◌∷◌, ◌++◌, length, map, take, slice_get, get_or, bit_or, Option, Some, None, IfSome, IfNone, refl, sym, ap, ◌∙◌, subst, arith}
+use Rattle.std.proofs.Common.{◌≡◌, ℕ, zero, suc, ◌+◌, ◌*◌, ◌<◌, ◌≤◌, Bool, true, false, ◌||◌, ◌&&◌, nat_eq, List, [], ◌∷◌, ◌++◌, length, map, take, slice_get, get_or, bit_or, Option, Some, None, IfSome, IfNone, inl, inr, eq-eqb, refl, sym, ap, ◌∙◌, subst, arith}
 use Rattle.std.specs.Bool.{OnFalse}
 use Rattle.std.specs.List.{Contains, list_any}
 use Rattle.std.specs.Option.{is_some}
 use Rattle.std.specs.FinSet.{empty, contains, contains-empty}
 use Rattle.std.specs.Ordering.{nat_cmp}
 use Rattle.std.proofs.Math.Bool.{or-false}
-use Rattle.std.proofs.lemmas.Bool.{OnFalse_at, OnFalse_from}
+use Rattle.std.proofs.lemmas.Bool.{OnFalse_at, OnFalse_from, cases_eq, ne_eqb}
 use Rattle.hy_bits.specs.Letter.{Letter}
 use Rattle.hy_formula.specs.Quantifiers.{Each}
 use Rattle.hy_formula.proofs.Tuples.{contains-here, contains-later}
@@ -80,9 +80,9 @@ pub rejects-accepts : (m : Machine) (lengths : Lengths) (q : ℕ) (ls : List (Li
     (b : Bool) → 0 < length ls → OnFalse b (¬ CanStop lengths ls)
     → OnFalse b ((ts : List Trace) → IsTupleOf ls ts → judged lengths ts ≡ 0
     → is_accepting m q ≡ true)
-rejects-accepts m lengths q ls b some no =
+rejects-accepts m lengths q ls b some going =
     OnFalse_from b _ (λ e ts h zero_judged.
-    absurd (goes-on lengths ls some (OnFalse_at e no) ts h zero_judged))
+    absurd (goes-on lengths ls some (OnFalse_at e going) ts h zero_judged))
 
 -- ---- letters
 
@@ -92,12 +92,13 @@ any-more p [] i x e f h = absurd (cc)
 any-more p (y ∷ ys) zero x e f h =
     let is : y ≡ x = cc in
     ap (λ b. b || false) (ap p is ∙ f)
-any-more p (y ∷ ys) (suc i) x e f h = at (p y) refl h
+any-more p (y ∷ ys) (suc i) x e f h = at (p y) refl h (any-more p ys i x e f)
   where
     at : (b : Bool) → p y ≡ b → (b || list_any p (take i ys)) ≡ false
+        → (list_any p (take i ys) ≡ false → list_any p (take (suc i) ys) ≡ false)
         → (p y || list_any p (take (suc i) ys)) ≡ false
-    at true g h = absurd (cc)
-    at false g h = ap (λ b. b || list_any p (take (suc i) ys)) g ∙ any-more p ys i x e f h
+    at true g h more = absurd (cc)
+    at false g h more = ap (λ b. b || list_any p (take (suc i) ys)) g ∙ more h
 
 pub any-of : {A : Type 0} (p : A → Bool) (xs : List A) (i : ℕ) (x : A) → slice_get xs i ≡ Some x
     → p x ≡ true → list_any p xs ≡ true
@@ -105,11 +106,11 @@ any-of p [] i x e f = absurd (cc)
 any-of p (y ∷ ys) zero x e f =
     let is : y ≡ x = cc in
     ap (λ b. b || list_any p ys) (ap p is ∙ f)
-any-of p (y ∷ ys) (suc i) x e f = at (p y)
+any-of p (y ∷ ys) (suc i) x e f = at (p y) (any-of p ys i x e f)
   where
-    at : (b : Bool) → (b || list_any p ys) ≡ true
-    at true = refl
-    at false = any-of p ys i x e f
+    at : (b : Bool) → list_any p ys ≡ true → (b || list_any p ys) ≡ true
+    at true more = refl
+    at false more = more
 
 pub get-map : {A B : Type 0} (f : A → B) (n : ℕ) (xs : List A) (i : ℕ) (x : A) → i < n
     → slice_get xs i ≡ Some x → slice_get (map f (take n xs)) i ≡ Some (f x)
@@ -118,8 +119,17 @@ get-map f (suc n) [] i x lt e = absurd (cc)
 get-map f (suc n) (y ∷ ys) zero x lt e = let is : y ≡ x = cc in ap (λ z. Some (f z)) is
 get-map f (suc n) (y ∷ ys) (suc i) x lt e = get-map f n ys i x (omega arith) e
 
-no-name : (v name : ℕ) → contains (get_or [] v empty) name ≡ false
+abbrev none_at : ℕ → Letter
+none_at v = get_or [] v empty
+
+no-name : (v name : ℕ) → contains (none_at v) name ≡ false
 no-name v name = contains-empty nat_cmp name
+
+eqb-suc : (v i : ℕ) → nat_eq (suc v) (suc i) ≡ nat_eq v i
+eqb-suc v i = elim (cases_eq v i) [
+  | inl e ↦ eq-eqb (suc v) (suc i) (ap suc e) ∙ sym (eq-eqb v i e)
+  | inr n ↦ ne_eqb (suc v) (suc i) (λ e. n (omega arith)) ∙ sym (ne_eqb v i n)
+]
 
 name-more : (l : List Letter) (i : ℕ) (a : Letter) → slice_get l i ≡ Some a → (name v : ℕ)
     → contains (get_or (take (suc i) l) v empty) name
@@ -129,9 +139,17 @@ name-more (b ∷ l) zero a e name zero =
     let is : b ≡ a = cc in
     ap (λ (x : Letter). contains x name) is
     ∙ sym (ap (λ k. k || contains a name) (no-name zero name))
-name-more (b ∷ l) zero a e name (suc v) = sym (or-false (contains (get_or [] v empty) name))
-name-more (b ∷ l) (suc i) a e name zero = sym (or-false (contains b name))
-name-more (b ∷ l) (suc i) a e name (suc v) = name-more l i a e name v
+name-more (b ∷ l) zero a e name (suc v) =
+    let other : nat_eq (suc v) 0 ≡ false = ne_eqb (suc v) 0 (λ f. omega arith) in
+    sym (ap (λ k. contains (none_at v) name || (k && contains a name)) other
+    ∙ or-false (contains (none_at v) name))
+name-more (b ∷ l) (suc i) a e name zero =
+    let other : nat_eq 0 (suc i) ≡ false = ne_eqb 0 (suc i) (λ f. omega arith) in
+    sym (ap (λ k. contains b name || (k && contains a name)) other ∙ or-false (contains b name))
+name-more (b ∷ l) (suc i) a e name (suc v) =
+    name-more l i a e name v
+    ∙ ap (λ k. contains (get_or (take i l) v empty) name || (k && contains a name))
+    (sym (eqb-suc v i))
 
 -- the part of one letter more
 pub code-more : (l : List Letter) (i : ℕ) (a : Letter) (atoms : List IndexedAtom)

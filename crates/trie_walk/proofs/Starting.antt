@@ -1,7 +1,7 @@
 -- The tuples with a given trace at one place, and all others from a list.
-use Rattle.std.proofs.Common.{◌≡◌, ℕ, zero, suc, ◌+◌, ◌*◌, ◌<◌, ◌≤◌, Bool, true, false, List, [], ◌∷◌, length, map, take, set, replicate, get_or, Option, Some, None, IfSome, IfNone, inl, inr, refl, sym, ap, ◌∙◌, subst, arith}
+use Rattle.std.proofs.Common.{◌≡◌, ℕ, zero, suc, ◌+◌, ◌*◌, ◌-◌, ◌<◌, ◌≤◌, Bool, true, false, List, [], ◌∷◌, length, map, take, set, replicate, get_or, Option, Some, None, IfSome, IfNone, inl, inr, refl, sym, ap, ◌∙◌, subst, arith}
 use Rattle.std.specs.List.{Contains}
-use Rattle.std.proofs.Math.Nat.{mul-le-mul_right}
+use Rattle.std.proofs.Math.Nat.{add-mul, mul-le-mul_right}
 use Rattle.std.specs.FinSet.{empty, contains}
 use Rattle.hy_formula.specs.Quantifiers.{Each, IsTuple}
 use Rattle.hy_formula.proofs.Tuples.{contains-here, contains-later, contains-cases, contains-none}
@@ -338,6 +338,9 @@ pub meets-all : (m : Machine) (lengths : Lengths) (list : List Numbered) (t : Tr
     → AllMeet m lengths (traces_of list) t
 meets-all m lengths list t all ts is (k, lt, at) = all k (omega (arith, is.count)) ts is at
 
-pub within-times : (a b k n length_of : ℕ) → a ≤ b + k * length_of → k ≤ n
-    → a ≤ b + n * length_of
+-- one walk more
+pub one-more : (a b c k l : ℕ) → a ≤ b + k * l → a ≤ c → c - a ≤ l → c ≤ b + (k + 1) * l
+one-more a b c k l le more made = omega (arith, le, more, made, add-mul k 1 l)
+
+pub within-times : (a b k n l : ℕ) → a ≤ b + k * l → k ≤ n → a ≤ b + n * l
 within-times a b k n l le more = omega (arith, le, mul-le-mul_right l more)

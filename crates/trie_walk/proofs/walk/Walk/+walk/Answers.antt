@@ -1,7 +1,6 @@
 use Rattle.std.proofs.Common.{◌≡◌, ◌+◌, ◌*◌, ◌-◌, ◌<◌, ◌≤◌, true, false, ℕ, List, [], length, map, take, drop, slice_get, Option, Some, None, refl, sym, ap, ◌∙◌, subst, arith}
-use Rattle.std.specs.Bool.{OnTrue, OnFalse}
 use Rattle.std.specs.List.{Contains, list_any}
-use Rattle.std.proofs.lemmas.Bool.{eqb-true}
+use Rattle.std.proofs.lemmas.Bool.{eqb-true, OnTrue_at, OnFalse_at}
 use Rattle.hy_bits.specs.Letter.{Letter}
 use Rattle.hy_formula.specs.Quantifiers.{Each}
 use Rattle.hy_formula.proofs.Tuples.{contains-none}
@@ -359,12 +358,10 @@ search-returns-then-is_settled-clause-searched g t c =
 pub search-returns-then-rejects-clause-searched : goal.search-returns-then-rejects-clause-searched
 search-returns-then-rejects-clause-searched g t c =
     let w = c.args.self.now in
-    let P = λ b. OnTrue b (CanStop w.lengths (rests_in w c.args.places.now)) in
-    let Q = λ b. OnTrue b (is_accepting (machine_in w) c.args.q ≡ false) in
     tuple-search (machine_in w) w.lengths c.args.q (rests_in w c.args.places.now)
     c.tuple_of.result c.tuple_of.ensures.some c.tuple_of.ensures.none c.requires.members
-    (subst P c.if-rejects.true c.rejects.ensures.stop)
-    (subst Q c.if-rejects.true c.rejects.ensures.rejects)
+    (OnTrue_at c.if-rejects.true c.rejects.ensures.stop)
+    (OnTrue_at c.if-rejects.true c.rejects.ensures.rejects)
 
 pub search-choose-requires : goal.search-choose-requires
 search-choose-requires g t c κs within =
@@ -390,12 +387,9 @@ search-choose-requires g t c κs within =
 pub search-returns-clause-searched : goal.search-returns-clause-searched
 search-returns-clause-searched g t c =
     let w = c.args.self.now in
-    let rests = rests_in w c.args.places.now in
-    let P = λ b. OnFalse b ((ts : List Trace) → IsTupleOf rests ts → judged w.lengths ts ≡ 0
-    → is_accepting (machine_in w) c.args.q ≡ true) in
-    chosen-search (machine_in w) w.lengths c.args.q rests (wholes_in w c.args.places.now)
+    chosen-search (machine_in w) w.lengths c.args.q (rests_in w c.args.places.now) (wholes_in w c.args.places.now)
     (open-wholes (places_in w c.args.places.now) c.requires.open) c.choose.result
-    (subst P c.if-rejects.false c.rejects.ensures.accepts) c.choose.ensures.searched
+    (OnFalse_at c.if-rejects.false c.rejects.ensures.accepts) c.choose.ensures.searched
 
 pub search-returns-clause-counted : goal.search-returns-clause-counted
 search-returns-clause-counted g t c =

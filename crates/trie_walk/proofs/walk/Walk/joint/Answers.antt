@@ -26,7 +26,7 @@ loop-i-preserved c =
     let lt : i < n = omega (arith, c.vars-i-end.ensures.vars) in
     let here = get-map letter_taken n ps i p lt at in
     let one : suc i ≡ i + 1 = omega arith in
-    ap (λ k. bit_or c.loop-i.code k) (c.part.ensures.part ∙ ap (part_of atoms i) (sym is))
+    ap (λ k. bit_or c.loop-i.code k) (c.part-code.ensures.part ∙ ap (part_of atoms i) (sym is))
     ∙ ap (λ k. bit_or k (part_of atoms i (letter_taken p))) c.loop-i.invariant
     ∙ code-more letters i (letter_taken p) atoms (map-twice n ps i (letter_taken p) here)
     ∙ ap (λ k. code_of (joint_letter (take k letters)) atoms) one

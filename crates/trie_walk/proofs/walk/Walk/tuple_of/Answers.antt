@@ -1,4 +1,4 @@
-use Rattle.std.proofs.Common.{◌≡◌, ◌+◌, ◌<◌, ◌≤◌, ℕ, suc, List, [], ◌∷◌, ◌++◌, length, set, take, None, IfNone, refl, sym, ap, ◌∙◌, subst, arith, length-set}
+use Rattle.std.proofs.Common.{◌≡◌, ◌+◌, ◌<◌, ◌≤◌, ℕ, suc, List, [], ◌∷◌, ◌++◌, length, set, take, Option, None, IfNone, refl, sym, ap, ◌∙◌, subst, arith, length-set}
 use Rattle.std.proofs.Math.Seq.{take-suc-set}
 use Rattle.trace_trie.specs.Numbered.{Numbered}
 use Rattle.trie_walk.specs.Finds.{numbers_of}
@@ -18,7 +18,7 @@ loop-i-init c = (refl, ([], tt, refl))
 pub returns-in_err-numbers-clause-none : goal.returns-in_err-numbers-clause-none
 returns-in_err-numbers-clause-none c =
     let w = c.args.self.now in
-    let P = λ r. IfNone r (¬ AreSome (rests_in w c.args.places.now)) in
+    let P : Option (List ℕ) → Type 0 = λ r. IfNone r (¬ AreSome (rests_in w c.args.places.now)) in
     let empty : left_at c.at.result ≡ [] = c.in_err-numbers.ensures.none in
     subst P (sym c.from_residual.ensures)
     (λ some.
@@ -42,7 +42,7 @@ loop-i-preserved c =
     let (t, here, done) = c.in_ok-numbers.ensures.some in
     let lt : i < length c.loop-i.numbers = omega (arith, long, c.vars-count.ensures.vars) in
     let one : suc i ≡ i + 1 = omega arith in
-    let P = λ (k : ℕ). AreEnded (take k rests) (ps ++ (number, t) ∷ [])
+    let P : ℕ → Type 0 = λ k. AreEnded (take k rests) (ps ++ (number, t) ∷ [])
     × (numbers_of (ps ++ (number, t) ∷ []) ≡ take k (set c.loop-i.numbers i number)) in
     let (e, f) = subst P one (
       ended-more n i (four c.args.places.now) c.at.result ps (number, t)
@@ -61,7 +61,7 @@ returns-clause-some c =
     let long = long-places (machine_in w).variables left_at (four c.args.places.now) few in
     let (l, (ps, ended, same)) = c.loop-i.invariant in
     let all : c.loop-i.i ≡ c.vars-count.result = omega arith in
-    let P = λ ls. AreEnded ls ps in (
+    let P : List (List Numbered) → Type 0 = λ ls. AreEnded ls ps in (
       ps,
       subst P (take-whole c.loop-i.i rests (omega (arith, c.vars-count.ensures.vars, long))) ended,
       same ∙ ap (λ k. take k c.loop-i.numbers) all ∙ sym c.new.ensures,
