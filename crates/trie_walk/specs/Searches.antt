@@ -73,10 +73,6 @@ abbrev pub CanStop : Lengths → List (List Numbered) → Type 0
 CanStop Min wholes = (rests : List Numbered) × Contains wholes rests × HasEnded rests
 CanStop Pad wholes = Each HasEnded wholes
 
--- Each tuple has a position left.
-abbrev pub GoesOn : Lengths → List (List Numbered) → Type 0
-GoesOn lengths wholes = (tuple : List Trace) → IsTupleOf wholes tuple → 0 < judged lengths tuple
-
 -- A member of each list, that has ended where one of the list has.
 abbrev pub AreEnded : List (List Numbered) → List Numbered → Type 0
 AreEnded [] [] = Unit {0}
