@@ -53,8 +53,8 @@ tuple-unset (l ∷ ls) zero w (t ∷ ts) part h = (part-traces w l part t h.0, h
 tuple-unset (l ∷ ls) (suc i) w [] part h = absurd h
 tuple-unset (l ∷ ls) (suc i) w (t ∷ ts) part h = (h.0, tuple-unset ls i w ts part h.1)
 
-pub tuple-at : (ls : List (List Numbered)) (i : ℕ) (ts : List Trace) → i < length ls → IsTupleOf ls ts
-    → Contains (traces_of (get_or ls i [])) (get_or ts i [])
+pub tuple-at : (ls : List (List Numbered)) (i : ℕ) (ts : List Trace) → i < length ls
+    → IsTupleOf ls ts → Contains (traces_of (get_or ls i [])) (get_or ts i [])
 tuple-at [] i ts lt h = absurd (omega arith)
 tuple-at (l ∷ ls) i [] lt h = absurd h
 tuple-at (l ∷ ls) zero (t ∷ ts) lt h = h.0
@@ -113,7 +113,9 @@ take-longer [] k b c = absurd (contains-none b (none k c))
     none (suc k) c = c
 take-longer (x ∷ xs) zero b c = absurd (contains-none b c)
 take-longer (x ∷ xs) (suc k) b c = elim (contains-cases x b (take k xs) c) [
-  | inl is ↦ let P = Contains (x ∷ take (suc k) xs) in subst P is (contains-here x (take (suc k) xs))
+  | inl is ↦
+      let P = Contains (x ∷ take (suc k) xs) in
+      subst P is (contains-here x (take (suc k) xs))
   | inr later ↦ contains-later x b (take (suc k) xs) (take-longer xs k b later)
 ]
 
@@ -157,7 +159,8 @@ module _ (m : Machine) (lengths : Lengths) (q : ℕ) (ls : List (List Numbered))
       → entry (get_or tuple i []) ≡ e → IsAccepted m lengths q tuple
   accepted-way e w lt way accepted tuple h some begins =
       accepted tuple
-      (tuple-set ls i w tuple lt h (way.whole (get_or tuple i []) (tuple-at ls i tuple lt h) begins))
+      (tuple-set ls i w tuple lt h
+      (way.whole (get_or tuple i []) (tuple-at ls i tuple lt h) begins))
       some
 
   pub accepted-more : (letters : List Letter) (k : ℕ) (a : Letter) (w : List Numbered)
@@ -227,7 +230,8 @@ none-gaps Pad ls i lt none tuple h some e =
 prefix-unset : (lengths : Lengths) (ls : List (List Numbered)) (i : ℕ) (w : List Numbered)
     → ((p : Numbered) → Contains w p → Contains (get_or ls i []) p) → (rows : List Row)
     → IsPrefixIn lengths (set ls i w) rows → IsPrefixIn lengths ls rows
-prefix-unset lengths ls i w part rows (tuple, h, pre) = (tuple, tuple-unset ls i w tuple part h, pre)
+prefix-unset lengths ls i w part rows (tuple, h, pre) =
+    (tuple, tuple-unset ls i w tuple part h, pre)
 
 entry-at : (ts : List Trace) (i : ℕ) → i < length ts
     → get_or (map entry ts) i None ≡ entry (get_or ts i [])

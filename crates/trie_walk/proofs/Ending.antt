@@ -27,7 +27,8 @@ none-ended : (ls : List (List Numbered)) (ts : List Trace)
 none-ended [] [] none_so h = tt
 none-ended [] (t ∷ ts) none_so h = absurd h
 none-ended (l ∷ ls) [] none_so h = absurd h
-none-ended (l ∷ ls) ([] ∷ ts) none_so h = absurd (none_so l (contains-here l ls) (ended-trace l h.0))
+none-ended (l ∷ ls) ([] ∷ ts) none_so h =
+    absurd (none_so l (contains-here l ls) (ended-trace l h.0))
 none-ended (l ∷ ls) ((a ∷ t) ∷ ts) none_so h =
     (omega arith, none-ended ls ts (λ k c. none_so k (contains-later l k ls c)) h.1)
 

@@ -213,8 +213,8 @@ pub gap-search : (m : Machine) (lengths : Lengths) (q n i : ℕ) (ps next : List
     → AreAcceptedBy m lengths q i letters (map whole_of (take n ps)) → (r : Option (List ℕ))
     → IsSearch m lengths q 1 (map whole_of (take n next)) r
     → IsSearch m lengths q 1 (map whole_of (take n ps)) r
-gap-search m lengths q n i ps next p x lt le at opens is way letters are by_letter (Some numbers) s =
-    next-rejected n i ps next p x lt le at opens is None way m lengths q numbers s
+gap-search m lengths q n i ps next p x lt le at opens is way letters are by_letter (Some ns) s =
+    next-rejected n i ps next p x lt le at opens is None way m lengths q ns s
 gap-search m lengths q n i ps next p x lt le at opens is way letters are by_letter None s =
     all-accepted m lengths q n i ps p lt le at opens letters are by_letter
     (next-accepted n i ps next p x lt le at opens is None way m lengths q s)

@@ -99,7 +99,8 @@ pub opened-left : (n : ℕ) (ps next : List Place) → next ≡ map open_at ps
     → map left_at (take n next) ≡ map left_at (take n ps)
 opened-left n ps next e = ap (λ qs. map left_at (take n qs)) e ∙ same n ps
   where
-    same : (n : ℕ) (ps : List Place) → map left_at (take n (map open_at ps)) ≡ map left_at (take n ps)
+    same : (n : ℕ) (ps : List Place)
+        → map left_at (take n (map open_at ps)) ≡ map left_at (take n ps)
     same zero ps = refl
     same (suc n) [] = refl
     same (suc n) (p ∷ ps) = ap (λ ls. left_at p ∷ ls) (same n ps)

@@ -99,7 +99,9 @@ module _ (list : List Numbered) (x : Numbered) (is : Contains list x) where
   to-copies zero (u ∷ ts) t = absurd (omega (arith, t.count))
   to-copies (suc n) [] t = absurd (omega (arith, t.count))
   to-copies (suc n) (u ∷ ts) t =
-      (t.members.0, to-copies n ts (record { count = omega (arith, t.count); members = t.members.1 }))
+      let more : IsTuple (Contains (traces_of list)) n ts =
+      record { count = omega (arith, t.count); members = t.members.1 } in
+      (t.members.0, to-copies n ts more)
 
   to-starts : (n p : ℕ) (ts : List Trace) → p < n → IsTuple (Contains (traces_of list)) n ts
       → get_or ts p x.1 ≡ x.1 → IsTupleOf (starts list x n p) ts
@@ -124,7 +126,9 @@ module _ (list : List Numbered) (x : Numbered) (is : Contains list x) where
   traces-tuple zero (p ∷ ps) t = absurd (omega (arith, t.count))
   traces-tuple (suc n) [] t = absurd (omega (arith, t.count))
   traces-tuple (suc n) (p ∷ ps) t =
-      let r = traces-tuple n ps (record { count = omega (arith, t.count); members = t.members.1 }) in
+      let more : IsTuple (Contains list) n ps =
+      record { count = omega (arith, t.count); members = t.members.1 } in
+      let r = traces-tuple n ps more in
       record {
         count = ap suc r.count;
         members = (map-of (λ (q : Numbered). q.1) list p t.members.0, r.members);

@@ -313,7 +313,8 @@ module _ (m : Machine) (lengths : Lengths) (q code next : ℕ) (places : List Pl
         same = λ i. sym is i ∷ (pre.same ∙ ap (λ vs. rows_of vs pre.count) (sym e)) i;
       })
 
-  first-row : AreSome (map whole_of places) → IsPrefixIn lengths (map whole_of places) (behind_row [])
+  first-row : AreSome (map whole_of places)
+      → IsPrefixIn lengths (map whole_of places) (behind_row [])
   first-row some =
       let (xs, c) = some-pairs (map whole_of places) some in
       let h = pairs-tuple (map whole_of places) xs c in

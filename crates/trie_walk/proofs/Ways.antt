@@ -19,8 +19,8 @@ contains-one x y c = elim (contains-cases x y [] c) [
   | inr later ↦ absurd (contains-none y later)
 ]
 
-from-under : (a : Letter) (rests : List Numbered) (p : Numbered) → Contains (led_by a (under a rests)) p
-    → Contains rests p
+from-under : (a : Letter) (rests : List Numbered) (p : Numbered)
+    → Contains (led_by a (under a rests)) p → Contains rests p
 from-under a [] p c = absurd (contains-none p c)
 from-under a ((n, []) ∷ rests) p c = contains-later (n, []) p rests (from-under a rests p c)
 from-under a ((n, b ∷ t) ∷ rests) p c = step (from-under a rests p) (same_letter a b) refl c

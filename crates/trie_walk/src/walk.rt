@@ -113,7 +113,8 @@ impl<'a> Walk<'a> {
         requires moved { Each (IsMoved self.now.lengths) (first_places i places.now) }
         requires open { Each IsOpen (drop i (places_in self.now places.now)) }
         requires members { AreSome (wholes_in self.now places.now) }
-        ensures searched { IsSearchBy (machine_in self.now) self.now.lengths q i (letters_in i (four places.now))
+        ensures searched { IsSearchBy (machine_in self.now) self.now.lengths q i
+            (letters_in i (four places.now))
             (wholes_in self.now places.now) result }
         ensures steps { steps.old ≤ steps.new }
         ensures counted { AreStepsBy self.now.lengths i (letters_in i (four places.now))

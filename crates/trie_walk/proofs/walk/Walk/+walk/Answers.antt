@@ -281,7 +281,8 @@ choose_letter-returns-in-Some-clause-counted g t c =
     at-letters c.args.i ps c.at.result c.at.ensures in
     let P : List Letter → Type 0 = λ l. AreLetters l (left_at c.at.result) in
     let Q : List Letter → Type 0 = λ l. slice_get l c.loop-k.k ≡ Some a in
-    let are : AreLetters letters (left_at c.at.result) = subst P (sym is) c.letters_differ.ensures in
+    let are : AreLetters letters (left_at c.at.result) =
+    subst P (sym is) c.letters_differ.ensures in
     steps-letters w.lengths (wholes_in w c.args.places.now) c.args.i letters (c.loop-k.k + 1)
     (c.choose.new.steps - c.args.steps.now)
     (next-steps (machine_in w).variables c.args.i ps
@@ -305,7 +306,8 @@ choose_letter-loop-k-preserved g t c =
     at-letters c.args.i ps c.at.result c.at.ensures in
     let P : List Letter → Type 0 = λ l. AreLetters l (left_at c.at.result) in
     let Q : List Letter → Type 0 = λ l. slice_get l c.loop-k.k ≡ Some a in
-    let are : AreLetters letters (left_at c.at.result) = subst P (sym is) c.letters_differ.ensures in
+    let are : AreLetters letters (left_at c.at.result) =
+    subst P (sym is) c.letters_differ.ensures in
     record {
       accepted = next-more (machine_in w).variables c.args.i ps (four c.with-next.result)
           c.at.result c.letter.result c.requires.within few c.at.ensures c.requires.open
@@ -387,7 +389,8 @@ search-choose-requires g t c κs within =
 pub search-returns-clause-searched : goal.search-returns-clause-searched
 search-returns-clause-searched g t c =
     let w = c.args.self.now in
-    chosen-search (machine_in w) w.lengths c.args.q (rests_in w c.args.places.now) (wholes_in w c.args.places.now)
+    chosen-search (machine_in w) w.lengths c.args.q (rests_in w c.args.places.now)
+    (wholes_in w c.args.places.now)
     (open-wholes (places_in w c.args.places.now) c.requires.open) c.choose.result
     (OnFalse_at c.if-rejects.false c.rejects.ensures.accepts) c.choose.ensures.searched
 

@@ -40,4 +40,5 @@ returns-clause-no c = λ (l, (k, lt, e), ended).
     let few : (machine_in w).variables ≤ 4 = w.monitor.now.right.few in
     let long = long-places (machine_in w).variables left_at (four c.args.places.now) few in
     let is : get_or rests k [] ≡ l = get_or_default rests k [] l lt ∙ e in
-    c.loop-i.invariant k (omega (arith, c.vars-i-end.ensures.vars, long)) (subst HasEnded (sym is) ended)
+    c.loop-i.invariant k (omega (arith, c.vars-i-end.ensures.vars, long))
+    (subst HasEnded (sym is) ended)
