@@ -37,7 +37,7 @@ tuple-set (l ∷ ls) zero w (t ∷ ts) lt h c = (c, h.1)
 tuple-set (l ∷ ls) (suc i) w [] lt h c = absurd h
 tuple-set (l ∷ ls) (suc i) w (t ∷ ts) lt h c = (h.0, tuple-set ls i w ts (omega arith) h.1 c)
 
-part-traces : (w rests : List Numbered) → ((p : Numbered) → Contains w p → Contains rests p)
+pub part-traces : (w rests : List Numbered) → ((p : Numbered) → Contains w p → Contains rests p)
     → (t : Trace) → Contains (traces_of w) t → Contains (traces_of rests) t
 part-traces w rests part t c =
     let (p, d, e) = map-from (λ (p : Numbered). p.1) w t c in

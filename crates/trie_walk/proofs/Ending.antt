@@ -15,7 +15,7 @@ use Rattle.trie_walk.specs.Searches.{state_over, AreFrom, IsTupleOf, AreRejected
 use Rattle.trie_walk.proofs.Lists.{map-from}
 use Rattle.trie_walk.proofs.Stepping.{all-judged, pairs-tuple}
 
-ended-trace : (l : List Numbered) → Contains (traces_of l) [] → HasEnded l
+pub ended-trace : (l : List Numbered) → Contains (traces_of l) [] → HasEnded l
 ended-trace l c =
     let ((n, t), d, e) = map-from (λ (p : Numbered). p.1) l [] c in
     let P : Trace → Type 0 = λ u. Contains l (n, u) in

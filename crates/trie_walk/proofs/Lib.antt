@@ -3,6 +3,7 @@ pub mod Ending
 pub mod Lists
 pub mod Longest
 pub mod Nexts
+pub mod Onlys
 pub mod Placing
 pub mod Scanning
 pub mod Starting

@@ -20,14 +20,14 @@ abbrev pub longest : List (List Numbered) → ℕ
 longest [] = 0
 longest (l ∷ ls) = max (longest_in l) (longest ls)
 
-in-most : (l : List Numbered) (p : Numbered) → Contains l p → length p.1 ≤ longest_in l
+pub in-most : (l : List Numbered) (p : Numbered) → Contains l p → length p.1 ≤ longest_in l
 in-most [] p c = absurd (contains-none p c)
 in-most (q ∷ l) p c = elim (contains-cases q p l c) [
   | inl e ↦ omega (arith, ap (λ (o : Numbered). length o.1) e)
   | inr later ↦ omega (arith, in-most l p later)
 ]
 
-in-least : (l : List Numbered) (b : ℕ) → ((p : Numbered) → Contains l p → length p.1 ≤ b)
+pub in-least : (l : List Numbered) (b : ℕ) → ((p : Numbered) → Contains l p → length p.1 ≤ b)
     → longest_in l ≤ b
 in-least [] b h = omega arith
 in-least (q ∷ l) b h =

@@ -1,6 +1,6 @@
 //! Where a walk stands at one place of its tuples.
 
-ghost use Rattle.std.specs.Prelude.{◌≡◌, ◌<◌, ℕ, [], length, map, replicate, set, slice_get, Some, None, IfSome, IfNone};
+ghost use Rattle.std.specs.Prelude.{◌≡◌, ◌<◌, ℕ, [], ◌∷◌, length, map, replicate, set, slice_get, Some, None, IfSome, IfNone};
 ghost use Rattle.std.specs.List.{Contains};
 ghost use Rattle.hy_bits.specs.Letter.{Letter as NameSet};
 ghost use Rattle.hy_finite.specs.declared.lengths.Lengths.{Lengths};
@@ -181,6 +181,23 @@ pub(crate) struct Places<'a> {
 }
 
 impl<'a> Places<'a> {
+    /// These four.
+    pub(crate) fn of(
+        first: &Place<'a>,
+        second: &Place<'a>,
+        third: &Place<'a>,
+        fourth: &Place<'a>,
+    ) -> Places<'a>
+        ensures { four result ≡ first.now ∷ second.now ∷ third.now ∷ fourth.now ∷ [] }
+    {
+        Places {
+            first: first.copied(),
+            second: second.copied(),
+            third: third.copied(),
+            fourth: fourth.copied(),
+        }
+    }
+
     /// The same spot at each.
     pub(crate) fn all(spot: &Spot<'a>) -> Places<'a>
         ensures { four result ≡ replicate 4 (record { taken = Nothing; spot = spot.now }) }

@@ -1,6 +1,6 @@
 //! The walk down from one place for each variable.
 
-ghost use Rattle.std.specs.Prelude.{◌≡◌, ◌-◌, ◌<◌, ◌≤◌, true, false, List, map, take, drop, IfSome, IfNone, None};
+ghost use Rattle.std.specs.Prelude.{◌≡◌, ◌-◌, ◌<◌, ◌≤◌, true, false, List, map, take, drop, slice_get, IfSome, IfNone, Some, None};
 ghost use Rattle.std.specs.Bool.{OnTrue, OnFalse};
 ghost use Rattle.std.specs.List.{list_any};
 ghost use Rattle.hy_formula.specs.Quantifiers.{Each};
@@ -9,9 +9,10 @@ ghost use Rattle.hy_finite.specs.Traces.{Trace, judged};
 ghost use Rattle.fin_monitor.specs.Codes.{code_of, joint_letter};
 ghost use Rattle.fin_monitor.specs.Machines.{codes, is_accepting, states_of};
 ghost use Rattle.trace_trie.specs.Numbered.{Numbered};
+ghost use Rattle.trie_walk.specs.declared.place.Place.{Place as Seen};
 ghost use Rattle.trie_walk.specs.Finds.{numbers_of};
 ghost use Rattle.trie_walk.specs.Four.{four, first_places, letters_in};
-ghost use Rattle.trie_walk.specs.Places.{whole_of, rests_of, taken_of, letter_or, is_letter, HasNoGap, IsOpen, IsMoved, IsWay, AreSome};
+ghost use Rattle.trie_walk.specs.Places.{whole_of, rests_of, taken_of, letter_or, is_letter, HasNoGap, IsOpen, IsMoved, IsOnly, AreOnly, IsWay, AreSome};
 ghost use Rattle.trie_walk.specs.Searches.{IsSearch, IsSearchBy, IsTupleOf, CanStop, AreEnded, AreSteps, AreStepsBy};
 ghost use Rattle.trie_walk.specs.Walks.{machine_in, places_in, rests_in, wholes_in};
 
@@ -59,7 +60,10 @@ impl<'a> Walk<'a> {
         if self.rejects(places, q) {
             return self.tuple_of(places);
         }
-        self.choose(places, 0, q, steps)
+        match self.only(places) {
+            Some(moved) => self.advance(&moved, q, steps),
+            None => self.choose(places, 0, q, steps),
+        }
     }
 
     /// As `search`, where what a step takes is chosen at the first `i` places; at least one step.
@@ -156,6 +160,63 @@ impl<'a> Walk<'a> {
         }
         let q = self.monitor.step(q, self.joint(places), steps);
         self.search(&places.opened(), q, steps)
+    }
+
+    /// The places behind one step, where there is one way on at each, and a letter at some.
+    fn only(&self, places: &Places<'a>) -> Option<Places<'a>>
+        ensures moved { IfSome result (λ p. Each (IsMoved self.now.lengths)
+            (places_in self.now p)) }
+        ensures only { IfSome result (λ p. AreOnly self.now.lengths
+            (rests_in self.now places.now) (wholes_in self.now p)) }
+        ensures letter { IfSome result (λ p. list_any is_letter
+            (map taken_of (places_in self.now p)) ≡ true) }
+    {
+        let Some(first) = self.only_at(places, 0) else {
+            return None;
+        };
+        let Some(second) = self.only_at(places, 1) else {
+            return None;
+        };
+        let Some(third) = self.only_at(places, 2) else {
+            return None;
+        };
+        let Some(fourth) = self.only_at(places, 3) else {
+            return None;
+        };
+        let moved = Places::of(&first, &second, &third, &fourth);
+        if self.some_letter(&moved) { Some(moved) } else { None }
+    }
+
+    /// As `only_way`, at place `i`. Behind those of the variables a place stays.
+    fn only_at(&self, places: &Places<'a>, i: usize) -> Option<Place<'a>>
+        requires { i < 4 }
+        ensures moved { IfSome result (λ p. i < (machine_in self.now).variables
+            → IsMoved self.now.lengths p) }
+        ensures only { IfSome result (λ p. (old : Seen)
+            → slice_get (four places.now) i ≡ Some old → i < (machine_in self.now).variables
+            → IsOnly self.now.lengths (rests_of old.spot) (whole_of p)) }
+    {
+        let place = places.at(i);
+        if i < self.monitor.vars() as usize {
+            self.only_way(&place.spot)
+        } else {
+            Some(place)
+        }
+    }
+
+    /// The place behind one step, where there is one way on.
+    fn only_way(&self, spot: &Spot<'a>) -> Option<Place<'a>>
+        ensures moved { IfSome result (IsMoved self.now.lengths) }
+        ensures only { IfSome result (λ p. IsOnly self.now.lengths (rests_of spot.now)
+            (whole_of p)) }
+    {
+        spot.letters_differ();
+        let gap = self.gap(spot);
+        match spot.len() {
+            0 => gap,
+            1 => { if gap.is_some() { None } else { Some(spot.letter(0)) } }
+            _ => None,
+        }
     }
 
     /// The place past the end of a trace, where one ends at the spot and tuples are judged there.

@@ -16,6 +16,7 @@ use Rattle.trie_walk.proofs.Choosing.{no-steps_by, steps-letters}
 use Rattle.trie_walk.proofs.Ending.{settled-accepted}
 use Rattle.trie_walk.proofs.Longest.{longest, longest-step}
 use Rattle.trie_walk.proofs.Nexts.{next-longest, next-some, next-rejected, next-accepted, next-more, next-steps, next-gap, no-gap-accepted, tuple-search, chosen-search, no-letter, step-search, at-some, take-whole, gap-search}
+use Rattle.trie_walk.proofs.Onlys.{only-longest, only-some, only-search, only-steps}
 use Rattle.trie_walk.proofs.Placing.{moved-more, open-less, at-letters, open-wholes, opened-left, opened-open}
 use Rattle.trie_walk.proofs.Stepping.{left_at, some-left, step-steps, taken-code}
 use Rattle.trie_walk.proofs.walk.Walk.+walk.Goals as goal
@@ -386,17 +387,52 @@ search-choose-requires g t c κs within =
       ),
     )
 
-pub search-returns-clause-searched : goal.search-returns-clause-searched
-search-returns-clause-searched g t c =
+pub search-returns-in-None-clause-searched : goal.search-returns-in-None-clause-searched
+search-returns-in-None-clause-searched g t c =
     let w = c.args.self.now in
     chosen-search (machine_in w) w.lengths c.args.q (rests_in w c.args.places.now)
     (wholes_in w c.args.places.now)
     (open-wholes (places_in w c.args.places.now) c.requires.open) c.choose.result
     (OnFalse_at c.if-rejects.false c.rejects.ensures.accepts) c.choose.ensures.searched
 
-pub search-returns-clause-counted : goal.search-returns-clause-counted
-search-returns-clause-counted g t c =
+pub search-returns-in-None-clause-counted : goal.search-returns-in-None-clause-counted
+search-returns-in-None-clause-counted g t c =
     let w = c.args.self.now in
     let P : List (List Numbered) → Type 0 = λ ls. AreSteps w.lengths ls
     (c.choose.new.steps - c.args.steps.now) in
     subst P (open-wholes (places_in w c.args.places.now) c.requires.open) c.choose.ensures.counted
+
+pub search-advance-requires : goal.search-advance-requires
+search-advance-requires g t c κs within =
+    let w = c.args.self.now in
+    let rests = rests_in w c.args.places.now in
+    let wholes = wholes_in w c.in-Some.moved in
+    let fewer = only-longest w.lengths rests wholes c.in-Some.ensures.only in (
+      omega (arith, c.decreases, fewer),
+      (
+        within,
+        (
+          c.requires.some,
+          (
+            c.requires.state,
+            (c.in-Some.ensures.moved, only-some w.lengths rests wholes c.in-Some.ensures.only),
+          ),
+        ),
+      ),
+    )
+
+pub search-returns-in-Some-clause-searched : goal.search-returns-in-Some-clause-searched
+search-returns-in-Some-clause-searched g t c =
+    let w = c.args.self.now in
+    let rests = rests_in w c.args.places.now in
+    let wholes = wholes_in w c.in-Some.moved in
+    chosen-search (machine_in w) w.lengths c.args.q rests rests refl c.advance.result
+    (OnFalse_at c.if-rejects.false c.rejects.ensures.accepts)
+    (only-search (machine_in w) w.lengths c.args.q rests wholes c.in-Some.ensures.only
+    c.advance.result c.advance.ensures.searched)
+
+pub search-returns-in-Some-clause-counted : goal.search-returns-in-Some-clause-counted
+search-returns-in-Some-clause-counted g t c =
+    let w = c.args.self.now in
+    only-steps w.lengths (rests_in w c.args.places.now) (wholes_in w c.in-Some.moved)
+    c.in-Some.ensures.only (c.advance.new.steps - c.args.steps.now) c.advance.ensures.counted
