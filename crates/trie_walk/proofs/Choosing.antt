@@ -1,20 +1,18 @@
 -- What is known of tuples where one place of them is known further.
-use Rattle.std.proofs.Common.{◌≡◌, ◌⊎◌, ℕ, zero, suc, ◌+◌, ◌<◌, ◌≤◌, Bool, true, false, List, [], ◌∷◌, ◌++◌, length, map, take, set, get_or, slice_get, Option, Some, None, inl, inr, refl, sym, ap, ◌∙◌, subst, arith, length-append}
+use Rattle.std.proofs.Common.{◌≡◌, ◌⊎◌, ℕ, zero, suc, ◌+◌, ◌<◌, ◌≤◌, List, [], ◌∷◌, ◌++◌, length, map, take, set, get_or, slice_get, Option, Some, None, inl, inr, refl, sym, ap, ◌∙◌, subst, arith, length-append}
 use Rattle.std.specs.List.{Contains}
-use Rattle.std.proofs.lemmas.List.Elements.{Contains-append_cases}
 use Rattle.hy_bits.specs.Letter.{Letter}
-use Rattle.hy_formula.specs.Quantifiers.{Each}
 use Rattle.hy_formula.proofs.Tuples.{contains-here, contains-later, contains-cases, contains-none}
 use Rattle.hy_finite.specs.declared.lengths.Lengths.{Lengths}
 use Rattle.hy_finite.specs.declared.lengths.Lengths.TheVariants.{Min, Pad}
-use Rattle.hy_finite.specs.Traces.{Trace, of_two, judged}
+use Rattle.hy_finite.specs.Traces.{Trace, judged}
 use Rattle.fin_monitor.specs.Machines.{Machine}
 use Rattle.trace_trie.specs.Numbered.{Numbered}
 use Rattle.trace_trie.specs.Cursors.{AreDistinct, GoesOn, AreLetters}
 use Rattle.trie_walk.specs.Finds.{traces_of}
-use Rattle.trie_walk.specs.JointPrefixes.{Row, entry, rows_of, IsPrefixOf}
+use Rattle.trie_walk.specs.JointPrefixes.{Row, entry, rows_of}
 use Rattle.trie_walk.specs.Places.{IsWay, HasNoGap}
-use Rattle.trie_walk.specs.Searches.{AreFrom, IsTupleOf, AreRejected, AreAccepted, AreAcceptedBy, IsAccepted, AreApart, IsPrefixIn, AreSteps, entry_in, BeginsBy, AreStepsBy}
+use Rattle.trie_walk.specs.Searches.{AreFrom, IsTupleOf, AreRejected, AreAccepted, AreAcceptedBy, IsAccepted, IsPrefixIn, AreSteps, entry_in, BeginsBy, AreStepsBy}
 use Rattle.trie_walk.proofs.Lists.{map-of, map-from, each-at, each-like, each-append, apart-append}
 
 -- ---- one list changed
@@ -190,6 +188,7 @@ module _ (m : Machine) (lengths : Lengths) (q : ℕ) (ls : List (List Numbered))
           let (p, d, e) = map-from (λ (p : Numbered). p.1) (get_or ls i []) (a ∷ t) c in
           let P : Trace → Type 0 = GoesOn letters in
           subst P e (each-at (λ (p : Numbered). GoesOn letters p.1) (get_or ls i []) p are.whole d)
+
       at : (tuple : List Trace) → IsTupleOf ls tuple → 1 ≤ judged lengths tuple → (t : Trace)
           → get_or tuple i [] ≡ t → Contains (traces_of (get_or ls i [])) (get_or tuple i [])
           → IsAccepted m lengths q tuple
@@ -216,8 +215,11 @@ pub none-gaps : (lengths : Lengths) (ls : List (List Numbered)) (i : ℕ) → i 
     → HasNoGap lengths (get_or ls i []) → (tuple : List Trace) → IsTupleOf ls tuple
     → 1 ≤ judged lengths tuple → ¬ (entry (get_or tuple i []) ≡ None)
 none-gaps Min ls i lt none tuple h some e =
-    omega (arith, ended-least tuple i (omega (arith, length-tuple ls tuple h))
-    (no-entry (get_or tuple i []) e))
+    omega (
+      arith,
+      ended-least tuple i (omega (arith, length-tuple ls tuple h))
+          (no-entry (get_or tuple i []) e),
+    )
 none-gaps Pad ls i lt none tuple h some e =
     let P : Trace → Type 0 = Contains (traces_of (get_or ls i [])) in
     let ((n, t), c, is) = map-from (λ (p : Numbered). p.1) (get_or ls i []) []
@@ -278,7 +280,7 @@ module _ (lengths : Lengths) (ls : List (List Numbered)) (i : ℕ) where
       → AreStepsBy lengths i (take (suc k) letters) ls (before + more)
   steps-more letters k a w lt distinct e way before more s t =
       let begins : (rows : List Row) → IsPrefixIn lengths (set ls i w) rows
-          → entry_in i rows ≡ Some a =
+      → entry_in i rows ≡ Some a =
       entry-set lengths ls i (Some a) w lt way.first in
       record {
         visited = s.visited ++ t.visited;

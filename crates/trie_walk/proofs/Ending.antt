@@ -1,6 +1,6 @@
 -- Where tuples have no position left.
-use Rattle.std.proofs.Common.{◌≡◌, ℕ, zero, suc, ◌+◌, ◌<◌, ◌≤◌, min, Bool, true, false, List, [], ◌∷◌, length, map, inl, inr, refl, sym, ap, ◌∙◌, subst, arith}
-use Rattle.std.specs.List.{Contains, list_any}
+use Rattle.std.proofs.Common.{◌≡◌, ℕ, zero, suc, ◌<◌, true, false, List, [], ◌∷◌, length, map, inl, inr, refl, sym, ap, ◌∙◌, subst, arith}
+use Rattle.std.specs.List.{Contains}
 use Rattle.hy_formula.specs.Quantifiers.{Each}
 use Rattle.hy_formula.proofs.Tuples.{contains-here, contains-later, contains-cases, contains-none}
 use Rattle.hy_finite.specs.declared.lengths.Lengths.{Lengths}
@@ -10,10 +10,10 @@ use Rattle.fin_monitor.specs.Machines.{Machine, IsMonitor, next_state, is_accept
 use Rattle.fin_monitor.proofs.CodeBits.{code-lt}
 use Rattle.trace_trie.specs.Numbered.{Numbered, tail}
 use Rattle.trie_walk.specs.Finds.{numbers_of, traces_of}
-use Rattle.trie_walk.specs.Places.{HasEnded, is_letter}
+use Rattle.trie_walk.specs.Places.{HasEnded}
 use Rattle.trie_walk.specs.Searches.{state_over, AreFrom, IsTupleOf, AreRejected, AreAccepted, IsAccepted, CanStop, AreEnded}
 use Rattle.trie_walk.proofs.Lists.{map-from}
-use Rattle.trie_walk.proofs.Stepping.{all-judged, pairs-tuple}
+use Rattle.trie_walk.proofs.Stepping.{all-judged}
 
 pub ended-trace : (l : List Numbered) → Contains (traces_of l) [] → HasEnded l
 ended-trace l c =

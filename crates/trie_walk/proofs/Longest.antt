@@ -1,15 +1,14 @@
 -- How many letters are left at most.
-use Rattle.std.proofs.Common.{◌≡◌, ℕ, zero, suc, ◌+◌, ◌-◌, ◌<◌, ◌≤◌, max, Bool, true, false, ◌||◌, List, [], ◌∷◌, length, map, set, get_or, inl, inr, refl, sym, ap, ◌∙◌, subst, arith}
+use Rattle.std.proofs.Common.{◌≡◌, ℕ, zero, suc, ◌+◌, ◌-◌, ◌<◌, ◌≤◌, max, Bool, true, false, ◌||◌, List, [], ◌∷◌, length, map, set, get_or, inl, inr, refl, ap, arith}
 use Rattle.std.specs.List.{Contains, list_any}
 use Rattle.hy_formula.specs.Quantifiers.{Each}
 use Rattle.hy_formula.proofs.Tuples.{contains-here, contains-later, contains-cases, contains-none}
 use Rattle.hy_finite.specs.declared.lengths.Lengths.{Lengths}
-use Rattle.hy_finite.specs.Traces.{Trace}
 use Rattle.trace_trie.specs.Numbered.{Numbered, tail}
 use Rattle.trie_walk.specs.declared.place.Taken.{Taken}
 use Rattle.trie_walk.specs.declared.place.Taken.TheVariants.{Nothing, Letter, Gap}
 use Rattle.trie_walk.specs.declared.place.Place.{Place}
-use Rattle.trie_walk.specs.Places.{rests_of, whole_behind, whole_of, IsMovedTo, IsMoved, AreSome, taken_of, taken_entry, is_letter}
+use Rattle.trie_walk.specs.Places.{whole_behind, whole_of, IsMoved, AreSome, taken_of, taken_entry, is_letter}
 use Rattle.trie_walk.proofs.Stepping.{left_at, back, length-tail}
 
 abbrev pub longest_in : List Numbered → ℕ

@@ -1,7 +1,6 @@
 -- One place further on a walk, and the next step.
-use Rattle.std.proofs.Common.{◌≡◌, ◌⊎◌, ℕ, zero, suc, ◌+◌, ◌-◌, ◌<◌, ◌≤◌, Bool, true, false, List, [], ◌∷◌, length, map, take, drop, set, slice_get, get_or, Option, Some, None, IfSome, IfNone, inl, inr, refl, sym, ap, ◌∙◌, subst, arith}
-use Rattle.std.specs.List.{Contains, list_any}
-use Rattle.std.proofs.lemmas.Bool.{eqb-true}
+use Rattle.std.proofs.Common.{◌≡◌, ℕ, zero, suc, ◌+◌, ◌<◌, ◌≤◌, true, false, List, [], ◌∷◌, length, map, take, drop, set, slice_get, get_or, Option, Some, None, IfSome, IfNone, refl, sym, ap, ◌∙◌, subst, arith}
+use Rattle.std.specs.List.{list_any}
 use Rattle.hy_bits.specs.Letter.{Letter}
 use Rattle.hy_formula.specs.Quantifiers.{Each}
 use Rattle.hy_finite.specs.declared.lengths.Lengths.{Lengths}
@@ -14,12 +13,12 @@ use Rattle.trie_walk.specs.declared.place.Place.{Place}
 use Rattle.trie_walk.specs.Finds.{numbers_of}
 use Rattle.trie_walk.specs.JointPrefixes.{entry}
 use Rattle.trie_walk.specs.Places.{whole_of, IsOpen, IsMoved, IsWay, AreSome, HasNoGap, taken_of, letter_or, is_letter}
-use Rattle.trie_walk.specs.Searches.{IsTupleOf, AreRejected, AreAccepted, AreAcceptedBy, IsAccepted, IsSearch, IsSearchBy, CanStop, AreEnded, AreSteps, AreStepsBy}
+use Rattle.trie_walk.specs.Searches.{IsTupleOf, AreRejected, AreAccepted, AreAcceptedBy, IsAccepted, IsSearch, CanStop, AreEnded, AreSteps, AreStepsBy}
 use Rattle.trie_walk.proofs.Lists.{long-map}
-use Rattle.trie_walk.proofs.Choosing.{rejected-part, accepted-way, accepted-more, accepted-all, none-gaps, steps-more, steps-gap, steps-any}
+use Rattle.trie_walk.proofs.Choosing.{rejected-part, accepted-way, accepted-more, accepted-all, none-gaps, steps-more, steps-gap}
 use Rattle.trie_walk.proofs.Ending.{stop-rejected, from-none}
 use Rattle.trie_walk.proofs.Longest.{longest, longest-set}
-use Rattle.trie_walk.proofs.Placing.{wholes-set, some-set, at-place, open-wholes}
+use Rattle.trie_walk.proofs.Placing.{wholes-set, some-set, at-place}
 use Rattle.trie_walk.proofs.Stepping.{left_at, tuple-forward, none-judged, taken-code, step-accepted, step-rejected}
 
 pub long-take : {A : Type 0} (n : ℕ) (xs : List A) → n ≤ length xs → length (take n xs) ≡ n

@@ -1,5 +1,5 @@
 -- Steps on which there is one way on at each place.
-use Rattle.std.proofs.Common.{◌≡◌, ◌⊎◌, ℕ, zero, suc, ◌+◌, ◌-◌, ◌<◌, ◌≤◌, Bool, true, false, List, [], ◌∷◌, ◌++◌, length, map, take, slice_get, get_or, Option, Some, None, IfNone, inl, inr, refl, sym, ap, ◌∙◌, subst, arith}
+use Rattle.std.proofs.Common.{◌≡◌, ◌⊎◌, ℕ, zero, suc, ◌<◌, ◌≤◌, false, List, [], ◌∷◌, length, map, take, slice_get, Option, Some, None, IfNone, inl, inr, refl, sym, ap, ◌∙◌, subst, arith}
 use Rattle.std.specs.List.{Contains}
 use Rattle.std.specs.Option.{is_some}
 use Rattle.hy_bits.specs.Letter.{Letter}
@@ -13,9 +13,8 @@ use Rattle.trace_trie.specs.Numbered.{Numbered}
 use Rattle.trace_trie.specs.Cursors.{GoesOn, AreLetters}
 use Rattle.trie_walk.specs.declared.place.Place.{Place}
 use Rattle.trie_walk.specs.Finds.{traces_of}
-use Rattle.trie_walk.specs.JointPrefixes.{Row}
-use Rattle.trie_walk.specs.Places.{whole_of, IsWay, IsOnly, AreOnly, AreSome, HasNoGap, HasEnded}
-use Rattle.trie_walk.specs.Searches.{AreFrom, IsTupleOf, AreRejected, AreAccepted, IsSearch, IsPrefixIn, AreSteps}
+use Rattle.trie_walk.specs.Places.{whole_of, IsWay, IsOnly, AreOnly, AreSome, HasNoGap}
+use Rattle.trie_walk.specs.Searches.{AreFrom, IsTupleOf, IsSearch, IsPrefixIn, AreSteps}
 use Rattle.trie_walk.proofs.Lists.{map-from, each-at, each-like}
 use Rattle.trie_walk.proofs.Choosing.{part-traces}
 use Rattle.trie_walk.proofs.Ending.{ended-trace}
@@ -38,6 +37,7 @@ only-gap lengths letters rests w are none way =
     empty : (l : List Letter) (a : Letter) → length l ≡ 0 → ¬ Contains l a
     empty [] a e c = contains-none a c
     empty (b ∷ l) a e c = absurd (omega arith)
+
     whole : (t : Trace) → Contains (traces_of rests) t
         → Contains (traces_of w) t ⊎ ((lengths ≡ Min) × (t ≡ []))
     whole [] c = inl (way.whole [] c refl)
@@ -54,10 +54,12 @@ only-letter lengths letters rests w are one none a at way =
     alone [] b e f c = absurd (omega arith)
     alone (x ∷ []) b e f c = let is : x ≡ a = cc in sym is ∙ contains-one x b c
     alone (x ∷ y ∷ l) b e f c = absurd (omega arith)
+
     ended : (lengths : Lengths) → HasNoGap lengths rests → Contains (traces_of rests) []
         → lengths ≡ Min
     ended Min n c = refl
     ended Pad n c = absurd (n (ended-trace rests c))
+
     whole : (t : Trace) → Contains (traces_of rests) t
         → Contains (traces_of w) t ⊎ ((lengths ≡ Min) × (t ≡ []))
     whole [] c = inr (ended lengths none c, refl)

@@ -1,14 +1,11 @@
 -- Four places of which the first ones are looked at.
-use Rattle.std.proofs.Common.{◌≡◌, ℕ, zero, suc, ◌+◌, ◌<◌, ◌≤◌, List, [], ◌∷◌, length, map, take, drop, set, slice_get, get_or, Some, refl, sym, ap, ◌∙◌, subst, arith}
-use Rattle.hy_bits.specs.Letter.{Letter}
+use Rattle.std.proofs.Common.{◌≡◌, ℕ, zero, suc, ◌+◌, ◌<◌, List, [], ◌∷◌, length, map, take, drop, set, slice_get, get_or, Some, refl, sym, ap, ◌∙◌, subst, arith}
 use Rattle.hy_formula.specs.Quantifiers.{Each}
-use Rattle.hy_finite.specs.declared.lengths.Lengths.{Lengths}
 use Rattle.trace_trie.specs.Numbered.{Numbered}
-use Rattle.trie_walk.specs.declared.place.Taken.TheVariants.{Nothing}
 use Rattle.trie_walk.specs.declared.place.Place.{Place}
 use Rattle.trie_walk.specs.Four.{letters_in}
-use Rattle.trie_walk.specs.Places.{rests_of, whole_behind, whole_of, letters_at, open_at, IsOpen, IsMoved, AreSome}
-use Rattle.trie_walk.proofs.Lists.{map-take, map-set}
+use Rattle.trie_walk.specs.Places.{whole_behind, whole_of, letters_at, open_at, IsOpen, AreSome}
+use Rattle.trie_walk.proofs.Lists.{map-set}
 use Rattle.trie_walk.proofs.Stepping.{left_at}
 
 take-set : {A : Type 0} (n : ℕ) (xs : List A) (i : ℕ) (x : A)

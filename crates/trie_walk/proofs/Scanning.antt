@@ -1,5 +1,5 @@
 -- Places looked at one by one.
-use Rattle.std.proofs.Common.{◌≡◌, ℕ, zero, suc, ◌+◌, ◌*◌, ◌<◌, ◌≤◌, Bool, true, false, ◌||◌, ◌&&◌, nat_eq, List, [], ◌∷◌, ◌++◌, length, map, take, slice_get, get_or, bit_or, Option, Some, None, IfSome, IfNone, inl, inr, eq-eqb, refl, sym, ap, ◌∙◌, subst, arith}
+use Rattle.std.proofs.Common.{◌≡◌, ℕ, zero, suc, ◌+◌, ◌*◌, ◌<◌, Bool, true, false, ◌||◌, ◌&&◌, nat_eq, List, [], ◌∷◌, ◌++◌, length, map, take, slice_get, get_or, bit_or, Option, Some, None, IfSome, IfNone, inl, inr, eq-eqb, refl, sym, ap, ◌∙◌, subst, arith}
 use Rattle.std.specs.Bool.{OnFalse}
 use Rattle.std.specs.List.{Contains, list_any}
 use Rattle.std.specs.Option.{is_some}

@@ -1,5 +1,5 @@
 -- The tuples with a given trace at one place, and all others from a list.
-use Rattle.std.proofs.Common.{◌≡◌, ℕ, zero, suc, ◌+◌, ◌*◌, ◌-◌, ◌<◌, ◌≤◌, Bool, true, false, List, [], ◌∷◌, length, map, take, set, replicate, get_or, Option, Some, None, IfSome, IfNone, inl, inr, refl, sym, ap, ◌∙◌, subst, arith}
+use Rattle.std.proofs.Common.{◌≡◌, ℕ, zero, suc, ◌+◌, ◌*◌, ◌-◌, ◌<◌, ◌≤◌, true, false, List, [], ◌∷◌, length, map, take, set, replicate, get_or, Option, Some, None, IfSome, IfNone, inl, inr, refl, sym, ap, ◌∙◌, subst, arith}
 use Rattle.std.specs.List.{Contains}
 use Rattle.std.proofs.Math.Nat.{add-mul, mul-le-mul_right}
 use Rattle.std.specs.FinSet.{empty, contains}
@@ -77,16 +77,14 @@ module _ (list : List Numbered) (x : Numbered) (is : Contains list x) where
       let t = from-copies n ps h.1 in
       let e = the-one x q h.0 in
       let P : Numbered → Type 0 = Contains list in
-      let Q : Numbered → Type 0 = Contains (q ∷ ps) in
-      (
+      let Q : Numbered → Type 0 = Contains (q ∷ ps) in (
         record { count = ap suc t.count; members = (subst P e is, t.members) },
         sym e,
         subst Q (sym e) (contains-here q ps),
       )
   from-starts (suc n) (suc p) [] lt h = absurd h
   from-starts (suc n) (suc p) (q ∷ ps) lt h =
-      let (t, at, c) = from-starts n p ps (omega arith) h.1 in
-      (
+      let (t, at, c) = from-starts n p ps (omega arith) h.1 in (
         record { count = ap suc t.count; members = (h.0, t.members) },
         at,
         contains-later q x ps c,
@@ -108,17 +106,15 @@ module _ (list : List Numbered) (x : Numbered) (is : Contains list x) where
   to-starts zero p ts lt t e = absurd (omega arith)
   to-starts (suc n) p [] lt t e = absurd (omega (arith, t.count))
   to-starts (suc n) zero (u ∷ ts) lt t e =
-      let P : Trace → Type 0 = Contains (x.1 ∷ []) in
-      (
+      let P : Trace → Type 0 = Contains (x.1 ∷ []) in (
         subst P (sym e) (contains-here x.1 []),
         to-copies n ts (record { count = omega (arith, t.count); members = t.members.1 }),
       )
-  to-starts (suc n) (suc p) (u ∷ ts) lt t e =
-      (
-        t.members.0,
-        to-starts n p ts (omega arith)
+  to-starts (suc n) (suc p) (u ∷ ts) lt t e = (
+    t.members.0,
+    to-starts n p ts (omega arith)
         (record { count = omega (arith, t.count); members = t.members.1 }) e,
-      )
+  )
 
   traces-tuple : (n : ℕ) (ps : List Numbered) → IsTuple (Contains list) n ps
       → IsTuple (Contains (traces_of list)) n (traces_of ps)
@@ -200,8 +196,7 @@ module _ (m : Machine) (is : IsMonitor m) (lengths : Lengths) (list : List Numbe
       let (t, at, c) = from-starts list x member m.variables p r.pairs lt r.members in
       let ts = traces_of r.pairs in
       let k = judged lengths (traces_of r.pairs) in
-      let P : List ℕ → Type 0 = λ l. Contains l x.0 in
-      (
+      let P : List ℕ → Type 0 = λ l. Contains l x.0 in (
         record {
           pairs = r.pairs;
           members = t;

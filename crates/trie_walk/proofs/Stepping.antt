@@ -1,23 +1,23 @@
 -- Tuples before and behind one step.
-use Rattle.std.proofs.Common.{◌≡◌, ℕ, zero, suc, ◌+◌, ◌-◌, ◌<◌, ◌≤◌, Bool, true, false, ◌||◌, List, [], ◌∷◌, length, map, get_or, max, Option, Some, None, inl, inr, refl, sym, ap, ◌∙◌, subst, arith}
+use Rattle.std.proofs.Common.{◌≡◌, ℕ, zero, suc, ◌+◌, ◌-◌, ◌<◌, true, false, List, [], ◌∷◌, length, map, get_or, Some, refl, sym, ap, ◌∙◌, subst, arith}
 use Rattle.std.specs.List.{Contains, list_any}
 use Rattle.std.specs.FinSet.{empty, contains}
 use Rattle.hy_bits.specs.Letter.{Letter as NameSet}
 use Rattle.hy_formula.specs.Quantifiers.{Each}
-use Rattle.hy_formula.proofs.Tuples.{contains-here, contains-later, contains-cases, contains-none}
+use Rattle.hy_formula.proofs.Tuples.{contains-here}
 use Rattle.hy_finite.specs.declared.lengths.Lengths.{Lengths}
 use Rattle.hy_finite.specs.declared.lengths.Lengths.TheVariants.{Min, Pad}
 use Rattle.hy_finite.specs.Traces.{Trace, of_two, judged, trace_words}
-use Rattle.fin_monitor.specs.Codes.{IndexedAtom, code_of, joint_letter}
+use Rattle.fin_monitor.specs.Codes.{code_of, joint_letter}
 use Rattle.fin_monitor.specs.Machines.{Machine, next_state, is_accepting, code_at}
-use Rattle.trace_trie.specs.Numbered.{Numbered, tail, led_by}
+use Rattle.trace_trie.specs.Numbered.{Numbered, tail}
 use Rattle.trie_walk.specs.declared.place.Taken.{Taken}
 use Rattle.trie_walk.specs.declared.place.Taken.TheVariants.{Nothing, Letter, Gap}
 use Rattle.trie_walk.specs.declared.place.Place.{Place}
 use Rattle.trie_walk.specs.Finds.{numbers_of, traces_of}
-use Rattle.trie_walk.specs.JointPrefixes.{Row, entry, rows_of, IsPrefixOf}
+use Rattle.trie_walk.specs.JointPrefixes.{Row, entry, rows_of}
 use Rattle.trie_walk.specs.Places.{rests_of, whole_behind, whole_of, IsMovedTo, IsMoved, AreSome, taken_entry, taken_of, letter_or, is_letter}
-use Rattle.trie_walk.specs.Searches.{state_over, IsAccepted, AreFrom, IsTupleOf, AreRejected, AreAccepted, AreApart, IsPrefixIn, AreSteps}
+use Rattle.trie_walk.specs.Searches.{state_over, AreFrom, IsTupleOf, AreRejected, AreAccepted, IsPrefixIn, AreSteps}
 use Rattle.trie_walk.proofs.Ways.{long-led}
 use Rattle.trie_walk.proofs.Lists.{long-map, map-of, map-from, each-at, each-map, each-like, apart-map}
 
@@ -111,8 +111,7 @@ pairs-forward lengths [] m (x ∷ xs) h = absurd h
 pairs-forward lengths (p ∷ places) m [] h = absurd h
 pairs-forward lengths (p ∷ places) m (x ∷ xs) h =
     let (e, c) = forward lengths p.taken (left_at p) x m.0 h.0 in
-    let (es, cs) = pairs-forward lengths places m.1 xs h.1 in
-    (
+    let (es, cs) = pairs-forward lengths places m.1 xs h.1 in (
       λ i. e i ∷ es i,
       (map-of (λ (q : Numbered). q.1) (left_at p) (x.0, tail x.1) c, cs),
     )
@@ -250,7 +249,6 @@ module _ (m : Machine) (lengths : Lengths) (q code next : ℕ) (places : List Pl
     (steps : next ≡ next_state m q code)
     (right : (ts : List Trace) → map entry ts ≡ map taken_of places
     → code ≡ code_at m (trace_words ts) 0) where
-
   at-state : (ts : List Trace) → IsTupleOf (map whole_of places) ts
       → state_over m q ts (judged lengths ts)
       ≡ state_over m next (map tail ts) (judged lengths (map tail ts))
@@ -305,26 +303,32 @@ module _ (m : Machine) (lengths : Lengths) (q code next : ℕ) (places : List Pl
       let is = (tuple-forward lengths places moved ts c).0 in
       let some = moved-judged lengths places moved letter ts c in
       let long : judged lengths us ≡ judged lengths ts - 1 =
-      ap (judged lengths) (sym e) ∙ judged-tail lengths ts in
-      (ts, c, record {
-        count = suc pre.count;
-        some = omega arith;
-        inside = omega (arith, pre.inside);
-        same = λ i. sym is i ∷ (pre.same ∙ ap (λ vs. rows_of vs pre.count) (sym e)) i;
-      })
+      ap (judged lengths) (sym e) ∙ judged-tail lengths ts in (
+        ts,
+        c,
+        record {
+          count = suc pre.count;
+          some = omega arith;
+          inside = omega (arith, pre.inside);
+          same = λ i. sym is i ∷ (pre.same ∙ ap (λ vs. rows_of vs pre.count) (sym e)) i;
+        },
+      )
 
   first-row : AreSome (map whole_of places)
       → IsPrefixIn lengths (map whole_of places) (behind_row [])
   first-row some =
       let (xs, c) = some-pairs (map whole_of places) some in
       let h = pairs-tuple (map whole_of places) xs c in
-      let is = (tuple-forward lengths places moved (traces_of xs) h).0 in
-      (traces_of xs, h, record {
-        count = 1;
-        some = omega arith;
-        inside = moved-judged lengths places moved letter (traces_of xs) h;
-        same = λ i. sym is i ∷ [];
-      })
+      let is = (tuple-forward lengths places moved (traces_of xs) h).0 in (
+        traces_of xs,
+        h,
+        record {
+          count = 1;
+          some = omega arith;
+          inside = moved-judged lengths places moved letter (traces_of xs) h;
+          same = λ i. sym is i ∷ [];
+        },
+      )
 
   pub step-steps : (made : ℕ) → AreSome (map whole_of places)
       → AreSteps lengths (map left_at places) made
@@ -342,9 +346,9 @@ module _ (m : Machine) (lengths : Lengths) (q code next : ℕ) (places : List Pl
     inside = (
       first-row some,
       each-map (IsPrefixIn lengths (map whole_of places)) behind_row s.visited
-      (each-like (IsPrefixIn lengths (map left_at places))
-      (λ rows. IsPrefixIn lengths (map whole_of places) (behind_row rows)) prefix-behind
-      s.visited s.inside),
+          (each-like (IsPrefixIn lengths (map left_at places))
+          (λ rows. IsPrefixIn lengths (map whole_of places) (behind_row rows)) prefix-behind
+          s.visited s.inside),
     );
     many = omega (arith, s.many, long-map behind_row s.visited);
   }

@@ -1,5 +1,5 @@
 -- What may come behind a letter, and past the end of a trace.
-use Rattle.std.proofs.Common.{◌≡◌, ℕ, zero, suc, ◌<◌, Bool, true, false, cond, List, [], ◌∷◌, length, map, Option, Some, None, inl, inr, refl, sym, ap, ◌∙◌, subst, arith}
+use Rattle.std.proofs.Common.{◌≡◌, ℕ, suc, ◌<◌, Bool, true, false, cond, List, [], ◌∷◌, length, map, Some, None, inl, inr, refl, sym, ap, ◌∙◌, subst, arith}
 use Rattle.std.specs.List.{Contains, filter}
 use Rattle.hy_bits.specs.Letter.{Letter}
 use Rattle.hy_formula.proofs.Tuples.{contains-here, contains-later, contains-cases, contains-none}

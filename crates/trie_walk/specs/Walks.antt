@@ -1,5 +1,5 @@
 -- A walk as contracts see it.
-use Rattle.std.specs.Prelude.{ℕ, List}
+use Rattle.std.specs.Prelude.{List}
 use Rattle.fin_monitor.specs.Machines.{Machine}
 use Rattle.fin_monitor.specs.Seen.{machine_of}
 use Rattle.trace_trie.specs.Numbered.{Numbered}

@@ -97,12 +97,7 @@ pub fn find_first<'a, L: Ledger>(
 }
 
 /// The places before all letters, with the given trace alone at one place.
-fn start<'a>(
-    version: &'a Version,
-    place: usize,
-    number: u32,
-    trace: &'a [LetterMask],
-) -> Places<'a>
+fn start<'a>(version: &'a Version, place: usize, number: u32, trace: &'a [LetterMask]) -> Places<'a>
     requires { place < 4 }
     ensures rests { (n : ℕ) → rests n result
         ≡ take n (set (replicate 4 version.now) place ((number, trace.now) ∷ [])) }

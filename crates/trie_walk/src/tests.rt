@@ -74,11 +74,27 @@ fn tried<L: Ledger, R: AllocGlobal + Abort>(
     let version = Version::new(alloc).insert(0, &trace_of(alloc, one)?)?;
     let version = version.insert(1, &trace_of(alloc, two)?)?;
     let version = version.insert(2, &three)?;
-    match find(alloc, &version, monitor, 2, three.as_slice(), lengths, steps) {
+    match find(
+        alloc,
+        &version,
+        monitor,
+        2,
+        three.as_slice(),
+        lengths,
+        steps,
+    ) {
         Some(found) => assert_eq!(rt; found.as_slice(), expected),
         None => assert!(rt; expected.is_empty()),
     }
-    match find_first(alloc, &version, monitor, 2, three.as_slice(), lengths, steps) {
+    match find_first(
+        alloc,
+        &version,
+        monitor,
+        2,
+        three.as_slice(),
+        lengths,
+        steps,
+    ) {
         Some(found) => assert_eq!(rt; found.as_slice(), first),
         None => assert!(rt; first.is_empty()),
     }
@@ -90,12 +106,36 @@ fn places<L: Ledger, R: AllocGlobal + Abort>(rt: &R, steps: &mut Steps<L>) -> Re
     let alloc = rt.alloc();
     let (a, b, c, d) = (of(0), of(1), of(2), of(3));
     let two = Monitor::build(alloc, &not_all(alloc, 2)?, 2)?;
-    tried(rt, &two, Lengths::Min, [&[b], &[b], &[a]], &[2, 0], &[2, 0], steps)?;
+    tried(
+        rt,
+        &two,
+        Lengths::Min,
+        [&[b], &[b], &[a]],
+        &[2, 0],
+        &[2, 0],
+        steps,
+    )?;
     let three = Monitor::build(alloc, &not_all(alloc, 3)?, 3)?;
-    tried(rt, &three, Lengths::Min, [&[a], &[c], &[b]], &[0, 2, 1], &[], steps)?;
+    tried(
+        rt,
+        &three,
+        Lengths::Min,
+        [&[a], &[c], &[b]],
+        &[0, 2, 1],
+        &[],
+        steps,
+    )?;
     let four = Monitor::build(alloc, &not_all(alloc, 4)?, 4)?;
     let traces: [&[LetterMask]; 3] = [&[d], &[c, c], &[b.with(0), b]];
-    tried(rt, &four, Lengths::Pad, traces, &[2, 2, 1, 0], &[2, 2, 1, 0], steps)
+    tried(
+        rt,
+        &four,
+        Lengths::Pad,
+        traces,
+        &[2, 2, 1, 0],
+        &[2, 2, 1, 0],
+        steps,
+    )
 }
 
 /// A tuple is judged on the least of its lengths or the greatest.

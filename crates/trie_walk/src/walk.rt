@@ -139,12 +139,7 @@ impl<'a> Walk<'a> {
 
     /// As `choose`, where all is chosen.
     #[cycle(walk)]
-    fn advance<L: Ledger>(
-        &self,
-        places: &Places<'a>,
-        q: u32,
-        steps: &mut Steps<L>,
-    ) -> Option<Tuple>
+    fn advance<L: Ledger>(&self, places: &Places<'a>, q: u32, steps: &mut Steps<L>) -> Option<Tuple>
         requires some { 1 ≤ (machine_in self.now).variables }
         requires state { q < states_of (machine_in self.now) }
         requires moved { Each (IsMoved self.now.lengths) (places_in self.now places.now) }
@@ -184,7 +179,11 @@ impl<'a> Walk<'a> {
             return None;
         };
         let moved = Places::of(&first, &second, &third, &fourth);
-        if self.some_letter(&moved) { Some(moved) } else { None }
+        if self.some_letter(&moved) {
+            Some(moved)
+        } else {
+            None
+        }
     }
 
     /// As `only_way`, at place `i`. Behind those of the variables a place stays.
@@ -214,7 +213,13 @@ impl<'a> Walk<'a> {
         let gap = self.gap(spot);
         match spot.len() {
             0 => gap,
-            1 => { if gap.is_some() { None } else { Some(spot.letter(0)) } }
+            1 => {
+                if gap.is_some() {
+                    None
+                } else {
+                    Some(spot.letter(0))
+                }
+            }
             _ => None,
         }
     }

@@ -1,4 +1,4 @@
-use Rattle.std.proofs.Common.{◌≡◌, ◌+◌, ◌-◌, ◌*◌, ◌<◌, ◌≤◌, ℕ, List, length, get_or, sym, ◌∙◌, subst, arith, below_more}
+use Rattle.std.proofs.Common.{◌≡◌, ◌+◌, ◌-◌, ◌<◌, ◌≤◌, List, length, get_or, sym, ◌∙◌, subst, arith, below_more}
 use Rattle.std.specs.List.{Contains}
 use Rattle.hy_formula.specs.Quantifiers.{IsTuple}
 use Rattle.hy_finite.specs.Traces.{Trace, Meets}
@@ -22,8 +22,11 @@ search-requires-clause-members g c =
     let x : Numbered = (c.args.number, c.args.trace.now) in
     let p = c.loop-place.place in
     let lt : p < m.variables = omega (arith, c.vars-place-end.ensures.vars) in
-    let few : m.variables ≤ 4 = omega (arith, c.vars-place-end.ensures.vars,
-    c.vars-place-end.ensures.few) in
+    let few : m.variables ≤ 4 = omega (
+      arith,
+      c.vars-place-end.ensures.vars,
+      c.vars-place-end.ensures.few,
+    ) in
     let same = c.start-places.ensures.rests m.variables
     ∙ starts-right c.args.version.now x m.variables 4 p few lt in
     subst AreSome (sym same)
@@ -35,8 +38,11 @@ returns-in-Some-clause-found g c =
     let x : Numbered = (c.args.number, c.args.trace.now) in
     let p = c.loop-place.place in
     let lt : p < m.variables = omega (arith, c.vars-place-end.ensures.vars) in
-    let few : m.variables ≤ 4 = omega (arith, c.vars-place-end.ensures.vars,
-    c.vars-place-end.ensures.few) in
+    let few : m.variables ≤ 4 = omega (
+      arith,
+      c.vars-place-end.ensures.vars,
+      c.vars-place-end.ensures.few,
+    ) in
     (from-some m c.args.monitor.now.right c.args.lengths c.args.version.now
     c.numbers_ascend.ensures.traces x c.requires.member p lt c.start.result _
     c.start.ensures.start
@@ -50,8 +56,11 @@ returns-in-Some-clause-given g c =
     let x : Numbered = (c.args.number, c.args.trace.now) in
     let p = c.loop-place.place in
     let lt : p < m.variables = omega (arith, c.vars-place-end.ensures.vars) in
-    let few : m.variables ≤ 4 = omega (arith, c.vars-place-end.ensures.vars,
-    c.vars-place-end.ensures.few) in
+    let few : m.variables ≤ 4 = omega (
+      arith,
+      c.vars-place-end.ensures.vars,
+      c.vars-place-end.ensures.few,
+    ) in
     (from-some m c.args.monitor.now.right c.args.lengths c.args.version.now
     c.numbers_ascend.ensures.traces x c.requires.member p lt c.start.result _
     c.start.ensures.start
@@ -69,8 +78,11 @@ returns-in-Some-clause-bounded g c = λ prefixes all.
     let x : Numbered = (c.args.number, c.args.trace.now) in
     let p = c.loop-place.place in
     let lt : p < m.variables = omega (arith, c.vars-place-end.ensures.vars) in
-    let few : m.variables ≤ 4 = omega (arith, c.vars-place-end.ensures.vars,
-    c.vars-place-end.ensures.few) in
+    let few : m.variables ≤ 4 = omega (
+      arith,
+      c.vars-place-end.ensures.vars,
+      c.vars-place-end.ensures.few,
+    ) in
     let most = steps-joint m c.args.monitor.now.right c.args.lengths c.args.version.now
     c.numbers_ascend.ensures.traces x c.requires.member p lt c.start.result _
     c.start.ensures.start
@@ -88,8 +100,11 @@ loop-place-preserved g c =
     let x : Numbered = (c.args.number, c.args.trace.now) in
     let p = c.loop-place.place in
     let lt : p < m.variables = omega (arith, c.vars-place-end.ensures.vars) in
-    let few : m.variables ≤ 4 = omega (arith, c.vars-place-end.ensures.vars,
-    c.vars-place-end.ensures.few) in
+    let few : m.variables ≤ 4 = omega (
+      arith,
+      c.vars-place-end.ensures.vars,
+      c.vars-place-end.ensures.few,
+    ) in
     record {
       counted = omega (arith, c.loop-place.invariant.counted, c.search.ensures.steps);
       meet = below_more (λ k. (ts : List Trace)

@@ -2,7 +2,6 @@ use Rattle.std.proofs.Common.{◌≡◌, ◌+◌, ◌*◌, ◌<◌, ◌≤◌, �
 use Rattle.std.specs.List.{Contains}
 use Rattle.hy_formula.specs.Quantifiers.{IsTuple}
 use Rattle.hy_finite.specs.Traces.{Trace, Meets}
-use Rattle.fin_monitor.specs.Seen.{machine_of}
 use Rattle.trie_walk.specs.Finds.{traces_of}
 use Rattle.trie_walk.specs.JointPrefixes.{Row, IsJointPrefix}
 use Rattle.trie_walk.specs.Walks.{machine_in}

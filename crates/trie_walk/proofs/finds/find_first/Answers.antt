@@ -1,4 +1,4 @@
-use Rattle.std.proofs.Common.{◌≡◌, ◌-◌, ◌≤◌, ℕ, refl, ◌∙◌, arith}
+use Rattle.std.proofs.Common.{◌-◌, ◌≤◌, refl, ◌∙◌, arith}
 use Rattle.fin_monitor.specs.Seen.{machine_of}
 use Rattle.trace_trie.specs.Numbered.{Numbered}
 use Rattle.trie_walk.proofs.Starting.{starts-right, first-some, steps-first}

@@ -1,21 +1,20 @@
-use Rattle.std.proofs.Common.{◌≡◌, ◌+◌, ◌*◌, ◌-◌, ◌<◌, ◌≤◌, true, false, ℕ, List, [], length, map, take, drop, slice_get, Option, Some, None, refl, sym, ap, ◌∙◌, subst, arith}
-use Rattle.std.specs.List.{Contains, list_any}
+use Rattle.std.proofs.Common.{◌≡◌, ◌+◌, ◌-◌, ◌<◌, ◌≤◌, true, ℕ, List, [], length, map, take, slice_get, Some, None, refl, sym, ap, ◌∙◌, subst, arith}
+use Rattle.std.specs.List.{list_any}
 use Rattle.std.proofs.lemmas.Bool.{eqb-true, OnTrue_at, OnFalse_at}
 use Rattle.hy_bits.specs.Letter.{Letter}
 use Rattle.hy_formula.specs.Quantifiers.{Each}
 use Rattle.hy_formula.proofs.Tuples.{contains-none}
-use Rattle.hy_finite.specs.Traces.{Trace, judged}
-use Rattle.fin_monitor.specs.Machines.{is_accepting, settled_state}
+use Rattle.fin_monitor.specs.Machines.{settled_state}
 use Rattle.trace_trie.specs.Cursors.{AreLetters}
 use Rattle.trace_trie.specs.Numbered.{Numbered}
 use Rattle.trie_walk.specs.Four.{four, first_places, letters_in}
-use Rattle.trie_walk.specs.Places.{whole_of, letters_at, letter_or, taken_of, is_letter, HasNoGap, IsOpen, IsMoved, IsWay, AreSome}
-use Rattle.trie_walk.specs.Searches.{IsTupleOf, CanStop, AreSteps, AreStepsBy, AreAcceptedBy}
+use Rattle.trie_walk.specs.Places.{whole_of, letters_at, letter_or, taken_of, is_letter, IsOpen, IsMoved, AreSome}
+use Rattle.trie_walk.specs.Searches.{AreSteps, AreStepsBy, AreAcceptedBy}
 use Rattle.trie_walk.specs.Walks.{machine_in, places_in, rests_in, wholes_in}
 use Rattle.trie_walk.proofs.Choosing.{no-steps_by, steps-letters}
 use Rattle.trie_walk.proofs.Ending.{settled-accepted}
 use Rattle.trie_walk.proofs.Longest.{longest, longest-step}
-use Rattle.trie_walk.proofs.Nexts.{next-longest, next-some, next-rejected, next-accepted, next-more, next-steps, next-gap, no-gap-accepted, tuple-search, chosen-search, no-letter, step-search, at-some, take-whole, gap-search}
+use Rattle.trie_walk.proofs.Nexts.{next-longest, next-some, next-rejected, next-more, next-steps, next-gap, no-gap-accepted, tuple-search, chosen-search, no-letter, step-search, at-some, take-whole, gap-search}
 use Rattle.trie_walk.proofs.Onlys.{only-longest, only-some, only-search, only-steps}
 use Rattle.trie_walk.proofs.Placing.{moved-more, open-less, at-letters, open-wholes, opened-left, opened-open}
 use Rattle.trie_walk.proofs.Stepping.{left_at, some-left, step-steps, taken-code}
@@ -141,12 +140,12 @@ choose-choose-requires g t c κs within =
               omega arith,
               (
                 moved-more (IsMoved w.lengths) i ps c.in-Some-gap.place next (omega arith)
-                c.with.ensures c.requires.moved c.in-Some-gap.ensures.moved,
+                    c.with.ensures c.requires.moved c.in-Some-gap.ensures.moved,
                 (
                   open-less IsOpen i n ps c.in-Some-gap.place next c.with.ensures c.requires.open,
                   next-some n i ps next c.at.result c.in-Some-gap.place lt few c.at.ensures
-                  c.requires.open c.with.ensures None c.in-Some-gap.ensures.way
-                  c.requires.members,
+                      c.requires.open c.with.ensures None c.in-Some-gap.ensures.way
+                      c.requires.members,
                 ),
               ),
             ),
@@ -237,14 +236,14 @@ choose_letter-choose-requires g t c κs within =
               omega (arith, c.requires.within),
               (
                 moved-more (IsMoved w.lengths) i ps c.letter.result next
-                (omega (arith, c.requires.within)) c.with-next.ensures c.requires.moved
-                (c.letter.ensures.moved w.lengths),
+                    (omega (arith, c.requires.within)) c.with-next.ensures c.requires.moved
+                    (c.letter.ensures.moved w.lengths),
                 (
                   open-less IsOpen i n ps c.letter.result next c.with-next.ensures
-                  c.requires.open,
+                      c.requires.open,
                   next-some n i ps next c.at.result c.letter.result c.requires.within few
-                  c.at.ensures c.requires.open c.with-next.ensures (Some a) way
-                  c.requires.members,
+                      c.at.ensures c.requires.open c.with-next.ensures (Some a) way
+                      c.requires.members,
                 ),
               ),
             ),

@@ -1,4 +1,4 @@
-use Rattle.std.proofs.Common.{◌+◌, ◌*◌, ◌-◌, ◌≤◌, ℕ, take}
+use Rattle.std.proofs.Common.{◌+◌, ◌*◌, ◌-◌, ◌≤◌, take}
 use Rattle.trie_walk.specs.Four.{four, letters_in}
 use Rattle.trie_walk.specs.Searches.{AreAcceptedBy, AreStepsBy}
 use Rattle.trie_walk.specs.Walks.{machine_in, rests_in, wholes_in}

@@ -1,5 +1,4 @@
-use Rattle.std.proofs.Common.{◌≡◌, ◌<◌, ◌≤◌, ℕ, List, [], true, false, not, length, get_or, sym, ap, ◌∙◌, subst, arith, below_more}
-use Rattle.trace_trie.specs.Numbered.{Numbered}
+use Rattle.std.proofs.Common.{◌≤◌, [], not, get_or, sym, ap, ◌∙◌, subst, arith, below_more}
 use Rattle.trie_walk.specs.Four.{four}
 use Rattle.trie_walk.specs.Places.{HasEnded}
 use Rattle.trie_walk.specs.Walks.{machine_in, rests_in}

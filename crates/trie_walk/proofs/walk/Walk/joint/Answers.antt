@@ -1,7 +1,6 @@
-use Rattle.std.proofs.Common.{◌≡◌, ◌+◌, ◌<◌, ◌≤◌, ℕ, suc, List, length, map, take, bit_or, refl, sym, ap, ◌∙◌, subst, arith}
+use Rattle.std.proofs.Common.{◌≡◌, ◌+◌, ◌<◌, ◌≤◌, suc, List, map, take, bit_or, sym, ap, ◌∙◌, arith}
 use Rattle.hy_bits.specs.Letter.{Letter}
 use Rattle.fin_monitor.specs.Codes.{code_of, part_of, joint_letter}
-use Rattle.fin_monitor.specs.Machines.{codes}
 use Rattle.fin_monitor.proofs.CodeBits.{code-lt}
 use Rattle.trie_walk.specs.Four.{four}
 use Rattle.trie_walk.specs.Places.{letter_or, letter_taken, taken_of}

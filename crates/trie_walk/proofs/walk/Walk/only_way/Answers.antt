@@ -1,4 +1,4 @@
-use Rattle.std.proofs.Common.{◌≡◌, ◌<◌, List, length, None, sym, ◌∙◌, arith}
+use Rattle.std.proofs.Common.{◌≡◌, length, None, sym, ◌∙◌, arith}
 use Rattle.std.proofs.lemmas.Option.{IfSome_then}
 use Rattle.trie_walk.specs.declared.place.Place.{Place}
 use Rattle.trie_walk.specs.Places.{rests_of, letters_at, whole_of, HasNoGap, IsOnly, IsWay}

@@ -1,8 +1,8 @@
-use Rattle.std.proofs.Common.{◌≡◌, ◌+◌, ◌<◌, ◌≤◌, ℕ, suc, List, true, false, length, map, take, refl, sym, ap, ◌∙◌, subst, arith}
+use Rattle.std.proofs.Common.{◌≡◌, ◌+◌, ◌≤◌, suc, map, take, refl, sym, ap, ◌∙◌, arith}
 use Rattle.std.specs.List.{list_any}
 use Rattle.trie_walk.specs.Four.{four}
 use Rattle.trie_walk.specs.Places.{taken_of, has_taken, is_letter}
-use Rattle.trie_walk.specs.Walks.{machine_in, places_in}
+use Rattle.trie_walk.specs.Walks.{machine_in}
 use Rattle.trie_walk.proofs.Lists.{long-map}
 use Rattle.trie_walk.proofs.Nexts.{long-take, take-whole}
 use Rattle.trie_walk.proofs.Scanning.{any-more, any-of, get-map, get-unmap}

@@ -1,4 +1,4 @@
-use Rattle.std.proofs.Common.{◌≡◌, ◌+◌, ◌<◌, ◌≤◌, ℕ, suc, List, [], ◌∷◌, ◌++◌, length, set, take, Option, None, IfNone, refl, sym, ap, ◌∙◌, subst, arith, length-set}
+use Rattle.std.proofs.Common.{◌≡◌, ◌+◌, ◌<◌, ◌≤◌, ℕ, suc, List, [], ◌∷◌, ◌++◌, length, set, take, Option, IfNone, refl, sym, ap, ◌∙◌, subst, arith, length-set}
 use Rattle.std.proofs.Math.Seq.{take-suc-set}
 use Rattle.trace_trie.specs.Numbered.{Numbered}
 use Rattle.trie_walk.specs.Finds.{numbers_of}
@@ -46,10 +46,10 @@ loop-i-preserved c =
     × (numbers_of (ps ++ (number, t) ∷ []) ≡ take k (set c.loop-i.numbers i number)) in
     let (e, f) = subst P one (
       ended-more n i (four c.args.places.now) c.at.result ps (number, t)
-      (omega (arith, c.vars-count.ensures.vars)) c.at.ensures ended here done,
+          (omega (arith, c.vars-count.ensures.vars)) c.at.ensures ended here done,
       numbers-more ps (number, t)
-      ∙ ap (λ l. l ++ number ∷ []) same
-      ∙ sym (take-suc-set c.loop-i.numbers i number lt),
+          ∙ ap (λ l. l ++ number ∷ []) same
+          ∙ sym (take-suc-set c.loop-i.numbers i number lt),
     ) in
     (length-set c.loop-i.numbers i number ∙ long, (ps ++ (number, t) ∷ [], e, f))
 

@@ -1,4 +1,4 @@
-use Rattle.std.proofs.Common.{◌≡◌, ℕ, List, length, take}
+use Rattle.std.proofs.Common.{◌≡◌, List, length, take}
 use Rattle.trace_trie.specs.Numbered.{Numbered}
 use Rattle.trie_walk.specs.Finds.{numbers_of}
 use Rattle.trie_walk.specs.Searches.{AreEnded}
