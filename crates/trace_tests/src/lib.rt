@@ -3,6 +3,8 @@
 #![tactic(auto)]
 
 #[cfg(test)]
+mod common_prefixes;
+#[cfg(test)]
 mod exchanges;
 #[cfg(test)]
 mod finite_traces;

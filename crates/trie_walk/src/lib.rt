@@ -4,8 +4,6 @@
 
 mod finds;
 mod place;
-#[cfg(test)]
-mod tests;
 mod walk;
 
 pub use finds::{find, find_first};

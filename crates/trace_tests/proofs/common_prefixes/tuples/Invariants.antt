@@ -1,4 +1,4 @@
-use Rattle.trie_walk.proofs.tests.tuples.Given as goal
+use Rattle.trace_tests.proofs.common_prefixes.tuples.Given as goal
 
 abbrev pub ghosts-all : goal.ghosts-all
 ghosts-all g a = record { name = a.blank.name; parts = a.blank.parts }

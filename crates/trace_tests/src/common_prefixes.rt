@@ -4,7 +4,6 @@ ghost use Rattle.std.specs.Prelude.{◌≡◌, ◌<◌, ◌≤◌, IfOk, IsTrue}
 ghost use Rattle.hy_formula.specs.Trees.{tree_of, vars_below};
 ghost use Rattle.fin_monitor.specs.Seen.{machine_of};
 
-use crate::{find, find_first};
 use fin_monitor::Monitor;
 use hy_base::{List, Steps};
 use hy_bits::LetterMask;
@@ -16,6 +15,7 @@ use std::process::Abort;
 use std::sync::ledger::{Blank, Ledger};
 use std::test::Fail;
 use trace_trie::Version;
+use trie_walk::{find, find_first};
 
 /// That not each of the variables, `n` of them, has the name of its own number at first.
 fn not_all(alloc: Global, n: u8) -> Result<Body, Fail>
