@@ -13,4 +13,4 @@ mod watching;
 
 pub use host::run_here;
 pub use laws::{one_answer, verdict};
-pub use runs::{Done, run, run_for_status};
+pub use runs::{Done, run};

@@ -127,22 +127,6 @@ pub fn run<S: Shelf, O: Sink, E: Sink>(
     }
 }
 
-/// As `run`, for its exit status alone, which is that of some answer. It is for callers that look at
-/// what the streams received, as the cases do: to call `run` itself, with all that its clauses say
-/// of a shelf and sinks of their own, takes them minutes to prove.
-pub fn run_for_status<S: Shelf, O: Sink, E: Sink>(
-    alloc: Global,
-    tool: Tool,
-    words: &[String],
-    shelf: &mut S,
-    out: &mut O,
-    err: &mut E,
-) -> u8
-    ensures { (answer : Answer) × (result ≡ status_of answer) }
-{
-    run(alloc, tool, words, shelf, out, err).status
-}
-
 /// The command of the words, or what is answered where they are none or memory ran out.
 fn command_in<'a>(alloc: Global, tool: Tool, words: &'a [String]) -> Result<Command<'a>, Answer>
     ensures some { IfOk result (λ c. IsCommand tool (texts words.entry.now) (said_by c)) }

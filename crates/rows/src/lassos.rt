@@ -2,9 +2,9 @@
 //! of them, which the tool that judges lists tells.
 
 use crate::case::Lassos;
+use crate::running::status_of;
 use anyhow::Result;
 use hy_base::{File, FileList, MemShelf, MemSink, NumList, Text};
-use hy_top::run_for_status;
 use hy_words::Tool;
 use std::alloc::Global;
 
@@ -47,7 +47,7 @@ fn is_judged(
         String::from_str(alloc, "lassos")?,
         String::from_str(alloc, "formula")?,
     ]?;
-    run_for_status(
+    status_of(
         alloc,
         Tool::EaHyper,
         words.as_slice(),

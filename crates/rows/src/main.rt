@@ -31,6 +31,7 @@ mod case;
 mod escape;
 mod lassos;
 mod report;
+mod running;
 
 use anyhow::{Context, Result};
 use case::Case;

@@ -3,9 +3,9 @@
 use crate::case::{Case, shelf_files};
 use crate::escape::escaped;
 use crate::lassos::are_wanted;
+use crate::running::status_of;
 use anyhow::{Result, bail};
 use hy_base::{MemShelf, MemSink};
-use hy_top::run_for_status;
 use std::fmt;
 
 /// How many cases of a file were run, and how many gave another answer than the expected one.
@@ -41,7 +41,7 @@ pub fn report(rt: &HostRuntime, tally: &mut Tally, case: Case) -> Result<()> {
     let mut shelf = MemShelf::new(shelf_files(alloc, case.files)?, case.fail_shelf);
     let mut out = MemSink::new(alloc, case.room, case.most.get(), case.fail_out)?;
     let mut err = MemSink::new(alloc, case.room, case.most.get(), case.fail_err)?;
-    let given = run_for_status(
+    let given = status_of(
         alloc,
         tool,
         case.words.as_slice(),
