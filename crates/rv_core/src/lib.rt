@@ -2,8 +2,10 @@
 //! and the first violation of a universal formula.
 #![tactic(auto)]
 
+mod arrival;
 mod build;
 mod events;
+mod kept;
 pub mod laws;
 mod reply;
 mod rv;
@@ -12,7 +14,7 @@ mod saved;
 mod sessions;
 #[cfg(test)]
 mod tests;
-mod watches;
+mod watch;
 
 pub use reply::Reply;
 pub use rv::Rv;

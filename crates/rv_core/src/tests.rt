@@ -87,7 +87,7 @@ fn play<L: Ledger, R: AllocGlobal + Abort>(
     let alloc = rt.alloc();
     let specs = [secrecy(alloc, Quant::Forall)?, not_both(alloc)?];
     let events = read_events(alloc, file, &names(alloc)?)?;
-    let mut rv = Rv::new(alloc, &specs, Lengths::Min)?;
+    let mut rv = Rv::new(alloc, &specs, Lengths::Min, false)?;
     assert_eq!(rt; events.len(), wanted.len());
     for (placed, number) in events.as_slice().iter().zip(wanted) {
         assert!(rt; rv.is_clean() && rv.traces() < 1000);
@@ -125,7 +125,7 @@ fn runs(rt: HostRuntime) -> Result<(), Fail> {
 fn universal_formulas_alone(rt: HostRuntime) -> Result<(), Fail> {
     let alloc = rt.alloc();
     let specs = [not_both(alloc)?, secrecy(alloc, Quant::Exists)?];
-    let refused = Rv::new(alloc, &specs, Lengths::Pad).err();
+    let refused = Rv::new(alloc, &specs, Lengths::Pad, false).err();
     let wanted = RvNewError::Prefix {
         spec: 1,
         class: Class::Exists,

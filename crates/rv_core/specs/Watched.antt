@@ -1,0 +1,17 @@
+-- What a watch is for: the monitor of a spec's body, and whether exchanging two traces changes what it says.
+use Rattle.std.specs.Prelude.{◌≡◌, ◌≤◌, ℕ, Bool, IsTrue, [], ◌∷◌}
+use Rattle.std.specs.Coded.{×_prop, Π_prop, Coded-set, coded_ℕ}
+use Rattle.hy_finite.specs.declared.lengths.Lengths.{Lengths}
+use Rattle.hy_finite.specs.Traces.{Trace, Meets}
+use Rattle.fin_monitor.specs.Machines.{Machine}
+use Rattle.dominance.specs.Dominance.{IsTrace}
+
+-- Exchanging two traces that violate the body leaves them violating.
+abbrev pub MayTurn : Machine → Type 0
+MayTurn m =
+    (m.variables ≡ 2)
+    × ((rule : Lengths) (t u : Trace) → IsTrace t → IsTrace u
+    → ¬ Meets rule m.body (t ∷ u ∷ []) → ¬ Meets rule m.body (u ∷ t ∷ []))
+
+pub MayTurn-prop : (m : Machine) → IsProp (MayTurn m)
+MayTurn-prop m = ×_prop (Coded-set coded_ℕ m.variables 2) hlevel ()
