@@ -22,8 +22,8 @@ impl Model for Tuple {
 }
 
 impl Tuple {
-    /// The first `count` of the numbers.
-    pub(crate) fn new(alloc: Global, numbers: [u32; 4], count: usize) -> Tuple
+    /// The first `count` of the numbers: at most four.
+    pub fn new(alloc: Global, numbers: [u32; 4], count: usize) -> Tuple
         requires { count ≤ 4 }
         ensures { result ≡ take count numbers }
     {

@@ -1,0 +1,4 @@
+pub mod Finds
+pub mod JointPrefixes
+pub mod Places
+pub mod Searches

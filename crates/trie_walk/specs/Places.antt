@@ -1,0 +1,65 @@
+-- What may still come at the places of the tuples on a walk.
+use Rattle.std.specs.Prelude.{◌≡◌, ℕ, ◌<◌, List, [], ◌∷◌, length, map, take, Option, Some, None}
+use Rattle.std.specs.List.{Contains}
+use Rattle.hy_bits.specs.Letter.{Letter as NameSet}
+use Rattle.hy_formula.specs.Quantifiers.{Each}
+use Rattle.hy_finite.specs.Traces.{Trace}
+use Rattle.trace_trie.specs.Numbered.{Numbered, led_by}
+use Rattle.trace_trie.specs.Cursors.{letters_of, rests_at}
+use Rattle.trie_walk.specs.declared.place.Spot.{Spot}
+use Rattle.trie_walk.specs.declared.place.Spot.TheVariants.{Alone, Node}
+use Rattle.trie_walk.specs.declared.place.Taken.{Taken}
+use Rattle.trie_walk.specs.declared.place.Taken.TheVariants.{Nothing, Letter, Gap}
+use Rattle.trie_walk.specs.declared.place.Place.{Place}
+use Rattle.trie_walk.specs.Finds.{traces_of}
+use Rattle.trie_walk.specs.JointPrefixes.{entry}
+
+-- what is left of the traces, with their numbers
+abbrev pub rests_of : Spot → List Numbered
+rests_of (Alone number rest) = (number, rest.now) ∷ []
+rests_of (Node cursor) = rests_at cursor
+
+abbrev pub first_letter : Trace → List NameSet
+first_letter [] = []
+first_letter (a ∷ t) = a ∷ []
+
+-- the letters that may come next
+abbrev pub letters_at : Spot → List NameSet
+letters_at (Alone number rest) = first_letter rest.now
+letters_at (Node cursor) = letters_of cursor
+
+abbrev pub whole_behind : Taken → List Numbered → List Numbered
+whole_behind Nothing rests = rests
+whole_behind (Letter a) rests = led_by a rests
+whole_behind Gap rests = rests
+
+-- the same, with what is taken of them
+abbrev pub whole_of : Place → List Numbered
+whole_of p = whole_behind p.taken (rests_of p.spot)
+
+abbrev pub wholes : ℕ → List Place → List (List Numbered)
+wholes n places = map whole_of (take n places)
+
+-- Nothing is taken yet.
+abbrev pub IsOpen : Place → Type 0
+IsOpen p = p.taken ≡ Nothing
+
+abbrev pub IsMovedTo : Taken → List Numbered → Type 0
+IsMovedTo Nothing rests = ⊥
+IsMovedTo (Letter a) rests = Unit {0}
+IsMovedTo Gap rests = Each (λ (p : Numbered). p.1 ≡ []) rests
+
+-- A letter is taken, or nothing is left.
+abbrev pub IsMoved : Place → Type 0
+IsMoved p = IsMovedTo p.taken (rests_of p.spot)
+
+-- Some are left at each place.
+abbrev pub AreSome : List (List Numbered) → Type 0
+AreSome wholes = Each (λ (rests : List Numbered). 0 < length rests) wholes
+
+-- Those of the rests that begin so, each number with one trace for each different trace.
+pub record IsWay (rests : List Numbered) (e : Option NameSet) (way : List Numbered) : Type 0 where
+  pub some : 0 < length way
+  pub part : (p : Numbered) → Contains way p → Contains rests p
+  pub first : (p : Numbered) → Contains way p → entry p.1 ≡ e
+  pub whole : (t : Trace) → Contains (traces_of rests) t → entry t ≡ e → Contains (traces_of way) t

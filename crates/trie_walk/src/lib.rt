@@ -1,0 +1,11 @@
+//! Walks over the tuples that a trace makes with those of a version: nodes of its trie go together,
+//! so that a joint prefix of many tuples is stepped once.
+#![tactic(auto)]
+
+mod find;
+mod place;
+#[cfg(test)]
+mod tests;
+mod walk;
+
+pub use find::{find, find_first};

@@ -1,0 +1,131 @@
+//! Tuples that were worked out by hand, with ample memory.
+
+ghost use Rattle.std.specs.Prelude.{◌≡◌, ◌<◌, ◌≤◌, IfOk, IsTrue};
+ghost use Rattle.hy_formula.specs.Trees.{tree_of, vars_below};
+
+use crate::{find, find_first};
+use fin_monitor::Monitor;
+use hy_base::{List, Steps};
+use hy_bits::LetterMask;
+use hy_finite::{Lengths, Trace};
+use hy_formula::{Atom, Body};
+use std::alloc::Global;
+use std::marker::Brand;
+use std::process::Abort;
+use std::sync::ledger::{Blank, Ledger};
+use std::test::Fail;
+use trace_trie::Version;
+
+/// That not each of the variables, `n` of them, has the name of its own number at first.
+fn not_all(alloc: Global, n: u8) -> Result<Body, Fail>
+    requires { n ≤ 4 }
+    ensures { IfOk result (λ made. IsTrue (vars_below n (tree_of made))) }
+{
+    let mut made = Body::True;
+    for var in 0..n {
+        let atom = Body::Atom(Atom { name: var, var });
+        made = Body::And(Box::new(alloc, atom)?, Box::new(alloc, made)?);
+    }
+    Ok(Body::Not(Box::new(alloc, made)?))
+}
+
+/// That name 0 holds for both variables alike, at each position.
+fn alike(alloc: Global) -> Result<Body, Fail>
+    ensures { IfOk result (λ made. IsTrue (vars_below 2 (tree_of made))) }
+{
+    let first = Body::Atom(Atom { name: 0, var: 0 });
+    let second = Body::Atom(Atom { name: 0, var: 1 });
+    let same = Body::Iff(Box::new(alloc, first)?, Box::new(alloc, second)?);
+    Ok(Body::Globally(Box::new(alloc, same)?))
+}
+
+/// The letter of one name.
+fn of(name: usize) -> LetterMask
+    requires { name < 64 }
+{
+    LetterMask::empty().with(name)
+}
+
+/// The version with the traces, numbered from 0.
+fn version_of(alloc: Global, traces: &[&[LetterMask]]) -> Result<Version, Fail> {
+    let mut version = Version::new(alloc);
+    for (k, letters) in traces.iter().enumerate() {
+        version = version.insert(k as u32, &trace_of(alloc, letters)?)?;
+    }
+    Ok(version)
+}
+
+/// The trace of these letters.
+fn trace_of(alloc: Global, letters: &[LetterMask]) -> Result<Trace, Fail> {
+    let mut list = List::new(alloc);
+    for letter in letters {
+        list.push(*letter)?;
+    }
+    Ok(Trace::new(list).ok_or("no trace")?)
+}
+
+/// Tries that the last trace makes this tuple with those before it and itself, and this one first.
+fn tried<L: Ledger, R: AllocGlobal + Abort>(
+    rt: &R,
+    monitor: &Monitor,
+    lengths: Lengths,
+    traces: &[&[LetterMask]],
+    expected: &[u32],
+    first: &[u32],
+    steps: &mut Steps<L>,
+) -> Result<(), Fail> {
+    let version = version_of(rt.alloc(), traces)?;
+    if let [.., last] = traces {
+        let number = traces.len() as u32 - 1;
+        match find(rt.alloc(), &version, monitor, number, last, lengths, steps) {
+            Some(found) => assert_eq!(rt; found.as_slice(), expected),
+            None => assert!(rt; expected.is_empty()),
+        }
+        match find_first(rt.alloc(), &version, monitor, number, last, lengths, steps) {
+            Some(found) => assert_eq!(rt; found.as_slice(), first),
+            None => assert!(rt; first.is_empty()),
+        }
+    }
+    Ok(())
+}
+
+/// The new trace at the first place, between others, and at two places.
+fn places<L: Ledger, R: AllocGlobal + Abort>(rt: &R, steps: &mut Steps<L>) -> Result<(), Fail> {
+    let alloc = rt.alloc();
+    let (a, b, c, d) = (of(0), of(1), of(2), of(3));
+    let two = Monitor::build(alloc, &not_all(alloc, 2)?, 2)?;
+    tried(rt, &two, Lengths::Min, &[&[b], &[a]], &[1, 0], &[1, 0], steps)?;
+    let three = Monitor::build(alloc, &not_all(alloc, 3)?, 3)?;
+    tried(rt, &three, Lengths::Min, &[&[a], &[c], &[b]], &[0, 2, 1], &[], steps)?;
+    let four = Monitor::build(alloc, &not_all(alloc, 4)?, 4)?;
+    let traces: [&[LetterMask]; 3] = [&[d], &[c, c], &[b.with(0), b]];
+    tried(rt, &four, Lengths::Pad, &traces, &[2, 2, 1, 0], &[2, 2, 1, 0], steps)
+}
+
+/// A tuple is judged on the least of its lengths or the greatest.
+fn rules<L: Ledger, R: AllocGlobal + Abort>(rt: &R, steps: &mut Steps<L>) -> Result<(), Fail> {
+    let alloc = rt.alloc();
+    let a = of(0);
+    let none = LetterMask::empty();
+    let monitor = Monitor::build(alloc, &alike(alloc)?, 2)?;
+    let traces: [&[LetterMask]; 3] = [&[a], &[a, none], &[a, a]];
+    tried(rt, &monitor, Lengths::Min, &traces, &[2, 1], &[2, 1], steps)?;
+    tried(rt, &monitor, Lengths::Pad, &traces, &[2, 1], &[2, 1], steps)?;
+    tried(rt, &monitor, Lengths::Min, &[&[a], &[a, a]], &[], &[], steps)?;
+    tried(rt, &monitor, Lengths::Pad, &[&[a], &[a, a]], &[1, 0], &[1, 0], steps)
+}
+
+fn all<L: Ledger, R: AllocGlobal + Abort>(rt: &R, blank: Blank) -> Result<(), Fail>
+    requires name { blank.name ≡ L.name }
+    requires parts { blank.parts ≡ L.parts }
+    requires some { 0 < blank.parts }
+{
+    let mut steps = Steps::<L>::new(blank);
+    places(rt, &mut steps)?;
+    rules(rt, &mut steps)
+}
+
+#[test]
+fn tuples(rt: HostRuntime) -> Result<(), Fail> {
+    all::<Brand, HostRuntime>(&rt, Blank::new(1))
+}
