@@ -9,3 +9,5 @@ pub mod Searching
 pub mod Asking
 pub mod Meaning
 pub mod Exchanging
+pub mod Beside
+pub mod Refuting

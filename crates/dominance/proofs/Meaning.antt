@@ -1,11 +1,17 @@
 -- What the state after the codes of a tuple says of the body.
-use Rattle.std.proofs.Common.{◌≡◌, ◌↔◌, ℕ, zero, suc, ◌<◌, true, List, [], ◌∷◌, map, get_or, ap, ◌∙◌, refl, arith}
+use Rattle.std.proofs.Common.{◌≡◌, ◌↔◌, ℕ, zero, suc, ◌<◌, ◌≤◌, Bool, true, List, [], ◌∷◌, map, get_or, length, sym, ap, ◌∙◌, refl, subst, arith}
+use Rattle.std.specs.FinSet.{empty, contains}
+use Rattle.hy_bits.specs.Letter.{Letter}
+use Rattle.hy_formula.specs.Trees.{Tree}
 use Rattle.hy_formula.specs.Temporal.{Words}
 use Rattle.hy_finite.specs.declared.lengths.Lengths.{Lengths}
 use Rattle.hy_finite.specs.Traces.{Trace, judged, trace_words, Meets}
 use Rattle.fin_monitor.specs.Machines.{Machine, IsMonitor, is_accepting, next_state, code_at, state_after}
 use Rattle.fin_monitor.proofs.Running.{accepts-meets}
+use Rattle.fin_monitor.specs.Codes.{code_of, joint_letter}
+use Rattle.dominance.specs.Dominance.{Dominates}
 use Rattle.dominance.specs.Runs.{state_on}
+use Rattle.dominance.proofs.Asking.{codes-agree}
 use Rattle.dominance.proofs.Standing.{state_on-same}
 
 state-words : (m : Machine) (words : Words) (n : ℕ) → state_on m (λ i. code_at m words i) n ≡ state_after m words n
@@ -25,3 +31,22 @@ pub codes-of : {A : Type 0} (f : A → ℕ) (n : ℕ) → 0 < n → ((x : A) →
 codes-of f n some h [] i = some
 codes-of f n some h (x ∷ xs) zero = h x
 codes-of f n some h (x ∷ xs) (suc i) = codes-of f n some h xs i
+
+pub other-default : {A : Type 0} (xs : List A) (i : ℕ) (d e : A) → i < length xs → get_or xs i d ≡ get_or xs i e
+other-default [] i d e lt = absurd (omega arith)
+other-default (x ∷ xs) zero d e lt = refl
+other-default (x ∷ xs) (suc i) d e lt = other-default xs i d e (omega arith)
+
+-- the code of one letter is that of a tuple of one trace
+pub one-code : (m : Machine) (t : Trace) (i : ℕ) (letter : Letter) → letter ≡ get_or t i empty → code_of (joint_letter (letter ∷ [])) m.atoms ≡ code_at m (trace_words (t ∷ [])) i
+one-code m t i letter is = codes-agree _ _ m.atoms (λ a _. same a.name a.variable)
+  where
+    same : (name variable : ℕ) → joint_letter (letter ∷ []) name variable ≡ trace_words (t ∷ []) name variable i
+    same name zero = ap (λ (l : Letter). contains l name) is
+    same name (suc v) = refl
+
+-- one trace dominates another of those that are judged alone
+pub alone-dominates : (rule : Lengths) (body : Tree) (t u : Trace) → (¬ Meets rule body (u ∷ []) → ¬ Meets rule body (t ∷ [])) → Dominates rule 1 body t u
+alone-dominates rule body t u h [] [] b a count = h
+alone-dominates rule body t u h [] (x ∷ xs) b a count = absurd (omega arith)
+alone-dominates rule body t u h (x ∷ xs) after b a count = absurd (omega arith)

@@ -1,5 +1,5 @@
 -- Joint letters that tell all that the atoms of a body ask, and their codes.
-use Rattle.std.specs.Prelude.{◌≡◌, ℕ, Bool, false, not, ◌&&◌, nat_eq, List, [], ◌∷◌, length, take, slice_index_or, slice_set}
+use Rattle.std.specs.Prelude.{◌≡◌, ℕ, zero, suc, ◌+◌, ◌-◌, ◌<◌, Bool, true, false, not, ◌&&◌, nat_eq, List, [], ◌∷◌, ◌++◌, length, take, map, slice_index_or, slice_set}
 use Rattle.std.specs.List.{Contains, list_any}
 use Rattle.std.specs.FinSet.{empty, contains, insert}
 use Rattle.hy_bits.specs.Letter.{Letter}
@@ -44,3 +44,16 @@ turned row = slice_index_or row 1 empty ∷ slice_index_or row 0 empty ∷ []
 -- the code of what a row says with its letters exchanged
 abbrev pub turned_code : Machine → Row → ℕ
 turned_code m row = code_of (joint_letter (turned row)) m.atoms
+
+-- the letters of a variable in the rows with these numbers
+abbrev pub word_of : List Row → List ℕ → ℕ → List Letter
+word_of rows path variable = map (λ k. slice_index_or (slice_index_or rows k []) variable empty) path
+
+-- those of so many variables, from one on
+abbrev pub words_from : List Row → List ℕ → ℕ → ℕ → List (List Letter)
+words_from rows path from zero = []
+words_from rows path from (suc count) = words_from rows path from count ++ word_of rows path (from + count) ∷ []
+
+-- those of all variables but the one of a place
+abbrev pub other_words : List Row → List ℕ → ℕ → ℕ → List (List Letter)
+other_words rows path vars place = words_from rows path 0 place ++ words_from rows path (place + 1) (vars - (place + 1))

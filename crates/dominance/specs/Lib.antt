@@ -4,3 +4,4 @@ pub mod Choices
 pub mod Runs
 pub mod Seen
 pub mod Trails
+pub mod Answers

@@ -2,7 +2,10 @@
 //! kept where dominated ones are dropped.
 #![tactic(auto)]
 
+mod column;
+mod compare;
 pub mod laws;
+mod others;
 mod pairing;
 mod reached;
 mod rows;
@@ -10,4 +13,5 @@ mod symmetry;
 #[cfg(test)]
 mod tests;
 
+pub use compare::{Compare, WordList, dominates};
 pub use symmetry::symmetric;

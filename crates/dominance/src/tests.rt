@@ -1,12 +1,16 @@
-//! Bodies whose order of traces was judged by hand, with ample memory.
+//! Traces that were compared by hand, with ample memory.
 
 ghost use Rattle.std.specs.Prelude.{◌≤◌, IfOk, IsTrue};
 ghost use Rattle.hy_formula.specs.Trees.{tree_of, vars_below};
 
-use crate::symmetric;
+use crate::{Compare, dominates, symmetric};
 use fin_monitor::Monitor;
+use hy_base::List;
+use hy_bits::LetterMask;
+use hy_finite::{Lengths, Trace};
 use hy_formula::{Atom, Body};
 use std::alloc::Global;
+use std::process::Abort;
 use std::test::Fail;
 
 /// That at each position name 0 for the first variable brings name 1 for the second.
@@ -48,20 +52,108 @@ fn ends(alloc: Global) -> Result<Body, Fail>
     Ok(Body::And(Box::new(alloc, first)?, Box::new(alloc, third)?))
 }
 
-/// One name asks for another one of the other trace.
+/// The letter of one name.
+fn of(name: usize) -> LetterMask
+    requires { name ≤ 3 }
+{
+    LetterMask::empty().with(name)
+}
+
+/// The trace of these letters.
+fn trace(alloc: Global, letters: &[LetterMask]) -> Result<Trace, Fail> {
+    let mut made = List::new(alloc);
+    for letter in letters {
+        made.push(*letter)?;
+    }
+    Ok(Trace::new(made).ok_or("no trace")?)
+}
+
+/// Tries that the first trace dominates the second one, or not and by words at this place, each of
+/// at least so many letters.
+fn tried<R: AllocGlobal + Abort>(
+    rt: &R,
+    m: &Monitor,
+    letters: [&[LetterMask]; 2],
+    lengths: Lengths,
+    expected: Option<(u8, usize)>,
+) -> Result<(), Fail> {
+    let alloc = rt.alloc();
+    let t = trace(alloc, letters[0])?;
+    let u = trace(alloc, letters[1])?;
+    match dominates(alloc, m, &t, &u, lengths)? {
+        Compare::Yes => assert!(rt; expected.is_none()),
+        Compare::No { place, others } => {
+            let (at, least) = expected.ok_or("dominates")?;
+            assert_eq!(rt; at, place);
+            assert_eq!(rt; others.len() + 1, m.vars() as usize);
+            for word in others.as_slice() {
+                assert!(rt; word.len() >= least);
+            }
+        }
+    }
+    Ok(())
+}
+
+/// Name 0 at one place asks for name 1 at the other: more of the first and less of the second
+/// dominates.
 #[test]
-fn one_name_brings_another(rt: HostRuntime) -> Result<(), Fail> {
+fn more_and_less(rt: HostRuntime) -> Result<(), Fail> {
     let alloc = rt.alloc();
     let m = Monitor::build(alloc, &brings(alloc)?, 2)?;
+    let both = of(0).with(1);
+    tried(&rt, &m, [&[both], &[of(1)]], Lengths::Min, None)?;
+    tried(&rt, &m, [&[of(1)], &[both]], Lengths::Min, Some((0, 1)))?;
+    tried(
+        &rt,
+        &m,
+        [&[both], &[LetterMask::empty()]],
+        Lengths::Min,
+        Some((1, 1)),
+    )?;
+    tried(&rt, &m, [&[of(0)], &[both]], Lengths::Min, None)?;
     assert!(rt; !symmetric(alloc, &m)?);
     Ok(())
 }
 
-/// What holds of both traces alike.
+/// Name 1 at two positions and at one, as name 0 of a longer trace asks for it.
 #[test]
-fn outputs_determined(rt: HostRuntime) -> Result<(), Fail> {
+fn asked_past_the_end(rt: HostRuntime) -> Result<(), Fail> {
+    let alloc = rt.alloc();
+    let m = Monitor::build(alloc, &brings(alloc)?, 2)?;
+    let once = [of(1)];
+    let twice = [of(1), of(1)];
+    tried(&rt, &m, [&once, &twice], Lengths::Min, None)?;
+    tried(&rt, &m, [&twice, &once], Lengths::Min, None)?;
+    tried(&rt, &m, [&once, &twice], Lengths::Pad, None)?;
+    tried(&rt, &m, [&twice, &once], Lengths::Pad, Some((1, 2)))?;
+    Ok(())
+}
+
+/// A trace and the same trace with an empty letter behind it.
+#[test]
+fn one_letter_more(rt: HostRuntime) -> Result<(), Fail> {
     let alloc = rt.alloc();
     let m = Monitor::build(alloc, &determined(alloc)?, 2)?;
+    let short = [of(0)];
+    let long = [of(0), LetterMask::empty()];
+    tried(&rt, &m, [&short, &long], Lengths::Pad, None)?;
+    tried(&rt, &m, [&long, &short], Lengths::Pad, None)?;
+    tried(&rt, &m, [&short, &long], Lengths::Min, Some((0, 2)))?;
+    tried(&rt, &m, [&long, &short], Lengths::Min, Some((0, 2)))?;
+    tried(
+        &rt,
+        &m,
+        [&short, &[of(0), of(1)]],
+        Lengths::Min,
+        Some((0, 2)),
+    )?;
+    tried(
+        &rt,
+        &m,
+        [&[of(0), of(1)], &short],
+        Lengths::Min,
+        Some((0, 2)),
+    )?;
     assert!(rt; symmetric(alloc, &m)?);
     Ok(())
 }
@@ -71,8 +163,18 @@ fn outputs_determined(rt: HostRuntime) -> Result<(), Fail> {
 fn other_numbers(rt: HostRuntime) -> Result<(), Fail> {
     let alloc = rt.alloc();
     let one = Monitor::build(alloc, &Body::Atom(Atom { name: 0, var: 0 }), 1)?;
+    tried(&rt, &one, [&[of(1)], &[of(0)]], Lengths::Min, None)?;
+    tried(&rt, &one, [&[of(0)], &[of(1)]], Lengths::Min, Some((0, 1)))?;
     assert!(rt; !symmetric(alloc, &one)?);
     let three = Monitor::build(alloc, &ends(alloc)?, 3)?;
+    tried(
+        &rt,
+        &three,
+        [&[of(1)], &[of(0)]],
+        Lengths::Min,
+        Some((2, 1)),
+    )?;
+    tried(&rt, &three, [&[of(3)], &[of(0)]], Lengths::Pad, None)?;
     assert!(rt; !symmetric(alloc, &three)?);
     Ok(())
 }
