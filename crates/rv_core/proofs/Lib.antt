@@ -1,9 +1,13 @@
 mod Answering
+mod Arriving
 mod Building
 mod Calling
 mod Ending
+mod Keepings
+mod Leading
 mod Places
 mod SessionLists
+mod Sifting
 mod Standing
 mod Stepping
-mod WatchLists
+mod Turning

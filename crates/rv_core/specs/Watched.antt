@@ -1,6 +1,6 @@
 -- What a watch is for: the monitor of a spec's body, and whether exchanging two traces changes what it says.
 use Rattle.std.specs.Prelude.{◌≡◌, ◌≤◌, ℕ, Bool, IsTrue, [], ◌∷◌}
-use Rattle.std.specs.Coded.{×_prop, Π_prop, Coded-set, coded_ℕ}
+use Rattle.std.specs.Coded.{×_prop, Π_prop, →_prop, Coded-set, coded_ℕ}
 use Rattle.hy_finite.specs.declared.lengths.Lengths.{Lengths}
 use Rattle.hy_finite.specs.Traces.{Trace, Meets}
 use Rattle.fin_monitor.specs.Machines.{Machine}
@@ -14,4 +14,7 @@ MayTurn m =
     → ¬ Meets rule m.body (t ∷ u ∷ []) → ¬ Meets rule m.body (u ∷ t ∷ []))
 
 pub MayTurn-prop : (m : Machine) → IsProp (MayTurn m)
-MayTurn-prop m = ×_prop (Coded-set coded_ℕ m.variables 2) hlevel ()
+MayTurn-prop m =
+    ×_prop (Coded-set coded_ℕ m.variables 2)
+    (Π_prop (λ rule. Π_prop (λ t. Π_prop (λ u.
+    →_prop (→_prop (→_prop (→_prop (λ x y. absurd x))))))))

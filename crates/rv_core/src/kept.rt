@@ -74,8 +74,8 @@ pub(crate) fn leaders(
     ensures { IfOk result (AreNext rule (watched_by watches.now) number trace.now kept.now) }
 {
     let mut made = List::new(alloc);
-    for (watch, version) in watches.iter().zip(kept.as_slice()) {
-        made.push(watch.leaders(alloc, rule, version, number, trace)?)?;
+    for i in 0..watches.len() {
+        made.push(watches[i].leaders(alloc, rule, kept.at(i), number, trace)?)?;
     }
     Ok(made)
 }

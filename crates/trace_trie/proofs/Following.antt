@@ -1,5 +1,6 @@
 -- What is left of a list from a number on, where the list has two parts.
 use Rattle.std.proofs.Common.{◌≡◌, ℕ, ◌<◌, ◌≤◌, Bool, true, false, nat_lt, cond, List, [], ◌∷◌, ◌++◌, refl, sym, ap, ◌∙◌, subst, arith}
+use Rattle.std.proofs.lemmas.Bool.{lt-ltb}
 use Rattle.hy_formula.specs.Quantifiers.{Each}
 use Rattle.trace_trie.specs.Numbered.{Numbered, rest_from}
 use Rattle.trace_trie.proofs.Parts.{AtTwo}
@@ -30,12 +31,9 @@ rest-some n (x ∷ xs) ys p more e = by (nat_lt x.0 n) e (rest-some n xs ys p mo
 pub rest-below : (n split : ℕ) (xs : List Numbered) → split ≤ n
     → Each (λ (p : Numbered). p.0 < split) xs → rest_from n xs ≡ []
 rest-below n split [] le h = refl
-rest-below n split (x ∷ xs) le h = by (nat_lt x.0 n) refl (rest-below n split xs le h.1)
-  where
-    by : (b : Bool) → nat_lt x.0 n ≡ b → rest_from n xs ≡ []
-        → cond b (rest_from n xs) (x ∷ xs) ≡ []
-    by true e go = go
-    by false e go = absurd (omega (arith, h.0, le, e))
+rest-below n split (x ∷ xs) le h =
+    ap (λ b. cond b (rest_from n xs) (x ∷ xs)) (lt-ltb x.0 n (omega (arith, h.0, le)))
+    ∙ rest-below n split xs le h.1
 
 module _ {list l r : List Numbered} {split : ℕ} (n : ℕ) (at : AtTwo list split l r) where
   pub rest-second : split ≤ n → rest_from n list ≡ rest_from n r
