@@ -18,7 +18,9 @@ use Rattle.dominance.proofs.Leaderships.{none-kept}
 use Rattle.dominance.proofs.Replacements.{over-itself, over-through}
 use Rattle.rv_core.specs.Endings.{Spec, spec_at, IsClean}
 use Rattle.rv_core.specs.Histories.{empty_history}
-use Rattle.rv_core.specs.Held.{spec_of, StandsFor}
+use Rattle.rv_core.specs.declared.saved.Saved.{Saved}
+use Rattle.rv_core.specs.Opened.{Open}
+use Rattle.rv_core.specs.Held.{Held, spec_of, StandsFor}
 use Rattle.rv_core.specs.Keeping.{IsKept, AreKept, AreBelow, kept_at}
 use Rattle.rv_core.specs.Built.{spec_of_formula, SomeBody, EachBody, IsCause, earlier, IsFresh, AreFresh}
 use Rattle.rv_core.proofs.Places.{each-push, each-more}
@@ -149,19 +151,24 @@ none-below n bound = (length-replicate n [], by n)
     by zero = tt
     by (suc k) = (tt, by k)
 
-pub fresh-stands : (rule : Lengths) (drop : Bool) (fs : List Formula) (ms : List Machine)
-    → AreFresh fs ms
-    → StandsFor
-    (record {
+-- what a monitor holds before all events
+abbrev pub fresh_held : Lengths → Bool → List Machine → List (List Numbered) → Open → List Saved
+    → Held
+fresh_held rule drop ms kept os saves =
+    record {
       rule = rule;
       drop = drop;
       machines = ms;
       arrived = 0;
-      kept = replicate (length ms) [];
-      sessions = [];
-      saves = [];
+      kept = kept;
+      sessions = os;
+      saves = saves;
       clean = true;
-    }) empty_history
+    }
+
+pub fresh-stands : (rule : Lengths) (drop : Bool) (fs : List Formula) (ms : List Machine)
+    → AreFresh fs ms
+    → StandsFor (fresh_held rule drop ms (replicate (length ms) []) [] []) empty_history
 fresh-stands rule drop fs ms a = record {
   clean = refl;
   some = tt;

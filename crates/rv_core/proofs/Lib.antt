@@ -1,11 +1,13 @@
 mod Answering
 mod Arriving
+mod Below
 mod Building
 mod Calling
 mod Ending
 mod Keepings
 mod Leading
 mod Places
+mod Seeing
 mod SessionLists
 mod Sifting
 mod Standing

@@ -101,7 +101,7 @@ module _ (rule : Lengths) (m : Machine) (t : Trace) where
   left-stays kept left p (stays q ps rest not_under more) is =
       stays q (ps ++ p ∷ []) (rest ++ p ∷ []) not_under (left-stays ps rest p more is)
 
-  left-each : (P : Numbered → Type 0) (kept left : List Numbered) → AreLeft rule m t kept left
+  pub left-each : (P : Numbered → Type 0) (kept left : List Numbered) → AreLeft rule m t kept left
       → Each P kept → Each P left
   left-each P kept left none e = tt
   left-each P kept left (dropped q ps rest under more) (here, e) = left-each P ps rest more e

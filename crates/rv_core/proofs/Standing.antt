@@ -1,5 +1,5 @@
 -- What a monitor stands for after each change of what it holds.
-use Rattle.std.proofs.Common.{◌≡◌, ℕ, zero, suc, ◌+◌, ◌<◌, Bool, true, false, List, [], ◌∷◌, ◌++◌, length, map, slice_get, Some, refl, sym, ap, ◌∙◌, subst, arith}
+use Rattle.std.proofs.Common.{◌≡◌, ℕ, zero, suc, ◌+◌, ◌<◌, Bool, true, false, List, [], ◌∷◌, ◌++◌, length, map, slice_get, Some, Result, Ok, Err, OnOk, OnErr, refl, sym, ap, ◌∙◌, subst, arith}
 use Rattle.std.proofs.lemmas.List.{length-append, length-map}
 use Rattle.std.proofs.lemmas.Option.{slice_get_within}
 use Rattle.hy_formula.specs.Quantifiers.{Each}
@@ -14,8 +14,8 @@ use Rattle.rv_core.specs.declared.saved.Saved.{Saved}
 use Rattle.rv_core.specs.Histories.{Session, Present, History, with_trace, with_sessions}
 use Rattle.rv_core.specs.Endings.{Spec, spec_at, ViolatesSpec, IsClean, IsQuiet}
 use Rattle.rv_core.specs.Opened.{Open}
-use Rattle.rv_core.specs.Keeping.{IsKept, AreKept, kept_at}
-use Rattle.rv_core.specs.Held.{Held, spec_of, specs_of, AreSessions, AreSaves, StandsFor}
+use Rattle.rv_core.specs.Keeping.{IsKept, AreKept, AreBelow, kept_at}
+use Rattle.rv_core.specs.Held.{Held, spec_of, specs_of, AreSessions, AreSaves, StandsFor, AreWithin}
 use Rattle.rv_core.specs.Arrivals.{with_last, Gains, ArePassed, IsPassed, FirstFound}
 use Rattle.rv_core.specs.Replies.{IsFound, IsViolatedBy}
 use Rattle.rv_core.proofs.Arriving.{found-in, stays-clean}
@@ -216,9 +216,12 @@ with_saves m saves =
       clean = m.clean;
     }
 
+abbrev pub saved_with : ℕ → List (List Numbered) → Open → Saved
+saved_with n kept os = record { arrived = n; kept = kept; sessions = os }
+
 -- what it puts aside
 abbrev pub saved_of : Held → Saved
-saved_of m = record { arrived = m.arrived; kept = m.kept; sessions = m.sessions }
+saved_of m = saved_with m.arrived m.kept m.sessions
 
 pub save-stands : (m : Held) (h : History) → StandsFor m h
     → StandsFor (with_saves m (saved_of m ∷ m.saves))
@@ -295,3 +298,26 @@ saves-long rule drop specs [] (p ∷ ps) a = absurd a
 saves-long rule drop specs (x ∷ xs) [] a = absurd a
 saves-long rule drop specs (x ∷ xs) (p ∷ ps) (is, later) =
     ap suc (saves-long rule drop specs xs ps later)
+
+-- ---- what a monitor holds fits together
+
+-- a save more, where it is not refused
+pub within-pushed : {E : Type 0} (r : Result (Unit {0}) E) (n : ℕ) (saves new : List Saved)
+    (x : Saved) → AreBelow n x.arrived x.kept
+    → OnOk r (new ≡ saves ++ x ∷ []) → OnErr r (new ≡ saves) → AreWithin n saves → AreWithin n new
+within-pushed (Ok u) n saves new x below added same w =
+    let P : List Saved → Type 0 = AreWithin n in
+    subst P (sym added)
+    (each-append (λ (s : Saved). AreBelow n s.arrived s.kept) saves (x ∷ []) w (below, tt))
+within-pushed (Err u) n saves new x below added same w =
+    let P : List Saved → Type 0 = AreWithin n in subst P (sym same) w
+
+pub within-popped : (n : ℕ) (saves new : List Saved) (x : Saved) → saves ≡ new ++ x ∷ []
+    → AreWithin n saves → AreBelow n x.arrived x.kept × AreWithin n new
+within-popped n saves new x e w =
+    let P : List Saved → Type 0 = AreWithin n in by new (subst P e w)
+  where
+    by : (xs : List Saved) → AreWithin n (xs ++ x ∷ [])
+        → AreBelow n x.arrived x.kept × AreWithin n xs
+    by [] (here, rest) = (here, tt)
+    by (y ∷ ys) (here, rest) = let (last, front) = by ys rest in (last, (here, front))

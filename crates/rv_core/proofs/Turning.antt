@@ -46,7 +46,7 @@ all-meet m rule list t (two, turn) are first tuple is has =
     by [] long members c = absurd (omega arith)
     by (u ∷ []) long members c = absurd (omega arith)
     by (u ∷ v ∷ w ∷ ws) long members c = absurd (omega arith)
-    by (u ∷ v ∷ []) long (in_u, in_v, rest) c =
+    by (u ∷ v ∷ []) long (in_u, (in_v, rest)) c =
         elim (contains-cases u t (v ∷ []) c) [
           | inl e ↦
               let P : Trace → Type 0 = λ q. Meets rule m.body (q ∷ v ∷ []) in

@@ -68,9 +68,11 @@ impl Rv {
         requires clean { IsTrue (held self.old).clean }
         requires few { (held self.old).arrived < 2 ^ 31 }
         ensures answers { Answers (held self.old) (held self.new) (occurs.Whole trace.now) result }
+        ensures dropping { (held self.new).drop ≡ (held self.old).drop }
         ensures refused { OnErr result (IsAsBefore (held self.old) (held self.new)) }
         ensures counted { steps.old ≤ steps.new }
     {
+        prove!(trace.len() > 0);
         let arrival = self.arrival(alloc, trace, steps)?;
         Ok(self.take_arrival(arrival))
     }
@@ -85,6 +87,7 @@ impl Rv {
         requires clean { IsTrue (held self.old).clean }
         ensures answers { Answers (held self.old) (held self.new) (occurs.Letter session letter)
             result }
+        ensures dropping { (held self.new).drop ≡ (held self.old).drop }
         ensures refused { OnErr result (IsAsBefore (held self.old) (held self.new)) }
     {
         self.sessions.extend(alloc, session, letter)?;
@@ -101,6 +104,7 @@ impl Rv {
         requires clean { IsTrue (held self.old).clean }
         requires few { (held self.old).arrived < 2 ^ 31 }
         ensures answers { Answers (held self.old) (held self.new) (occurs.End session) result }
+        ensures dropping { (held self.new).drop ≡ (held self.old).drop }
         ensures refused { OnErr result (IsAsBefore (held self.old) (held self.new)) }
         ensures counted { steps.old ≤ steps.new }
     {
@@ -117,6 +121,7 @@ impl Rv {
     fn take_save(&mut self, alloc: Global) -> Result<Reply, RvError>
         requires clean { IsTrue (held self.old).clean }
         ensures answers { Answers (held self.old) (held self.new) occurs.Save result }
+        ensures dropping { (held self.new).drop ≡ (held self.old).drop }
         ensures refused { OnErr result (IsAsBefore (held self.old) (held self.new)) }
     {
         if self.saves.len() >= MOST_SAVES {
@@ -136,6 +141,7 @@ impl Rv {
     fn take_back(&mut self) -> Result<Reply, RvError>
         requires clean { IsTrue (held self.old).clean }
         ensures answers { Answers (held self.old) (held self.new) occurs.Back result }
+        ensures dropping { (held self.new).drop ≡ (held self.old).drop }
         ensures refused { OnErr result (IsAsBefore (held self.old) (held self.new)) }
     {
         if self.saves.is_empty() {

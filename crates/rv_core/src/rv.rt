@@ -48,9 +48,11 @@ impl Rv {
         ensures { result ≡ length (kept_at (held self.now).kept spec) }
     {
         let version = self.kept.at(spec as usize);
+        version.numbers_ascend();
         let mut count = 0;
         let mut from = 0;
         while let Some((number, _)) = version.next(from) {
+            prove!(number < self.traces);
             count += 1;
             from = number + 1;
         }

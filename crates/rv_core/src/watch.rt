@@ -87,6 +87,7 @@ impl Watch {
         requires { Each (λ (p : Numbered). p.0 < number) kept.now }
         ensures { IfOk result (IsNext rule (watched self.now) trace.now number kept.now) }
     {
+        kept.numbers_ascend();
         let mut left = kept.share()?;
         let mut from = 0;
         while let Some((other, held)) = kept.next(from) {

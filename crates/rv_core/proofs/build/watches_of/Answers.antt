@@ -47,7 +47,7 @@ loop-formula-preserved c =
           let B : MonitorError → Type 0 = IsRefusal (tree_of f.body) in
           let now : c.match-watch_of.refused ≡ Some
           (earlier c.loop-formula.refused w.in-Err-Limit.kind) =
-          w.refused-is ∙ ap Some w.first_kind.ensures in
+          w.refused-is ∙ ap Some (rw w.in-Err-Limit.field-0-is at w.first_kind.ensures) in
           record {
             cause = subst P (sym next) (subst R (sym now)
                 (cause-refused

@@ -1,4 +1,4 @@
-use Rattle.std.proofs.Common.{◌≡◌, ◌<◌, ℕ, slice_get, Some}
+use Rattle.std.proofs.Common.{◌≡◌, ◌≤◌, ◌<◌, ℕ, slice_get, Some}
 use Rattle.fin_monitor.specs.Machines.{Machine}
 use Rattle.rv_core.specs.Arrivals.{IsPassed}
 use Rattle.rv_core.specs.Seen.{watched_by}
@@ -6,5 +6,8 @@ use Rattle.rv_core.proofs.kept.first_violation.Given as goal
 
 -- for the specs before no tuple was found
 abbrev pub invariant-loop-i : goal.invariant-loop-i
-invariant-loop-i g l = (s : ℕ) (m : Machine) → s < l.i → slice_get (watched_by l.watches) s ≡ Some m
-    → IsPassed l.rule l.kept l.trace s m
+invariant-loop-i g l = record {
+  before : (s : ℕ) (m : Machine) → s < l.i → slice_get (watched_by l.watches) s ≡ Some m
+      → IsPassed l.rule l.kept l.trace s m;
+  grown : l.fn.steps ≤ l.steps;
+}

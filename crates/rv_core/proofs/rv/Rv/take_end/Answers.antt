@@ -1,0 +1,45 @@
+use Rattle.std.proofs.Common.{◌≡◌, ◌≤◌, length, refl, Ok, Some, sym, ap, ◌∙◌, subst, arith}
+use Rattle.std.proofs.lemmas.Option.{MatchOption-at_some}
+use Rattle.std.proofs.lemmas.Result.{err_from_is_err_and}
+use Rattle.hy_finite.specs.declared.event.Event.TheVariants as event
+use Rattle.rv_core.specs.Held.{Held}
+use Rattle.rv_core.specs.Opened.{letters_in}
+use Rattle.rv_core.specs.Replies.{Answers}
+use Rattle.rv_core.specs.Seen.{held}
+use Rattle.rv_core.proofs.Answering.{end-brings, answered-arrival, memory-answer, no-end}
+use Rattle.rv_core.proofs.rv.Rv.take_end.Goals as goal
+
+pub returns-in_default-clause-answers : goal.returns-in_default-clause-answers
+returns-in_default-clause-answers g c =
+    no-end (held c.args.self.now) c.args.session (sym c.in_default.ensures.letters)
+
+pub returns-in_err-copy-clause-answers : goal.returns-in_err-copy-clause-answers
+returns-in_err-copy-clause-answers g c =
+    let p = err_from_is_err_and c.from_residual.result c.from_residual.ensures.1 in
+    rw (p.1, p.2) (memory-answer (held c.args.self.now) (event.End c.args.session) refl)
+
+pub returns-in_err-arrival-clause-answers : goal.returns-in_err-arrival-clause-answers
+returns-in_err-arrival-clause-answers g c =
+    let p = err_from_is_err_and c.from_residual-in_err-arrival.result
+    c.from_residual-in_err-arrival.ensures.1 in
+    rw (p.1, p.2) (memory-answer (held c.args.self.now) (event.End c.args.session) refl)
+
+pub returns-clause-answers : goal.returns-clause-answers
+returns-clause-answers g c =
+    let m = held c.args.self.now in
+    let a = c.in_ok-arrival.arrival in
+    let t = c.unwrap-trace.result in
+    let copied = c.in_ok-copy.field-0 in
+    let same : t ≡ copied =
+    MatchOption-at_some _ (λ x. x ≡ copied) t c.unwrap-trace.ensures c.new.ensures.made in
+    let short = MatchOption-at_some _ (λ x. (1 ≤ length copied) × (length copied ≤ 1024)) t
+    c.unwrap-trace.ensures c.new.ensures.short in
+    let known : letters_in c.args.session m.sessions ≡ Some t =
+    sym c.in-Some.ensures.letters ∙ ap Some (sym (same ∙ c.in_ok-copy.ensures)) in
+    let P : Held → Type 0 =
+    λ new. Answers m new (event.End c.args.session) (Ok c.take_arrival.result) in
+    subst P (sym c.take_arrival.ensures.held)
+    (answered-arrival m (event.End c.args.session) t c.close.new.self
+    (end-brings m c.args.session t c.close.new.self known c.close.ensures) refl
+    (omega (arith, short.0, ap length same)) a.kept a.found c.take_arrival.result
+    c.take_arrival.ensures.reply c.in_ok-arrival.ensures.arrival)
