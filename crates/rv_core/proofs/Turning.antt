@@ -53,7 +53,7 @@ all-meet m rule list t (two, turn) are first tuple is has =
               let Q : Trace → Type 0 = Contains (traces_of list) in
               subst P (sym e) (first (v ∷ []) (record {
                 count = sym two;
-                members = (subst Q e in_u, in_v, tt);
+                members = (subst Q e in_u, (in_v, tt));
               }))
           | inr later ↦ elim (contains-cases v t [] later) [
             | inl e ↦
@@ -62,7 +62,7 @@ all-meet m rule list t (two, turn) are first tuple is has =
                 let in_t = subst Q e in_v in
                 subst P (sym e) (turned u in_u in_t (first (u ∷ []) (record {
                   count = sym two;
-                  members = (in_t, in_u, tt);
+                  members = (in_t, (in_u, tt));
                 })))
             | inr none ↦ absurd (contains-none t none)
           ]

@@ -49,10 +49,11 @@ impl Rv {
     {
         let version = self.kept.at(spec as usize);
         version.numbers_ascend();
+        let traces = self.traces;
         let mut count = 0;
         let mut from = 0;
         while let Some((number, _)) = version.next(from) {
-            prove!(number < self.traces);
+            prove!(number < traces);
             count += 1;
             from = number + 1;
         }

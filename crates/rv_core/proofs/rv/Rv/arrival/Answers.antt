@@ -31,16 +31,16 @@ returns-then-is_some-clause-arrival g c =
     let P : List Watch → Type 0 =
     λ ws. IsSearch m.rule (watched_by ws) c.in_ok-all.all c.as_slice.result.now found in
     let Q : Trace → Type 0 = λ t. IsSearch m.rule m.machines c.in_ok-all.all t found in
-    let search = subst Q c.as_slice.ensures
+    let searched = subst Q c.as_slice.ensures
     (subst P c.as_slice-watches.ensures c.first_violation-found.ensures.found) in
     elim c.then-is_some.branch [
       | then-is_some-via-then-is_some w ↦
-          arrival-all m c.args.trace.now c.in_ok-all.all found c.in_ok-all.ensures search
+          arrival-all m c.args.trace.now c.in_ok-all.all found c.in_ok-all.ensures searched
           (inl (sym c.is_some.ensures ∙ w.if-is_some.true))
       | then-is_some-via-else-is_some+then-not-self w ↦
           let e = w.if-not-self.true in
           let all : c.args.self.now.drop_dominated ≡ false = search (rules, not-not) in
-          arrival-all m c.args.trace.now c.in_ok-all.all found c.in_ok-all.ensures search (inr all)
+          arrival-all m c.args.trace.now c.in_ok-all.all found c.in_ok-all.ensures searched (inr all)
     ]
 
 pub returns-then-is_some-clause-below : goal.returns-then-is_some-clause-below
