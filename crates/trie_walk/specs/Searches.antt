@@ -9,6 +9,7 @@ use Rattle.hy_finite.specs.Traces.{Trace, judged, trace_words}
 use Rattle.fin_monitor.specs.Machines.{Machine, next_state, is_accepting, code_at}
 use Rattle.trace_trie.specs.Numbered.{Numbered, tail}
 use Rattle.trie_walk.specs.Finds.{numbers_of, traces_of}
+use Rattle.trie_walk.specs.Places.{HasEnded}
 use Rattle.trie_walk.specs.JointPrefixes.{Row, entry, IsPrefixOf}
 
 -- the state after the first letters of a tuple
@@ -67,17 +68,10 @@ IsSearchBy m lengths q i letters wholes None = AreAcceptedBy m lengths q i lette
 
 -- ---- where tuples are judged
 
-abbrev pub HasEnded : List Numbered → Type 0
-HasEnded rests = (number : ℕ) × Contains rests (number, [])
-
 -- Some tuple has no position left.
 abbrev pub CanStop : Lengths → List (List Numbered) → Type 0
 CanStop Min wholes = (rests : List Numbered) × Contains wholes rests × HasEnded rests
 CanStop Pad wholes = Each HasEnded wholes
-
--- Each tuple has a position left.
-abbrev pub GoesOn : Lengths → List (List Numbered) → Type 0
-GoesOn lengths wholes = (tuple : List Trace) → IsTupleOf wholes tuple → 0 < judged lengths tuple
 
 -- A member of each list, that has ended where one of the list has.
 abbrev pub AreEnded : List (List Numbered) → List Numbered → Type 0
@@ -104,4 +98,21 @@ pub record AreSteps (lengths : Lengths) (wholes : List (List Numbered)) (made : 
   pub visited : List (List Row)
   pub apart : AreApart visited
   pub inside : Each (IsPrefixIn lengths wholes) visited
+  pub many : made ≤ length visited
+
+-- the letter or none of a place in the first row
+abbrev pub entry_in : ℕ → List Row → Option Letter
+entry_in i [] = None
+entry_in i (row ∷ rows) = slice_index_or row i None
+
+abbrev pub BeginsBy : ℕ → List Letter → List Row → Type 0
+BeginsBy i letters rows = (a : Letter) × Contains letters a × (entry_in i rows ≡ Some a)
+
+-- The same, for joint prefixes that begin with one of the letters at a place.
+pub record AreStepsBy (lengths : Lengths) (i : ℕ) (letters : List Letter)
+    (wholes : List (List Numbered)) (made : ℕ) : Type 0 where
+  pub visited : List (List Row)
+  pub apart : AreApart visited
+  pub inside : Each (IsPrefixIn lengths wholes) visited
+  pub begin : Each (BeginsBy i letters) visited
   pub many : made ≤ length visited

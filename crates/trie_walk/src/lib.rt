@@ -2,10 +2,10 @@
 //! so that a joint prefix of many tuples is stepped once.
 #![tactic(auto)]
 
-mod find;
+mod finds;
 mod place;
 #[cfg(test)]
 mod tests;
 mod walk;
 
-pub use find::{find, find_first};
+pub use finds::{find, find_first};

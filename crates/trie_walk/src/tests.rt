@@ -2,6 +2,7 @@
 
 ghost use Rattle.std.specs.Prelude.{◌≡◌, ◌<◌, ◌≤◌, IfOk, IsTrue};
 ghost use Rattle.hy_formula.specs.Trees.{tree_of, vars_below};
+ghost use Rattle.fin_monitor.specs.Seen.{machine_of};
 
 use crate::{find, find_first};
 use fin_monitor::Monitor;
@@ -46,15 +47,6 @@ fn of(name: usize) -> LetterMask
     LetterMask::empty().with(name)
 }
 
-/// The version with the traces, numbered from 0.
-fn version_of(alloc: Global, traces: &[&[LetterMask]]) -> Result<Version, Fail> {
-    let mut version = Version::new(alloc);
-    for (k, letters) in traces.iter().enumerate() {
-        version = version.insert(k as u32, &trace_of(alloc, letters)?)?;
-    }
-    Ok(version)
-}
-
 /// The trace of these letters.
 fn trace_of(alloc: Global, letters: &[LetterMask]) -> Result<Trace, Fail> {
     let mut list = List::new(alloc);
@@ -64,27 +56,31 @@ fn trace_of(alloc: Global, letters: &[LetterMask]) -> Result<Trace, Fail> {
     Ok(Trace::new(list).ok_or("no trace")?)
 }
 
-/// Tries that the last trace makes this tuple with those before it and itself, and this one first.
+/// Tries that the last of three traces makes this tuple with all three, and this one first.
 fn tried<L: Ledger, R: AllocGlobal + Abort>(
     rt: &R,
     monitor: &Monitor,
     lengths: Lengths,
-    traces: &[&[LetterMask]],
+    traces: [&[LetterMask]; 3],
     expected: &[u32],
     first: &[u32],
     steps: &mut Steps<L>,
-) -> Result<(), Fail> {
-    let version = version_of(rt.alloc(), traces)?;
-    if let [.., last] = traces {
-        let number = traces.len() as u32 - 1;
-        match find(rt.alloc(), &version, monitor, number, last, lengths, steps) {
-            Some(found) => assert_eq!(rt; found.as_slice(), expected),
-            None => assert!(rt; expected.is_empty()),
-        }
-        match find_first(rt.alloc(), &version, monitor, number, last, lengths, steps) {
-            Some(found) => assert_eq!(rt; found.as_slice(), first),
-            None => assert!(rt; first.is_empty()),
-        }
+) -> Result<(), Fail>
+    requires { 1 ≤ (machine_of monitor.now).variables }
+{
+    let alloc = rt.alloc();
+    let [one, two, three] = traces;
+    let three = trace_of(alloc, three)?;
+    let version = Version::new(alloc).insert(0, &trace_of(alloc, one)?)?;
+    let version = version.insert(1, &trace_of(alloc, two)?)?;
+    let version = version.insert(2, &three)?;
+    match find(alloc, &version, monitor, 2, three.as_slice(), lengths, steps) {
+        Some(found) => assert_eq!(rt; found.as_slice(), expected),
+        None => assert!(rt; expected.is_empty()),
+    }
+    match find_first(alloc, &version, monitor, 2, three.as_slice(), lengths, steps) {
+        Some(found) => assert_eq!(rt; found.as_slice(), first),
+        None => assert!(rt; first.is_empty()),
     }
     Ok(())
 }
@@ -94,12 +90,12 @@ fn places<L: Ledger, R: AllocGlobal + Abort>(rt: &R, steps: &mut Steps<L>) -> Re
     let alloc = rt.alloc();
     let (a, b, c, d) = (of(0), of(1), of(2), of(3));
     let two = Monitor::build(alloc, &not_all(alloc, 2)?, 2)?;
-    tried(rt, &two, Lengths::Min, &[&[b], &[a]], &[1, 0], &[1, 0], steps)?;
+    tried(rt, &two, Lengths::Min, [&[b], &[b], &[a]], &[2, 0], &[2, 0], steps)?;
     let three = Monitor::build(alloc, &not_all(alloc, 3)?, 3)?;
-    tried(rt, &three, Lengths::Min, &[&[a], &[c], &[b]], &[0, 2, 1], &[], steps)?;
+    tried(rt, &three, Lengths::Min, [&[a], &[c], &[b]], &[0, 2, 1], &[], steps)?;
     let four = Monitor::build(alloc, &not_all(alloc, 4)?, 4)?;
     let traces: [&[LetterMask]; 3] = [&[d], &[c, c], &[b.with(0), b]];
-    tried(rt, &four, Lengths::Pad, &traces, &[2, 2, 1, 0], &[2, 2, 1, 0], steps)
+    tried(rt, &four, Lengths::Pad, traces, &[2, 2, 1, 0], &[2, 2, 1, 0], steps)
 }
 
 /// A tuple is judged on the least of its lengths or the greatest.
@@ -108,11 +104,11 @@ fn rules<L: Ledger, R: AllocGlobal + Abort>(rt: &R, steps: &mut Steps<L>) -> Res
     let a = of(0);
     let none = LetterMask::empty();
     let monitor = Monitor::build(alloc, &alike(alloc)?, 2)?;
-    let traces: [&[LetterMask]; 3] = [&[a], &[a, none], &[a, a]];
-    tried(rt, &monitor, Lengths::Min, &traces, &[2, 1], &[2, 1], steps)?;
-    tried(rt, &monitor, Lengths::Pad, &traces, &[2, 1], &[2, 1], steps)?;
-    tried(rt, &monitor, Lengths::Min, &[&[a], &[a, a]], &[], &[], steps)?;
-    tried(rt, &monitor, Lengths::Pad, &[&[a], &[a, a]], &[1, 0], &[1, 0], steps)
+    let apart: [&[LetterMask]; 3] = [&[a], &[a, none], &[a, a]];
+    tried(rt, &monitor, Lengths::Min, apart, &[2, 1], &[2, 1], steps)?;
+    let longer: [&[LetterMask]; 3] = [&[a], &[a], &[a, a]];
+    tried(rt, &monitor, Lengths::Min, longer, &[], &[], steps)?;
+    tried(rt, &monitor, Lengths::Pad, longer, &[2, 0], &[2, 0], steps)
 }
 
 fn all<L: Ledger, R: AllocGlobal + Abort>(rt: &R, blank: Blank) -> Result<(), Fail>
