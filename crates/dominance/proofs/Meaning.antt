@@ -1,5 +1,5 @@
 -- What the state after the codes of a tuple says of the body.
-use Rattle.std.proofs.Common.{◌≡◌, ◌↔◌, ℕ, zero, suc, ◌<◌, ◌≤◌, Bool, true, List, [], ◌∷◌, map, get_or, length, sym, ap, ◌∙◌, refl, subst, arith}
+use Rattle.std.proofs.Common.{◌≡◌, ◌↔◌, ℕ, zero, suc, ◌<◌, true, List, [], ◌∷◌, map, get_or, length, ap, ◌∙◌, refl, arith}
 use Rattle.std.specs.FinSet.{empty, contains}
 use Rattle.hy_bits.specs.Letter.{Letter}
 use Rattle.hy_formula.specs.Trees.{Tree}
@@ -14,39 +14,49 @@ use Rattle.dominance.specs.Runs.{state_on}
 use Rattle.dominance.proofs.Asking.{codes-agree}
 use Rattle.dominance.proofs.Standing.{state_on-same}
 
-state-words : (m : Machine) (words : Words) (n : ℕ) → state_on m (λ i. code_at m words i) n ≡ state_after m words n
+state-words : (m : Machine) (words : Words) (n : ℕ)
+    → state_on m (λ i. code_at m words i) n ≡ state_after m words n
 state-words m words zero = refl
 state-words m words (suc n) = ap (λ q. next_state m q (code_at m words n)) (state-words m words n)
 
--- the state after the codes of the joint letters of a tuple accepts exactly where the tuple satisfies the body
-pub meets-state : (m : Machine) → IsMonitor m → (rule : Lengths) (tuple : List Trace) (code : ℕ → ℕ) (n : ℕ) → 0 < n → n ≡ judged rule tuple
+-- the state after the codes of the joint letters of a tuple accepts exactly where the tuple
+-- satisfies the body
+pub meets-state : (m : Machine) → IsMonitor m
+    → (rule : Lengths) (tuple : List Trace) (code : ℕ → ℕ) (n : ℕ) → 0 < n → n ≡ judged rule tuple
     → ((i : ℕ) → i < n → code i ≡ code_at m (trace_words tuple) i)
     → (is_accepting m (state_on m code n) ≡ true) ↔ Meets rule m.body tuple
 meets-state m is rule tuple code n some long same =
-    accepts-meets m is rule tuple (omega arith) (state_on m code n) (is_accepting m (state_on m code n)) refl
-    (state_on-same m code (λ i. code_at m (trace_words tuple) i) n same ∙ state-words m (trace_words tuple) n ∙ ap (state_after m (trace_words tuple)) long)
+    accepts-meets m is rule tuple (omega arith) (state_on m code n)
+    (is_accepting m (state_on m code n)) refl
+    (state_on-same m code (λ i. code_at m (trace_words tuple) i) n same
+    ∙ state-words m (trace_words tuple) n ∙ ap (state_after m (trace_words tuple)) long)
 
 -- numbers that are made of the members of a list
-pub codes-of : {A : Type 0} (f : A → ℕ) (n : ℕ) → 0 < n → ((x : A) → f x < n) → (xs : List A) (i : ℕ) → get_or (map f xs) i 0 < n
+pub codes-of : {A : Type 0} (f : A → ℕ) (n : ℕ) → 0 < n → ((x : A) → f x < n)
+    → (xs : List A) (i : ℕ) → get_or (map f xs) i 0 < n
 codes-of f n some h [] i = some
 codes-of f n some h (x ∷ xs) zero = h x
 codes-of f n some h (x ∷ xs) (suc i) = codes-of f n some h xs i
 
-pub other-default : {A : Type 0} (xs : List A) (i : ℕ) (d e : A) → i < length xs → get_or xs i d ≡ get_or xs i e
+pub other-default : {A : Type 0} (xs : List A) (i : ℕ) (d e : A) → i < length xs
+    → get_or xs i d ≡ get_or xs i e
 other-default [] i d e lt = absurd (omega arith)
 other-default (x ∷ xs) zero d e lt = refl
 other-default (x ∷ xs) (suc i) d e lt = other-default xs i d e (omega arith)
 
 -- the code of one letter is that of a tuple of one trace
-pub one-code : (m : Machine) (t : Trace) (i : ℕ) (letter : Letter) → letter ≡ get_or t i empty → code_of (joint_letter (letter ∷ [])) m.atoms ≡ code_at m (trace_words (t ∷ [])) i
+pub one-code : (m : Machine) (t : Trace) (i : ℕ) (letter : Letter) → letter ≡ get_or t i empty
+    → code_of (joint_letter (letter ∷ [])) m.atoms ≡ code_at m (trace_words (t ∷ [])) i
 one-code m t i letter is = codes-agree _ _ m.atoms (λ a _. same a.name a.variable)
   where
-    same : (name variable : ℕ) → joint_letter (letter ∷ []) name variable ≡ trace_words (t ∷ []) name variable i
+    same : (name variable : ℕ) → joint_letter (letter ∷ []) name variable
+        ≡ trace_words (t ∷ []) name variable i
     same name zero = ap (λ (l : Letter). contains l name) is
     same name (suc v) = refl
 
 -- one trace dominates another of those that are judged alone
-pub alone-dominates : (rule : Lengths) (body : Tree) (t u : Trace) → (¬ Meets rule body (u ∷ []) → ¬ Meets rule body (t ∷ [])) → Dominates rule 1 body t u
+pub alone-dominates : (rule : Lengths) (body : Tree) (t u : Trace)
+    → (¬ Meets rule body (u ∷ []) → ¬ Meets rule body (t ∷ [])) → Dominates rule 1 body t u
 alone-dominates rule body t u h [] [] b a count = h
 alone-dominates rule body t u h [] (x ∷ xs) b a count = absurd (omega arith)
 alone-dominates rule body t u h (x ∷ xs) after b a count = absurd (omega arith)

@@ -9,8 +9,8 @@ use Rattle.hy_finite.specs.Traces.{Trace, Meets}
 abbrev pub IsTrace : Trace → Type 0
 IsTrace t = 0 < length t
 
--- At each place, and for all finite traces at the other places: if the tuple of n traces with u there does not satisfy
--- the body, then that with t there does not either.
+-- At each place, and for all finite traces at the other places: if the tuple of n traces with u
+-- there does not satisfy the body, then that with t there does not either.
 abbrev pub Dominates : Lengths → ℕ → Tree → Trace → Trace → Type 0
 Dominates rule n body t u =
     (before after : List Trace) → Each IsTrace before → Each IsTrace after
@@ -28,7 +28,8 @@ DominatesAt rule n body place t u =
 abbrev pub with_at : ℕ → Trace → List Trace → List Trace
 with_at place t others = take place others ++ t ∷ drop place others
 
--- The others show that t does not dominate u: with u at the place the tuple violates the body, and with t it does not.
+-- The others show that t does not dominate u: with u at the place the tuple violates the body, and
+-- with t it does not.
 pub record Refutes (rule : Lengths) (n : ℕ) (body : Tree) (t u : Trace) (place : ℕ)
     (others : List Trace) : Type 0 where
   pub inside : place < n

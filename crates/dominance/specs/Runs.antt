@@ -1,4 +1,5 @@
--- Two runs of a monitor side by side: one beside each of two columns of codes, with the same choices for the rest.
+-- Two runs of a monitor side by side: one beside each of two columns of codes, with the same
+-- choices for the rest.
 use Rattle.std.specs.Prelude.{◌≡◌, ℕ, zero, suc, ◌<◌, ◌≤◌, min, max, Bool, true, false, cond, nat_lt, List, [], length, slice_index, Option, Some, None}
 use Rattle.std.specs.Int.RustNames.{bit_or}
 use Rattle.hy_formula.specs.Quantifiers.{Each}
@@ -26,7 +27,8 @@ abbrev pub judged_state : Machine → Lengths → List ℕ → (ℕ → ℕ) →
 judged_state m rule column code n =
     state_on m (joint column (ended code n)) (of_two rule (length column) n)
 
--- the first positions of the rest that a run has made: on the least length it stops where its column ends
+-- the first positions of the rest that a run has made: on the least length it stops where its
+-- column ends
 abbrev pub made : Lengths → ℕ → ℕ → ℕ
 made Min l n = min l n
 made Pad l n = n
@@ -37,10 +39,12 @@ state_beside m rule column code n = state_on m (joint column code) (made rule (l
 
 -- one position more, from a state at position i
 abbrev pub moved : Machine → Lengths → List ℕ → ℕ → ℕ → ℕ → ℕ
-moved m Min column i q code = cond (nat_lt i (length column)) (next_state m q (bit_or (slice_index column i) code)) q
+moved m Min column i q code =
+    cond (nat_lt i (length column)) (next_state m q (bit_or (slice_index column i) code)) q
 moved m Pad column i q code = next_state m q (bit_or (slice_index column i) code)
 
--- What two runs go by: for each choice the code that the upper one takes, and the one that the lower takes.
+-- What two runs go by: for each choice the code that the upper one takes, and the one that the
+-- lower takes.
 pub record Pairing : Type 0 where
   pub machine : Machine
   pub rule : Lengths
@@ -51,7 +55,15 @@ pub record Pairing : Type 0 where
 
 -- two runs with no column, over all lengths of the rest
 abbrev pub even_pairing : Machine → List ℕ → List ℕ → Pairing
-even_pairing m upper lower = record { machine = m; rule = Pad; upper = []; lower = []; upper_codes = upper; lower_codes = lower }
+even_pairing m upper lower =
+    record {
+      machine = m;
+      rule = Pad;
+      upper = [];
+      lower = [];
+      upper_codes = upper;
+      lower_codes = lower;
+    }
 
 -- Each is the code of a joint letter.
 abbrev pub AreCodesOf : Machine → List ℕ → Type 0
@@ -94,8 +106,8 @@ pub record Stands (s : Pairing) (choice : ℕ → ℕ) (n : ℕ) (x : Node) : Ty
   pub upper : x.upper ≡ state_beside s.machine s.rule s.upper (codes_by s.upper_codes choice) n
   pub lower : x.lower ≡ state_beside s.machine s.rule s.lower (codes_by s.lower_codes choice) n
 
--- From so many positions of the rest on the tuples are told apart: on the greatest length a shorter rest is as if
--- filled up to the shorter column.
+-- From so many positions of the rest on the tuples are told apart: on the greatest length a shorter
+-- rest is as if filled up to the shorter column.
 abbrev pub told_from : Lengths → ℕ → ℕ → ℕ
 told_from Min l k = 0
 told_from Pad l k = min l k
@@ -105,8 +117,10 @@ first_told s = told_from s.rule (length s.upper) (length s.lower)
 
 -- The upper run ends in a state that accepts, and the lower one in a state that does not.
 pub record Differ (s : Pairing) (choice : ℕ → ℕ) (n : ℕ) : Type 0 where
-  pub upper : is_accepting s.machine (judged_state s.machine s.rule s.upper (codes_by s.upper_codes choice) n) ≡ true
-  pub lower : is_accepting s.machine (judged_state s.machine s.rule s.lower (codes_by s.lower_codes choice) n) ≡ false
+  pub upper : is_accepting s.machine
+      (judged_state s.machine s.rule s.upper (codes_by s.upper_codes choice) n) ≡ true
+  pub lower : is_accepting s.machine
+      (judged_state s.machine s.rule s.lower (codes_by s.lower_codes choice) n) ≡ false
 
 -- the choices of a list, one after another
 abbrev pub chosen : List ℕ → ℕ → ℕ
@@ -121,10 +135,12 @@ IsFound s None =
     (choice : ℕ → ℕ) → ((i : ℕ) → choice i < length s.upper_codes) → (n : ℕ) → first_told s ≤ n
     → ¬ Differ s choice n
 
--- From the state of a run at its position, where the rest has n positions, the run ends in the other state.
+-- From the state of a run at its position, where the rest has n positions, the run ends in the
+-- other state.
 abbrev pub EndsIn : Machine → Lengths → List ℕ → (ℕ → ℕ) → (n most at q end : ℕ) → Type 0
 EndsIn m rule column code n most at q end =
-    at ≡ min n most → q ≡ state_beside m rule column code n → end ≡ judged_state m rule column code n
+    at ≡ min n most → q ≡ state_beside m rule column code n
+    → end ≡ judged_state m rule column code n
 
 -- Whether some choices are found by which the runs differ.
 abbrev pub IsFoundOrNot : Pairing → Bool → Type 0

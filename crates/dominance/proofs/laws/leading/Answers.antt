@@ -5,7 +5,8 @@ use Rattle.dominance.proofs.Ascending.{leaders-one}
 use Rattle.dominance.proofs.laws.leading.Goals as goal
 
 pub returns-clause-none : goal.returns-clause-none
-returns-clause-none c = λ lengths n body. none-kept (Dominates lengths n body) (over-itself lengths n body) (over-through lengths n body)
+returns-clause-none c = λ lengths n body. none-kept (Dominates lengths n body)
+    (over-itself lengths n body) (over-through lengths n body)
 
 pub returns-clause-arrival : goal.returns-clause-arrival
 returns-clause-arrival c = leaders-step

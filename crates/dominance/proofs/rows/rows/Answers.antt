@@ -11,24 +11,35 @@ use Rattle.dominance.proofs.rows.rows.Goals.{then-a-place+in_ok-double, else-a-p
 pub loop-a-init : goal.loop-a-init
 loop-a-init c =
     let P : List Row → Type 0 = λ l. AreRows [] c.args.place l in
-    subst P (sym (c.in_ok-push.ensures.added ∙ ap (λ l. l ++ replicate 4 c.empty.result ∷ []) c.new-rows.ensures)) (rows-none c.args.place (replicate 4 c.empty.result) (ap (λ q. replicate 4 q) c.empty.ensures))
+    subst P (sym (c.in_ok-push.ensures.added
+    ∙ ap (λ l. l ++ replicate 4 c.empty.result ∷ []) c.new-rows.ensures))
+    (rows-none c.args.place (replicate 4 c.empty.result)
+    (ap (λ q. replicate 4 q) c.empty.ensures))
 
 pub double-requires : goal.double-requires
-double-requires c = atom-small c.atoms-a-items.result.now c.loop-a.a-index c.a-item.result c.loop-a-test.true c.a-item.is (machine_of c.args.m.now) c.args.m.now.right c.atoms-a-items.ensures.atoms
+double-requires c =
+    atom-small c.atoms-a-items.result.now c.loop-a.a-index c.a-item.result c.loop-a-test.true
+    c.a-item.is (machine_of c.args.m.now) c.args.m.now.right c.atoms-a-items.ensures.atoms
 
 pub loop-a-preserved : goal.loop-a-preserved
 loop-a-preserved c =
     let a = c.a-item.result in
-    let before : List IndexedAtom = map plain_atom (take c.loop-a.a-index c.atoms-a-items.result.now) in
-    let e = atom-taken c.atoms-a-items.result.now c.loop-a.a-index a c.loop-a-test.true c.a-item.is in
+    let before : List IndexedAtom =
+    map plain_atom (take c.loop-a.a-index c.atoms-a-items.result.now) in
+    let e = atom-taken c.atoms-a-items.result.now c.loop-a.a-index a c.loop-a-test.true c.a-item.is
+    in
     let P : List IndexedAtom → Type 0 = λ l. AreRows l c.args.place c.if-a-place.rows in
     let Q : List Row → Type 0 = AreRows (before ++ plain_atom a ∷ []) c.args.place in
     subst P (sym e) (elim c.if-a-place.branch [
       | then-a-place+in_ok-double w ↦
           subst Q (sym (w.rows-is ∙ w.in_ok-double.ensures))
-          (rows-double before (plain_atom a) c.args.place c.loop-a.rows c.loop-a.invariant (ne_eqb _ _ w.if-a-place.true)
-          (atom-small c.atoms-a-items.result.now c.loop-a.a-index a c.loop-a-test.true c.a-item.is (machine_of c.args.m.now) c.args.m.now.right c.atoms-a-items.ensures.atoms))
-      | else-a-place w ↦ subst Q (sym w.rows-is) (rows-same before (plain_atom a) c.args.place c.loop-a.rows c.loop-a.invariant w.if-a-place.false)
+          (rows-double before (plain_atom a) c.args.place c.loop-a.rows c.loop-a.invariant
+          (ne_eqb _ _ w.if-a-place.true)
+          (atom-small c.atoms-a-items.result.now c.loop-a.a-index a c.loop-a-test.true c.a-item.is
+          (machine_of c.args.m.now) c.args.m.now.right c.atoms-a-items.ensures.atoms))
+      | else-a-place w ↦ subst Q (sym w.rows-is)
+          (rows-same before
+          (plain_atom a) c.args.place c.loop-a.rows c.loop-a.invariant w.if-a-place.false)
     ])
 
 pub returns : goal.returns

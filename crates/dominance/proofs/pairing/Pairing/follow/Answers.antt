@@ -18,13 +18,17 @@ loop-choice-preserved g c =
     let inv = c.loop-choice.invariant in
     let e = c.in_ok-add.ensures in
     let there : k < length mid = omega (arith, c.requires.there, grows-length old mid inv.grown) in
-    let node : c.args.node ≡ node_at mid k = c.requires.node ∙ sym (grows-at old mid inv.grown k c.requires.there) in
-    let next : c.next-next.result ≡ next_node s (node_at mid k) choice = c.next-next.ensures.next ∙ ap (λ x. next_node s x choice) node in
-    let next' : c.next-next.result ≡ next_node s (node_at new k) choice = next ∙ ap (λ x. next_node s x choice) (sym (grows-at mid new e.grown k there)) in
+    let node : c.args.node ≡ node_at mid k = c.requires.node
+    ∙ sym (grows-at old mid inv.grown k c.requires.there) in
+    let next : c.next-next.result ≡ next_node s (node_at mid k) choice = c.next-next.ensures.next
+    ∙ ap (λ x. next_node s x choice) node in
+    let next' : c.next-next.result ≡ next_node s (node_at new k) choice = next
+    ∙ ap (λ x. next_node s x choice) (sym (grows-at mid new e.grown k there)) in
     let P : Node → Type 0 = Contains new in
     record {
       linked = e.linked;
       reached = e.reached s inv.reached c.next-next.ensures.inside c.loop-choice-test.true next;
       grown = grows-through old mid new inv.grown e.grown;
-      leads = leads-more s new k choice (leads-on s mid new e.grown k there choice inv.leads) (subst P next' e.there);
+      leads = leads-more s new k choice (leads-on s mid new e.grown k there choice inv.leads)
+          (subst P next' e.there);
     }

@@ -10,7 +10,12 @@ loop-k-init g c =
     let m = c.args.self.now.monitor.now in
     record {
       linked = c.in_ok-reached.ensures.linked;
-      reached = c.in_ok-reached.ensures.reached (pairing_of c.args.self.now) (record { at = omega arith; upper = c.start.ensures.within; lower = c.start-2.ensures.within });
+      reached = c.in_ok-reached.ensures.reached (pairing_of c.args.self.now)
+          (record {
+            at = omega arith;
+            upper = c.start.ensures.within;
+            lower = c.start-2.ensures.within;
+          });
       done = λ j lt. absurd (omega arith);
     }
 
@@ -18,24 +23,30 @@ pub returns-in_default : goal.returns-in_default
 returns-in_default g c =
     let inv = c.loop-k.invariant in
     let past = c.in_default.ensures.none in
-    none-differ (pairing_of c.args.self.now) c.loop-k.reached.nodes.keys c.loop-k.reached.links inv.reached inv.linked.some (λ j lt. inv.done j (omega (arith, lt, past)))
+    none-differ (pairing_of c.args.self.now) c.loop-k.reached.nodes.keys c.loop-k.reached.links
+    inv.reached inv.linked.some (λ j lt. inv.done j (omega (arith, lt, past)))
 
 pub returns-then-differ : goal.returns-then-differ
 returns-then-differ g c =
     let s : Pairing = pairing_of c.args.self.now in
     let inv = c.loop-k.invariant in
-    let P : Node → Type 0 = λ x. (choice : ℕ → ℕ) (n : ℕ) → Stands s choice n x → (first_told s ≤ n) × Differ s choice n in
-    path-differs s c.loop-k.reached.nodes.keys c.loop-k.reached.links inv.reached c.loop-k.k c.in_ok-path.field-0 (c.in_ok-path.ensures.path s inv.reached)
+    let P : Node → Type 0 = λ x. (choice : ℕ → ℕ) (n : ℕ) → Stands s choice n x → (first_told s ≤ n)
+    × Differ s choice n in
+    path-differs s c.loop-k.reached.nodes.keys c.loop-k.reached.links inv.reached c.loop-k.k
+    c.in_ok-path.field-0 (c.in_ok-path.ensures.path s inv.reached)
     (subst P c.in-Some.ensures.node c.if-differ.ensures.differ)
 
 pub loop-k-preserved : goal.loop-k-preserved
 loop-k-preserved g c =
     let s : Pairing = pairing_of c.args.self.now in
     let inv = c.loop-k.invariant in
-    let P : Node → Type 0 = λ x. (choice : ℕ → ℕ) (n : ℕ) → Stands s choice n x → first_told s ≤ n → ¬ Differ s choice n in
+    let P : Node → Type 0 = λ x. (choice : ℕ → ℕ) (n : ℕ) → Stands s choice n x → first_told s ≤ n
+    → ¬ Differ s choice n in
     let e = c.in_ok-follow.ensures in
     record {
       linked = e.linked;
       reached = e.reached;
-      done = done-more s c.loop-k.reached.nodes.keys c.follow.new.reached.nodes.keys e.grown c.loop-k.k inv.done c.in-Some.ensures.there e.followed (subst P c.in-Some.ensures.node c.if-differ.ensures.same);
+      done = done-more s c.loop-k.reached.nodes.keys c.follow.new.reached.nodes.keys e.grown
+          c.loop-k.k inv.done c.in-Some.ensures.there e.followed
+          (subst P c.in-Some.ensures.node c.if-differ.ensures.same);
     }

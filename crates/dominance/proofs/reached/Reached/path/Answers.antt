@@ -12,7 +12,9 @@ loop-at-preserved c =
     let nodes : List Node = c.args.self.now.nodes.keys in
     let links : List Link = c.args.self.now.links in
     let link : Link = c.at-link.result.now in
-    let is : link_at links c.loop-at.at ≡ link = get_or_from_slice_get links c.loop-at.at link (record { from = 0; choice = 0 }) c.at-link.ensures in
+    let is : link_at links c.loop-at.at ≡ link =
+    get_or_from_slice_get links c.loop-at.at link
+    (record { from = 0; choice = 0 }) c.at-link.ensures in
     let inv = c.loop-at.invariant in
     let some : 0 < c.loop-at.at = c.loop-at-test.true in
     let back = c.requires.linked.back c.loop-at.at some inv.inside in
@@ -21,7 +23,9 @@ loop-at-preserved c =
       inside = omega (arith, back, from, inv.inside);
       path = λ s are.
           let P : List ℕ → Type 0 = λ p. Leads s nodes link.from c.args.k (reverse p) in
-          subst P (sym c.in_ok-push.ensures.added) (path-back s nodes links c.loop-at.at c.args.k c.loop-at.path link are some inv.inside is (inv.path s are));
+          subst P (sym c.in_ok-push.ensures.added)
+          (path-back s nodes links c.loop-at.at c.args.k c.loop-at.path link are some inv.inside
+          is (inv.path s are));
     }
 
 pub returns : goal.returns

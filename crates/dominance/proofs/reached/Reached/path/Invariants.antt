@@ -8,7 +8,8 @@ use Rattle.dominance.proofs.reached.Reached.path.Given as goal
 abbrev pub invariant-loop-at : goal.invariant-loop-at
 invariant-loop-at l = record {
   inside : l.at < length l.self.nodes.keys;
-  path : (s : Pairing) → AreReached s l.self.nodes.keys l.self.links → Leads s l.self.nodes.keys l.at l.k (reverse l.path);
+  path : (s : Pairing) → AreReached s l.self.nodes.keys l.self.links
+      → Leads s l.self.nodes.keys l.at l.k (reverse l.path);
 }
 
 abbrev pub decreases-loop-at : goal.decreases-loop-at
