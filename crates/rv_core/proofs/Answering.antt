@@ -153,7 +153,8 @@ answered-save m few = record {
   rule = refl;
   specs = refl;
   right = λ h s.
-      let long = saves-long m.rule m.drop (specs_of m) m.saves h.saves s.saves in
+      let long =
+      saves-long m.rule m.drop (specs_of m) h.present.arrived m.saves h.saves s.saves in
       quiet (record { present = h.present; saves = h.present ∷ h.saves })
       (goes-save h (omega (arith, long))) refl (save-stands m h s);
 }
@@ -164,7 +165,8 @@ many-saves m many = record {
   rule = refl;
   specs = refl;
   right = λ h s.
-      let long = saves-long m.rule m.drop (specs_of m) m.saves h.saves s.saves in
+      let long =
+      saves-long m.rule m.drop (specs_of m) h.present.arrived m.saves h.saves s.saves in
       refused_by too_many_saves (refused-save h (omega (arith, long))) s;
 }
 

@@ -10,10 +10,12 @@ use Rattle.dominance.specs.Dominance.{Dominates}
 use Rattle.dominance.specs.Leaders.{IsAt, AreLeaders, numbered, items}
 use Rattle.dominance.specs.Leaders as leaders
 use Rattle.dominance.proofs.Elements.{contains-here, contains-later, contains-cases, contains-none, at-push_old, at-push_new, each-from, each-at}
-use Rattle.dominance.proofs.Replacements.{Covers, over-itself, leaders-cover}
+use Rattle.dominance.proofs.Replacements.{Covers, over-itself, leaders-cover, trace-apart}
 use Rattle.trie_walk.specs.Finds.{traces_of}
-use Rattle.rv_core.specs.Endings.{Spec}
-use Rattle.rv_core.specs.Keeping.{numbered_from, members_of, IsKept}
+use Rattle.rv_core.specs.Endings.{Spec, spec_at}
+use Rattle.rv_core.specs.Held.{Held, specs_of, StandsFor}
+use Rattle.rv_core.specs.Histories.{History}
+use Rattle.rv_core.specs.Keeping.{numbered_from, members_of, IsKept, kept_at}
 
 -- ---- pairs and their traces
 
@@ -137,3 +139,38 @@ module _ (rule : Lengths) where
       leaders-cover rule spec.variables spec.body list (members_of kept) are t c in
       let P : List Trace → Type 0 = λ q. Contains q u in
       (u, subst P (items-members kept) d, over)
+
+all-long : (k : ℕ) (list : List Trace) → length (numbered_from k list) ≡ length list
+all-long k [] = refl
+all-long k (t ∷ ts) = ap suc (all-long (suc k) ts)
+
+-- ---- what a monitor keeps
+
+module _ (m : Held) (h : History) (s : ℕ) (stands : StandsFor m h)
+    (lt : s < length (specs_of m)) where
+  pub keeps-all : m.drop ≡ false → length (kept_at m.kept s) ≡ m.arrived
+  keeps-all e =
+      let P : Bool → Type 0 =
+      λ b. IsKept m.rule b (spec_at (specs_of m) s) h.present.arrived (kept_at m.kept s) in
+      let all = subst P e (stands.kept.right s lt) in
+      ap length all ∙ all-long 0 h.present.arrived ∙ sym stands.count
+
+  pub keeps-apart : (p q : Numbered) → m.drop ≡ true → Contains (kept_at m.kept s) p
+      → Contains (kept_at m.kept s) q
+      → Dominates m.rule (spec_at (specs_of m) s).variables (spec_at (specs_of m) s).body p.1 q.1
+      → p ≡ q
+  keeps-apart p q e in_p in_q over =
+      let P : Bool → Type 0 =
+      λ b. IsKept m.rule b (spec_at (specs_of m) s) h.present.arrived (kept_at m.kept s) in
+      let are = subst P e (stands.kept.right s lt) in
+      let spec = spec_at (specs_of m) s in
+      let kept = kept_at m.kept s in
+      ap (λ (x : leaders.Numbered Trace). (x.number, x.item))
+      (trace-apart m.rule spec.variables spec.body h.present.arrived (members_of kept) are
+      (numbered p.0 p.1) (numbered q.0 q.1) (member-of kept p in_p) (member-of kept q in_q) over)
+
+  pub keeps-covers : Covers m.rule (spec_at (specs_of m) s).variables (spec_at (specs_of m) s).body
+      (traces_of (kept_at m.kept s)) h.present.arrived
+  keeps-covers =
+      kept-covers m.rule m.drop (spec_at (specs_of m) s) h.present.arrived (kept_at m.kept s)
+      (stands.kept.right s lt)

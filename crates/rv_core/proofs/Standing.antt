@@ -135,6 +135,25 @@ gained rule true ms list t old new are next = record {
       (kept-of rule true ms list old are s m at) (next.right s m at));
 }
 
+-- ---- saves
+
+saves-more : (rule : Lengths) (drop : Bool) (specs : List Spec) (later : List Trace) (t : Trace)
+    (saves : List Saved) (ps : List Present) → AreSaves rule drop specs later saves ps
+    → AreSaves rule drop specs (later ++ t ∷ []) saves ps
+saves-more rule drop specs later t [] [] a = tt
+saves-more rule drop specs later t [] (p ∷ ps) a = absurd a
+saves-more rule drop specs later t (x ∷ xs) [] a = absurd a
+saves-more rule drop specs later t (x ∷ xs) (p ∷ ps) (is, rest) = (
+  record {
+    fewer = let long = length-append later (t ∷ []) in omega (arith, long, is.fewer);
+    some = is.some;
+    count = is.count;
+    kept = is.kept;
+    sessions = is.sessions;
+  },
+  rest,
+)
+
 -- ---- the monitor
 
 -- what a monitor holds with these parts, the specs and the saves as before
@@ -168,7 +187,7 @@ arrival-stands m kept os h t ss s more passed gains sessions =
       kept = gained m.rule m.drop m.machines list t m.kept kept s.kept
           (subst Gained s.count gains);
       sessions = sessions;
-      saves = s.saves;
+      saves = saves-more m.rule m.drop (specs_of m) list t m.saves h.saves s.saves;
       quiet = record {
         now = all-clean m.rule m.drop m.machines list m.kept s.kept t s.some more s.quiet.now
             (subst Passed s.count passed);
@@ -233,7 +252,13 @@ save-stands m h s = record {
   kept = s.kept;
   sessions = s.sessions;
   saves = (
-    record { some = s.some; count = s.count; kept = s.kept; sessions = s.sessions },
+    record {
+      fewer = omega arith;
+      some = s.some;
+      count = s.count;
+      kept = s.kept;
+      sessions = s.sessions;
+    },
     s.saves,
   );
   quiet = record { now = s.quiet.now; saved = (s.quiet.now, s.quiet.saved) };
@@ -258,10 +283,12 @@ pub back-stands : (m : Held) (x : Saved) (xs : List Saved) (h : History)
     → (p : Present) × (ps : List Present) × (h.saves ≡ p ∷ ps) × StandsFor (back_to m x xs)
     (record { present = p; saves = ps })
 back-stands m x xs h s e =
-    let Saves : List Saved → Type 0 = λ q. AreSaves m.rule m.drop (specs_of m) q h.saves in
+    let Saves : List Saved → Type 0 =
+    λ q. AreSaves m.rule m.drop (specs_of m) h.present.arrived q h.saves in
     popped h.saves (subst Saves e s.saves) s.quiet.saved
   where
-    popped : (saves : List Present) → AreSaves m.rule m.drop (specs_of m) (x ∷ xs) saves
+    popped : (saves : List Present)
+        → AreSaves m.rule m.drop (specs_of m) h.present.arrived (x ∷ xs) saves
         → Each (λ (p : Present). IsClean m.rule (specs_of m) p.arrived) saves
         → (p : Present) × (ps : List Present) × (saves ≡ p ∷ ps) × StandsFor (back_to m x xs)
         (record { present = p; saves = ps })
@@ -284,20 +311,23 @@ back-stands m x xs h s e =
 -- no save, no pair
 pub none-saved : (m : Held) (h : History) → StandsFor m h → m.saves ≡ [] → h.saves ≡ []
 none-saved m h s e =
-    let Saves : List Saved → Type 0 = λ q. AreSaves m.rule m.drop (specs_of m) q h.saves in
+    let Saves : List Saved → Type 0 =
+    λ q. AreSaves m.rule m.drop (specs_of m) h.present.arrived q h.saves in
     by h.saves (subst Saves e s.saves)
   where
-    by : (saves : List Present) → AreSaves m.rule m.drop (specs_of m) [] saves → saves ≡ []
+    by : (saves : List Present) → AreSaves m.rule m.drop (specs_of m) h.present.arrived [] saves
+        → saves ≡ []
     by [] a = refl
     by (p ∷ ps) a = absurd a
 
-pub saves-long : (rule : Lengths) (drop : Bool) (specs : List Spec) (saves : List Saved)
-    (ps : List Present) → AreSaves rule drop specs saves ps → length saves ≡ length ps
-saves-long rule drop specs [] [] a = refl
-saves-long rule drop specs [] (p ∷ ps) a = absurd a
-saves-long rule drop specs (x ∷ xs) [] a = absurd a
-saves-long rule drop specs (x ∷ xs) (p ∷ ps) (is, later) =
-    ap suc (saves-long rule drop specs xs ps later)
+pub saves-long : (rule : Lengths) (drop : Bool) (specs : List Spec) (later : List Trace)
+    (saves : List Saved) (ps : List Present) → AreSaves rule drop specs later saves ps
+    → length saves ≡ length ps
+saves-long rule drop specs later [] [] a = refl
+saves-long rule drop specs later [] (p ∷ ps) a = absurd a
+saves-long rule drop specs later (x ∷ xs) [] a = absurd a
+saves-long rule drop specs later (x ∷ xs) (p ∷ ps) (is, rest) =
+    ap suc (saves-long rule drop specs p.arrived xs ps rest)
 
 -- ---- what a monitor holds fits together
 

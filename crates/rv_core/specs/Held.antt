@@ -1,5 +1,5 @@
 -- What a monitor holds, and the histories that it stands for.
-use Rattle.std.specs.Prelude.{◌≡◌, ℕ, Bool, true, List, [], ◌∷◌, length, map}
+use Rattle.std.specs.Prelude.{◌≡◌, ℕ, ◌≤◌, Bool, true, List, [], ◌∷◌, length, map}
 use Rattle.std.specs.Coded.{×_prop, Unit-prop}
 use Rattle.hy_formula.specs.Quantifiers.{Each}
 use Rattle.hy_finite.specs.declared.lengths.Lengths.{Lengths}
@@ -47,21 +47,23 @@ pub record AreSessions (sessions : Open) (ss : List Session) : Type 0 where
   pub count : length sessions ≡ length ss
   pub apart : AreApart ss
 
--- A save stands for a pair: it has the traces that arrived, what is kept of them, and the open sessions.
-pub record IsSave (rule : Lengths) (drop : Bool) (specs : List Spec) (s : Saved)
-    (p : Present) : Type 0 where
+-- A save stands for a pair: it has the traces that arrived, what is kept of them, and the open sessions. They are at
+-- most as many traces as arrived later.
+pub record IsSave (rule : Lengths) (drop : Bool) (specs : List Spec) (later : List Trace)
+    (s : Saved) (p : Present) : Type 0 where
+  pub fewer : length p.arrived ≤ length later
   pub some : Each IsTrace p.arrived
   pub count : s.arrived ≡ length p.arrived
   pub kept : AreKept rule drop specs p.arrived s.kept
   pub sessions : AreSessions s.sessions p.sessions
 
--- The saves stand for pairs.
-abbrev pub AreSaves : Lengths → Bool → List Spec → List Saved → List Present → Type 0
-AreSaves rule drop specs [] [] = Unit {0}
-AreSaves rule drop specs [] (p ∷ ps) = ⊥
-AreSaves rule drop specs (s ∷ ss) [] = ⊥
-AreSaves rule drop specs (s ∷ ss) (p ∷ ps) =
-    IsSave rule drop specs s p × AreSaves rule drop specs ss ps
+-- The saves stand for pairs, each of which goes on from the next one.
+abbrev pub AreSaves : Lengths → Bool → List Spec → List Trace → List Saved → List Present → Type 0
+AreSaves rule drop specs later [] [] = Unit {0}
+AreSaves rule drop specs later [] (p ∷ ps) = ⊥
+AreSaves rule drop specs later (s ∷ ss) [] = ⊥
+AreSaves rule drop specs later (s ∷ ss) (p ∷ ps) =
+    IsSave rule drop specs later s p × AreSaves rule drop specs p.arrived ss ps
 
 -- The monitor stands for a history: it has the traces that arrived, each of some letters, what is kept of them, the
 -- open sessions and the saves, and no list of arrived traces violates a spec.
@@ -71,7 +73,7 @@ pub record StandsFor (m : Held) (h : History) : Type 0 where
   pub count : m.arrived ≡ length h.present.arrived
   pub kept : AreKept m.rule m.drop (specs_of m) h.present.arrived m.kept
   pub sessions : AreSessions m.sessions h.present.sessions
-  pub saves : AreSaves m.rule m.drop (specs_of m) m.saves h.saves
+  pub saves : AreSaves m.rule m.drop (specs_of m) h.present.arrived m.saves h.saves
   pub quiet : IsQuiet m.rule (specs_of m) h
 
 -- At each save traces were kept for so many specs, by numbers below that of the arrived ones.
