@@ -1,6 +1,7 @@
 mod Answering
 mod Arriving
 mod Below
+mod Bounding
 mod Building
 mod Calling
 mod Ending

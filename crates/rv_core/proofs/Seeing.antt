@@ -13,7 +13,9 @@ use Rattle.trace_trie.specs.Numbered.{Numbered}
 use Rattle.rv_core.specs.declared.watch.Watch.{Watch}
 use Rattle.rv_core.specs.Arrivals.{IsNext}
 use Rattle.rv_core.specs.Keeping.{kept_at}
+use Rattle.trie_walk.specs.Finds.{traces_of}
 use Rattle.rv_core.specs.Seen.{watched, watched_by}
+use Rattle.rv_core.specs.StepBounds.{IsBound, AreBoundsOf}
 
 pub seen-at : (items : List Watch) (i : ℕ) (w : Watch) → i < length items
     → w ≡ slice_index_or items i w → slice_get (watched_by items) i ≡ Some (watched w)
@@ -59,3 +61,22 @@ next-more rule ms n t old made i m x at long next before s q below there =
           subst R (sym (kept-before made x s (omega arith)))
           (before s q (omega arith) there)
     ]
+
+-- the bound of a spec, for the traces that are kept for it
+pub bound-at : (rule : Lengths) (ms : List Machine) (kept : List (List Numbered)) (t : Trace)
+    (bounds : List ℕ) → AreBoundsOf rule ms kept t bounds → (i : ℕ) (m : Machine)
+    (list : List Numbered) → slice_get ms i ≡ Some m → kept_at kept i ≡ list
+    → IsBound rule m (traces_of list) t (slice_index_or bounds i 0)
+bound-at rule ms kept t bounds are i m list at same =
+    let P : List Numbered → Type 0 =
+    λ ps. IsBound rule m (traces_of ps) t (slice_index_or bounds i 0) in
+    subst P same (are.right i m at)
+
+pub bounds-along : (rule : Lengths) (ws vs : List Watch) (all kept : List (List Numbered))
+    (u t : Trace) (bounds : List ℕ) → ws ≡ vs → all ≡ kept → u ≡ t
+    → AreBoundsOf rule (watched_by vs) kept t bounds → AreBoundsOf rule (watched_by ws) all u bounds
+bounds-along rule ws vs all kept u t bounds e f g are =
+    let P : List Watch → Type 0 = λ q. AreBoundsOf rule (watched_by q) all u bounds in
+    let Q : List (List Numbered) → Type 0 = λ q. AreBoundsOf rule (watched_by vs) q u bounds in
+    let R : Trace → Type 0 = λ q. AreBoundsOf rule (watched_by vs) kept q bounds in
+    subst P (sym e) (subst Q (sym f) (subst R (sym g) are))

@@ -7,4 +7,5 @@ pub mod Keeping
 pub mod Opened
 pub mod Replies
 pub mod Seen
+pub mod StepBounds
 pub mod Watched

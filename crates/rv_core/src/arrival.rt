@@ -1,9 +1,10 @@
 //! What comes of a trace that arrives.
 
-ghost use Rattle.std.specs.Prelude.{◌≡◌, ◌+◌, ◌<◌, ◌≤◌, ◌^◌, length, IfOk};
+ghost use Rattle.std.specs.Prelude.{◌≡◌, ◌+◌, ◌<◌, ◌≤◌, ◌^◌, ℕ, List, length, sum, IfOk};
 ghost use Rattle.rv_core.specs.Arrivals.{IsArrival, after_arrival};
 ghost use Rattle.rv_core.specs.Keeping.{AreBelow};
 ghost use Rattle.rv_core.specs.Replies.{IsReplyTo};
+ghost use Rattle.rv_core.specs.StepBounds.{AreBounds};
 
 use crate::kept::{Found, Kept, first_violation, leaders, with_trace};
 use crate::reply::Reply;
@@ -35,6 +36,8 @@ impl Rv {
         ensures below { IfOk result (λ a.
             AreBelow (length self.now.watches) ((held self.now).arrived + 1) a.kept) }
         ensures counted { steps.old ≤ steps.new }
+        ensures bounded { (bounds : List ℕ) → AreBounds (held self.now) trace.now bounds
+            → steps.new ≤ steps.old + sum bounds }
     {
         let watches = self.watches.as_slice();
         let number = self.traces;

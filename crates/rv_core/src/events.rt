@@ -1,7 +1,11 @@
 //! What a monitor does at an event.
 
-ghost use Rattle.std.specs.Prelude.{◌≡◌, ◌<◌, ◌≤◌, ◌^◌, OnErr, IsTrue, length};
+ghost use Rattle.std.specs.Prelude.{◌≡◌, ◌+◌, ◌<◌, ◌≤◌, ◌^◌, ℕ, List, Some, false, sum, OnErr, IsTrue, length};
 ghost use Rattle.hy_finite.specs.declared.event.Event.TheVariants as occurs;
+ghost use Rattle.hy_finite.specs.Traces.{Trace as Letters};
+ghost use Rattle.rv_core.specs.Histories.{arrives};
+ghost use Rattle.rv_core.specs.Opened.{letters_in};
+ghost use Rattle.rv_core.specs.StepBounds.{AreBounds, Brings};
 
 use crate::kept::share_kept;
 use crate::reply::Reply;
@@ -34,6 +38,7 @@ impl Rv {
     /// aside. Where it is refused, for memory too, all is as before. A back takes no memory. After a
     /// violation the monitor takes no more events.
     ///
+    /// Where a trace arrives the steps grow at most by a bound for each spec; else they do not grow.
     /// A letter takes constant time but for growth, a back time linear in the open sessions and
     /// specs and a save, in time and memory, in the letters of the sessions and in the specs.
     pub fn event<L: Ledger>(
@@ -48,6 +53,9 @@ impl Rv {
         ensures dropping { (held self.new).drop ≡ (held self.old).drop }
         ensures refused { OnErr result (IsAsBefore (held self.old) (held self.new)) }
         ensures counted { steps.old ≤ steps.new }
+        ensures bounded { (t : Letters) (bounds : List ℕ) → Brings (held self.old) event.now t
+            → AreBounds (held self.old) t bounds → steps.new ≤ steps.old + sum bounds }
+        ensures none { arrives event.now ≡ false → steps.new ≡ steps.old }
     {
         match event {
             Event::Whole(trace) => self.take_whole(alloc, trace, steps),
@@ -71,6 +79,8 @@ impl Rv {
         ensures dropping { (held self.new).drop ≡ (held self.old).drop }
         ensures refused { OnErr result (IsAsBefore (held self.old) (held self.new)) }
         ensures counted { steps.old ≤ steps.new }
+        ensures bounded { (bounds : List ℕ) → AreBounds (held self.old) trace.now bounds
+            → steps.new ≤ steps.old + sum bounds }
     {
         prove!(trace.len() > 0);
         let arrival = self.arrival(alloc, trace, steps)?;
@@ -107,6 +117,9 @@ impl Rv {
         ensures dropping { (held self.new).drop ≡ (held self.old).drop }
         ensures refused { OnErr result (IsAsBefore (held self.old) (held self.new)) }
         ensures counted { steps.old ≤ steps.new }
+        ensures bounded { (t : Letters) (bounds : List ℕ)
+            → letters_in session (held self.old).sessions ≡ Some t
+            → AreBounds (held self.old) t bounds → steps.new ≤ steps.old + sum bounds }
     {
         let Some(letters) = self.sessions.letters(session) else {
             return Err(RvError::NoLetter);

@@ -1,12 +1,13 @@
 //! What is kept of the traces that arrived, for each spec.
 
-ghost use Rattle.std.specs.Prelude.{◌≡◌, ◌<◌, ◌≤◌, ◌^◌, [], length, replicate, IfOk, List as Sequence};
+ghost use Rattle.std.specs.Prelude.{◌≡◌, ◌+◌, ◌<◌, ◌≤◌, ◌^◌, ℕ, sum, [], length, replicate, IfOk, List as Sequence};
 ghost use Rattle.std.specs.List.{Contains};
 ghost use Rattle.hy_formula.specs.Quantifiers.{Each};
 ghost use Rattle.trace_trie.specs.Numbered.{Numbered};
 ghost use Rattle.rv_core.specs.Arrivals.{with_last, AreNext, IsSearch};
 ghost use Rattle.rv_core.specs.Keeping.{AreBelow};
 ghost use Rattle.rv_core.specs.Seen.{watched_by};
+ghost use Rattle.rv_core.specs.StepBounds.{AreBoundsOf};
 
 use crate::watch::Watch;
 use hy_base::{List, M, Steps};
@@ -95,6 +96,9 @@ pub(crate) fn first_violation<L: Ledger>(
     requires countable { length watches.now < 2 ^ 32 }
     ensures found { IsSearch rule (watched_by watches.now) kept.now trace.now result }
     ensures counted { steps.old ≤ steps.new }
+    ensures bounded { (bounds : Sequence ℕ)
+        → AreBoundsOf rule (watched_by watches.now) kept.now trace.now bounds
+        → steps.new ≤ steps.old + sum bounds }
 {
     for i in 0..watches.len() {
         match watches[i].find(alloc, rule, kept.at(i), number, trace, steps) {

@@ -1,6 +1,6 @@
 //! What a spec is watched by.
 
-ghost use Rattle.std.specs.Prelude.{◌≡◌, ◌↔◌, ◌<◌, ◌≤◌, IfOk, IfSome, IfNone, IsTrue};
+ghost use Rattle.std.specs.Prelude.{◌≡◌, ◌↔◌, ◌+◌, ◌<◌, ◌≤◌, ℕ, IfOk, IfSome, IfNone, IsTrue};
 ghost use Rattle.std.specs.Coded.{→_prop};
 ghost use Rattle.hy_formula.specs.Quantifiers.{Each};
 ghost use Rattle.trace_trie.specs.Numbered.{Numbered};
@@ -9,8 +9,9 @@ ghost use Rattle.hy_finite.specs.declared.lengths.Lengths.{Lengths as Rule};
 ghost use Rattle.fin_monitor.specs.Seen.{machine_of};
 ghost use Rattle.dominance.specs.Dominance.{Dominates};
 ghost use Rattle.trie_walk.specs.Finds.{AreViolating, AllMeet, traces_of};
-ghost use Rattle.rv_core.specs.Watched.{MayTurn, MayTurn-prop};
+ghost use Rattle.rv_core.specs.Watched.{MayTurn, MayTurn-prop, IsExact, IsExact-prop};
 ghost use Rattle.rv_core.specs.Arrivals.{IsNext};
+ghost use Rattle.rv_core.specs.StepBounds.{IsBound};
 
 use dominance::{Compare, dominates, symmetric};
 use fin_monitor::Monitor;
@@ -31,6 +32,7 @@ pub(crate) struct Watch {
     symmetric: bool,
     ghost some: { 1 ≤ (machine_of monitor).variables },
     ghost turns: { IsTrue symmetric → MayTurn (machine_of monitor) } by { →_prop (MayTurn-prop (machine_of monitor)) },
+    ghost exact: { IsExact symmetric (machine_of monitor) } by { IsExact-prop symmetric (machine_of monitor) },
 }
 
 impl Watch {
@@ -63,6 +65,8 @@ impl Watch {
         ensures none { IfNone result
             (AllMeet (watched self.now) rule (traces_of kept.now) trace.now) }
         ensures counted { steps.old ≤ steps.new }
+        ensures bounded { (bound : ℕ) → IsBound rule (watched self.now) (traces_of kept.now)
+            trace.now bound → steps.new ≤ steps.old + bound }
     {
         kept.numbers_ascend();
         if self.symmetric {

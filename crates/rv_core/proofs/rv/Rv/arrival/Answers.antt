@@ -9,6 +9,7 @@ use Rattle.rv_core.specs.declared.watch.Watch.{Watch}
 use Rattle.rv_core.specs.Arrivals.{with_last, AreNext, IsSearch, IsArrival}
 use Rattle.rv_core.specs.Keeping.{AreBelow}
 use Rattle.rv_core.specs.Seen.{watched, watched_by, held}
+use Rattle.rv_core.proofs.Seeing.{bounds-along}
 use Rattle.rv_core.proofs.Below.{last-there, last-below, next-below, arrival-all, not-not}
 use Rattle.rv_core.proofs.rv.Rv.arrival.Goals as goal
 use Rattle.rv_core.proofs.rv.Rv.arrival.Goals.{then-is_some-via-then-is_some, then-is_some-via-else-is_some+then-not-self}
@@ -63,3 +64,27 @@ returns-clause-below g c =
       next-below c.args.self.now.rule (watched_by watches) n c.args.trace.now
       c.args.self.now.kept c.in_ok-kept.kept next c.args.self.now.below.1,
     )
+
+pub returns-then-is_some-clause-bounded : goal.returns-then-is_some-clause-bounded
+returns-then-is_some-clause-bounded g c bounds are =
+    c.first_violation-found.ensures.bounded bounds
+    (bounds-along c.args.self.now.rule c.as_slice-watches.result.now c.args.self.now.watches
+    c.in_ok-all.all (with_last c.args.self.now.traces c.args.trace.now c.args.self.now.kept)
+    c.as_slice.result.now c.args.trace.now bounds c.as_slice-watches.ensures
+    c.in_ok-all.ensures c.as_slice.ensures are)
+
+pub returns-in_err-kept-clause-bounded : goal.returns-in_err-kept-clause-bounded
+returns-in_err-kept-clause-bounded g c bounds are =
+    c.first_violation-found.ensures.bounded bounds
+    (bounds-along c.args.self.now.rule c.as_slice-watches.result.now c.args.self.now.watches
+    c.in_ok-all.all (with_last c.args.self.now.traces c.args.trace.now c.args.self.now.kept)
+    c.as_slice.result.now c.args.trace.now bounds c.as_slice-watches.ensures
+    c.in_ok-all.ensures c.as_slice.ensures are)
+
+pub returns-clause-bounded : goal.returns-clause-bounded
+returns-clause-bounded g c bounds are =
+    c.first_violation-found.ensures.bounded bounds
+    (bounds-along c.args.self.now.rule c.as_slice-watches.result.now c.args.self.now.watches
+    c.in_ok-all.all (with_last c.args.self.now.traces c.args.trace.now c.args.self.now.kept)
+    c.as_slice.result.now c.args.trace.now bounds c.as_slice-watches.ensures
+    c.in_ok-all.ensures c.as_slice.ensures are)
