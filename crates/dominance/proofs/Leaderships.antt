@@ -59,7 +59,7 @@ module _ {A : Type 0} (Over : A → A → Type 0) (itself : (t : A) → Over t t
 
     module _ (kept : List (Numbered A)) (is : AreLeaders Over list kept) where
       -- a kept one is over the new one
-      refused-new : (x : Numbered A) → Contains kept x → Over x.item t
+      pub refused-new : (x : Numbered A) → Contains kept x → Over x.item t
           → AreLeaders Over (list ++ t ∷ []) kept
       refused-new x c o = record {
         ascending = is.ascending;

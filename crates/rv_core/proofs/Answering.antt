@@ -1,38 +1,37 @@
 -- The answer to each event is right for each history that the monitor stands for.
-use Rattle.std.proofs.Common.{◌≡◌, ℕ, ◌+◌, ◌<◌, ◌≤◌, Bool, true, false, List, [], ◌∷◌, ◌++◌, length, reverse, take, Option, Some, None, Ok, Err, IfSome, IfNone, is_some, not, nat_eq, refl, sym, ap, ◌∙◌, subst, arith}
+use Rattle.std.proofs.Common.{◌≡◌, ℕ, ◌+◌, ◌<◌, ◌≤◌, Bool, true, false, List, [], ◌∷◌, ◌++◌, length, reverse, Option, Some, None, Ok, Err, is_some, not, nat_eq, refl, sym, ap, ◌∙◌, subst, arith}
 use Rattle.std.proofs.lemmas.Bool.{eqb-true}
 use Rattle.std.proofs.lemmas.List.{reverse-append}
 use Rattle.hy_base.specs.declared.limit.Kind.TheVariants as kind
 use Rattle.hy_bits.specs.Letter.{Letter}
-use Rattle.hy_formula.specs.Quantifiers.{Each}
 use Rattle.hy_finite.specs.declared.event.Event.{Event}
 use Rattle.hy_finite.specs.declared.event.Event.TheVariants as event
 use Rattle.hy_finite.specs.Traces.{Trace}
-use Rattle.tuple_walk.specs.Watched.{Watched}
-use Rattle.tuple_walk.specs.Searches.{StaysClean}
+use Rattle.trace_trie.specs.Numbered.{Numbered}
+use Rattle.dominance.specs.Dominance.{IsTrace}
 use Rattle.rv_core.specs.declared.reply.Reply.{Reply}
 use Rattle.rv_core.specs.declared.reply.Reply.TheVariants.{Quiet, Arrived, Violation}
 use Rattle.rv_core.specs.declared.rv_error.RvError.{RvError}
 use Rattle.rv_core.specs.declared.rv_error.RvError.TheVariants as error
 use Rattle.rv_core.specs.declared.saved.Saved.{Saved}
-use Rattle.rv_core.specs.declared.watches.Found.{Found}
+use Rattle.rv_core.specs.declared.kept.Found.{Found}
 use Rattle.rv_core.specs.Histories.{Session, History, too_long, too_many_sessions, too_many_saves, no_session, no_save, extended, closed, with_trace, goes, step, arrives, back_step}
 use Rattle.rv_core.specs.Opened.{Open, letters_in, Extends, longer, opened, IsNotTaken, Closes}
-use Rattle.rv_core.specs.Held.{Held, AreSessions, StandsFor}
-use Rattle.rv_core.specs.Watching.{AllGain, AllStay, AllCut, FirstFound}
+use Rattle.rv_core.specs.Held.{Held, specs_of, AreSessions, StandsFor}
+use Rattle.rv_core.specs.Arrivals.{with_last, ArePassed, Gains, FirstFound, IsArrival}
 use Rattle.rv_core.specs.Replies.{takes_memory, IsAnswer, quiet, arrived, violated, refused_by, spent, Answers, IsAsBefore, IsReplyTo}
 use Rattle.rv_core.proofs.SessionLists.{sessions-extended, sessions-closed}
 use Rattle.rv_core.proofs.Stepping.{goes-longer, goes-opened, refused-long, refused-many, goes-end, refused-end, goes-save, refused-save}
-use Rattle.rv_core.proofs.Standing.{changed, with_saves, back_to, arrival-stands, arrival-found, stay-stands, letter-stands, save-stands, back-stands, none-saved, saves-long, turned-specs}
+use Rattle.rv_core.proofs.Standing.{changed, with_saves, saved_of, back_to, arrival-stands, arrival-found, letter-stands, save-stands, back-stands, none-saved, saves-long}
 
 -- ---- a letter
 
 pub answered-letter : (m : Held) (n : ℕ) (a : Letter) (os : Open) → Extends n a m.sessions os
-    → Answers m (changed m m.watches m.arrived os m.clean) (event.Letter n a) (Ok Quiet)
+    → Answers m (changed m m.kept m.arrived os m.clean) (event.Letter n a) (Ok Quiet)
 answered-letter m n a os x = record { rule = refl; specs = refl; right = λ h s. by x h s }
   where
     by : Extends n a m.sessions os → (h : History) → StandsFor m h
-        → IsAnswer m (changed m m.watches m.arrived os m.clean) (event.Letter n a) h (Ok Quiet)
+        → IsAnswer m (changed m m.kept m.arrived os m.clean) (event.Letter n a) h (Ok Quiet)
     by (longer word known short puts same) h s =
         quiet (record {
           present =
@@ -92,62 +91,43 @@ end-brings m n word os known closes h s = (
 )
 
 module _ (m : Held) (e : Event) (t : Trace) (os : Open) (brings : Brings m e t os)
-    (is : arrives e ≡ true) (ws : List Watched)
-    (gain : AllGain m.arrived t m.watches ws) where
-  answered-clean : Each StaysClean ws
-      → Answers m (changed m ws (m.arrived + 1) os true) e (Ok (Arrived m.arrived))
-  answered-clean stay = record {
+    (is : arrives e ≡ true) (more : IsTrace t) (kept : List (List Numbered)) where
+  answered-clean : ArePassed m.rule m.machines (with_last m.arrived t m.kept) t
+      → Gains m.rule m.drop m.machines m.arrived t m.kept kept
+      → Answers m (changed m kept (m.arrived + 1) os true) e (Ok (Arrived m.arrived))
+  answered-clean passed gains = record {
     rule = refl;
-    specs = turned-specs (m.arrived + 1) (λ traces. traces ++ t ∷ []) m.watches ws gain;
+    specs = refl;
     right = λ h s.
         let (ss, goes-on, sessions) = brings h s in
         let P : ℕ → Type 0 =
-        λ n. IsAnswer m (changed m ws (m.arrived + 1) os true) e h (Ok (Arrived n)) in
+        λ n. IsAnswer m (changed m kept (m.arrived + 1) os true) e h (Ok (Arrived n)) in
         subst P (sym s.count)
         (arrived (with_trace h t ss) goes-on is
-        (arrival-stands m ws os h t ss s gain stay sessions));
+        (arrival-stands m kept os h t ss s more passed gains sessions));
   }
 
-  answered-violated : (k : ℕ) (tuple : List ℕ) → FirstFound ws k tuple
-      → Answers m (changed m ws (m.arrived + 1) os false) e (Ok (Violation k m.arrived tuple))
+  answered-violated : (k : ℕ) (tuple : List ℕ)
+      → FirstFound m.rule m.machines (with_last m.arrived t m.kept) t k tuple
+      → Answers m (changed m kept (m.arrived + 1) os false) e (Ok (Violation k m.arrived tuple))
   answered-violated k tuple found = record {
     rule = refl;
-    specs = turned-specs (m.arrived + 1) (λ traces. traces ++ t ∷ []) m.watches ws gain;
+    specs = refl;
     right = λ h s.
         let (ss, goes-on, sessions) = brings h s in
         violated (with_trace h t ss) k m.arrived tuple goes-on is
-        (arrival-found m ws h t k tuple s gain found) refl;
+        (arrival-found m h t k tuple s more found) refl;
   }
 
   pub answered-arrival : (found : Option Found) (reply : Reply) → IsReplyTo m.arrived found reply
-      → IfNone found (Each StaysClean ws)
-      → IfSome found (λ f. FirstFound ws f.spec f.tuple)
-      → Answers m (changed m ws (m.arrived + 1) os (not (is_some found))) e (Ok reply)
-  answered-arrival None reply r clean first =
-      let P : Reply → Type 0 = λ q. Answers m (changed m ws (m.arrived + 1) os true) e (Ok q) in
-      subst P (sym r) (answered-clean clean)
-  answered-arrival (Some f) reply r clean first =
-      let P : Reply → Type 0 = λ q. Answers m (changed m ws (m.arrived + 1) os false) e (Ok q) in
+      → IsArrival m t kept found
+      → Answers m (changed m kept (m.arrived + 1) os (not (is_some found))) e (Ok reply)
+  answered-arrival None reply r (passed, gains) =
+      let P : Reply → Type 0 = λ q. Answers m (changed m kept (m.arrived + 1) os true) e (Ok q) in
+      subst P (sym r) (answered-clean passed gains)
+  answered-arrival (Some f) reply r first =
+      let P : Reply → Type 0 = λ q. Answers m (changed m kept (m.arrived + 1) os false) e (Ok q) in
       subst P (sym r) (answered-violated f.spec f.tuple first)
-
-pub answered-spent : (m : Held) (ws : List Watched) (e : Event) → takes_memory e ≡ true
-    → AllStay m.arrived m.watches ws
-    → Answers m (changed m ws m.arrived m.sessions m.clean) e (Err error.Memory)
-answered-spent m ws e takes stay = record {
-  rule = refl;
-  specs = turned-specs m.arrived (λ traces. traces) m.watches ws stay;
-  right = λ h s. spent takes (stay-stands m ws h s stay);
-}
-
-pub stay-before : (m : Held) (ws : List Watched) → AllStay m.arrived m.watches ws
-    → IsAsBefore m (changed m ws m.arrived m.sessions m.clean)
-stay-before m ws stay = record {
-  arrived = refl;
-  sessions = refl;
-  saves = refl;
-  clean = refl;
-  stands = λ h s. stay-stands m ws h s stay;
-}
 
 pub same-before : (m : Held) → IsAsBefore m m
 same-before m =
@@ -168,13 +148,13 @@ no-end m n none = record {
 -- ---- a save and a back
 
 pub answered-save : (m : Held) → length m.saves < 64
-    → Answers m (with_saves m (record { arrived = m.arrived; sessions = m.sessions } ∷ m.saves))
-    event.Save (Ok Quiet)
+    → Answers m (with_saves m (saved_of m ∷ m.saves)) event.Save (Ok Quiet)
 answered-save m few = record {
   rule = refl;
   specs = refl;
   right = λ h s.
-      let long = saves-long h.present.arrived m.saves h.saves s.saves in
+      let long =
+      saves-long m.rule m.drop (specs_of m) h.present.arrived m.saves h.saves s.saves in
       quiet (record { present = h.present; saves = h.present ∷ h.saves })
       (goes-save h (omega (arith, long))) refl (save-stands m h s);
 }
@@ -185,18 +165,18 @@ many-saves m many = record {
   rule = refl;
   specs = refl;
   right = λ h s.
-      let long = saves-long h.present.arrived m.saves h.saves s.saves in
+      let long =
+      saves-long m.rule m.drop (specs_of m) h.present.arrived m.saves h.saves s.saves in
       refused_by too_many_saves (refused-save h (omega (arith, long))) s;
 }
 
-pub answered-back : (m : Held) (ws : List Watched) (x : Saved) (xs : List Saved) → m.saves ≡ x ∷ xs
-    → AllCut x.arrived m.watches ws
-    → Answers m (back_to m ws x xs) event.Back (Ok Quiet)
-answered-back m ws x xs e cut = record {
+pub answered-back : (m : Held) (x : Saved) (xs : List Saved) → m.saves ≡ x ∷ xs
+    → Answers m (back_to m x xs) event.Back (Ok Quiet)
+answered-back m x xs e = record {
   rule = refl;
-  specs = turned-specs x.arrived (λ traces. take x.arrived traces) m.watches ws cut;
+  specs = refl;
   right = λ h s.
-      let (p, ps, known, stands) = back-stands m ws x xs h s e cut in
+      let (p, ps, known, stands) = back-stands m x xs h s e in
       quiet (record { present = p; saves = ps }) (ap back_step known) refl stands;
 }
 

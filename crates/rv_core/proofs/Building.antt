@@ -1,5 +1,6 @@
 -- Formulas one after another, and their watches before all events.
-use Rattle.std.proofs.Common.{◌≡◌, ℕ, ◌≤◌, List, [], ◌∷◌, ◌++◌, map, Option, Some, None, inl, inr, true, refl, arith}
+use Rattle.std.proofs.Common.{◌≡◌, ℕ, zero, suc, ◌<◌, ◌≤◌, Bool, true, false, List, [], ◌∷◌, ◌++◌, length, map, replicate, Option, Some, None, inl, inr, refl, sym, ◌∙◌, subst, arith}
+use Rattle.std.proofs.lemmas.List.{length-map, length-replicate}
 use Rattle.hy_base.specs.declared.limit.Kind.{Kind}
 use Rattle.hy_base.specs.declared.limit.Kind.TheVariants as kind
 use Rattle.hy_formula.proofs.Tuples.{contains-none}
@@ -10,12 +11,19 @@ use Rattle.hy_finite.specs.declared.lengths.Lengths.{Lengths}
 use Rattle.hy_finite.specs.Traces.{Violates}
 use Rattle.fin_monitor.specs.declared.monitor_error.MonitorError.TheVariants as error
 use Rattle.fin_monitor.specs.Limits.{HasLargeClosure, HasSmallClosure, HasManyAtoms, HasFewAtoms, HasLargeTable, IsTaken, IsRefusal}
-use Rattle.tuple_walk.specs.Watched.{Watched}
+use Rattle.fin_monitor.specs.Machines.{Machine}
+use Rattle.trace_trie.specs.Numbered.{Numbered}
+use Rattle.dominance.specs.Dominance.{Dominates}
+use Rattle.dominance.proofs.Leaderships.{none-kept}
+use Rattle.dominance.proofs.Replacements.{over-itself, over-through}
+use Rattle.rv_core.specs.Endings.{Spec, spec_at, IsClean}
 use Rattle.rv_core.specs.Histories.{empty_history}
-use Rattle.rv_core.specs.Held.{spec_of, AllCount, AllHold, StandsFor}
+use Rattle.rv_core.specs.declared.saved.Saved.{Saved}
+use Rattle.rv_core.specs.Opened.{Open}
+use Rattle.rv_core.specs.Held.{Held, spec_of, StandsFor}
+use Rattle.rv_core.specs.Keeping.{IsKept, AreKept, AreBelow, kept_at}
 use Rattle.rv_core.specs.Built.{spec_of_formula, SomeBody, EachBody, IsCause, earlier, IsFresh, AreFresh}
 use Rattle.rv_core.proofs.Places.{each-push, each-more}
-use Rattle.rv_core.proofs.Standing.{Ruled, each-clean}
 
 module _ (P : Tree → Type 0) where
   some-more : (fs : List Formula) (f : Formula) → SomeBody P fs → SomeBody P (fs ++ f ∷ [])
@@ -85,67 +93,88 @@ cause-refused fs f (Some kind.Table) kind.Table (smalls, fews, larges) (small, f
 cause-refused fs f (Some _) kind.Table c (small, few, large) = absurd c
 cause-refused fs f r _ c refused = absurd refused
 
--- ---- watches before all events
+-- ---- monitors before all events
 
-fresh-rules : (rule : Lengths) (fs : List Formula) (ws : List Watched) → AreFresh rule fs ws
-    → Ruled rule ws
-fresh-rules rule [] [] a = tt
-fresh-rules rule [] (w ∷ ws) a = absurd a
-fresh-rules rule (f ∷ fs) [] a = absurd a
-fresh-rules rule (f ∷ fs) (w ∷ ws) (is, a) = (is.rule, fresh-rules rule fs ws a)
-
-fresh-holds : (rule : Lengths) (fs : List Formula) (ws : List Watched) → AreFresh rule fs ws
-    → AllHold ws []
-fresh-holds rule [] [] a = tt
-fresh-holds rule [] (w ∷ ws) a = absurd a
-fresh-holds rule (f ∷ fs) [] a = absurd a
-fresh-holds rule (f ∷ fs) (w ∷ ws) (is, a) = (is.none, fresh-holds rule fs ws a)
-
-pub fresh-counts : (rule : Lengths) (fs : List Formula) (ws : List Watched) → AreFresh rule fs ws
-    → AllCount 0 ws
-fresh-counts rule [] [] a = tt
-fresh-counts rule [] (w ∷ ws) a = absurd a
-fresh-counts rule (f ∷ fs) [] a = absurd a
-fresh-counts rule (f ∷ fs) (w ∷ ws) (is, a) = (is.count, fresh-counts rule fs ws a)
-
-pub fresh-specs : (rule : Lengths) (fs : List Formula) (ws : List Watched) → AreFresh rule fs ws
-    → map spec_of ws ≡ map spec_of_formula fs
-fresh-specs rule [] [] a = refl
-fresh-specs rule [] (w ∷ ws) a = absurd a
-fresh-specs rule (f ∷ fs) [] a = absurd a
-fresh-specs rule (f ∷ fs) (w ∷ ws) (is, a) = (λ i. is.spec i ∷ fresh-specs rule fs ws a i)
+pub fresh-specs : (fs : List Formula) (ms : List Machine) → AreFresh fs ms
+    → map spec_of ms ≡ map spec_of_formula fs
+fresh-specs [] [] a = refl
+fresh-specs [] (m ∷ ms) a = absurd a
+fresh-specs (f ∷ fs) [] a = absurd a
+fresh-specs (f ∷ fs) (m ∷ ms) (is, a) = (λ i. is.spec i ∷ fresh-specs fs ms a i)
 
 -- no traces, no tuple of them
 none-violate : (rule : Lengths) (n : ℕ) (body : Tree) → 1 ≤ n → ¬ Violates rule n body []
 none-violate rule n body some ([], (is, no_body)) = omega (arith, is.count)
 none-violate rule n body some (t ∷ ts, (is, no_body)) = contains-none t is.members.0
 
-fresh-unviolated : (rule : Lengths) (fs : List Formula) (ws : List Watched) → AreFresh rule fs ws
-    → Each (λ (w : Watched). ¬ Violates rule w.machine.variables w.machine.body []) ws
-fresh-unviolated rule [] [] a = tt
-fresh-unviolated rule [] (w ∷ ws) a = absurd a
-fresh-unviolated rule (f ∷ fs) [] a = absurd a
-fresh-unviolated rule (f ∷ fs) (w ∷ ws) (is, a) =
-    (none-violate rule w.machine.variables w.machine.body is.some, fresh-unviolated rule fs ws a)
+fresh-clean : (rule : Lengths) (fs : List Formula) (ms : List Machine) → AreFresh fs ms
+    → IsClean rule (map spec_of ms) []
+fresh-clean rule [] [] a s lt = absurd (omega arith)
+fresh-clean rule [] (m ∷ ms) a s lt = absurd a
+fresh-clean rule (f ∷ fs) [] a s lt = absurd a
+fresh-clean rule (f ∷ fs) (m ∷ ms) (is, a) zero lt = none-violate rule m.variables m.body is.some
+fresh-clean rule (f ∷ fs) (m ∷ ms) (is, a) (suc s) lt = fresh-clean rule fs ms a s (omega arith)
 
-pub fresh-push : (rule : Lengths) (fs : List Formula) (ws : List Watched) (f : Formula)
-    (w : Watched) → AreFresh rule fs ws
-    → IsFresh rule f w → AreFresh rule (fs ++ f ∷ []) (ws ++ w ∷ [])
-fresh-push rule [] [] f w a is = (is, tt)
-fresh-push rule [] (v ∷ vs) f w a is = absurd a
-fresh-push rule (g ∷ gs) [] f w a is = absurd a
-fresh-push rule (g ∷ gs) (v ∷ vs) f w (here, a) is = (here, fresh-push rule gs vs f w a is)
+pub fresh-push : (fs : List Formula) (ms : List Machine) (f : Formula) (m : Machine)
+    → AreFresh fs ms → IsFresh f m → AreFresh (fs ++ f ∷ []) (ms ++ m ∷ [])
+fresh-push [] [] f m a is = (is, tt)
+fresh-push [] (v ∷ vs) f m a is = absurd a
+fresh-push (g ∷ gs) [] f m a is = absurd a
+fresh-push (g ∷ gs) (v ∷ vs) f m (here, a) is = (here, fresh-push gs vs f m a is)
 
-pub fresh-stands : (rule : Lengths) (fs : List Formula) (ws : List Watched) → AreFresh rule fs ws
-    → StandsFor
-    (record { rule = rule; watches = ws; arrived = 0; sessions = []; saves = []; clean = true })
-    empty_history
-fresh-stands rule fs ws a = record {
+-- nothing is kept of no traces
+none-at : (n s : ℕ) → kept_at (replicate n []) s ≡ []
+none-at zero s = refl
+none-at (suc n) zero = refl
+none-at (suc n) (suc s) = none-at n s
+
+none-is_kept : (rule : Lengths) (drop : Bool) (spec : Spec) → IsKept rule drop spec [] []
+none-is_kept rule false spec = refl
+none-is_kept rule true spec = none-kept (Dominates rule spec.variables spec.body)
+    (over-itself rule spec.variables spec.body) (over-through rule spec.variables spec.body)
+
+none-are_kept : (rule : Lengths) (drop : Bool) (ms : List Machine)
+    → AreKept rule drop (map spec_of ms) [] (replicate (length ms) [])
+none-are_kept rule drop ms = record {
+  long = length-replicate (length ms) [] ∙ sym (length-map ms spec_of);
+  right = λ s lt.
+      let P : List Numbered → Type 0 = IsKept rule drop (spec_at (map spec_of ms) s) [] in
+      subst P (sym (none-at (length ms) s))
+      (none-is_kept rule drop (spec_at (map spec_of ms) s));
+}
+
+pub none-below : (n bound : ℕ) → AreBelow n bound (replicate n [])
+none-below n bound = (length-replicate n [], by n)
+  where
+    by : (k : ℕ)
+        → Each (λ (list : List Numbered). Each (λ (p : Numbered). p.0 < bound) list) (replicate k [])
+    by zero = tt
+    by (suc k) = (tt, by k)
+
+-- what a monitor holds before all events
+abbrev pub fresh_held : Lengths → Bool → List Machine → List (List Numbered) → Open → List Saved
+    → Held
+fresh_held rule drop ms kept os saves =
+    record {
+      rule = rule;
+      drop = drop;
+      machines = ms;
+      arrived = 0;
+      kept = kept;
+      sessions = os;
+      saves = saves;
+      clean = true;
+    }
+
+pub fresh-stands : (rule : Lengths) (drop : Bool) (fs : List Formula) (ms : List Machine)
+    → AreFresh fs ms
+    → StandsFor (fresh_held rule drop ms (replicate (length ms) []) [] []) empty_history
+fresh-stands rule drop fs ms a = record {
   clean = refl;
-  rules = fresh-rules rule fs ws a;
+  some = tt;
   count = refl;
-  traces = fresh-holds rule fs ws a;
+  kept = none-are_kept rule drop ms;
   sessions = record { letters = λ n. refl; count = refl; apart = tt };
   saves = tt;
-  quiet = record { now = each-clean rule [] ws (fresh-unviolated rule fs ws a); saved = tt };
+  quiet = record { now = fresh-clean rule fs ms a; saved = tt };
 }

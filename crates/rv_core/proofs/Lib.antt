@@ -1,9 +1,16 @@
 mod Answering
+mod Arriving
+mod Below
+mod Bounding
 mod Building
 mod Calling
 mod Ending
+mod Keepings
+mod Leading
 mod Places
+mod Seeing
 mod SessionLists
+mod Sifting
 mod Standing
 mod Stepping
-mod WatchLists
+mod Turning

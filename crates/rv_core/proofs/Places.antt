@@ -1,5 +1,5 @@
 -- Lists place by place.
-use Rattle.std.proofs.Common.{◌≡◌, ℕ, zero, suc, ◌+◌, ◌<◌, List, [], ◌∷◌, ◌++◌, take, slice_get, Some, refl, ap, subst, add-one, arith}
+use Rattle.std.proofs.Common.{◌≡◌, ℕ, zero, suc, ◌+◌, ◌<◌, List, [], ◌∷◌, ◌++◌, take, slice_get, Option, Some, None, IfNone, Result, Ok, Err, IfOk, refl, ap, subst, add-one, arith}
 use Rattle.hy_formula.specs.Quantifiers.{Each}
 
 -- the elements up to a place and the one there
@@ -42,3 +42,12 @@ front-at zero xs i x lt at = absurd (omega arith)
 front-at (suc n) [] i x lt at = absurd (cc)
 front-at (suc n) (y ∷ ys) zero x lt at = at
 front-at (suc n) (y ∷ ys) (suc i) x lt at = front-at n ys i x (omega arith) at
+
+pub none-more : {A P Q : Type 0} (r : Option A) → (P → Q) → IfNone r P → IfNone r Q
+none-more None f p = f p
+none-more (Some x) f p = tt
+
+pub ok-more : {A E : Type 0} {P Q : A → Type 0} (r : Result A E) → ((x : A) → P x → Q x)
+    → IfOk r P → IfOk r Q
+ok-more (Ok x) f p = f x p
+ok-more (Err e) f p = tt

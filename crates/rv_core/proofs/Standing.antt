@@ -1,252 +1,221 @@
 -- What a monitor stands for after each change of what it holds.
-use Rattle.std.proofs.Common.{◌≡◌, ℕ, zero, suc, ◌+◌, ◌<◌, Bool, true, List, [], ◌∷◌, ◌++◌, length, reverse, take, map, Result, Ok, Err, OnOk, OnErr, slice_get, Some, refl, sym, ap, ◌∙◌, subst, arith}
-use Rattle.std.proofs.lemmas.List.{length-append, length-map, reverse-append, length-take-le, take-append-le}
-use Rattle.std.proofs.lemmas.List.Elements.{All-weaker}
+use Rattle.std.proofs.Common.{◌≡◌, ℕ, zero, suc, ◌+◌, ◌<◌, Bool, true, false, List, [], ◌∷◌, ◌++◌, length, map, slice_get, Some, Result, Ok, Err, OnOk, OnErr, refl, sym, ap, ◌∙◌, subst, arith}
+use Rattle.std.proofs.lemmas.List.{length-append, length-map}
 use Rattle.std.proofs.lemmas.Option.{slice_get_within}
-use Rattle.std.proofs.lemmas.Slice.Zip.{AllZip-long}
-use Rattle.std.proofs.Math.Seq.{take-length}
 use Rattle.hy_formula.specs.Quantifiers.{Each}
 use Rattle.hy_finite.specs.declared.lengths.Lengths.{Lengths}
-use Rattle.hy_finite.specs.Traces.{Trace, Violates, ViolatesBy, picked}
-use Rattle.tuple_walk.specs.declared.watch.Watch.{Watch}
-use Rattle.tuple_walk.specs.Seen.{watched}
-use Rattle.tuple_walk.specs.Watched.{Watched, count_of, Holds}
-use Rattle.tuple_walk.specs.Searches.{StaysClean}
+use Rattle.hy_finite.specs.Traces.{Trace, Violates}
+use Rattle.fin_monitor.specs.Machines.{Machine}
+use Rattle.trace_trie.specs.Numbered.{Numbered}
+use Rattle.dominance.specs.Dominance.{IsTrace}
+use Rattle.dominance.proofs.Elements.{each-append}
+use Rattle.trie_walk.specs.Finds.{AreViolating, AllMeet, traces_of}
 use Rattle.rv_core.specs.declared.saved.Saved.{Saved}
 use Rattle.rv_core.specs.Histories.{Session, Present, History, with_trace, with_sessions}
 use Rattle.rv_core.specs.Endings.{Spec, spec_at, ViolatesSpec, IsClean, IsQuiet}
 use Rattle.rv_core.specs.Opened.{Open}
-use Rattle.rv_core.specs.Held.{Held, spec_of, specs_of, AllHold, AreSessions, AreSaves, StandsFor, AllCount, AreWithin}
-use Rattle.rv_core.specs.Watching.{Turns, AllTurn, AllGain, AllStay, AllCut, FirstFound}
-use Rattle.rv_core.specs.Replies.{IsFound}
-use Rattle.rv_core.proofs.Places.{each-at}
+use Rattle.rv_core.specs.Keeping.{IsKept, AreKept, AreBelow, kept_at}
+use Rattle.rv_core.specs.Held.{Held, spec_of, specs_of, AreSessions, AreSaves, StandsFor, AreWithin}
+use Rattle.rv_core.specs.Arrivals.{with_last, Gains, ArePassed, IsPassed, FirstFound}
+use Rattle.rv_core.specs.Replies.{IsFound, IsViolatedBy}
+use Rattle.rv_core.proofs.Arriving.{found-in, stays-clean}
+use Rattle.rv_core.proofs.Leading.{next-kept, kept-more}
 
-abbrev pub Ruled : Lengths → List Watched → Type 0
-Ruled rule ws = Each (λ (w : Watched). w.lengths ≡ rule) ws
+-- ---- specs by their numbers
 
--- ---- watches that all turn
+pub spec-there : (ms : List Machine) (k : ℕ) (m : Machine) → slice_get ms k ≡ Some m
+    → spec_at (map spec_of ms) k ≡ spec_of m
+spec-there [] k m at = absurd (cc)
+spec-there (x ∷ xs) zero m at = let same : x ≡ m = cc in ap spec_of same
+spec-there (x ∷ xs) (suc k) m at = spec-there xs k m at
 
-module _ (n : ℕ) (turned : List Trace → List Trace) where
-  pub turned-rules : (rule : Lengths) (old new : List Watched) → AllTurn n turned old new
-      → Ruled rule old → Ruled rule new
-  turned-rules rule [] [] a r = tt
-  turned-rules rule [] (m ∷ ms) a r = absurd a
-  turned-rules rule (o ∷ os) [] a r = absurd a
-  turned-rules rule (o ∷ os) (m ∷ ms) (t, a) (e, r) = (t.lengths ∙ e, turned-rules rule os ms a r)
-
-  pub turned-holds : (old new : List Watched) (traces : List Trace) → AllTurn n turned old new
-      → AllHold old traces
-      → AllHold new (turned traces)
-  turned-holds [] [] traces a h = tt
-  turned-holds [] (m ∷ ms) traces a h = absurd a
-  turned-holds (o ∷ os) [] traces a h = absurd a
-  turned-holds (o ∷ os) (m ∷ ms) traces (t, a) (here, h) =
-      (t.holds traces here, turned-holds os ms traces a h)
-
-  pub turned-specs : (old new : List Watched) → AllTurn n turned old new
-      → map spec_of new ≡ map spec_of old
-  turned-specs [] [] a = refl
-  turned-specs [] (m ∷ ms) a = absurd a
-  turned-specs (o ∷ os) [] a = absurd a
-  turned-specs (o ∷ os) (m ∷ ms) (t, a) =
-      (λ i. record { variables = (t.machine i).variables; body = (t.machine i).body }
-      ∷ turned-specs os ms a i)
-
-  pub turned-counts : (old new : List Watched) → AllTurn n turned old new → AllCount n new
-  turned-counts [] [] a = tt
-  turned-counts [] (m ∷ ms) a = absurd a
-  turned-counts (o ∷ os) [] a = absurd a
-  turned-counts (o ∷ os) (m ∷ ms) (t, a) = (t.count, turned-counts os ms a)
-
--- ---- specs that are violated
-
-module _ (rule : Lengths) (list : List Trace) where
-  abbrev Unviolated : Watched → Type 0
-  Unviolated w = ¬ Violates rule w.machine.variables w.machine.body list
-
-  pub clean-each : (ws : List Watched) → IsClean rule (map spec_of ws) list → Each Unviolated ws
-  clean-each [] c = tt
-  clean-each (w ∷ ws) c = (c 0 (omega arith), clean-each ws (λ s lt. c (suc s) (omega arith)))
-
-  pub each-clean : (ws : List Watched) → Each Unviolated ws → IsClean rule (map spec_of ws) list
-  each-clean [] e s lt = absurd (omega arith)
-  each-clean (w ∷ ws) (here, e) zero lt = here
-  each-clean (w ∷ ws) (here, e) (suc s) lt = each-clean ws e s (omega arith)
-
-spec-there : (ws : List Watched) (k : ℕ) (w : Watched) → slice_get ws k ≡ Some w
-    → spec_at (map spec_of ws) k ≡ spec_of w
-spec-there [] k w at = absurd (cc)
-spec-there (x ∷ xs) zero w at = let same : x ≡ w = cc in ap spec_of same
-spec-there (x ∷ xs) (suc k) w at = spec-there xs k w at
-
-spec-some : (ws : List Watched) (k : ℕ) → k < length (map spec_of ws)
-    → (w : Watched) × (slice_get ws k ≡ Some w)
+pub spec-some : (ms : List Machine) (k : ℕ) → k < length (map spec_of ms)
+    → (m : Machine) × (slice_get ms k ≡ Some m)
 spec-some [] k lt = absurd (omega arith)
 spec-some (x ∷ xs) zero lt = (x, refl)
 spec-some (x ∷ xs) (suc k) lt = spec-some xs k (omega arith)
 
--- a watch whose search found nothing
-stays-clean : (rule : Lengths) (w : Watched) (list : List Trace) (t : Trace) → w.lengths ≡ rule
-    → Holds w (list ++ t ∷ [])
-    → StaysClean w → Unviolated rule list w → Unviolated rule (list ++ t ∷ []) w
-stays-clean rule w list t e h s no_before =
-    let P : Lengths → Type 0 =
-    λ r. ¬ Violates r w.machine.variables w.machine.body (list ++ t ∷ []) in
-    let Q : Lengths → Type 0 = λ r. ¬ Violates r w.machine.variables w.machine.body list in
-    subst P e (s list t h (subst Q (sym e) no_before))
+spec-below : (ms : List Machine) (k : ℕ) (m : Machine) → slice_get ms k ≡ Some m
+    → k < length (map spec_of ms)
+spec-below ms k m at = omega (arith, slice_get_within ms k m at, length-map ms spec_of)
 
-all-stay-clean : (rule : Lengths) (ws : List Watched) (list : List Trace) (t : Trace)
-    → Ruled rule ws
-    → AllHold ws (list ++ t ∷ []) → Each StaysClean ws → Each (Unviolated rule list) ws
-    → Each (Unviolated rule (list ++ t ∷ [])) ws
-all-stay-clean rule [] list t r h s b = tt
-all-stay-clean rule (w ∷ ws) list t (e, r) (i, h) (q, s) (no_before, b) =
-    (stays-clean rule w list t e i q no_before, all-stay-clean rule ws list t r h s b)
+last-at : (n : ℕ) (t : Trace) (kept : List (List Numbered)) (s : ℕ) → s < length kept
+    → kept_at (with_last n t kept) s ≡ kept_at kept s ++ (n, t) ∷ []
+last-at n t [] s lt = absurd (omega arith)
+last-at n t (x ∷ xs) zero lt = refl
+last-at n t (x ∷ xs) (suc s) lt = last-at n t xs s (omega arith)
 
--- an arrival after which no search found a violation is clean
-pub clean-arrival : (rule : Lengths) (ws : List Watched) (list : List Trace) (t : Trace)
-    → Ruled rule ws
-    → AllHold ws (list ++ t ∷ []) → Each StaysClean ws → IsClean rule (map spec_of ws) list
-    → IsClean rule (map spec_of ws) (list ++ t ∷ [])
-clean-arrival rule ws list t r h s c =
-    each-clean rule (list ++ t ∷ []) ws
-    (all-stay-clean rule ws list t r h s (clean-each rule list ws c))
+-- ---- a list of traces, and what is kept of it
 
--- the first search that found a violation has the first spec that is violated
-pub found-first : (rule : Lengths) (ws : List Watched) (list : List Trace) (t : Trace) (k : ℕ)
-    (tuple : List ℕ) → Ruled rule ws
-    → AllHold ws (list ++ t ∷ []) → IsClean rule (map spec_of ws) list → FirstFound ws k tuple
-    → IsFound rule (map spec_of ws) (list ++ t ∷ []) k (length list) tuple
-found-first rule ws list t k tuple r h c f =
-    let held = each-at (λ w. Holds w (list ++ t ∷ [])) ws k f.watch h f.there in
-    let ruled = each-at (λ (w : Watched). w.lengths ≡ rule) ws k f.watch r f.there in
-    let spec = spec-there ws k f.watch f.there in
-    let P : Lengths → Type 0 =
-    λ q. ViolatesBy q f.watch.machine.variables f.watch.machine.body (list ++ t ∷ [])
-    (picked (list ++ t ∷ []) tuple) in
-    let Q : Spec → Type 0 =
-    λ s. ViolatesBy rule s.variables s.body (list ++ t ∷ []) (picked (list ++ t ∷ []) tuple) in
-    let violates : Q (spec_at (map spec_of ws) k) =
-    subst Q (sym spec) (subst P ruled (f.violated.violates (list ++ t ∷ []) held)) in
-    let lt = slice_get_within ws k f.watch f.there in
-    let long = length-append list (t ∷ []) in
-    record {
-      first = record {
-        there = omega (arith, lt, length-map ws spec_of);
-        violated = (picked (list ++ t ∷ []) tuple, violates);
-        before = λ s below v.
-            let (w, at) = spec-some ws s (omega (arith, lt, length-map ws spec_of)) in
-            let V : Spec → Type 0 = ViolatesSpec rule (list ++ t ∷ []) in
-            stays-clean rule w list t (each-at (λ (w : Watched). w.lengths ≡ rule) ws s w r at)
-            (each-at (λ w. Holds w (list ++ t ∷ [])) ws s w h at) (f.before s w below at)
-            (each-at (Unviolated rule list) ws s w (clean-each rule list ws c) at)
-            (subst V (spec-there ws s w at) v);
-      };
-      last = omega (arith, long);
-      by_tuple = record {
-        long = f.violated.long ∙ sym (ap (λ (s : Spec). s.variables) spec);
-        inside = All-weaker (λ i. i < count_of f.watch) (λ i. i < length (list ++ t ∷ []))
-            (λ i below. omega (arith, held.counted)) tuple f.violated.inside;
-        violates = violates;
-      };
-    }
+module _ (rule : Lengths) (drop : Bool) (ms : List Machine) (list : List Trace)
+    (kept : List (List Numbered)) (are : AreKept rule drop (map spec_of ms) list kept) where
+  kept-of : (s : ℕ) (m : Machine) → slice_get ms s ≡ Some m
+      → IsKept rule drop (spec_of m) list (kept_at kept s)
+  kept-of s m at =
+      let P : Spec → Type 0 = λ q. IsKept rule drop q list (kept_at kept s) in
+      subst P (spec-there ms s m at) (are.right s (spec-below ms s m at))
+
+  last-of : (t : Trace) (s : ℕ) (m : Machine) → slice_get ms s ≡ Some m
+      → kept_at (with_last (length list) t kept) s ≡ kept_at kept s ++ (length list, t) ∷ []
+  last-of t s m at =
+      last-at (length list) t kept s (omega (arith, spec-below ms s m at, are.long))
+
+  module _ (t : Trace) (some : Each IsTrace list) (more : IsTrace t)
+      (clean : IsClean rule (map spec_of ms) list) where
+    passed-clean : (s : ℕ) (m : Machine) → slice_get ms s ≡ Some m
+        → IsPassed rule (with_last (length list) t kept) t s m
+        → ¬ ViolatesSpec rule (list ++ t ∷ []) (spec_at (map spec_of ms) s)
+    passed-clean s m at passed =
+        let P : List Numbered → Type 0 = λ ps. AllMeet m rule (traces_of ps) t in
+        let Q : Spec → Type 0 = λ q. ¬ ViolatesSpec rule list q in
+        let R : Spec → Type 0 = λ q. ¬ ViolatesSpec rule (list ++ t ∷ []) q in
+        subst R (sym (spec-there ms s m at))
+        (stays-clean rule drop m list t (kept_at kept s) (kept-of s m at) some more
+        (subst Q (spec-there ms s m at) (clean s (spec-below ms s m at)))
+        (subst P (last-of t s m at) passed))
+
+    -- an arrival for which no tuple was found is clean
+    pub all-clean : ArePassed rule ms (with_last (length list) t kept) t
+        → IsClean rule (map spec_of ms) (list ++ t ∷ [])
+    all-clean passed s lt =
+        let (m, at) = spec-some ms s lt in passed-clean s m at (passed s m at)
+
+    -- the first spec for which one was found is the first that is violated
+    pub found-first : (k : ℕ) (tuple : List ℕ)
+        → FirstFound rule ms (with_last (length list) t kept) t k tuple
+        → IsFound rule (map spec_of ms) (list ++ t ∷ []) k (length list) tuple
+    found-first k tuple f =
+        let P : List Numbered → Type 0 = λ ps. AreViolating f.machine rule ps tuple in
+        let Q : Spec → Type 0 = λ q. IsViolatedBy rule q (list ++ t ∷ []) tuple in
+        let by_tuple : Q (spec_at (map spec_of ms) k) =
+        subst Q (sym (spec-there ms k f.machine f.there))
+        (found-in rule drop f.machine list t (kept_at kept k) (kept-of k f.machine f.there) tuple
+        (subst P (last-of t k f.machine f.there) f.violating)) in
+        let below = spec-below ms k f.machine f.there in
+        let long = length-append list (t ∷ []) in
+        record {
+          first = record {
+            there = below;
+            violated = (_, by_tuple.violates);
+            before = λ s lt.
+                let (m, at) = spec-some ms s (omega arith) in
+                passed-clean s m at (f.before s m lt at);
+          };
+          last = omega (arith, long);
+          by_tuple = by_tuple;
+        }
+
+-- what is kept with the trace is what is to be kept
+pub gained : (rule : Lengths) (drop : Bool) (ms : List Machine) (list : List Trace) (t : Trace)
+    (old new : List (List Numbered)) → AreKept rule drop (map spec_of ms) list old
+    → Gains rule drop ms (length list) t old new
+    → AreKept rule drop (map spec_of ms) (list ++ t ∷ []) new
+gained rule false ms list t old new are e =
+    let P : List (List Numbered) → Type 0 =
+    AreKept rule false (map spec_of ms) (list ++ t ∷ []) in
+    let more = λ (ps : List Numbered). ps ++ (length list, t) ∷ [] in
+    subst P (sym e) (record {
+      long = length-map old more ∙ are.long;
+      right = λ s lt.
+          let (m, at) = spec-some ms s lt in
+          let Q : Spec → Type 0 =
+          λ q. IsKept rule false q (list ++ t ∷ []) (kept_at (with_last (length list) t old) s) in
+          let R : List Numbered → Type 0 = IsKept rule false (spec_of m) (list ++ t ∷ []) in
+          subst Q (sym (spec-there ms s m at))
+          (subst R (sym (last-of rule false ms list old are t s m at))
+          (kept-more rule m list t (kept_at old s) (kept-of rule false ms list old are s m at)));
+    })
+gained rule true ms list t old new are next = record {
+  long = next.long ∙ sym (length-map ms spec_of);
+  right = λ s lt.
+      let (m, at) = spec-some ms s lt in
+      let Q : Spec → Type 0 = λ q. IsKept rule true q (list ++ t ∷ []) (kept_at new s) in
+      subst Q (sym (spec-there ms s m at))
+      (next-kept rule m t list (kept_at old s) (kept_at new s)
+      (kept-of rule true ms list old are s m at) (next.right s m at));
+}
 
 -- ---- saves
 
-pub saves-more : (arrived : List Trace) (t : Trace) (saves : List Saved) (ps : List Present)
-    → AreSaves arrived saves ps
-    → AreSaves (arrived ++ t ∷ []) saves ps
-saves-more arrived t [] [] s = tt
-saves-more arrived t [] (p ∷ ps) s = absurd s
-saves-more arrived t (x ∷ xs) [] s = absurd s
-saves-more arrived t (x ∷ xs) (p ∷ ps) (is, later) = (
+saves-more : (rule : Lengths) (drop : Bool) (specs : List Spec) (later : List Trace) (t : Trace)
+    (saves : List Saved) (ps : List Present) → AreSaves rule drop specs later saves ps
+    → AreSaves rule drop specs (later ++ t ∷ []) saves ps
+saves-more rule drop specs later t [] [] a = tt
+saves-more rule drop specs later t [] (p ∷ ps) a = absurd a
+saves-more rule drop specs later t (x ∷ xs) [] a = absurd a
+saves-more rule drop specs later t (x ∷ xs) (p ∷ ps) (is, rest) = (
   record {
-    within = let long = length-append arrived (t ∷ []) in omega (arith, long, is.within);
-    front = is.front ∙ sym (take-append-le x.arrived arrived (t ∷ []) is.within);
+    fewer = let long = length-append later (t ∷ []) in omega (arith, long, is.fewer);
+    some = is.some;
+    count = is.count;
+    kept = is.kept;
     sessions = is.sessions;
   },
-  later,
+  rest,
 )
 
 -- ---- the monitor
 
--- what a monitor holds with these parts, the rule and the saves as before
-abbrev pub changed : Held → List Watched → ℕ → Open → Bool → Held
-changed m ws n os b =
-    record { rule = m.rule; watches = ws; arrived = n; sessions = os; saves = m.saves; clean = b }
+-- what a monitor holds with these parts, the specs and the saves as before
+abbrev pub changed : Held → List (List Numbered) → ℕ → Open → Bool → Held
+changed m kept n os b =
+    record {
+      rule = m.rule;
+      drop = m.drop;
+      machines = m.machines;
+      arrived = n;
+      kept = kept;
+      sessions = os;
+      saves = m.saves;
+      clean = b;
+    }
 
-pub arrival-stands : (m : Held) (ws : List Watched) (os : Open) (h : History) (t : Trace)
-    (ss : List Session) → StandsFor m h
-    → AllGain m.arrived t m.watches ws → Each StaysClean ws → AreSessions os ss
-    → StandsFor (changed m ws (m.arrived + 1) os true) (with_trace h t ss)
-arrival-stands m ws os h t ss s gain stay sessions =
-    let gained = λ (traces : List Trace). traces ++ t ∷ [] in
-    let rules = turned-rules (m.arrived + 1) gained m.rule m.watches ws gain s.rules in
-    let holds = turned-holds (m.arrived + 1) gained m.watches ws h.present.arrived gain s.traces in
-    let specs = turned-specs (m.arrived + 1) gained m.watches ws gain in
-    let long = length-append h.present.arrived (t ∷ []) in
-    let Now : List Spec → Type 0 = λ q. IsClean m.rule q h.present.arrived in
-    let Saves : List Spec → Type 0 =
-    λ q. Each (λ (p : Present). IsClean m.rule q p.arrived) h.saves in
+pub arrival-stands : (m : Held) (kept : List (List Numbered)) (os : Open) (h : History) (t : Trace)
+    (ss : List Session) → StandsFor m h → IsTrace t
+    → ArePassed m.rule m.machines (with_last m.arrived t m.kept) t
+    → Gains m.rule m.drop m.machines m.arrived t m.kept kept → AreSessions os ss
+    → StandsFor (changed m kept (m.arrived + 1) os true) (with_trace h t ss)
+arrival-stands m kept os h t ss s more passed gains sessions =
+    let list = h.present.arrived in
+    let long = length-append list (t ∷ []) in
+    let Passed : ℕ → Type 0 = λ n. ArePassed m.rule m.machines (with_last n t m.kept) t in
+    let Gained : ℕ → Type 0 = λ n. Gains m.rule m.drop m.machines n t m.kept kept in
     record {
       clean = refl;
-      rules = rules;
+      some = each-append IsTrace list (t ∷ []) s.some (more, tt);
       count = omega (arith, long, s.count);
-      traces = holds;
+      kept = gained m.rule m.drop m.machines list t m.kept kept s.kept
+          (subst Gained s.count gains);
       sessions = sessions;
-      saves = saves-more h.present.arrived t m.saves h.saves s.saves;
+      saves = saves-more m.rule m.drop (specs_of m) list t m.saves h.saves s.saves;
       quiet = record {
-        now = clean-arrival m.rule ws h.present.arrived t rules holds stay
-            (subst Now (sym specs) s.quiet.now);
-        saved = subst Saves (sym specs) s.quiet.saved;
+        now = all-clean m.rule m.drop m.machines list m.kept s.kept t s.some more s.quiet.now
+            (subst Passed s.count passed);
+        saved = s.quiet.saved;
       };
     }
 
-pub arrival-found : (m : Held) (ws : List Watched) (h : History) (t : Trace) (k : ℕ)
-    (tuple : List ℕ) → StandsFor m h
-    → AllGain m.arrived t m.watches ws → FirstFound ws k tuple
+pub arrival-found : (m : Held) (h : History) (t : Trace) (k : ℕ) (tuple : List ℕ)
+    → StandsFor m h → IsTrace t
+    → FirstFound m.rule m.machines (with_last m.arrived t m.kept) t k tuple
     → IsFound m.rule (specs_of m) (h.present.arrived ++ t ∷ []) k m.arrived tuple
-arrival-found m ws h t k tuple s gain found =
-    let gained = λ (traces : List Trace). traces ++ t ∷ [] in
-    let rules = turned-rules (m.arrived + 1) gained m.rule m.watches ws gain s.rules in
-    let holds = turned-holds (m.arrived + 1) gained m.watches ws h.present.arrived gain s.traces in
-    let specs = turned-specs (m.arrived + 1) gained m.watches ws gain in
-    let Now : List Spec → Type 0 = λ q. IsClean m.rule q h.present.arrived in
-    let Found : List Spec → Type 0 =
-    λ q. IsFound m.rule q (h.present.arrived ++ t ∷ []) k m.arrived tuple in
-    let At : ℕ → Type 0 =
-    λ n. IsFound m.rule (map spec_of ws) (h.present.arrived ++ t ∷ []) k n tuple in
-    subst Found specs
-    (subst At (sym s.count)
-    (found-first m.rule ws h.present.arrived t k tuple rules holds
-    (subst Now (sym specs) s.quiet.now) found))
-
--- where no watch took the trace all is as before
-pub stay-stands : (m : Held) (ws : List Watched) (h : History) → StandsFor m h
-    → AllStay m.arrived m.watches ws
-    → StandsFor (changed m ws m.arrived m.sessions m.clean) h
-stay-stands m ws h s stay =
-    let same = λ (traces : List Trace). traces in
-    let specs = turned-specs m.arrived same m.watches ws stay in
-    let Quiet : List Spec → Type 0 = λ q. IsQuiet m.rule q h in
-    record {
-      clean = s.clean;
-      rules = turned-rules m.arrived same m.rule m.watches ws stay s.rules;
-      count = s.count;
-      traces = turned-holds m.arrived same m.watches ws h.present.arrived stay s.traces;
-      sessions = s.sessions;
-      saves = s.saves;
-      quiet = subst Quiet (sym specs) s.quiet;
-    }
+arrival-found m h t k tuple s more found =
+    let list = h.present.arrived in
+    let First : ℕ → Type 0 =
+    λ n. FirstFound m.rule m.machines (with_last n t m.kept) t k tuple in
+    let Found : ℕ → Type 0 = λ n. IsFound m.rule (specs_of m) (list ++ t ∷ []) k n tuple in
+    subst Found (sym s.count)
+    (found-first m.rule m.drop m.machines list m.kept s.kept t s.some more s.quiet.now k tuple
+    (subst First s.count found))
 
 pub letter-stands : (m : Held) (os : Open) (h : History) (ss : List Session) → StandsFor m h
     → AreSessions os ss
-    → StandsFor (changed m m.watches m.arrived os m.clean) (with_sessions h ss)
+    → StandsFor (changed m m.kept m.arrived os m.clean) (with_sessions h ss)
 letter-stands m os h ss s sessions = record {
   clean = s.clean;
-  rules = s.rules;
+  some = s.some;
   count = s.count;
-  traces = s.traces;
+  kept = s.kept;
   sessions = sessions;
   saves = s.saves;
   quiet = record { now = s.quiet.now; saved = s.quiet.saved };
@@ -257,27 +226,37 @@ abbrev pub with_saves : Held → List Saved → Held
 with_saves m saves =
     record {
       rule = m.rule;
-      watches = m.watches;
+      drop = m.drop;
+      machines = m.machines;
       arrived = m.arrived;
+      kept = m.kept;
       sessions = m.sessions;
-      saves =
-          saves;
+      saves = saves;
       clean = m.clean;
     }
 
+abbrev pub saved_with : ℕ → List (List Numbered) → Open → Saved
+saved_with n kept os = record { arrived = n; kept = kept; sessions = os }
+
+-- what it puts aside
+abbrev pub saved_of : Held → Saved
+saved_of m = saved_with m.arrived m.kept m.sessions
+
 pub save-stands : (m : Held) (h : History) → StandsFor m h
-    → StandsFor (with_saves m (record { arrived = m.arrived; sessions = m.sessions } ∷ m.saves))
+    → StandsFor (with_saves m (saved_of m ∷ m.saves))
     (record { present = h.present; saves = h.present ∷ h.saves })
 save-stands m h s = record {
   clean = s.clean;
-  rules = s.rules;
+  some = s.some;
   count = s.count;
-  traces = s.traces;
+  kept = s.kept;
   sessions = s.sessions;
   saves = (
     record {
-      within = omega (arith, s.count);
-      front = sym (ap (λ n. take n h.present.arrived) s.count ∙ take-length h.present.arrived);
+      fewer = omega arith;
+      some = s.some;
+      count = s.count;
+      kept = s.kept;
       sessions = s.sessions;
     },
     s.saves,
@@ -286,100 +265,89 @@ save-stands m h s = record {
 }
 
 -- what a monitor holds that goes back to a save
-abbrev pub back_to : Held → List Watched → Saved → List Saved → Held
-back_to m ws x xs =
+abbrev pub back_to : Held → Saved → List Saved → Held
+back_to m x xs =
     record {
       rule = m.rule;
-      watches = ws;
+      drop = m.drop;
+      machines = m.machines;
       arrived = x.arrived;
+      kept = x.kept;
       sessions = x.sessions;
-      saves =
-          xs;
+      saves = xs;
       clean = m.clean;
     }
 
-pub back-stands : (m : Held) (ws : List Watched) (x : Saved) (xs : List Saved) (h : History)
+pub back-stands : (m : Held) (x : Saved) (xs : List Saved) (h : History)
     → StandsFor m h → m.saves ≡ x ∷ xs
-    → AllCut x.arrived m.watches ws
-    → (p : Present) × (ps : List Present) × (h.saves ≡ p ∷ ps) × StandsFor (back_to m ws x xs)
+    → (p : Present) × (ps : List Present) × (h.saves ≡ p ∷ ps) × StandsFor (back_to m x xs)
     (record { present = p; saves = ps })
-back-stands m ws x xs h s e cut =
-    let Saves : List Saved → Type 0 = λ q. AreSaves h.present.arrived q h.saves in
+back-stands m x xs h s e =
+    let Saves : List Saved → Type 0 =
+    λ q. AreSaves m.rule m.drop (specs_of m) h.present.arrived q h.saves in
     popped h.saves (subst Saves e s.saves) s.quiet.saved
   where
-    popped : (saves : List Present) → AreSaves h.present.arrived (x ∷ xs) saves
+    popped : (saves : List Present)
+        → AreSaves m.rule m.drop (specs_of m) h.present.arrived (x ∷ xs) saves
         → Each (λ (p : Present). IsClean m.rule (specs_of m) p.arrived) saves
-        → (p : Present) × (ps : List Present) × (saves ≡ p ∷ ps) × StandsFor (back_to m ws x xs)
+        → (p : Present) × (ps : List Present) × (saves ≡ p ∷ ps) × StandsFor (back_to m x xs)
         (record { present = p; saves = ps })
     popped [] a q = absurd a
-    popped (p ∷ ps) (is, later) (here, q) =
-        let first = λ (traces : List Trace). take x.arrived traces in
-        let specs = turned-specs x.arrived first m.watches ws cut in
-        let Holds : List Trace → Type 0 = λ traces. AllHold ws traces in
-        let Now : List Spec → Type 0 = λ q. IsClean m.rule q p.arrived in
-        let Saved : List Spec → Type 0 =
-        λ q. Each (λ (p : Present). IsClean m.rule q p.arrived) ps in (
-          p,
-          ps,
-          refl,
-          record {
-            clean = s.clean;
-            rules = turned-rules x.arrived first m.rule m.watches ws cut s.rules;
-            count = sym (ap length is.front ∙ length-take-le x.arrived h.present.arrived is.within);
-            traces = subst Holds (sym is.front)
-                (turned-holds x.arrived first m.watches ws h.present.arrived cut s.traces);
-            sessions = is.sessions;
-            saves = later;
-            quiet = record { now = subst Now (sym specs) here; saved = subst Saved (sym specs) q };
-          },
-        )
+    popped (p ∷ ps) (is, later) (here, q) = (
+      p,
+      ps,
+      refl,
+      record {
+        clean = s.clean;
+        some = is.some;
+        count = is.count;
+        kept = is.kept;
+        sessions = is.sessions;
+        saves = later;
+        quiet = record { now = here; saved = q };
+      },
+    )
 
 -- no save, no pair
 pub none-saved : (m : Held) (h : History) → StandsFor m h → m.saves ≡ [] → h.saves ≡ []
 none-saved m h s e =
-    let Saves : List Saved → Type 0 = λ q. AreSaves h.present.arrived q h.saves in
+    let Saves : List Saved → Type 0 =
+    λ q. AreSaves m.rule m.drop (specs_of m) h.present.arrived q h.saves in
     by h.saves (subst Saves e s.saves)
   where
-    by : (saves : List Present) → AreSaves h.present.arrived [] saves → saves ≡ []
+    by : (saves : List Present) → AreSaves m.rule m.drop (specs_of m) h.present.arrived [] saves
+        → saves ≡ []
     by [] a = refl
     by (p ∷ ps) a = absurd a
 
-pub saves-long : (arrived : List Trace) (saves : List Saved) (ps : List Present)
-    → AreSaves arrived saves ps → length saves ≡ length ps
-saves-long arrived [] [] a = refl
-saves-long arrived [] (p ∷ ps) a = absurd a
-saves-long arrived (x ∷ xs) [] a = absurd a
-saves-long arrived (x ∷ xs) (p ∷ ps) (is, later) = ap suc (saves-long p.arrived xs ps later)
+pub saves-long : (rule : Lengths) (drop : Bool) (specs : List Spec) (later : List Trace)
+    (saves : List Saved) (ps : List Present) → AreSaves rule drop specs later saves ps
+    → length saves ≡ length ps
+saves-long rule drop specs later [] [] a = refl
+saves-long rule drop specs later [] (p ∷ ps) a = absurd a
+saves-long rule drop specs later (x ∷ xs) [] a = absurd a
+saves-long rule drop specs later (x ∷ xs) (p ∷ ps) (is, rest) =
+    ap suc (saves-long rule drop specs p.arrived xs ps rest)
 
 -- ---- what a monitor holds fits together
 
-pub turned-long : (n : ℕ) (turned : List Trace → List Trace) (os ns : List Watch)
-    → AllTurn n turned (map watched os) (map watched ns)
-    → length ns ≡ length os
-turned-long n turned os ns a =
-    sym (length-map ns watched) ∙ AllZip-long (Turns n turned) (map watched os) (map watched ns) a
-    ∙ length-map os watched
-
-pub within-more : (n : ℕ) (saves : List Saved) → AreWithin n saves → AreWithin (n + 1) saves
-within-more n [] w = tt
-within-more n (x ∷ xs) (le, w) = (omega arith, w)
-
+-- a save more, where it is not refused
 pub within-pushed : {E : Type 0} (r : Result (Unit {0}) E) (n : ℕ) (saves new : List Saved)
-    (x : Saved) → x.arrived ≡ n
-    → OnOk r (new ≡ saves ++ x ∷ []) → OnErr r (new ≡ saves) → AreWithin n (reverse saves)
-    → AreWithin n (reverse new)
-within-pushed (Ok u) n saves new x e added same w =
-    let back : reverse new ≡ x ∷ reverse saves = ap reverse added ∙ reverse-append saves (x ∷ []) in
+    (x : Saved) → AreBelow n x.arrived x.kept
+    → OnOk r (new ≡ saves ++ x ∷ []) → OnErr r (new ≡ saves) → AreWithin n saves → AreWithin n new
+within-pushed (Ok u) n saves new x below added same w =
     let P : List Saved → Type 0 = AreWithin n in
-    let Q : ℕ → Type 0 = λ k. AreWithin k (reverse saves) in
-    subst P (sym back) (omega (arith, e), subst Q (sym e) w)
-within-pushed (Err u) n saves new x e added same w =
-    let P : List Saved → Type 0 = λ q. AreWithin n (reverse q) in
-    subst P (sym same) w
+    subst P (sym added)
+    (each-append (λ (s : Saved). AreBelow n s.arrived s.kept) saves (x ∷ []) w (below, tt))
+within-pushed (Err u) n saves new x below added same w =
+    let P : List Saved → Type 0 = AreWithin n in subst P (sym same) w
 
 pub within-popped : (n : ℕ) (saves new : List Saved) (x : Saved) → saves ≡ new ++ x ∷ []
-    → AreWithin n (reverse saves)
-    → AreWithin n (x ∷ reverse new)
+    → AreWithin n saves → AreBelow n x.arrived x.kept × AreWithin n new
 within-popped n saves new x e w =
-    let P : List Saved → Type 0 = AreWithin n in
-    subst P (ap reverse e ∙ reverse-append new (x ∷ [])) w
+    let P : List Saved → Type 0 = AreWithin n in by new (subst P e w)
+  where
+    by : (xs : List Saved) → AreWithin n (xs ++ x ∷ [])
+        → AreBelow n x.arrived x.kept × AreWithin n xs
+    by [] (here, rest) = (here, tt)
+    by (y ∷ ys) (here, rest) = let (last, front) = by ys rest in (last, (here, front))

@@ -10,8 +10,7 @@ use Rattle.hy_formula.specs.Classes.{class_of}
 use Rattle.hy_formula.specs.Quantifiers.{Each}
 use Rattle.hy_formula.specs.Trees.{Tree, tree_of}
 use Rattle.fin_monitor.specs.Limits.{HasLargeClosure, HasSmallClosure, HasManyAtoms, HasFewAtoms, HasLargeTable, IsTaken}
-use Rattle.hy_finite.specs.declared.lengths.Lengths.{Lengths}
-use Rattle.tuple_walk.specs.Watched.{Watched, count_of, Holds}
+use Rattle.fin_monitor.specs.Machines.{Machine}
 use Rattle.rv_core.specs.declared.rv_error.RvNewError.{RvNewError}
 use Rattle.rv_core.specs.declared.rv_error.RvNewError.TheVariants.{Prefix, Limit, Memory}
 use Rattle.rv_core.specs.Endings.{Spec}
@@ -76,13 +75,10 @@ earlier r kind.Atoms = kind.Atoms
 earlier (Some kind.Atoms) k = kind.Atoms
 earlier r k = k
 
--- A watch of a formula, with no trace.
-pub record IsFresh (lengths : Lengths) (f : Formula) (w : Watched) : Type 0 where
-  pub spec : spec_of w ≡ spec_of_formula f
-  pub some : 1 ≤ w.machine.variables
-  pub rule : w.lengths ≡ lengths
-  pub none : Holds w []
-  pub count : count_of w ≡ 0
+-- The monitor of a formula, of some variables.
+pub record IsFresh (f : Formula) (m : Machine) : Type 0 where
+  pub spec : spec_of m ≡ spec_of_formula f
+  pub some : 1 ≤ m.variables
 
-abbrev pub AreFresh : Lengths → List Formula → List Watched → Type 0
-AreFresh rule formulas watches = AllZip (IsFresh rule) formulas watches
+abbrev pub AreFresh : List Formula → List Machine → Type 0
+AreFresh formulas machines = AllZip IsFresh formulas machines

@@ -1,8 +1,11 @@
+pub mod Arrivals
 pub mod Built
 pub mod Endings
 pub mod Held
 pub mod Histories
+pub mod Keeping
 pub mod Opened
 pub mod Replies
 pub mod Seen
-pub mod Watching
+pub mod StepBounds
+pub mod Watched

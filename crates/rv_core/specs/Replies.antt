@@ -7,7 +7,7 @@ use Rattle.hy_finite.specs.declared.lengths.Lengths.{Lengths}
 use Rattle.hy_finite.specs.Traces.{Trace, ViolatesBy, picked}
 use Rattle.rv_core.specs.declared.reply.Reply.{Reply}
 use Rattle.rv_core.specs.declared.reply.Reply.TheVariants.{Quiet, Arrived, Violation}
-use Rattle.rv_core.specs.declared.watches.Found.{Found}
+use Rattle.rv_core.specs.declared.kept.Found.{Found}
 use Rattle.rv_core.specs.declared.rv_error.RvError.{RvError}
 use Rattle.rv_core.specs.declared.rv_error.RvError.TheVariants as error
 use Rattle.rv_core.specs.Histories.{History, Refusal, no_session, no_save, too_long, too_many_sessions, too_many_saves, refused, goes, step, arrives}

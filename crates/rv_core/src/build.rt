@@ -4,22 +4,20 @@ ghost use Rattle.std.specs.Prelude.{◌≡◌, ◌<◌, ◌≤◌, ◌^◌, IfOk
 ghost use Rattle.hy_base.specs.declared.limit.Kind.{Kind as WhatKind};
 ghost use Rattle.hy_formula.specs.Trees.{tree_of};
 ghost use Rattle.fin_monitor.specs.Limits.{IsTaken, IsRefusal};
-ghost use Rattle.tuple_walk.specs.Seen.{watched};
-ghost use Rattle.tuple_walk.specs.Watched.{Watched, count_of, Holds};
 ghost use Rattle.rv_core.specs.Built.{HasFewQuantifiers, AreUniversal, EachBody, earlier, IsFresh, AreFresh, IsNewRefusal, FirstOther, spec_of_formula};
 ghost use Rattle.rv_core.specs.Held.{spec_of};
-ghost use Rattle.rv_core.specs.Seen.{watched_by};
+ghost use Rattle.rv_core.specs.Seen.{watched, watched_by};
 
+use crate::kept::none_kept;
 use crate::rv::Rv;
 use crate::rv_error::RvNewError;
 use crate::sessions::Sessions;
-use crate::watches::Watches;
+use crate::watch::Watch;
 use fin_monitor::{Monitor, MonitorError};
 use hy_base::{Kind, List};
 use hy_finite::Lengths;
 use hy_formula::{Class, Formula, class};
 use std::alloc::Global;
-use tuple_walk::Watch;
 
 impl Rv {
     ghost use Rattle.rv_core.specs.Histories.{empty_history};
@@ -27,28 +25,38 @@ impl Rv {
     ghost use Rattle.rv_core.specs.Seen.{held};
 
     /// The monitor of formulas, which number their specs from 0, before all events. Tuples of traces
-    /// are judged by the rule.
+    /// are judged by the rule. With `drop_dominated` of the traces that arrive only leaders are
+    /// kept: those that no other one dominates, of equal ones the first.
     ///
     /// `Prefix` names the first formula that is not universal. Else `Limit` comes exactly where a
     /// closure has more than 1,024 members; or else a body more than 16 indexed atoms; or else more
     /// than 4,194,304 residuals times joint letters; each kind over all formulas before the next. In
     /// time and memory those of `Monitor::build` for each formula.
-    pub fn new(alloc: Global, formulas: &[Formula], rule: Lengths) -> Result<Rv, RvNewError>
+    pub fn new(
+        alloc: Global,
+        formulas: &[Formula],
+        rule: Lengths,
+        drop_dominated: bool,
+    ) -> Result<Rv, RvNewError>
         requires quantifiers { All HasFewQuantifiers formulas.now }
         requires countable { length formulas.now < 2 ^ 32 }
         ensures stands { IfOk result (λ rv. StandsFor (held rv) empty_history) }
         ensures rule { IfOk result (λ rv. (held rv).rule ≡ rule) }
+        ensures drop { IfOk result (λ rv. (held rv).drop ≡ drop_dominated) }
         ensures specs { IfOk result (λ rv. specs_of (held rv) ≡ map spec_of_formula formulas.now) }
         ensures universal { OnOk result (AreUniversal formulas.now) }
         ensures taken { OnOk result (EachBody IsTaken formulas.now) }
         ensures refused { IfErr result (IsNewRefusal formulas.now) }
     {
         all_universal(formulas)?;
-        let watches = watches_of(alloc, formulas, rule)?;
+        let watches = watches_of(alloc, formulas)?;
+        let kept = none_kept(alloc, watches.len())?;
         Ok(Rv {
             rule,
+            drop_dominated,
             watches,
             traces: 0,
+            kept,
             sessions: Sessions::new(alloc),
             saves: List::new(alloc),
             clean: true,
@@ -74,18 +82,18 @@ fn all_universal(formulas: &[Formula]) -> Result<(), RvNewError>
     Ok(())
 }
 
-/// A watch of each formula, with no trace. `Limit` as `Rv::new` says.
-fn watches_of(alloc: Global, formulas: &[Formula], rule: Lengths) -> Result<Watches, RvNewError>
+/// A watch of each formula. `Limit` as `Rv::new` says.
+fn watches_of(alloc: Global, formulas: &[Formula]) -> Result<List<Watch>, RvNewError>
     requires quantifiers { All HasFewQuantifiers formulas.now }
     requires universal { AreUniversal formulas.now }
-    ensures fresh { IfOk result (λ made. AreFresh rule formulas.now (watched_by made)) }
+    ensures fresh { IfOk result (λ made. AreFresh formulas.now (watched_by made)) }
     ensures taken { OnOk result (EachBody IsTaken formulas.now) }
     ensures refused { IfErr result (IsNewRefusal formulas.now) }
 {
-    let mut watches = Watches::new(alloc);
+    let mut watches = List::new(alloc);
     let mut refused = None;
     for formula in formulas {
-        match watch_of(alloc, formula, rule) {
+        match watch_of(alloc, formula) {
             Ok(watch) => watches.push(watch)?,
             Err(MonitorError::Limit(kind)) => refused = Some(first_kind(refused, kind)),
             Err(MonitorError::Memory) => return Err(RvNewError::Memory),
@@ -97,15 +105,15 @@ fn watches_of(alloc: Global, formulas: &[Formula], rule: Lengths) -> Result<Watc
     }
 }
 
-/// The watch of a formula, with no trace.
-fn watch_of(alloc: Global, formula: &Formula, rule: Lengths) -> Result<Watch, MonitorError>
+/// The watch of a formula.
+fn watch_of(alloc: Global, formula: &Formula) -> Result<Watch, MonitorError>
     requires { HasFewQuantifiers formula.now }
-    ensures fresh { IfOk result (λ made. IsFresh rule formula.now (watched made)) }
+    ensures fresh { IfOk result (λ made. IsFresh formula.now (watched made)) }
     ensures taken { OnOk result (IsTaken (tree_of formula.now.body)) }
     ensures refused { IfErr result (IsRefusal (tree_of formula.now.body)) }
 {
     let monitor = Monitor::build(alloc, &formula.body, formula.prefix.len() as u8)?;
-    Ok(Watch::new(alloc, monitor, rule)?)
+    Ok(Watch::new(alloc, monitor)?)
 }
 
 /// Of two kinds that are refused the one that is answered.

@@ -1,14 +1,17 @@
 //! What a monitor does at an event.
 
-ghost use Rattle.std.specs.Prelude.{◌≡◌, ◌<◌, ◌≤◌, ◌^◌, OnErr, IsTrue, length};
+ghost use Rattle.std.specs.Prelude.{◌≡◌, ◌+◌, ◌<◌, ◌≤◌, ◌^◌, ℕ, List, Some, false, sum, OnErr, IsTrue, length};
 ghost use Rattle.hy_finite.specs.declared.event.Event.TheVariants as occurs;
-ghost use Rattle.rv_core.specs.Replies.{IsReplyTo};
+ghost use Rattle.hy_finite.specs.Traces.{Trace as Letters};
+ghost use Rattle.rv_core.specs.Histories.{arrives};
+ghost use Rattle.rv_core.specs.Opened.{letters_in};
+ghost use Rattle.rv_core.specs.StepBounds.{AreBounds, Brings};
 
+use crate::kept::share_kept;
 use crate::reply::Reply;
 use crate::rv::Rv;
 use crate::rv_error::RvError;
 use crate::saved::Saved;
-use crate::watches::Found;
 use hy_base::{Kind, Steps};
 use hy_bits::LetterMask;
 use hy_finite::{Event, Trace};
@@ -26,16 +29,18 @@ impl Rv {
     ///
     /// A whole trace arrives. A letter opens its session or goes last in it. An end closes its session,
     /// and its letters are a trace that arrives. A save puts aside the traces that have arrived and the
-    /// open sessions, and a back brings those that were put aside last. Where a trace arrives, `find`
-    /// of `Watch` is called for each spec up to the first that is violated.
+    /// open sessions, and a back brings those that were put aside last. Where a trace arrives, the
+    /// tuples of what is kept with the trace are walked for each spec up to the first that is
+    /// violated; where none is, and dominated traces are dropped, it is compared with what is kept.
     ///
     /// `NoLetter` where the session that ends is not open, `NoSave` where there is nothing put aside;
     /// `Limit` where a session has 1,024 letters already, 1,024 sessions are open, or 64 saves are put
     /// aside. Where it is refused, for memory too, all is as before. A back takes no memory. After a
     /// violation the monitor takes no more events.
     ///
-    /// A letter and an end take constant time but for growth and `find`, a back time linear in the open
-    /// sessions, a save time and memory linear in their letters.
+    /// Where a trace arrives the steps grow at most by a bound for each spec; else they do not grow.
+    /// A letter takes constant time but for growth, a back time linear in the open sessions and
+    /// specs and a save, in time and memory, in the letters of the sessions and in the specs.
     pub fn event<L: Ledger>(
         &mut self,
         alloc: Global,
@@ -45,13 +50,17 @@ impl Rv {
         requires clean { IsTrue (held self.old).clean }
         requires few { (held self.old).arrived < 2 ^ 31 }
         ensures answers { Answers (held self.old) (held self.new) event.now result }
+        ensures dropping { (held self.new).drop ≡ (held self.old).drop }
         ensures refused { OnErr result (IsAsBefore (held self.old) (held self.new)) }
         ensures counted { steps.old ≤ steps.new }
+        ensures bounded { (t : Letters) (bounds : List ℕ) → Brings (held self.old) event.now t
+            → AreBounds (held self.old) t bounds → steps.new ≤ steps.old + sum bounds }
+        ensures none { arrives event.now ≡ false → steps.new ≡ steps.old }
     {
         match event {
-            Event::Whole(trace) => self.take_whole(trace, steps),
+            Event::Whole(trace) => self.take_whole(alloc, trace, steps),
             Event::Letter { session, letter } => self.take_letter(alloc, *session, *letter),
-            Event::End { session } => self.take_end(*session, steps),
+            Event::End { session } => self.take_end(alloc, *session, steps),
             Event::Save => self.take_save(alloc),
             Event::Back => self.take_back(),
         }
@@ -60,21 +69,22 @@ impl Rv {
     /// A trace arrives.
     fn take_whole<L: Ledger>(
         &mut self,
+        alloc: Global,
         trace: &Trace,
         steps: &mut Steps<L>,
     ) -> Result<Reply, RvError>
         requires clean { IsTrue (held self.old).clean }
         requires few { (held self.old).arrived < 2 ^ 31 }
         ensures answers { Answers (held self.old) (held self.new) (occurs.Whole trace.now) result }
+        ensures dropping { (held self.new).drop ≡ (held self.old).drop }
         ensures refused { OnErr result (IsAsBefore (held self.old) (held self.new)) }
         ensures counted { steps.old ≤ steps.new }
+        ensures bounded { (bounds : List ℕ) → AreBounds (held self.old) trace.now bounds
+            → steps.new ≤ steps.old + sum bounds }
     {
-        let number = self.traces;
-        let _long = trace.len();
-        let found = self.watches.take(trace.as_slice(), number, steps)?;
-        self.traces = number + 1;
-        self.clean = found.is_none();
-        Ok(reply_of(number, found))
+        prove!(trace.len() > 0);
+        let arrival = self.arrival(alloc, trace, steps)?;
+        Ok(self.take_arrival(arrival))
     }
 
     /// A letter more of a session.
@@ -87,6 +97,7 @@ impl Rv {
         requires clean { IsTrue (held self.old).clean }
         ensures answers { Answers (held self.old) (held self.new) (occurs.Letter session letter)
             result }
+        ensures dropping { (held self.new).drop ≡ (held self.old).drop }
         ensures refused { OnErr result (IsAsBefore (held self.old) (held self.new)) }
     {
         self.sessions.extend(alloc, session, letter)?;
@@ -94,36 +105,48 @@ impl Rv {
     }
 
     /// A session ends, and arrives as a trace.
-    fn take_end<L: Ledger>(&mut self, session: u32, steps: &mut Steps<L>) -> Result<Reply, RvError>
+    fn take_end<L: Ledger>(
+        &mut self,
+        alloc: Global,
+        session: u32,
+        steps: &mut Steps<L>,
+    ) -> Result<Reply, RvError>
         requires clean { IsTrue (held self.old).clean }
         requires few { (held self.old).arrived < 2 ^ 31 }
         ensures answers { Answers (held self.old) (held self.new) (occurs.End session) result }
+        ensures dropping { (held self.new).drop ≡ (held self.old).drop }
         ensures refused { OnErr result (IsAsBefore (held self.old) (held self.new)) }
         ensures counted { steps.old ≤ steps.new }
+        ensures bounded { (t : Letters) (bounds : List ℕ)
+            → letters_in session (held self.old).sessions ≡ Some t
+            → AreBounds (held self.old) t bounds → steps.new ≤ steps.old + sum bounds }
     {
         let Some(letters) = self.sessions.letters(session) else {
             return Err(RvError::NoLetter);
         };
-        let number = self.traces;
-        let found = self.watches.take(letters.as_slice(), number, steps)?;
+        let trace = Trace::new(letters.copy(alloc)?).unwrap();
+        let arrival = self.arrival(alloc, &trace, steps)?;
         self.sessions.close(session);
-        self.traces = number + 1;
-        self.clean = found.is_none();
-        Ok(reply_of(number, found))
+        Ok(self.take_arrival(arrival))
     }
 
     /// The present is put aside.
     fn take_save(&mut self, alloc: Global) -> Result<Reply, RvError>
         requires clean { IsTrue (held self.old).clean }
         ensures answers { Answers (held self.old) (held self.new) occurs.Save result }
+        ensures dropping { (held self.new).drop ≡ (held self.old).drop }
         ensures refused { OnErr result (IsAsBefore (held self.old) (held self.new)) }
     {
         if self.saves.len() >= MOST_SAVES {
             return Err(RvError::Limit(Kind::Saves));
         }
+        let kept = share_kept(alloc, &self.kept)?;
         let sessions = self.sessions.copy(alloc)?;
-        let arrived = self.traces;
-        self.saves.push(Saved { arrived, sessions })?;
+        self.saves.push(Saved {
+            arrived: self.traces,
+            kept,
+            sessions,
+        })?;
         Ok(Reply::Quiet)
     }
 
@@ -131,25 +154,20 @@ impl Rv {
     fn take_back(&mut self) -> Result<Reply, RvError>
         requires clean { IsTrue (held self.old).clean }
         ensures answers { Answers (held self.old) (held self.new) occurs.Back result }
+        ensures dropping { (held self.new).drop ≡ (held self.old).drop }
         ensures refused { OnErr result (IsAsBefore (held self.old) (held self.new)) }
     {
         if self.saves.is_empty() {
             return Err(RvError::NoSave);
         }
-        let Saved { arrived, sessions } = self.saves.pop().unwrap();
-        self.watches.truncate(arrived);
+        let Saved {
+            arrived,
+            kept,
+            sessions,
+        } = self.saves.pop().unwrap();
         self.traces = arrived;
+        self.kept = kept;
         self.sessions = sessions;
         Ok(Reply::Quiet)
-    }
-}
-
-/// What is answered where the trace with this number arrived.
-fn reply_of(trace: u32, found: Option<Found>) -> Reply
-    ensures { IsReplyTo trace found result }
-{
-    match found {
-        None => Reply::Arrived { trace },
-        Some(Found { spec, tuple }) => Reply::Violation { spec, trace, tuple },
     }
 }

@@ -1,13 +1,19 @@
 //! Laws of runs of events.
 
-ghost use Rattle.std.specs.Prelude.{◌≡◌, ◌↔◌, ◌⊎◌, ◌+◌, ◌++◌, ◌∷◌, [], ℕ, true, List, length};
+ghost use Rattle.std.specs.Prelude.{◌≡◌, ◌↔◌, ◌⊎◌, ◌+◌, ◌<◌, ◌++◌, ◌∷◌, [], ℕ, true, false, List, length};
+ghost use Rattle.std.specs.List.{Contains};
 ghost use Rattle.hy_finite.specs.declared.event.Event.{Event};
 ghost use Rattle.hy_finite.specs.declared.event.Event.TheVariants as event;
 ghost use Rattle.hy_finite.specs.declared.lengths.Lengths.{Lengths as Rule};
+ghost use Rattle.hy_finite.specs.Traces.{Trace};
+ghost use Rattle.trace_trie.specs.Numbered.{Numbered};
+ghost use Rattle.dominance.specs.Dominance.{Dominates};
+ghost use Rattle.trie_walk.specs.Finds.{traces_of};
 ghost use Rattle.rv_core.specs.Histories.{History, step, goes, arrives};
-ghost use Rattle.rv_core.specs.Endings.{Spec, IsClean, IsQuiet, Ending, clean, Ends, Matched};
+ghost use Rattle.rv_core.specs.Endings.{Spec, spec_at, IsClean, IsQuiet, Ending, clean, Ends, Matched};
 ghost use Rattle.rv_core.specs.declared.rv_error.RvError.TheVariants as errors;
 ghost use Rattle.rv_core.specs.Held.{Held, specs_of, StandsFor};
+ghost use Rattle.rv_core.specs.Keeping.{kept_at};
 ghost use Rattle.rv_core.specs.Replies.{Stop, error_at, Runs, EndsAs};
 
 /// A run of events ends, and in one way.
@@ -54,4 +60,20 @@ pub fn runs()
     ensures { (k : ℕ) (m : Held) (h : History) (events : List Event) (stop : Stop) (x : Ending)
         → StandsFor m h → Runs k m events stop → Ends m.rule (specs_of m) k h events x
         → EndsAs m.rule (specs_of m) x stop ⊎ ((n : ℕ) × (stop ≡ error_at n errors.Memory)) }
+{}
+
+/// For each spec all traces are kept, as many as have arrived; or, where dominated ones are dropped,
+/// their leaders, of which none dominates another, and one of which dominates each that arrived.
+pub fn keeping()
+    ensures all { (m : Held) (h : History) (s : ℕ) → StandsFor m h → m.drop ≡ false
+        → s < length (specs_of m) → length (kept_at m.kept s) ≡ m.arrived }
+    ensures apart { (m : Held) (h : History) (s : ℕ) (p q : Numbered) → StandsFor m h
+        → m.drop ≡ true → s < length (specs_of m) → Contains (kept_at m.kept s) p
+        → Contains (kept_at m.kept s) q
+        → Dominates m.rule (spec_at (specs_of m) s).variables (spec_at (specs_of m) s).body p.1 q.1
+        → p ≡ q }
+    ensures covers { (m : Held) (h : History) (s : ℕ) (t : Trace) → StandsFor m h
+        → s < length (specs_of m) → Contains h.present.arrived t
+        → (u : Trace) × Contains (traces_of (kept_at m.kept s)) u
+        × Dominates m.rule (spec_at (specs_of m) s).variables (spec_at (specs_of m) s).body u t }
 {}

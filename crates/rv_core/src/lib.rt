@@ -2,15 +2,17 @@
 //! and the first violation of a universal formula.
 #![tactic(auto)]
 
+mod arrival;
 mod build;
 mod events;
+mod kept;
 pub mod laws;
 mod reply;
 mod rv;
 mod rv_error;
 mod saved;
 mod sessions;
-mod watches;
+mod watch;
 
 pub use reply::Reply;
 pub use rv::Rv;

@@ -1,12 +1,14 @@
 //! The monitor of a run.
 
-ghost use Rattle.std.specs.Prelude.{◌≡◌, ◌<◌, ◌^◌, length, map, reverse};
-ghost use Rattle.tuple_walk.specs.Seen.{watched};
-ghost use Rattle.rv_core.specs.Held.{AllCount, AllCount-prop, AreWithin, AreWithin-prop};
+ghost use Rattle.std.specs.Prelude.{◌≡◌, ◌<◌, ◌^◌, length};
+ghost use Rattle.rv_core.specs.Held.{AreWithin, AreWithin-prop};
+ghost use Rattle.rv_core.specs.Keeping.{AreBelow, AreBelow-prop};
 
+use crate::kept::Kept;
 use crate::saved::SavedList;
 use crate::sessions::Sessions;
-use crate::watches::Watches;
+use crate::watch::Watch;
+use hy_base::List;
 use hy_finite::Lengths;
 
 /// A monitor of universal formulas over the traces of a run, which arrive whole or letter by letter
@@ -14,18 +16,21 @@ use hy_finite::Lengths;
 #[derive(Drop)]
 pub struct Rv {
     pub(crate) rule: Lengths,
-    pub(crate) watches: Watches,
+    pub(crate) drop_dominated: bool,
+    pub(crate) watches: List<Watch>,
     pub(crate) traces: u32,
+    pub(crate) kept: Kept,
     pub(crate) sessions: Sessions,
     pub(crate) saves: SavedList,
     pub(crate) clean: bool,
-    ghost counts: { AllCount traces (map watched watches.items.items) } by { AllCount-prop traces _ },
-    ghost within: { AreWithin traces (reverse saves) } by { AreWithin-prop traces (reverse saves) },
-    ghost countable: { length watches.items.items < 2 ^ 32 },
+    ghost below: { AreBelow (length watches) traces kept } by { AreBelow-prop (length watches) traces kept },
+    ghost within: { AreWithin (length watches) saves } by { AreWithin-prop (length watches) saves },
+    ghost countable: { length watches < 2 ^ 32 },
 }
 
 impl Rv {
     ghost use Rattle.rv_core.specs.Held.{specs_of};
+    ghost use Rattle.rv_core.specs.Keeping.{kept_at};
     ghost use Rattle.rv_core.specs.Seen.{held};
 
     /// How many traces have arrived.
@@ -35,12 +40,24 @@ impl Rv {
         self.traces
     }
 
-    /// How many traces are kept for a spec, by its number: all that have arrived.
+    /// How many traces are kept for a spec, by its number: all that have arrived or, where
+    /// dominated ones are dropped, their leaders. In time linear in them, times the logarithm of
+    /// their number.
     pub fn kept(&self, spec: u32) -> u32
         requires { spec < length (specs_of (held self.now)) }
-        ensures { result ≡ (held self.now).arrived }
+        ensures { result ≡ length (kept_at (held self.now).kept spec) }
     {
-        self.traces
+        let version = self.kept.at(spec as usize);
+        version.numbers_ascend();
+        let traces = self.traces;
+        let mut count = 0;
+        let mut from = 0;
+        while let Some((number, _)) = version.next(from) {
+            prove!(number < traces);
+            count += 1;
+            from = number + 1;
+        }
+        count
     }
 
     /// How many sessions are open.

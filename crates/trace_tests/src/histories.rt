@@ -75,25 +75,27 @@ fn number_of(answer: Result<Reply, RvError>) -> u32 {
     }
 }
 
-/// Gives a monitor the events of a file, whose answers are to be these.
+/// Gives a monitor the events of a file, whose answers are to be these, and says how many traces it
+/// then keeps for the first spec.
 fn play<L: Ledger, R: AllocGlobal + Abort>(
     rt: &R,
     file: &[u8],
+    drop_dominated: bool,
     wanted: &[u32],
     steps: &mut Steps<L>,
-) -> Result<(), Fail>
+) -> Result<u32, Fail>
     requires { length file.now < 1000 }
 {
     let alloc = rt.alloc();
     let specs = [secrecy(alloc, Quant::Forall)?, not_both(alloc)?];
     let events = read_events(alloc, file, &names(alloc)?)?;
-    let mut rv = Rv::new(alloc, &specs, Lengths::Min)?;
+    let mut rv = Rv::new(alloc, &specs, Lengths::Min, drop_dominated)?;
     assert_eq!(rt; events.len(), wanted.len());
     for (placed, number) in events.as_slice().iter().zip(wanted) {
         assert!(rt; rv.is_clean() && rv.traces() < 1000);
         assert_eq!(rt; number_of(rv.event(alloc, &placed.event, steps)), *number);
     }
-    Ok(())
+    Ok(rv.kept(0))
 }
 
 fn all<L: Ledger, R: AllocGlobal + Abort>(rt: &R, blank: Blank) -> Result<(), Fail>
@@ -105,14 +107,36 @@ fn all<L: Ledger, R: AllocGlobal + Abort>(rt: &R, blank: Blank) -> Result<(), Fa
     // Sessions are numbered by their ends.
     let sessions = b"@3 end\n@1 {o}\n@2 {o}\n@2 {o}\n@1 {}\n@2 end\n@1 end";
     let answers = [301, 100, 100, 100, 100, 0, 201];
-    play(rt, sessions, &answers, &mut steps)?;
+    play(rt, sessions, false, &answers, &mut steps)?;
     // A back brings the traces and the sessions of its save.
     let saves =
         b"!back\n{};{o}\n@7 {}\n!save\n{};{o};{}\n@8 {}\n@7 {}\n!back\n@8 end\n@7 end\n{};{}";
     let answers = [302, 0, 100, 100, 1, 100, 100, 100, 301, 1, 202];
-    play(rt, saves, &answers, &mut steps)?;
+    play(rt, saves, false, &answers, &mut steps)?;
     // The second spec alone is violated.
-    play(rt, b"{o}\n{i}", &[0, 211], &mut steps)
+    play(rt, b"{o}\n{i}", false, &[0, 211], &mut steps)?;
+    Ok(())
+}
+
+/// Of equal traces the first is kept, and each trace of other inputs, or of more letters. The second
+/// spec keeps one trace, but that is not asked for.
+fn leaders<L: Ledger, R: AllocGlobal + Abort>(rt: &R, blank: Blank) -> Result<(), Fail>
+    requires name { blank.name ≡ L.name }
+    requires parts { blank.parts ≡ L.parts }
+    requires some { 0 < blank.parts }
+{
+    let mut steps = Steps::<L>::new(blank);
+    let equal = b"{o}\n{o};{i}\n{o}\n{o}";
+    let answers = [0, 1, 2, 3];
+    assert_eq!(rt; play(rt, equal, true, &answers, &mut steps)?, 2);
+    assert_eq!(rt; play(rt, equal, false, &answers, &mut steps)?, 4);
+    // A back brings what was kept.
+    let saves = b"{o}\n!save\n{o};{i}\n{o}\n!back\n{o}";
+    let answers = [0, 100, 1, 2, 100, 1];
+    assert_eq!(rt; play(rt, saves, true, &answers, &mut steps)?, 1);
+    // The violation is found though one of its traces was dropped.
+    play(rt, b"{o}\n{o}\n{}", true, &[0, 1, 202], &mut steps)?;
+    Ok(())
 }
 
 #[test]
@@ -120,12 +144,17 @@ fn runs(rt: HostRuntime) -> Result<(), Fail> {
     all::<Brand, HostRuntime>(&rt, Blank::new(1))
 }
 
+#[test]
+fn drops(rt: HostRuntime) -> Result<(), Fail> {
+    leaders::<Brand, HostRuntime>(&rt, Blank::new(1))
+}
+
 /// The first formula that is not universal is named.
 #[test]
 fn universal_formulas_alone(rt: HostRuntime) -> Result<(), Fail> {
     let alloc = rt.alloc();
     let specs = [not_both(alloc)?, secrecy(alloc, Quant::Exists)?];
-    let refused = Rv::new(alloc, &specs, Lengths::Pad).err();
+    let refused = Rv::new(alloc, &specs, Lengths::Pad, false).err();
     let wanted = RvNewError::Prefix {
         spec: 1,
         class: Class::Exists,

@@ -1,6 +1,7 @@
 pub mod Ascending
 pub mod Each
 pub mod Finding
+pub mod Following
 pub mod Forked
 pub mod Holding
 pub mod Kids

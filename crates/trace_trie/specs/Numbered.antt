@@ -27,6 +27,11 @@ abbrev pub with_number : ℕ → List Numbered → Option (List Letter)
 with_number n [] = None
 with_number n (p ∷ ps) = cond (nat_eq p.0 n) (Some p.1) (with_number n ps)
 
+-- what is left of the list from the first number on that is not below n
+abbrev pub rest_from : ℕ → List Numbered → List Numbered
+rest_from n [] = []
+rest_from n (p ∷ ps) = cond (nat_lt p.0 n) (rest_from n ps) (p ∷ ps)
+
 -- the number of the first trace
 abbrev pub first_number : List Numbered → Option ℕ
 first_number [] = None

@@ -2,7 +2,7 @@
 
 ghost use Rattle.std.specs.Prelude.{◌≡◌, ℕ, ◌<◌, ◌≤◌, List, [], ◌∷◌, ◌++◌, length, IfOk, IfSome, IfNone, Some, None, nat_eq};
 ghost use Rattle.hy_formula.specs.Quantifiers.{Each};
-ghost use Rattle.trace_trie.specs.Numbered.{Numbered, first_number, with_number, without_number};
+ghost use Rattle.trace_trie.specs.Numbered.{Numbered, first_number, rest_from, with_number, without_number};
 
 use hy_base::M;
 use hy_finite::Trace;
@@ -99,6 +99,30 @@ impl Numbers {
                     first.get(number)
                 } else {
                     second.get(number)
+                }
+            }
+        }
+    }
+
+    /// The trace with the least number from `from` on, with its number. Takes no memory.
+    pub(crate) fn next(&self, from: u32) -> Option<(u32, &Trace)>
+        ensures some { IfSome result (λ p. (more : List Numbered)
+            × (rest_from from self.now ≡ (p.0, p.1.now) ∷ more)) }
+        ensures none { IfNone result (rest_from from self.now ≡ []) }
+    {
+        match &self.tree {
+            NumberTree::Nothing => None,
+            NumberTree::One(number, trace) => {
+                let trace: &Trace = trace;
+                if *number < from { None } else { Some((*number, trace)) }
+            }
+            NumberTree::Two(split, _, first, second) => {
+                if *split <= from {
+                    return second.next(from);
+                }
+                match first.next(from) {
+                    Some(found) => Some(found),
+                    None => second.next(from),
                 }
             }
         }

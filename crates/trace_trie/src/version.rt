@@ -1,8 +1,8 @@
 //! Versions of a trie.
 
-ghost use Rattle.std.specs.Prelude.{◌≡◌, ℕ, ◌<◌, List, [], ◌∷◌, ◌++◌, Some, None, IfOk, IsSome, IsTrue, is_some, option_map};
+ghost use Rattle.std.specs.Prelude.{◌≡◌, ℕ, ◌<◌, List, [], ◌∷◌, ◌++◌, Some, None, IfOk, IfSome, IfNone, IsSome, IsTrue, is_some, option_map};
 ghost use Rattle.hy_formula.specs.Quantifiers.{Each};
-ghost use Rattle.trace_trie.specs.Numbered.{Numbered, IsAscending, AreTraces, with_number, without_number};
+ghost use Rattle.trace_trie.specs.Numbered.{Numbered, IsAscending, AreTraces, rest_from, with_number, without_number};
 ghost use Rattle.trace_trie.specs.Cursors.{rests_at};
 
 use crate::cursor::Cursor;
@@ -133,6 +133,16 @@ impl Version {
         ensures { result ≡ is_some (with_number number self.now) }
     {
         self.all.get(number).is_some()
+    }
+
+    /// The trace with the least number from `from` on, with its number. Takes no memory, and time
+    /// logarithmic in the number of traces.
+    pub fn next(&self, from: u32) -> Option<(u32, &Trace)>
+        ensures some { IfSome result (λ p. (more : List Numbered)
+            × (rest_from from self.now ≡ (p.0, p.1.now) ∷ more)) }
+        ensures none { IfNone result (rest_from from self.now ≡ []) }
+    {
+        self.all.next(from)
     }
 
     /// The trace with the number, where there is one, in time linear in its letters.

@@ -8,5 +8,5 @@ abbrev pub invariant-loop-formula : goal.invariant-loop-formula
 invariant-loop-formula l = record {
   cause : IsCause (take l.formula-index l.formulas) l.refused;
   fresh : l.refused ≡ None
-      → AreFresh l.rule (take l.formula-index l.formulas) (watched_by l.watches);
+      → AreFresh (take l.formula-index l.formulas) (watched_by l.watches);
 }

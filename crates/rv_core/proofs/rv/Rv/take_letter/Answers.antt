@@ -13,7 +13,7 @@ returns-in_err-extend-clause-answers c =
     let m = held c.args.self.now in
     let p = err_from_is_err_and c.from_residual.result c.from_residual.ensures.1 in
     let P : Open → Type 0 =
-    λ os. Answers m (changed m m.watches m.arrived os m.clean)
+    λ os. Answers m (changed m m.kept m.arrived os m.clean)
     (event.Letter c.args.session c.args.letter) c.from_residual.result in
     subst P (sym c.in_err-extend.ensures.unchanged)
     (rw (p.1, p.2)

@@ -2,12 +2,13 @@ use Rattle.std.proofs.Common.{refl, Ok, ◌≡◌, ◌∷◌, List, reverse, sym
 use Rattle.std.proofs.lemmas.List.{length-reverse}
 use Rattle.std.proofs.lemmas.Result.{err_from_is_err_and}
 use Rattle.hy_finite.specs.declared.event.Event.TheVariants as event
+use Rattle.trace_trie.specs.Numbered.{Numbered}
 use Rattle.rv_core.specs.declared.saved.Saved.{Saved}
 use Rattle.rv_core.specs.declared.reply.Reply.TheVariants.{Quiet}
 use Rattle.rv_core.specs.Opened.{Open}
 use Rattle.rv_core.specs.Replies.{Answers}
 use Rattle.rv_core.specs.Seen.{held}
-use Rattle.rv_core.proofs.Standing.{with_saves, within-pushed}
+use Rattle.rv_core.proofs.Standing.{with_saves, saved_with, saved_of}
 use Rattle.rv_core.proofs.Answering.{memory-answer, answered-save, many-saves, reverse-push}
 use Rattle.rv_core.proofs.rv.Rv.take_save.Goals as goal
 
@@ -18,21 +19,16 @@ returns-then-len-ge-MOST_SAVES-clause-answers c =
     many-saves (held c.args.self.now)
     (omega (arith, long, c.len.ensures, c.if-len-ge-MOST_SAVES.true))
 
-pub returns-in_err-sessions-clause-answers : goal.returns-in_err-sessions-clause-answers
-returns-in_err-sessions-clause-answers c =
+pub returns-in_err-kept-clause-answers : goal.returns-in_err-kept-clause-answers
+returns-in_err-kept-clause-answers c =
     let p = err_from_is_err_and c.from_residual.result c.from_residual.ensures.1 in
     rw (p.1, p.2) (memory-answer (held c.args.self.now) event.Save refl)
 
-pub invariant_of-self : goal.invariant_of-self
-invariant_of-self c = record {
-  counts = c.args.self.now.counts;
-  within =
-      within-pushed c.push.result c.args.self.now.traces c.args.self.now.saves c.push.new.self
-      (record { arrived = c.args.self.now.traces; sessions = c.in_ok-sessions.sessions }) refl
-      c.push.ensures.added
-      c.push.ensures.refused c.args.self.now.within;
-  countable = c.args.self.now.countable;
-}
+pub returns-in_err-sessions-clause-answers : goal.returns-in_err-sessions-clause-answers
+returns-in_err-sessions-clause-answers c =
+    let p = err_from_is_err_and c.from_residual-in_err-sessions.result
+    c.from_residual-in_err-sessions.ensures.1 in
+    rw (p.1, p.2) (memory-answer (held c.args.self.now) event.Save refl)
 
 pub returns-in_err-push-clause-answers : goal.returns-in_err-push-clause-answers
 returns-in_err-push-clause-answers c =
@@ -47,14 +43,13 @@ returns-in_err-push-clause-answers c =
 pub returns-clause-answers : goal.returns-clause-answers
 returns-clause-answers c =
     let m = held c.args.self.now in
-    let x : Saved =
-    record { arrived = c.args.self.now.traces; sessions = c.in_ok-sessions.sessions } in
-    let y : Saved =
-    record { arrived = c.args.self.now.traces; sessions = c.args.self.now.sessions } in
-    let same : x ≡ y =
-    ap (λ (os : Open). record { arrived = c.args.self.now.traces; sessions = os })
-    c.in_ok-sessions.ensures in
-    let back : reverse c.push.new.self ≡ y ∷ reverse c.args.self.now.saves =
+    let n = c.args.self.now.traces in
+    let x : Saved = saved_with n c.in_ok-kept.kept c.in_ok-sessions.sessions in
+    let same : x ≡ saved_of m =
+    ap (λ (ks : List (List Numbered)). saved_with n ks c.in_ok-sessions.sessions)
+    c.in_ok-kept.ensures
+    ∙ ap (λ (os : Open). saved_with n c.args.self.now.kept os) c.in_ok-sessions.ensures in
+    let back : reverse c.push.new.self ≡ saved_of m ∷ reverse c.args.self.now.saves =
     ap reverse c.in_ok-push.ensures.added ∙ reverse-push c.args.self.now.saves x
     ∙ ap (λ s. s ∷ reverse c.args.self.now.saves) same in
     let P : List Saved → Type 0 = λ saves. Answers m (with_saves m saves) event.Save (Ok Quiet) in

@@ -1,0 +1,11 @@
+use Rattle.rv_core.proofs.Keepings.{keeps-all, keeps-apart, keeps-covers}
+use Rattle.rv_core.proofs.laws.keeping.Goals as goal
+
+pub returns-clause-all : goal.returns-clause-all
+returns-clause-all c m h s stands e lt = keeps-all m h s stands lt e
+
+pub returns-clause-apart : goal.returns-clause-apart
+returns-clause-apart c m h s p q stands e lt = keeps-apart m h s stands lt p q e
+
+pub returns-clause-covers : goal.returns-clause-covers
+returns-clause-covers c m h s t stands lt = keeps-covers m h s stands lt t

@@ -1,0 +1,119 @@
+//! What a spec is watched by.
+
+ghost use Rattle.std.specs.Prelude.{◌≡◌, ◌↔◌, ◌+◌, ◌<◌, ◌≤◌, ℕ, IfOk, IfSome, IfNone, IsTrue};
+ghost use Rattle.std.specs.Coded.{→_prop};
+ghost use Rattle.hy_formula.specs.Quantifiers.{Each};
+ghost use Rattle.trace_trie.specs.Numbered.{Numbered};
+ghost use Rattle.std.specs.List.{Contains};
+ghost use Rattle.hy_finite.specs.declared.lengths.Lengths.{Lengths as Rule};
+ghost use Rattle.fin_monitor.specs.Seen.{machine_of};
+ghost use Rattle.dominance.specs.Dominance.{Dominates};
+ghost use Rattle.trie_walk.specs.Finds.{AreViolating, AllMeet, traces_of};
+ghost use Rattle.rv_core.specs.Watched.{MayTurn, MayTurn-prop, IsExact, IsExact-prop};
+ghost use Rattle.rv_core.specs.Arrivals.{IsNext};
+ghost use Rattle.rv_core.specs.StepBounds.{IsBound};
+
+use dominance::{Compare, dominates, symmetric};
+use fin_monitor::Monitor;
+use hy_base::{M, Steps};
+use hy_bits::LetterMask;
+use hy_finite::{Lengths, Trace};
+use std::alloc::Global;
+use std::sync::ledger::Ledger;
+use trace_trie::Version;
+use trie_walk::{find, find_first};
+use tuple_walk::Tuple;
+
+/// The monitor of a spec's body.
+#[derive(Drop)]
+pub(crate) struct Watch {
+    pub(crate) monitor: Monitor,
+    /// Exchanging two traces never changes the verdict.
+    symmetric: bool,
+    ghost some: { 1 ≤ (machine_of monitor).variables },
+    ghost turns: { IsTrue symmetric → MayTurn (machine_of monitor) } by { →_prop (MayTurn-prop (machine_of monitor)) },
+    ghost exact: { IsExact symmetric (machine_of monitor) } by { IsExact-prop symmetric (machine_of monitor) },
+}
+
+impl Watch {
+    ghost use Rattle.rv_core.specs.Seen.{watched};
+
+    /// A watch by a monitor. In time as `symmetric`.
+    pub(crate) fn new(alloc: Global, monitor: Monitor) -> M<Watch>
+        requires { 1 ≤ (machine_of monitor).variables }
+        ensures { IfOk result (λ made. watched made ≡ machine_of monitor) }
+    {
+        let symmetric = symmetric(alloc, &monitor)?;
+        Ok(Watch { monitor, symmetric })
+    }
+
+    /// A tuple of traces of the version that violates the body, where the trace with this number is
+    /// the newest one; `None` exactly where no tuple with it does. Takes no memory.
+    ///
+    /// Where the order of two traces does not matter the newest one is tried first alone.
+    pub(crate) fn find<L: Ledger>(
+        &self,
+        alloc: Global,
+        rule: Lengths,
+        kept: &Version,
+        number: u32,
+        trace: &[LetterMask],
+        steps: &mut Steps<L>,
+    ) -> Option<Tuple>
+        requires { Contains kept.now (number, trace.now) }
+        ensures found { IfSome result (AreViolating (watched self.now) rule kept.now) }
+        ensures none { IfNone result
+            (AllMeet (watched self.now) rule (traces_of kept.now) trace.now) }
+        ensures counted { steps.old ≤ steps.new }
+        ensures bounded { (bound : ℕ) → IsBound rule (watched self.now) (traces_of kept.now)
+            trace.now bound → steps.new ≤ steps.old + bound }
+    {
+        kept.numbers_ascend();
+        if self.symmetric {
+            find_first(alloc, kept, &self.monitor, number, trace, rule, steps)
+        } else {
+            find(alloc, kept, &self.monitor, number, trace, rule, steps)
+        }
+    }
+
+    /// What is kept with a new trace, where dominated ones are dropped: what was kept, if one of
+    /// these dominates the new one; else those of them that it does not dominate, and the new one.
+    ///
+    /// The new trace is compared with each kept one, both ways.
+    pub(crate) fn leaders(
+        &self,
+        alloc: Global,
+        rule: Lengths,
+        kept: &Version,
+        number: u32,
+        trace: &Trace,
+    ) -> M<Version>
+        requires { Each (λ (p : Numbered). p.0 < number) kept.now }
+        ensures { IfOk result (IsNext rule (watched self.now) trace.now number kept.now) }
+    {
+        kept.numbers_ascend();
+        let mut left = kept.share()?;
+        let mut from = 0;
+        while let Some((other, held)) = kept.next(from) {
+            if self.is_over(alloc, rule, held, trace)? {
+                return kept.share();
+            }
+            if self.is_over(alloc, rule, trace, held)? {
+                left = left.without(other)?;
+            }
+            from = other + 1;
+        }
+        left.insert(number, trace)
+    }
+
+    /// Whether a trace dominates another.
+    fn is_over(&self, alloc: Global, rule: Lengths, upper: &Trace, lower: &Trace) -> M<bool>
+        ensures { IfOk result (λ answer. IsTrue answer ↔ Dominates rule
+            (watched self.now).variables (watched self.now).body upper.now lower.now) }
+    {
+        match dominates(alloc, &self.monitor, upper, lower, rule)? {
+            Compare::Yes => Ok(true),
+            Compare::No { .. } => Ok(false),
+        }
+    }
+}
