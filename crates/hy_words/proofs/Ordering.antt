@@ -43,8 +43,8 @@ question_of items (judge f l) (n, b, asks) = (f, l ∷ [], [], [], n, b, asks, r
 question_of items (decide f n b) asks = (f, [], [], [], n, b, asks, refl)
 question_of items (imply f g n b) asks = (f, [], g ∷ [], [], n, b, asks, refl)
 question_of items (compare f g n b) asks = (f, [], [], g ∷ [], n, b, asks, refl)
-question_of items (monitor s t l) e = absurd e
-question_of items (monitor_made s n l) e = absurd e
+question_of items (monitor s t l d) e = absurd e
+question_of items (monitor_made s n l d) e = absurd e
 question_of items (check c f d n p q) e = absurd e
 
 one_decision : (items others : List Item) → Same EaHyper items others → (a b : Command) → Orders EaHyper items a → Orders EaHyper others b → a ≡ b
@@ -64,45 +64,72 @@ one_decision items others same a b one two =
 
 -- ---- rvhyper
 
+-- The command monitors the traces of a file.
+record OfFile (items : List Item) (command : Command) : Type 0 where
+  specs : Text
+  traces : Text
+  lengths : Lengths
+  drop : Bool
+  monitors : Monitors items (specs ∷ traces ∷ []) [] lengths drop
+  is : command ≡ monitor specs traces lengths drop
+
+-- The command monitors made traces.
+record OfMade (items : List Item) (command : Command) : Type 0 where
+  specs : Text
+  text : Text
+  count : ℕ
+  lengths : Lengths
+  drop : Bool
+  monitors : Monitors items (specs ∷ []) (text ∷ []) lengths drop
+  number : IsNumber text 1 1000000 count
+  is : command ≡ monitor_made specs count lengths drop
+
 monitoring_of : (items : List Item) (command : Command) → Orders RvHyper items command
-    → ((s : Text) × (t : Text) × (l : Lengths) × Monitors items (s ∷ t ∷ []) [] l × (command ≡ monitor s t l))
-    ⊎ ((s : Text) × (v : Text) × (n : ℕ) × (l : Lengths) × Monitors items (s ∷ []) (v ∷ []) l × IsNumber v 1 1000000 n × (command ≡ monitor_made s n l))
-monitoring_of items (monitor s t l) monitors = inl (s, t, l, monitors, refl)
-monitoring_of items (monitor_made s n l) (v, monitors, number) = inr (s, v, n, l, monitors, number, refl)
+    → OfFile items command ⊎ OfMade items command
+monitoring_of items (monitor s t l d) monitors =
+    inl (record { specs = s; traces = t; lengths = l; drop = d; monitors = monitors; is = refl })
+monitoring_of items (monitor_made s n l d) (v, monitors, number) =
+    inr (record { specs = s; text = v; count = n; lengths = l; drop = d; monitors = monitors; number = number; is = refl })
 monitoring_of items (judge f l) e = absurd e
 monitoring_of items (decide f n b) e = absurd e
 monitoring_of items (imply f g n b) e = absurd e
 monitoring_of items (compare f g n b) e = absurd e
 monitoring_of items (check c f d n p q) e = absurd e
 
+module _ (items others : List Item) (same : Same RvHyper items others) where
+  lengths_are : given_in (codes "lengths") items ≡ given_in (codes "lengths") others
+  lengths_are = same.options.0
+
+  made_are : given_in (codes "make") items ≡ given_in (codes "make") others
+  made_are = same.options.1.0
+
+  one_rule : (a b : Lengths) → IsRule (given_in (codes "lengths") items) a → IsRule (given_in (codes "lengths") others) b → a ≡ b
+  one_rule a b one two = same-rule (given_in (codes "lengths") others) a b (subst (λ vs. IsRule vs a) lengths_are one) two
+
+  by_ways : (a b : Command) → OfFile items a ⊎ OfMade items a → OfFile others b ⊎ OfMade others b → a ≡ b
+  by_ways a b (inl x) (inl y) =
+      let files : x.specs ∷ x.traces ∷ [] ≡ y.specs ∷ y.traces ∷ [] = sym x.monitors.files ∙ same.files ∙ y.monitors.files in
+      let specs : x.specs ≡ y.specs = cc in
+      let traces : x.traces ≡ y.traces = cc in
+      let rule : x.lengths ≡ y.lengths = one_rule x.lengths y.lengths x.monitors.rule y.monitors.rule in
+      let drops : x.drop ≡ y.drop = x.monitors.drops ∙ same.flags.0 ∙ sym y.monitors.drops in
+      x.is ∙ (λ i. monitor (specs i) (traces i) (rule i) (drops i)) ∙ sym y.is
+  by_ways a b (inl x) (inr y) = absurd (some-nothing (sym y.monitors.make ∙ sym made_are ∙ x.monitors.make))
+  by_ways a b (inr x) (inl y) = absurd (some-nothing (sym x.monitors.make ∙ made_are ∙ y.monitors.make))
+  by_ways a b (inr x) (inr y) =
+      let files : x.specs ∷ [] ≡ y.specs ∷ [] = sym x.monitors.files ∙ same.files ∙ y.monitors.files in
+      let texts : x.text ∷ [] ≡ y.text ∷ [] = sym x.monitors.make ∙ made_are ∙ y.monitors.make in
+      let specs : x.specs ≡ y.specs = cc in
+      let text : x.text ≡ y.text = cc in
+      let count : x.count ≡ y.count = same-number y.text 1 1000000 x.count y.count (omega arith)
+      (subst (λ t. IsNumber t 1 1000000 x.count) text x.number) y.number in
+      let rule : x.lengths ≡ y.lengths = one_rule x.lengths y.lengths x.monitors.rule y.monitors.rule in
+      let drops : x.drop ≡ y.drop = x.monitors.drops ∙ same.flags.0 ∙ sym y.monitors.drops in
+      x.is ∙ (λ i. monitor_made (specs i) (count i) (rule i) (drops i)) ∙ sym y.is
+
 one_monitoring : (items others : List Item) → Same RvHyper items others → (a b : Command) → Orders RvHyper items a → Orders RvHyper others b → a ≡ b
 one_monitoring items others same a b one two =
-    let (lengths, (make, nil)) = same.options in
-    by (monitoring_of items a one) (monitoring_of others b two) lengths make
-  where
-    by : (x : ((s : Text) × (t : Text) × (l : Lengths) × Monitors items (s ∷ t ∷ []) [] l × (a ≡ monitor s t l))
-        ⊎ ((s : Text) × (v : Text) × (n : ℕ) × (l : Lengths) × Monitors items (s ∷ []) (v ∷ []) l × IsNumber v 1 1000000 n × (a ≡ monitor_made s n l)))
-        (y : ((s : Text) × (t : Text) × (l : Lengths) × Monitors others (s ∷ t ∷ []) [] l × (b ≡ monitor s t l))
-        ⊎ ((s : Text) × (v : Text) × (n : ℕ) × (l : Lengths) × Monitors others (s ∷ []) (v ∷ []) l × IsNumber v 1 1000000 n × (b ≡ monitor_made s n l)))
-        → given_in (codes "lengths") items ≡ given_in (codes "lengths") others → given_in (codes "make") items ≡ given_in (codes "make") others → a ≡ b
-    by (inl (s, t, l, monitors, is_a)) (inl (u, v, k, also, is_b)) lengths make =
-        let files : s ∷ t ∷ [] ≡ u ∷ v ∷ [] = sym monitors.files ∙ same.files ∙ also.files in
-        let rule : l ≡ k = same-rule (given_in (codes "lengths") others) l k (subst (λ vs. IsRule vs l) lengths monitors.rule) also.rule in
-        let specs : s ≡ u = cc in
-        let traces : t ≡ v = cc in
-        is_a ∙ (λ i. monitor (specs i) (traces i) (rule i)) ∙ sym is_b
-    by (inl (s, t, l, monitors, is_a)) (inr (u, v, n, k, also, number, is_b)) lengths make =
-        absurd (some-nothing (sym also.make ∙ sym make ∙ monitors.make))
-    by (inr (u, v, n, k, monitors, number, is_a)) (inl (s, t, l, also, is_b)) lengths make =
-        absurd (some-nothing (sym monitors.make ∙ make ∙ also.make))
-    by (inr (s, v, n, l, monitors, number, is_a)) (inr (u, w, m, k, also, other, is_b)) lengths make =
-        let files : s ∷ [] ≡ u ∷ [] = sym monitors.files ∙ same.files ∙ also.files in
-        let texts : v ∷ [] ≡ w ∷ [] = sym monitors.make ∙ make ∙ also.make in
-        let specs : s ≡ u = cc in
-        let text : v ≡ w = cc in
-        let count : n ≡ m = same-number w 1 1000000 n m (omega arith) (subst (λ t. IsNumber t 1 1000000 n) text number) other in
-        let rule : l ≡ k = same-rule (given_in (codes "lengths") others) l k (subst (λ vs. IsRule vs l) lengths monitors.rule) also.rule in
-        is_a ∙ (λ i. monitor_made (specs i) (count i) (rule i)) ∙ sym is_b
+    by_ways items others same a b (monitoring_of items a one) (monitoring_of others b two)
 
 -- ---- mchyper
 
@@ -113,8 +140,8 @@ checking_of items (judge f l) e = absurd e
 checking_of items (decide f n b) e = absurd e
 checking_of items (imply f g n b) e = absurd e
 checking_of items (compare f g n b) e = absurd e
-checking_of items (monitor s t l) e = absurd e
-checking_of items (monitor_made s n l) e = absurd e
+checking_of items (monitor s t l r) e = absurd e
+checking_of items (monitor_made s n l r) e = absurd e
 
 one_checking : (items others : List Item) → Same McHyper items others → (a b : Command) → Orders McHyper items a → Orders McHyper others b → a ≡ b
 one_checking items others same a b one two =

@@ -48,10 +48,10 @@ fine EaHyper = record {
   option_joined = λ name v there. one_of (options_of EaHyper) name there (λ n. Rattle.clap.specs.Lexer.long_of (dashed (n ++ 61 ∷ v)) ≡ Some (n, Some v)) (refl, (refl, (refl, (refl, tt))));
 }
 fine RvHyper = record {
-  apart = λ name there. refl;
+  apart = λ name there. one_of (options_of RvHyper) name there (λ n. has (flags_of RvHyper) n ≡ false) (refl, (refl, tt));
   free = refl;
   clear = refl;
-  flag_alone = λ name there. absurd (true≢false (sym there));
+  flag_alone = λ name there. one_of (flags_of RvHyper) name there (λ n. Rattle.clap.specs.Lexer.long_of (dashed n) ≡ Some (n, None)) (refl, tt);
   option_alone = λ name there. one_of (options_of RvHyper) name there (λ n. Rattle.clap.specs.Lexer.long_of (dashed n) ≡ Some (n, None)) (refl, (refl, tt));
   option_joined = λ name v there. one_of (options_of RvHyper) name there (λ n. Rattle.clap.specs.Lexer.long_of (dashed (n ++ 61 ∷ v)) ≡ Some (n, Some v)) (refl, (refl, tt));
 }

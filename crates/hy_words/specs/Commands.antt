@@ -7,10 +7,10 @@ use Rattle.hy_words.specs.declared.tool.Tool.TheVariants.{EaHyper, RvHyper, McHy
 use Rattle.hy_words.specs.Words.{Text, Item, Says, IsProper, files_in, given_in}
 
 pub data Command : Type 0 where
-  -- Monitor the traces of a file against the specifications of another.
-  monitor : (specs traces : Text) (lengths : Lengths) → Command
+  -- Monitor the traces of a file against the specifications of another; where asked, dominated traces are dropped.
+  monitor : (specs traces : Text) (lengths : Lengths) (drop : Bool) → Command
   -- Monitor that many made traces against the specifications of a file.
-  monitor_made : (specs : Text) (count : ℕ) (lengths : Lengths) → Command
+  monitor_made : (specs : Text) (count : ℕ) (lengths : Lengths) (drop : Bool) → Command
   -- Check a formula on the lassos of a file.
   judge : (formula lassos : Text) → Command
   -- Decide whether a formula is satisfiable.
@@ -24,8 +24,8 @@ pub data Command : Type 0 where
 
 -- the names of its files, in the order in which they are read
 abbrev pub files_of : Command → List Text
-files_of (monitor specs traces lengths) = specs ∷ traces ∷ []
-files_of (monitor_made specs count lengths) = specs ∷ []
+files_of (monitor specs traces lengths drop) = specs ∷ traces ∷ []
+files_of (monitor_made specs count lengths drop) = specs ∷ []
 files_of (judge formula lassos) = formula ∷ lassos ∷ []
 files_of (decide formula states proof) = formula ∷ []
 files_of (imply first second states proof) = first ∷ second ∷ []
@@ -73,11 +73,13 @@ pub record Asks (items : List Item) (formula : Text) (lassos implied equal : Lis
   pub budget : AreStates (given_in (codes "states") items) states
   pub proves : proof ≡ is_given (given_in (codes "proof") items)
 
--- The items ask for traces to be monitored: these are the files, the count of made traces, if any, and the rule.
-pub record Monitors (items : List Item) (names made : List Text) (lengths : Lengths) : Type 0 where
+-- The items ask for traces to be monitored: these are the files, the count of made traces, if any, the rule, and
+-- whether dominated traces are dropped.
+pub record Monitors (items : List Item) (names made : List Text) (lengths : Lengths) (drop : Bool) : Type 0 where
   pub files : files_in items ≡ names
   pub make : given_in (codes "make") items ≡ made
   pub rule : IsRule (given_in (codes "lengths") items) lengths
+  pub drops : drop ≡ is_given (given_in (codes "drop") items)
 
 -- The items ask for a check of a circuit.
 pub record Checks (items : List Item) (circuit formula : Text) (depth conflicts : ℕ) (plain proof : Bool) : Type 0 where
@@ -89,9 +91,9 @@ pub record Checks (items : List Item) (circuit formula : Text) (depth conflicts 
 
 -- The items stand for the command of the tool.
 abbrev pub Orders : Tool → List Item → Command → Type 0
-Orders RvHyper items (monitor specs traces lengths) = Monitors items (specs ∷ traces ∷ []) [] lengths
-Orders RvHyper items (monitor_made specs count lengths) =
-    (text : Text) × Monitors items (specs ∷ []) (text ∷ []) lengths × IsNumber text 1 1000000 count
+Orders RvHyper items (monitor specs traces lengths drop) = Monitors items (specs ∷ traces ∷ []) [] lengths drop
+Orders RvHyper items (monitor_made specs count lengths drop) =
+    (text : Text) × Monitors items (specs ∷ []) (text ∷ []) lengths drop × IsNumber text 1 1000000 count
 Orders EaHyper items (judge formula lassos) =
     (states : ℕ) × (proof : Bool) × Asks items formula (lassos ∷ []) [] [] states proof
 Orders EaHyper items (decide formula states proof) = Asks items formula [] [] [] states proof

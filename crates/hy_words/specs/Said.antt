@@ -4,8 +4,8 @@ use Rattle.hy_words.specs.declared.command.Command.TheVariants.{Monitor, Monitor
 use Rattle.hy_words.specs.Commands.{Command, monitor, monitor_made, judge, decide, imply, compare, check}
 
 abbrev pub said_by : Told → Command
-said_by (Monitor specs traces lengths) = monitor specs.now traces.now lengths
-said_by (MonitorMade specs count lengths) = monitor_made specs.now count lengths
+said_by (Monitor specs traces lengths drop) = monitor specs.now traces.now lengths drop
+said_by (MonitorMade specs count lengths drop) = monitor_made specs.now count lengths drop
 said_by (Judge formula lassos) = judge formula.now lassos.now
 said_by (Decide formula states proof) = decide formula.now states proof
 said_by (Imply first second states proof) = imply first.now second.now states proof

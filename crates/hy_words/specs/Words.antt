@@ -1,8 +1,8 @@
 -- What words say, from the first to the last: names of files, flags, and options with their values.
 --
 --     eahyper    [--on FILE | --implies FILE | --equivalent FILE] [--proof] [--states N] FORMULA
---     rvhyper    [--lengths min|pad] SPECS TRACES
---     rvhyper    [--lengths min|pad] --make N SPECS
+--     rvhyper    [--drop] [--lengths min|pad] SPECS TRACES
+--     rvhyper    [--drop] [--lengths min|pad] --make N SPECS
 --     mchyper    [--depth K] [--conflicts N] [--plain] [--proof] CIRCUIT FORMULA
 --
 -- Flags and options stand anywhere among the names of files, but not behind a word `--`, behind which every word is the
@@ -24,7 +24,7 @@ texts words = map string_bytes words
 -- the flags of a tool, without their dashes
 abbrev pub flags_of : Tool → List Text
 flags_of EaHyper = codes "proof" ∷ []
-flags_of RvHyper = []
+flags_of RvHyper = codes "drop" ∷ []
 flags_of McHyper = codes "plain" ∷ codes "proof" ∷ []
 
 -- the options of a tool that have a value, without their dashes

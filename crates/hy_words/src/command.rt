@@ -19,17 +19,21 @@ use std::alloc::Global;
 /// verdict.
 #[derive(Clone, Copy)]
 pub enum Command<'a> {
-    /// Monitors the traces of a file against the specifications of another.
+    /// Monitors the traces of a file against the specifications of another; dominated traces are
+    /// dropped where `drop`.
     Monitor {
         specs: &'a str,
         traces: &'a str,
         lengths: Lengths,
+        drop: bool,
     },
-    /// Monitors `count` made traces, from 1 to 1,000,000, against the specifications of a file.
+    /// Monitors `count` made traces, from 1 to 1,000,000, against the specifications of a file;
+    /// dominated traces are dropped where `drop`.
     MonitorMade {
         specs: &'a str,
         count: u32,
         lengths: Lengths,
+        drop: bool,
     },
     /// Checks a formula on the lassos of a file.
     Judge {
@@ -73,8 +77,8 @@ pub enum Command<'a> {
 ///
 /// ```text
 /// eahyper    [--on FILE | --implies FILE | --equivalent FILE] [--proof] [--states N] FORMULA
-/// rvhyper    [--lengths min|pad] SPECS TRACES
-/// rvhyper    [--lengths min|pad] --make N SPECS
+/// rvhyper    [--drop] [--lengths min|pad] SPECS TRACES
+/// rvhyper    [--drop] [--lengths min|pad] --make N SPECS
 /// mchyper    [--depth K] [--conflicts N] [--plain] [--proof] CIRCUIT FORMULA
 /// ```
 /// Flags and options stand anywhere among the names of files, each at most once, and not behind a

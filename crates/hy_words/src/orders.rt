@@ -102,11 +102,13 @@ fn monitoring<'a>(files: &[&'a str], matches: &ArgMatches<'a>) -> Option<Command
         → IsFit RvHyper items → ¬ Orders RvHyper items command) }
 {
     let lengths = rule_of(matches.get_str("lengths"))?;
+    let drop = has_flag(matches, "drop");
     match (files, matches.get_str("make")) {
         (&[specs, traces], None) => Some(Command::Monitor {
             specs,
             traces,
             lengths,
+            drop,
         }),
         (&[specs], Some(given)) => {
             let count = number_in(given, 1, 1_000_000)?;
@@ -114,6 +116,7 @@ fn monitoring<'a>(files: &[&'a str], matches: &ArgMatches<'a>) -> Option<Command
                 specs,
                 count,
                 lengths,
+                drop,
             })
         }
         _ => None,

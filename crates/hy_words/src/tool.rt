@@ -20,7 +20,7 @@ pub fn flags_of<'a>(tool: Tool) -> &'a [&'a str]
 {
     match tool {
         Tool::EaHyper => &["proof"],
-        Tool::RvHyper => &[],
+        Tool::RvHyper => &["drop"],
         Tool::McHyper => &["plain", "proof"],
     }
 }

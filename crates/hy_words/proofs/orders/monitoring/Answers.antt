@@ -2,7 +2,7 @@ use Rattle.std.proofs.Common.{◌≡◌, Some, ap, refl, sym, ◌∙◌, subst, 
 use Rattle.hy_words.specs.Words.{Text, given_in}
 use Rattle.hy_words.specs.Commands.{IsRule}
 use Rattle.hy_words.specs.Found.{listed_slice}
-use Rattle.hy_words.proofs.Giving.{seen, one_file, number_values, rule_values}
+use Rattle.hy_words.proofs.Giving.{seen, flag_read, one_file, number_values, rule_values}
 use Rattle.hy_words.proofs.orders.monitoring.Goals as goal
 
 pub returns-in_ok-count-in-len1-Some-clause-some : goal.returns-in_ok-count-in-len1-Some-clause-some
@@ -20,6 +20,7 @@ returns-in_ok-count-in-len1-Some-clause-some c = λ items tells filled.
           files = tells.files ∙ sym c.requires ∙ one_file c.args.files.now _ c.in-len1-Some.len_at_least c.in-len1-Some.len_below;
           make = made;
           rule = subst P (sym l) c.in_ok-lengths.ensures.some;
+          drops = flag_read _ _ c.has_flag-drop.result tells.flags.0 c.has_flag-drop.ensures.yes c.has_flag-drop.ensures.no;
         },
         c.in_ok-count-in-len1-Some.ensures.some,
       ),
