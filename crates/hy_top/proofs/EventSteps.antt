@@ -1,6 +1,6 @@
 -- Events, given to a monitor one after another.
 use Rattle.std.proofs.Common.{◌≡◌, ℕ, suc, ◌+◌, ◌<◌, ◌≤◌, ◌^◌, Bool, true, false, nat_lt, if◌then◌else◌, List, [], ◌∷◌, length, Option, Some, None, Ok, Err, Result, inl, inr, refl, sym, subst, ◌∙◌, arith}
-use Rattle.std.proofs.lemmas.List.{length-append, length-take}
+use Rattle.std.proofs.lemmas.List.{length-append}
 use Rattle.hy_base.specs.Limits.{most}
 use Rattle.hy_bits.specs.Letter.{Letter}
 use Rattle.hy_finite.specs.declared.event.Event.{Event}
@@ -19,7 +19,7 @@ use Rattle.rv_core.specs.Histories.{Present, History, empty_history, Refusal, no
 use Rattle.rv_core.specs.Replies.{error_of, IsFound, IsAnswer, quiet, arrived, violated, refused_by, spent, Answers}
 use Rattle.hy_answer.specs.declared.answer.Answer.{Answer}
 use Rattle.hy_answer.specs.declared.answer.Answer.TheVariants as answers
-use Rattle.hy_top.specs.Monitoring.{refusal_answer, clean_answer, Comes, ComesTo, EventsCome}
+use Rattle.hy_top.specs.Monitoring.{refusal_answer, IsNoViolation, Comes, ComesTo, EventsCome}
 use Rattle.hy_top.specs.Watching.{OrMemory, IsEventAnswer, GoesOn, Stops, AreLeft, count_left, IsReady, IsAhead, IsThrough}
 use Rattle.hy_top.specs.declared.source.Source.{Source}
 use Rattle.hy_top.proofs.Sources.{some-left}
@@ -126,10 +126,10 @@ error-ends old new placed lengths (errors.Limit kind) a said rule is =
 
 -- ---- how many traces there are
 
-shorter-save : (list : List Trace) (ss : List Saved) (p : Present) (ps : List Present) → AreSaves list ss (p ∷ ps)
-    → length p.arrived ≤ length list
-shorter-save list [] p ps are = absurd are
-shorter-save list (s ∷ ss) p ps (kept, rest) = rw kept.front (omega (arith, length-take s.arrived list))
+shorter-save : (rule : Lengths) (drop : Bool) (specs : List Spec) (list : List Trace) (ss : List Saved) (p : Present)
+    (ps : List Present) → AreSaves rule drop specs list ss (p ∷ ps) → length p.arrived ≤ length list
+shorter-save rule drop specs list [] p ps are = absurd are
+shorter-save rule drop specs list (s ∷ ss) p ps (save, rest) = save.fewer
 
 -- An event brings at most one trace.
 one-more : (m : Held) (h : History) (e : Event) (next : History) → StandsFor m h → step h e ≡ goes next
@@ -162,43 +162,46 @@ one-more m h event.Save next stands e = by-test (nat_lt (length h.saves) most_sa
     by-test false f = absurd (cc)
 one-more m h event.Back next stands e = by-saves h.saves stands.saves e
   where
-    by-saves : (ps : List Present) → AreSaves h.present.arrived m.saves ps → back_step ps ≡ goes next
+    by-saves : (ps : List Present) → AreSaves m.rule m.drop (specs_of m) h.present.arrived m.saves ps → back_step ps ≡ goes next
         → length next.present.arrived ≤ suc (length h.present.arrived)
     by-saves [] are f = absurd (cc)
     by-saves (p ∷ ps) are f =
         let same : next ≡ record { present = p; saves = ps } = cc in
-        let le = shorter-save h.present.arrived m.saves p ps are in
+        let le = shorter-save m.rule m.drop (specs_of m) h.present.arrived m.saves p ps are in
         rw same (omega (arith, le))
 
 -- ---- one event after another
 
 -- The events before these were given to the monitor, and none of them was refused or violated a formula.
-pub record Passed (lengths : Lengths) (specs : List Spec) (start left : Source) (m : Held) : Type 0 where
+pub record Passed (lengths : Lengths) (drop : Bool) (specs : List Spec) (start left : Source) (m : Held) : Type 0 where
   pub history : History
   pub stands : StandsFor m history
   pub specs_are : specs_of m ≡ specs
   pub rule : m.rule ≡ lengths
+  pub dropping : m.drop ≡ drop
   pub few : length history.present.arrived + count_left left ≤ count_left start
   pub ready : IsReady left
-  pub back : (more : List Placed) (a : Answer) → AreLeft left more → ComesTo lengths specs history more a
-      → EventsCome lengths specs (AreLeft start) a
+  pub back : (more : List Placed) (a : Answer) → AreLeft left more → ComesTo lengths drop specs history more a
+      → EventsCome lengths drop specs (AreLeft start) a
 
-pub passed-none : (lengths : Lengths) (start : Source) (m : Held) → StandsFor m empty_history → m.rule ≡ lengths → IsReady start
-    → Passed lengths (specs_of m) start start m
-passed-none lengths start m stands rule ready = record {
+pub passed-none : (lengths : Lengths) (drop : Bool) (start : Source) (m : Held) → StandsFor m empty_history
+    → m.rule ≡ lengths → m.drop ≡ drop → IsReady start → Passed lengths drop (specs_of m) start start m
+passed-none lengths drop start m stands rule dropping ready = record {
   history = empty_history;
   stands = stands;
   specs_are = refl;
   rule = rule;
+  dropping = dropping;
   few = omega arith;
   ready = ready;
   back = λ more a left comes. (more, left, comes);
 }
 
-module _ (lengths : Lengths) (specs : List Spec) (start old : Source) (m : Held) (before : Passed lengths specs start old m) where
+module _ (lengths : Lengths) (drop : Bool) (specs : List Spec) (start old : Source) (m : Held) (before : Passed lengths drop specs start old m) where
   pub passed-more : (placed : Placed) (new : Source) (m' : Held) → IsAhead old new placed → specs_of m' ≡ specs_of m
-      → m'.rule ≡ m.rule → GoesOn m.rule (specs_of m) before.history placed m' → Passed lengths specs start new m'
-  passed-more placed new m' ahead same rules goes_on =
+      → m'.rule ≡ m.rule → m'.drop ≡ m.drop → GoesOn m.rule (specs_of m) before.history placed m'
+      → Passed lengths drop specs start new m'
+  passed-more placed new m' ahead same rules drops goes_on =
       let h = before.history in
       let more_traces = one-more m h placed.event goes_on.next before.stands goes_on.steps in
       let fewer = ahead.fewer in
@@ -210,31 +213,50 @@ module _ (lengths : Lengths) (specs : List Spec) (start old : Source) (m : Held)
         stands = goes_on.stands;
         specs_are = same ∙ before.specs_are;
         rule = rules ∙ before.rule;
+        dropping = drops ∙ before.dropping;
         few = omega (arith, more_traces, fewer, few);
         ready = ahead.ready;
         back = λ more a left comes.
             before.back (placed ∷ more) a (ahead.before more left)
             (goes-comes lengths specs placed.line (arrives placed.event) (step h placed.event) goes_on.next
-            (λ next. ComesTo lengths specs next more a) a goes_on.steps
+            (λ next. ComesTo lengths drop specs next more a) a goes_on.steps
             (λ loud. subst R before.rule (subst Q before.specs_are (goes_on.clean loud))) comes);
       }
 
   pub passed-stops : (placed : Placed) (new : Source) (a : Answer) → IsAhead old new placed
-      → Stops m.rule (specs_of m) before.history placed a → EventsCome lengths specs (AreLeft start) a
+      → Stops m.rule (specs_of m) before.history placed a → EventsCome lengths drop specs (AreLeft start) a
   passed-stops placed new a ahead stops =
       let h = before.history in
       let (more, left) = some-left new ahead.ready in
       let P : List Spec → Type 0 = λ s. Comes m.rule s placed.line (arrives placed.event) (step h placed.event) (λ next. ⊥) a in
       let R : Lengths → Type 0 = λ l. Comes l specs placed.line (arrives placed.event) (step h placed.event) (λ next. ⊥) a in
       before.back (placed ∷ more) a (ahead.before more left)
-      (stops-comes lengths specs placed.line (arrives placed.event) (step h placed.event) (λ next. ComesTo lengths specs next more a) a
+      (stops-comes lengths specs placed.line (arrives placed.event) (step h placed.event) (λ next. ComesTo lengths drop specs next more a) a
       (subst R before.rule (subst P before.specs_are stops)))
 
-  pub passed-all : AreLeft old [] → IsThrough lengths specs start m
-  passed-all none = (before.history, before.stands, before.back [] (clean_answer (length specs) before.history) none refl)
+  pub passed-all : AreLeft old [] → IsThrough lengths drop specs start m
+  passed-all none = record {
+    history = before.history;
+    stands = before.stands;
+    comes = λ a is. before.back [] a none is;
+  }
 
   pub few-arrived : count_left start < 2 ^ 31 → m.arrived < 2 ^ 31
   few-arrived short =
       let few = before.few in
       let count = before.stands.count in
       omega (arith, few, count, short)
+
+-- Behind the last event the events come to what the monitor says for each history that it stands for.
+pub through-comes : (lengths : Lengths) (drop : Bool) (specs : List Spec) (source : Source) (m : Held) (a : Answer)
+    → IsThrough lengths drop specs source m → m.rule ≡ lengths → m.drop ≡ drop → specs_of m ≡ specs
+    → OrMemory a ((h : History) → StandsFor m h → IsNoViolation m.rule m.drop (specs_of m) h a)
+    → OrMemory a (EventsCome lengths drop specs (AreLeft source) a)
+through-comes lengths drop specs source m a through rule dropping same is =
+    let h = through.history in
+    let P : Lengths → Type 0 = λ l. IsNoViolation l m.drop (specs_of m) h a in
+    let Q : Bool → Type 0 = λ b. IsNoViolation lengths b (specs_of m) h a in
+    let R : List Spec → Type 0 = λ s. IsNoViolation lengths drop s h a in
+    or-memory
+    (λ none. through.comes a (subst R same (subst Q dropping (subst P rule (none h through.stands)))))
+    is

@@ -131,20 +131,20 @@ each-plain Q (f ∷ formulas) (is, each) = (is, each-plain Q formulas each)
 
 -- ---- why formulas are not monitored
 
-pub prefix-outcome : (lengths : Lengths) (formulas : List Formula) (AreSo : List Placed → Type 0) (k : ℕ) (c : Class)
-    → FirstOther formulas k c → IsOutcome lengths (plain_formulas formulas) AreSo (answers.Prefix 0 c)
-prefix-outcome lengths formulas AreSo k c first = untaken k c (first-untaken formulas k c first)
+pub prefix-outcome : (lengths : Lengths) (drop : Bool) (formulas : List Formula) (AreSo : List Placed → Type 0) (k : ℕ) (c : Class)
+    → FirstOther formulas k c → IsOutcome lengths drop (plain_formulas formulas) AreSo (answers.Prefix 0 c)
+prefix-outcome lengths drop formulas AreSo k c first = untaken k c (first-untaken formulas k c first)
 
-pub limit-outcome : (lengths : Lengths) (formulas : List Formula) (AreSo : List Placed → Type 0) (kind : Kind)
-    → AllUniversal formulas → IsTooLarge formulas kind → IsOutcome lengths (plain_formulas formulas) AreSo (answers.Limit kind (most_of kind))
-limit-outcome lengths formulas AreSo kinds.Closure universal some =
+pub limit-outcome : (lengths : Lengths) (drop : Bool) (formulas : List Formula) (AreSo : List Placed → Type 0) (kind : Kind)
+    → AllUniversal formulas → IsTooLarge formulas kind → IsOutcome lengths drop (plain_formulas formulas) AreSo (answers.Limit kind (most_of kind))
+limit-outcome lengths drop formulas AreSo kinds.Closure universal some =
     large_closure (are-universal formulas universal) (some-plain HasLargeClosure formulas some)
-limit-outcome lengths formulas AreSo kinds.Atoms universal (small, some) =
+limit-outcome lengths drop formulas AreSo kinds.Atoms universal (small, some) =
     many_atoms (are-universal formulas universal) (each-plain HasSmallClosure formulas small) (some-plain HasManyAtoms formulas some)
-limit-outcome lengths formulas AreSo kinds.Table universal (small, few, some) =
+limit-outcome lengths drop formulas AreSo kinds.Table universal (small, few, some) =
     large_table (are-universal formulas universal) (each-plain HasSmallClosure formulas small) (each-plain HasFewAtoms formulas few)
     (some-plain HasLargeTable formulas some)
-limit-outcome lengths formulas AreSo _ universal none = absurd none
+limit-outcome lengths drop formulas AreSo _ universal none = absurd none
 
 -- ---- what they come to
 
@@ -152,17 +152,17 @@ specs-same : (formulas : List Formula) → map spec_of_formula formulas ≡ spec
 specs-same [] = refl
 specs-same (f ∷ formulas) = ap (λ specs. spec_of_formula f ∷ specs) (specs-same formulas)
 
-module _ (lengths : Lengths) (formulas : List Formula) (AreSo : List Placed → Type 0) (a : Answer) (universal : AllUniversal formulas) (small : EachBody IsTaken formulas) where
-  outcome-of : OrMemory a (EventsCome lengths (map spec_of_formula formulas) AreSo a) → IsOutcome lengths (plain_formulas formulas) AreSo a
-  outcome-of (inl e) = let P : Answer → Type 0 = λ b. IsOutcome lengths (plain_formulas formulas) AreSo b in subst P (sym e) spent
+module _ (lengths : Lengths) (drop : Bool) (formulas : List Formula) (AreSo : List Placed → Type 0) (a : Answer) (universal : AllUniversal formulas) (small : EachBody IsTaken formulas) where
+  outcome-of : OrMemory a (EventsCome lengths drop (map spec_of_formula formulas) AreSo a) → IsOutcome lengths drop (plain_formulas formulas) AreSo a
+  outcome-of (inl e) = let P : Answer → Type 0 = λ b. IsOutcome lengths drop (plain_formulas formulas) AreSo b in subst P (sym e) spent
   outcome-of (inr come) =
-      let P : List Spec → Type 0 = λ specs. EventsCome lengths specs AreSo a in
+      let P : List Spec → Type 0 = λ specs. EventsCome lengths drop specs AreSo a in
       done a (are-universal formulas universal) (each-plain IsTaken formulas small) (subst P (specs-same formulas) come)
 
-pub monitored-outcome : (lengths : Lengths) (formulas read : List Formula) (AreSo : List Placed → Type 0) (a : Answer) (specs : List Spec)
+pub monitored-outcome : (lengths : Lengths) (drop : Bool) (formulas read : List Formula) (AreSo : List Placed → Type 0) (a : Answer) (specs : List Spec)
     → read ≡ formulas → AllUniversal read → EachBody IsTaken read → specs ≡ map spec_of_formula read
-    → OrMemory a (EventsCome lengths specs AreSo a) → IsOutcome lengths (plain_formulas formulas) AreSo a
-monitored-outcome lengths formulas read AreSo a monitored same universal small e come =
-    let P : List Spec → Type 0 = λ s. OrMemory a (EventsCome lengths s AreSo a) in
-    let Q : List Formula → Type 0 = λ fs. IsOutcome lengths (plain_formulas fs) AreSo a in
-    subst Q same (outcome-of lengths read AreSo a universal small (subst P e come))
+    → OrMemory a (EventsCome lengths drop specs AreSo a) → IsOutcome lengths drop (plain_formulas formulas) AreSo a
+monitored-outcome lengths drop formulas read AreSo a monitored same universal small e come =
+    let P : List Spec → Type 0 = λ s. OrMemory a (EventsCome lengths drop s AreSo a) in
+    let Q : List Formula → Type 0 = λ fs. IsOutcome lengths drop (plain_formulas fs) AreSo a in
+    subst Q same (outcome-of lengths drop read AreSo a universal small (subst P e come))

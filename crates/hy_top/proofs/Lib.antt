@@ -1,5 +1,6 @@
 pub mod Bodies
 pub mod Checking
+pub mod Counting
 pub mod Deciding
 pub mod Ending
 pub mod EventLines

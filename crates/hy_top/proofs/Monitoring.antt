@@ -1,5 +1,5 @@
 -- What formulas come to on the events of a file, or on made traces, is the answer of the run.
-use Rattle.std.proofs.Common.{◌≡◌, ◌≤◌, ℕ, zero, suc, List, [], ◌∷◌, ◌++◌, length, Ok, inr, refl, sym, subst, append-nil, length-append, inl, arith}
+use Rattle.std.proofs.Common.{◌≡◌, ◌≤◌, ℕ, Bool, zero, suc, List, [], ◌∷◌, ◌++◌, length, Ok, inr, refl, sym, subst, append-nil, length-append, inl, arith}
 use Rattle.hy_base.specs.declared.shelf.Shelf.{Ghosts}
 use Rattle.hy_formula.specs.Quantifiers.{Each}
 use Rattle.hy_formula.specs.Trees.{Tree}
@@ -34,17 +34,17 @@ use Rattle.hy_top.proofs.Formulas.{class_passed, instances_passed}
 use Rattle.hy_top.proofs.Progress.{Progress, begun, goes_on, ends_here, answers_behind, runs_short, texts_still}
 
 -- Events that are so are so by another measure too.
-pub outcome-by : {A B : List Placed → Type 0} (lengths : Lengths) (formulas : List Plain) (a : Answer) → ((es : List Placed) → A es → B es)
-    → IsOutcome lengths formulas A a → IsOutcome lengths formulas B a
-outcome-by lengths formulas _ f (untaken place class first) = untaken place class first
-outcome-by lengths formulas _ f (large_closure universal some) = large_closure universal some
-outcome-by lengths formulas _ f (many_atoms universal small some) = many_atoms universal small some
-outcome-by lengths formulas _ f (large_table universal small few some) = large_table universal small few some
-outcome-by lengths formulas a f (done _ universal taken (es, so, comes)) = done a universal taken (es, f es so, comes)
-outcome-by lengths formulas _ f spent = spent
+pub outcome-by : {A B : List Placed → Type 0} (lengths : Lengths) (drop : Bool) (formulas : List Plain) (a : Answer) → ((es : List Placed) → A es → B es)
+    → IsOutcome lengths drop formulas A a → IsOutcome lengths drop formulas B a
+outcome-by lengths drop formulas _ f (untaken place class first) = untaken place class first
+outcome-by lengths drop formulas _ f (large_closure universal some) = large_closure universal some
+outcome-by lengths drop formulas _ f (many_atoms universal small some) = many_atoms universal small some
+outcome-by lengths drop formulas _ f (large_table universal small few some) = large_table universal small few some
+outcome-by lengths drop formulas a f (done _ universal taken (es, so, comes)) = done a universal taken (es, f es so, comes)
+outcome-by lengths drop formulas _ f spent = spent
 
 -- what is said of a command that monitors the formulas of its first file
-pub record IsMonitoring (command : Command) (lengths : Lengths) : Type 0 where
+pub record IsMonitoring (command : Command) (lengths : Lengths) (drop : Bool) : Type 0 where
   pub taken : (formulas : List Plain) → AreUniversal formulas → AreTaken command formulas
   pub refused : (formulas : List Plain) (place : ℕ) (class : Class) → FirstUntaken is_universal formulas place class
       → FirstUntaken (takes command) formulas place class
@@ -54,10 +54,10 @@ pub record IsMonitoring (command : Command) (lengths : Lengths) : Type 0 where
   pub bodies : (formulas : List Plain) → monitored command formulas ≡ formulas
   pub unjudged : ¬ IsJudging command
   pub unchecked : ¬ IsChecking command
-  pub works : (given : Given) (a : Answer) → Monitors lengths command given a → ComesTo command given a
+  pub works : (given : Given) (a : Answer) → Monitors lengths drop command given a → ComesTo command given a
 
-of-file : (specs traces : List ℕ) (lengths : Lengths) → IsMonitoring (monitor specs traces lengths) lengths
-of-file specs traces lengths = record {
+of-file : (specs traces : List ℕ) (lengths : Lengths) (drop : Bool) → IsMonitoring (monitor specs traces lengths drop) lengths drop
+of-file specs traces lengths drop = record {
   taken = λ formulas universal. universal;
   refused = λ formulas place class first. first;
   blamed = λ place. refl;
@@ -69,8 +69,8 @@ of-file specs traces lengths = record {
   works = λ given a monitors. monitors;
 }
 
-of-made : (specs : List ℕ) (n : ℕ) (lengths : Lengths) → IsMonitoring (monitor_made specs n lengths) lengths
-of-made specs n lengths = record {
+of-made : (specs : List ℕ) (n : ℕ) (lengths : Lengths) (drop : Bool) → IsMonitoring (monitor_made specs n lengths drop) lengths drop
+of-made specs n lengths drop = record {
   taken = λ formulas universal. universal;
   refused = λ formulas place class first. first;
   blamed = λ place. refl;
@@ -83,8 +83,8 @@ of-made specs n lengths = record {
 }
 
 -- Where all files of a command that monitors were taken, the run follows what the formulas of the first come to.
-module _ {S : Type 0} (g : Ghosts S) (old new : S) (command : Command) (lengths : Lengths) (given : Given) (formulas : List Plain) (names : List (List ℕ))
-    (is : IsMonitoring command lengths) (progress : Progress g command old new given formulas names)
+module _ {S : Type 0} (g : Ghosts S) (old new : S) (command : Command) (lengths : Lengths) (drop : Bool) (given : Given) (formulas : List Plain) (names : List (List ℕ))
+    (is : IsMonitoring command lengths drop) (progress : Progress g command old new given formulas names)
     (whole : length given ≡ length (files_of command)) (first : HasTexts command given 1 formulas names) where
   all_of : HasFormulas command given formulas
   all_of = (names, let P : ℕ → Type 0 = λ n. HasTexts command given n formulas names in subst P whole progress.texts)
@@ -126,7 +126,7 @@ module _ {S : Type 0} (g : Ghosts S) (old new : S) (command : Command) (lengths 
       behind_closures a universal small
       (later (atoms_passed command given formulas all_of (each_body HasFewAtoms few)) rest)
 
-  pub outcome_follows : (a : Answer) → IsOutcome lengths formulas (AreEvents command given names) a
+  pub outcome_follows : (a : Answer) → IsOutcome lengths drop formulas (AreEvents command given names) a
       → Follows g old new command a (out_text (extras_of command) names a)
   outcome_follows _ (untaken place found is_first) =
       let blamed : Prefix 0 found ≡ Prefix (file_of command place) found = (λ i. Prefix ((sym (is.blamed place)) i) found) in
@@ -161,47 +161,47 @@ module _ {S : Type 0} (g : Ghosts S) (old new : S) (command : Command) (lengths 
 
 -- ---- the events of a file
 
-module _ {S : Type 0} (g : Ghosts S) (old mid new : S) (specs file : List ℕ) (lengths : Lengths) (formulas : List Plain) (names : List (List ℕ))
+module _ {S : Type 0} (g : Ghosts S) (old mid new : S) (specs file : List ℕ) (lengths : Lengths) (drop : Bool) (formulas : List Plain) (names : List (List ℕ))
     (first : Takes g old mid specs 4 [] specifications formulas names) where
-  read_first : Progress g (monitor specs file lengths) old mid (Ok first.bytes ∷ []) formulas names
-  read_first = goes_on g (monitor specs file lengths) old old mid [] [] formulas [] names specs (begun g (monitor specs file lengths) old) refl first
+  read_first : Progress g (monitor specs file lengths drop) old mid (Ok first.bytes ∷ []) formulas names
+  read_first = goes_on g (monitor specs file lengths drop) old old mid [] [] formulas [] names specs (begun g (monitor specs file lengths drop) old) refl first
 
   -- The run ends at the file of events.
   pub ends_at_events : (a : Answer) → Ends g mid new file 4 names 1 events a
-      → Follows g old new (monitor specs file lengths) a (out_text (extras_of (monitor specs file lengths)) names a)
+      → Follows g old new (monitor specs file lengths drop) a (out_text (extras_of (monitor specs file lengths drop)) names a)
   ends_at_events a ends =
-      ends_here g (monitor specs file lengths) old mid new (Ok first.bytes ∷ []) formulas names names file a read_first refl ends
+      ends_here g (monitor specs file lengths drop) old mid new (Ok first.bytes ∷ []) formulas names names file a read_first refl ends
 
   module _ (bytes : List ℕ) (second : TakesEvents g mid new file bytes) where
     abbrev given : Given
     given = Ok first.bytes ∷ Ok bytes ∷ []
 
-    read_all : Progress g (monitor specs file lengths) old new given formulas names
+    read_all : Progress g (monitor specs file lengths drop) old new given formulas names
     read_all =
-        let P : List Plain → Type 0 = λ fs. Progress g (monitor specs file lengths) old new given fs names in
+        let P : List Plain → Type 0 = λ fs. Progress g (monitor specs file lengths drop) old new given fs names in
         subst P (append-nil formulas)
-        (goes_on g (monitor specs file lengths) old mid new (Ok first.bytes ∷ []) formulas [] names names file read_first refl
+        (goes_on g (monitor specs file lengths drop) old mid new (Ok first.bytes ∷ []) formulas [] names names file read_first refl
         (record { bytes = bytes; read = second.read; is = (second.lines, refl, refl) }))
 
     -- The run follows what comes of the events.
-    pub events_follow : (a : Answer) → IsOutcome lengths formulas (IsEventFile names bytes) a
-        → Follows g old new (monitor specs file lengths) a (out_text (extras_of (monitor specs file lengths)) names a)
+    pub events_follow : (a : Answer) → IsOutcome lengths drop formulas (IsEventFile names bytes) a
+        → Follows g old new (monitor specs file lengths drop) a (out_text (extras_of (monitor specs file lengths drop)) names a)
     events_follow a outcome =
-        outcome_follows g old new (monitor specs file lengths) lengths given formulas names (of-file specs file lengths) read_all refl
-        (texts_still (monitor specs file lengths) (Ok first.bytes ∷ []) (Ok bytes ∷ []) 1 formulas names read_first.texts) a
-        (outcome-by lengths formulas a (λ es file_is. (bytes, refl, file_is)) outcome)
+        outcome_follows g old new (monitor specs file lengths drop) lengths drop given formulas names (of-file specs file lengths drop) read_all refl
+        (texts_still (monitor specs file lengths drop) (Ok first.bytes ∷ []) (Ok bytes ∷ []) 1 formulas names read_first.texts) a
+        (outcome-by lengths drop formulas a (λ es file_is. (bytes, refl, file_is)) outcome)
 
 -- ---- made traces
 
 -- The run follows what comes of made traces.
-pub made_follow : {S : Type 0} (g : Ghosts S) (old new : S) (specs : List ℕ) (n : ℕ) (lengths : Lengths) (formulas : List Plain) (names : List (List ℕ))
+pub made_follow : {S : Type 0} (g : Ghosts S) (old new : S) (specs : List ℕ) (n : ℕ) (lengths : Lengths) (drop : Bool) (formulas : List Plain) (names : List (List ℕ))
     → Takes g old new specs 4 [] specifications formulas names → (a : Answer)
-    → IsOutcome lengths formulas (λ es. es ≡ whole_traces 0 (made_traces names n)) a
-    → Follows g old new (monitor_made specs n lengths) a (out_text (extras_of (monitor_made specs n lengths)) names a)
-made_follow g old new specs n lengths formulas names first a outcome =
-    let command = monitor_made specs n lengths in
+    → IsOutcome lengths drop formulas (λ es. es ≡ whole_traces 0 (made_traces names n)) a
+    → Follows g old new (monitor_made specs n lengths drop) a (out_text (extras_of (monitor_made specs n lengths drop)) names a)
+made_follow g old new specs n lengths drop formulas names first a outcome =
+    let command = monitor_made specs n lengths drop in
     let read_first = goes_on g command old old new [] [] formulas [] names specs (begun g command old) refl first in
-    outcome_follows g old new command lengths (Ok first.bytes ∷ []) formulas names (of-made specs n lengths) read_first refl read_first.texts a outcome
+    outcome_follows g old new command lengths drop (Ok first.bytes ∷ []) formulas names (of-made specs n lengths drop) read_first refl read_first.texts a outcome
 
 -- There are as many made traces as were asked for.
 pub length-made : (known : List (List ℕ)) (n : ℕ) → length (made_traces known n) ≡ n
@@ -209,8 +209,8 @@ length-made known zero = refl
 length-made known (suc n) = omega (arith, length-append (made_traces known n) (made_trace known n ∷ []), length-made known n)
 
 -- Words ask for at most a million traces.
-pub few-made : (tool : Tool) (words : List (List ℕ)) (specs : List ℕ) (n : ℕ) (lengths : Lengths)
-    → IsCommand tool words (monitor_made specs n lengths) → n ≤ 1000000
-few-made RvHyper words specs n lengths (items, says, proper, (text, monitors, number)) = number.2
-few-made EaHyper words specs n lengths (items, says, proper, none) = absurd none
-few-made McHyper words specs n lengths (items, says, proper, none) = absurd none
+pub few-made : (tool : Tool) (words : List (List ℕ)) (specs : List ℕ) (n : ℕ) (lengths : Lengths) (drop : Bool)
+    → IsCommand tool words (monitor_made specs n lengths drop) → n ≤ 1000000
+few-made RvHyper words specs n lengths drop (items, says, proper, (text, monitors, number)) = number.2
+few-made EaHyper words specs n lengths drop (items, says, proper, none) = absurd none
+few-made McHyper words specs n lengths drop (items, says, proper, none) = absurd none

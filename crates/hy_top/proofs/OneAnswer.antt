@@ -37,6 +37,7 @@ use Rattle.hy_top.proofs.Judging.{lassos_once}
 use Rattle.hy_top.proofs.Progress.{texts_once}
 use Rattle.hy_top.proofs.Reading.{bytes_once}
 use Rattle.hy_top.proofs.Texts.{refused_once}
+use Rattle.hy_top.proofs.Counting.{clean-once}
 use Rattle.hy_top.proofs.EventLines.{events-once}
 
 agree : {a b : Answer} → a ≡ b → Agree a b
@@ -80,32 +81,34 @@ step-agrees lengths specs line true (goes h) Rest again a b (inr (clean, one)) (
     absurd (same-clean lengths specs h.present.arrived two.spec two.found.first clean)
 step-agrees lengths specs line true (goes h) Rest again a b (inr (clean, one)) (inr (also, two)) = again h a b one two
 
-events-agree : (lengths : Lengths) (specs : List Spec) (events : List Placed) (h : History) (a b : Answer) → ComesToAnswer lengths specs h events a
-    → ComesToAnswer lengths specs h events b → Agree a b
-events-agree lengths specs [] h a b one two = agree (one ∙ sym two)
-events-agree lengths specs (placed ∷ events) h a b one two =
-    step-agrees lengths specs placed.line (arrives placed.event) (step h placed.event) (λ next x. ComesToAnswer lengths specs next events x)
-    (λ next x y. events-agree lengths specs events next x y) a b one two
+events-agree : (lengths : Lengths) (drop : Bool) (specs : List Spec) (events : List Placed) (h : History) (a b : Answer)
+    → ComesToAnswer lengths drop specs h events a → ComesToAnswer lengths drop specs h events b → Agree a b
+events-agree lengths drop specs [] h a b one two = agree (clean-once lengths drop specs h a b one two)
+events-agree lengths drop specs (placed ∷ events) h a b one two =
+    step-agrees lengths specs placed.line (arrives placed.event) (step h placed.event)
+    (λ next x. ComesToAnswer lengths drop specs next events x)
+    (λ next x y. events-agree lengths drop specs events next x y) a b one two
 
 -- A command has one list of events.
 one-list : (command : Command) (given : Given) (names : List (List ℕ)) (events others : List Placed) → AreEvents command given names events
     → AreEvents command given names others → events ≡ others
-one-list (monitor specs traces lengths) given names events others (bytes, came, said) (more, also, again) =
+one-list (monitor specs traces lengths drop) given names events others (bytes, came, said) (more, also, again) =
     let P : List ℕ → Type 0 = λ bs. SayEvents names 1 (lines_of bs) events in
     events-once names 1 (lines_of more) events others (subst P (bytes_once given 1 bytes more came also) said) again
-one-list (monitor_made specs n lengths) given names events others one two = one ∙ sym two
+one-list (monitor_made specs n lengths drop) given names events others one two = one ∙ sym two
 one-list (judge formula list) given names events others none two = absurd none
 one-list (decide formula states proof) given names events others none two = absurd none
 one-list (imply first second states proof) given names events others none two = absurd none
 one-list (compare first second states proof) given names events others none two = absurd none
 one-list (check circuit formula depth conflicts plain proof) given names events others none two = absurd none
 
-verdicts-agree : (command : Command) (given : Given) (lengths : Lengths) (formulas : List Plain) (names : List (List ℕ)) (a b : Answer)
-    → EventsCome lengths (specs_of formulas) (AreEvents command given names) a → EventsCome lengths (specs_of formulas) (AreEvents command given names) b
-    → Agree a b
-verdicts-agree command given lengths formulas names a b (events, said, one) (others, also, two) =
-    let P : List Placed → Type 0 = λ es. ComesToAnswer lengths (specs_of formulas) empty_history es a in
-    events-agree lengths (specs_of formulas) others empty_history a b (subst P (one-list command given names events others said also) one) two
+verdicts-agree : (command : Command) (given : Given) (lengths : Lengths) (drop : Bool) (formulas : List Plain)
+    (names : List (List ℕ)) (a b : Answer) → EventsCome lengths drop (specs_of formulas) (AreEvents command given names) a
+    → EventsCome lengths drop (specs_of formulas) (AreEvents command given names) b → Agree a b
+verdicts-agree command given lengths drop formulas names a b (events, said, one) (others, also, two) =
+    let P : List Placed → Type 0 = λ es. ComesToAnswer lengths drop (specs_of formulas) empty_history es a in
+    events-agree lengths drop (specs_of formulas) others empty_history a b
+    (subst P (one-list command given names events others said also) one) two
 
 -- ---- two decisions
 
@@ -207,12 +210,13 @@ module _ (command : Command) (given : Given) where
       absurd (one (subst Q lists (subst P formula two)))
   judgements_agree _ _ (fails f list has one) (fails g other also two) = same answers.OnFalse
 
-  monitors_agree : (lengths : Lengths) (a b : Answer) → Monitors lengths command given a → Monitors lengths command given b → Agree a b
-  monitors_agree lengths a b one two =
+  monitors_agree : (lengths : Lengths) (drop : Bool) (a b : Answer) → Monitors lengths drop command given a
+      → Monitors lengths drop command given b → Agree a b
+  monitors_agree lengths drop a b one two =
       let (formulas, names) = texts_once command given 1 one.formulas two.formulas one.names two.names one.first two.first in
-      let P : List Plain → Type 0 = λ fs. EventsCome lengths (specs_of fs) (AreEvents command given one.names) a in
-      let Q : List (List ℕ) → Type 0 = λ ns. EventsCome lengths (specs_of two.formulas) (AreEvents command given ns) a in
-      verdicts-agree command given lengths two.formulas two.names a b (subst Q names (subst P formulas one.verdict)) two.verdict
+      let P : List Plain → Type 0 = λ fs. EventsCome lengths drop (specs_of fs) (AreEvents command given one.names) a in
+      let Q : List (List ℕ) → Type 0 = λ ns. EventsCome lengths drop (specs_of two.formulas) (AreEvents command given ns) a in
+      verdicts-agree command given lengths drop two.formulas two.names a b (subst Q names (subst P formulas one.verdict)) two.verdict
 
 decided_agree : (command : Command) (formulas : List Plain) (a b : Answer) → DecidesBy command formulas a → DecidesBy command formulas b → Agree a b
 decided_agree (decide formula states proof) (f ∷ []) a b one two = decisions_agree f states a b one two
@@ -265,9 +269,10 @@ checks_agree command given ask a b one two =
     a b (subst V formulas (subst U nets one.comes)) two.comes
 
 works_agree : (command : Command) (given : Given) (a b : Answer) → ComesTo command given a → ComesTo command given b → Agree a b
-works_agree (monitor specs traces lengths) given a b one two = monitors_agree (monitor specs traces lengths) given lengths a b one two
-works_agree (monitor_made specs n lengths) given a b one two =
-    monitors_agree (monitor_made specs n lengths) given lengths a b one two
+works_agree (monitor specs traces lengths drop) given a b one two =
+    monitors_agree (monitor specs traces lengths drop) given lengths drop a b one two
+works_agree (monitor_made specs n lengths drop) given a b one two =
+    monitors_agree (monitor_made specs n lengths drop) given lengths drop a b one two
 works_agree (judge formula list) given a b one two = judgements_agree (judge formula list) given a b one two
 works_agree (decide formula states proof) given a b one two = determined_agree (decide formula states proof) given a b one two
 works_agree (imply first second states proof) given a b one two = determined_agree (imply first second states proof) given a b one two

@@ -27,8 +27,8 @@ use Rattle.hy_top.specs.Files.{Given, Came, HasAll}
 
 abbrev pub IsChecking : Command → Type 0
 IsChecking (check circuit formula depth conflicts plain proof) = Unit {0}
-IsChecking (monitor specs traces lengths) = ⊥
-IsChecking (monitor_made specs count lengths) = ⊥
+IsChecking (monitor specs traces lengths drop) = ⊥
+IsChecking (monitor_made specs count lengths drop) = ⊥
 IsChecking (judge formula list) = ⊥
 IsChecking (decide formula states proof) = ⊥
 IsChecking (imply first second states proof) = ⊥

@@ -31,8 +31,8 @@ is_decided ExistsForall = true
 is_decided Other = false
 
 abbrev pub takes : Command → Class → Bool
-takes (monitor specs traces lengths) class = is_universal class
-takes (monitor_made specs count lengths) class = is_universal class
+takes (monitor specs traces lengths drop) class = is_universal class
+takes (monitor_made specs count lengths drop) class = is_universal class
 takes (judge formula list) class = true
 takes (decide formula states proof) class = is_decided class
 takes (imply first second states proof) class = is_of_one_kind class
@@ -41,8 +41,8 @@ takes (check circuit formula depth conflicts plain proof) class = is_of_one_kind
 
 -- the file of formula j
 abbrev pub file_of : Command → ℕ → ℕ
-file_of (monitor specs traces lengths) j = 0
-file_of (monitor_made specs count lengths) j = 0
+file_of (monitor specs traces lengths drop) j = 0
+file_of (monitor_made specs count lengths drop) j = 0
 file_of (judge formula list) j = 0
 file_of (decide formula states proof) j = 0
 file_of (imply first second states proof) j = j

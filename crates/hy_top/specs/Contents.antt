@@ -30,9 +30,9 @@ pub data Content : Type 0 where
 
 -- what file k of the command is to be
 abbrev pub content_of : Command → ℕ → Content
-content_of (monitor specs traces lengths) zero = specifications
-content_of (monitor specs traces lengths) (suc k) = events
-content_of (monitor_made specs count lengths) k = specifications
+content_of (monitor specs traces lengths drop) zero = specifications
+content_of (monitor specs traces lengths drop) (suc k) = events
+content_of (monitor_made specs count lengths drop) k = specifications
 content_of (judge formula list) zero = one_formula
 content_of (judge formula list) (suc k) = lassos
 content_of (decide formula states proof) k = one_formula
@@ -43,8 +43,8 @@ content_of (check file formula depth conflicts plain proof) (suc k) = one_formul
 
 -- most quantifiers of a formula of the command
 abbrev pub most_quantifiers : Command → ℕ
-most_quantifiers (monitor specs traces lengths) = 4
-most_quantifiers (monitor_made specs count lengths) = 4
+most_quantifiers (monitor specs traces lengths drop) = 4
+most_quantifiers (monitor_made specs count lengths drop) = 4
 most_quantifiers (judge formula list) = 8
 most_quantifiers (decide formula states proof) = 8
 most_quantifiers (imply first second states proof) = 8

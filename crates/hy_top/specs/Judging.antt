@@ -24,8 +24,8 @@ pub record HasLassos (command : Command) (given : Given) (formula : Plain) (list
   pub read : IsLassosAnswer names bytes (Ok list)
 
 abbrev pub IsJudging : Command → Type 0
-IsJudging (monitor specs traces lengths) = ⊥
-IsJudging (monitor_made specs count lengths) = ⊥
+IsJudging (monitor specs traces lengths drop) = ⊥
+IsJudging (monitor_made specs count lengths drop) = ⊥
 IsJudging (judge formula list) = Unit {0}
 IsJudging (decide formula states proof) = ⊥
 IsJudging (imply first second states proof) = ⊥

@@ -1,7 +1,7 @@
 -- What `rvhyper` answers: how the formulas are counted, and what comes of the events, one after another: those of a
 -- file, or made traces.
-use Rattle.std.specs.Prelude.{◌≡◌, ◌⊎◌, ℕ, suc, Bool, true, false, List, [], ◌∷◌, length, map, replicate, Ok}
-use Rattle.std.specs.List.{Contains}
+use Rattle.std.specs.Prelude.{◌≡◌, ◌⊎◌, ℕ, suc, Bool, true, false, List, [], ◌∷◌, length, map, Ok}
+use Rattle.std.specs.List.{Contains, AllZip}
 use Rattle.hy_base.specs.Limits.{most}
 use Rattle.hy_base.specs.declared.limit.Kind.TheVariants.{Closure, Atoms, Table, Length, Sessions, Saves}
 use Rattle.hy_formula.specs.Classes.{class_of}
@@ -18,6 +18,7 @@ use Rattle.hy_read.specs.Answers.{Plain}
 use Rattle.fin_monitor.specs.Limits.{HasLargeClosure, HasSmallClosure, HasManyAtoms, HasFewAtoms, HasLargeTable, IsTaken}
 use Rattle.rv_core.specs.Endings.{Spec, IsClean}
 use Rattle.rv_core.specs.Histories.{History, empty_history, Refusal, no_session, no_save, too_long, too_many_sessions, too_many_saves, Step, refused, goes, step, arrives}
+use Rattle.rv_core.specs.Keeping.{IsKeptCount}
 use Rattle.rv_core.specs.Replies.{IsFound}
 use Rattle.hy_answer.specs.declared.answer.Answer.{Answer}
 use Rattle.hy_answer.specs.declared.answer.Answer.TheVariants.{NoViolation, Violation, Prefix, Session, Limit, Memory}
@@ -40,8 +41,8 @@ EachPlain Q formulas = Each (λ (f : Plain). Q f.body) formulas
 
 -- the formulas that a command has monitors of
 abbrev pub monitored : Command → List Plain → List Plain
-monitored (monitor specs traces lengths) formulas = formulas
-monitored (monitor_made specs count lengths) formulas = formulas
+monitored (monitor specs traces lengths drop) formulas = formulas
+monitored (monitor_made specs count lengths drop) formulas = formulas
 monitored (judge formula list) formulas = []
 monitored (decide formula states proof) formulas = []
 monitored (imply first second states proof) formulas = []
@@ -79,11 +80,18 @@ pub record IsViolation (lengths : Lengths) (specs : List Spec) (arrived : List T
   pub found : IsFound lengths specs arrived spec trace tuple
   pub answered : answer ≡ Violation spec trace tuple
 
--- that no event was refused or violated a formula: how many traces arrived, how many of them each of n formulas
--- keeps, and how many sessions are open
-abbrev pub clean_answer : ℕ → History → Answer
-clean_answer n h =
-    NoViolation (length h.present.arrived) (replicate n (length h.present.arrived)) (length h.present.sessions)
+-- For each formula, in turn, so many of the traces that arrived are kept: all of them or, where dominated ones are
+-- dropped, the leaders.
+abbrev pub AreKeptCounts : Lengths → Bool → List Spec → List Trace → List ℕ → Type 0
+AreKeptCounts lengths drop specs arrived counts =
+    AllZip (λ (spec : Spec) (count : ℕ). IsKeptCount lengths drop spec arrived count) specs counts
+
+-- No event was refused or violated a formula, and so is answered: by how many traces arrived, how many of them are
+-- kept for each formula, and how many sessions are open.
+pub record IsNoViolation (lengths : Lengths) (drop : Bool) (specs : List Spec) (h : History) (answer : Answer) : Type 0 where
+  pub kept : List ℕ
+  pub counts : AreKeptCounts lengths drop specs h.present.arrived kept
+  pub answered : answer ≡ NoViolation (length h.present.arrived) kept (length h.present.sessions)
 
 -- What comes of the event of a line, where `Rest` says what comes behind it.
 abbrev pub Comes : Lengths → List Spec → ℕ → Bool → Step → (History → Type 0) → Answer → Type 0
@@ -93,17 +101,17 @@ Comes lengths specs line true (goes h) Rest answer =
     IsViolation lengths specs h.present.arrived answer ⊎ (IsClean lengths specs h.present.arrived × Rest h)
 
 -- The events from a history on, one after another, come to this answer: the first that is refused or brings a violation
--- gives it.
-abbrev pub ComesTo : Lengths → List Spec → History → List Placed → Answer → Type 0
-ComesTo lengths specs h [] answer = answer ≡ clean_answer (length specs) h
-ComesTo lengths specs h (placed ∷ events) answer =
+-- gives it. Of dropping dominated traces only the counts behind the last event speak.
+abbrev pub ComesTo : Lengths → Bool → List Spec → History → List Placed → Answer → Type 0
+ComesTo lengths drop specs h [] answer = IsNoViolation lengths drop specs h answer
+ComesTo lengths drop specs h (placed ∷ events) answer =
     Comes lengths specs placed.line (arrives placed.event) (step h placed.event)
-    (λ next. ComesTo lengths specs next events answer) answer
+    (λ next. ComesTo lengths drop specs next events answer) answer
 
 -- Events that are so come to this answer.
-abbrev pub EventsCome : Lengths → List Spec → (List Placed → Type 0) → Answer → Type 0
-EventsCome lengths specs AreSo answer =
-    (events : List Placed) × AreSo events × ComesTo lengths specs empty_history events answer
+abbrev pub EventsCome : Lengths → Bool → List Spec → (List Placed → Type 0) → Answer → Type 0
+EventsCome lengths drop specs AreSo answer =
+    (events : List Placed) × AreSo events × ComesTo lengths drop specs empty_history events answer
 
 -- traces as events in their order, the first of them in place k
 abbrev pub whole_traces : ℕ → List Trace → List Placed
@@ -113,9 +121,9 @@ whole_traces k (t ∷ ts) = record { line = k; event = Whole t } ∷ whole_trace
 -- The events that a command monitors are these, where its formulas have these names: those of its second file, or made
 -- traces.
 abbrev pub AreEvents : Command → Given → List (List ℕ) → List Placed → Type 0
-AreEvents (monitor specs traces lengths) given names events =
+AreEvents (monitor specs traces lengths drop) given names events =
     (bytes : List ℕ) × Came given 1 (Ok bytes) × IsEventFile names bytes events
-AreEvents (monitor_made specs count lengths) given names events = events ≡ whole_traces 0 (made_traces names count)
+AreEvents (monitor_made specs count lengths drop) given names events = events ≡ whole_traces 0 (made_traces names count)
 AreEvents (judge formula list) given names events = ⊥
 AreEvents (decide formula states proof) given names events = ⊥
 AreEvents (imply first second states proof) given names events = ⊥
@@ -123,22 +131,22 @@ AreEvents (compare first second states proof) given names events = ⊥
 AreEvents (check circuit formula depth conflicts plain proof) given names events = ⊥
 
 -- The first file has formulas, and this is what the events come to with them.
-pub record Monitors (lengths : Lengths) (command : Command) (given : Given) (answer : Answer) : Type 0 where
+pub record Monitors (lengths : Lengths) (drop : Bool) (command : Command) (given : Given) (answer : Answer) : Type 0 where
   pub formulas : List Plain
   pub names : List (List ℕ)
   pub first : HasTexts command given 1 formulas names
-  pub verdict : EventsCome lengths (specs_of formulas) (AreEvents command given names) answer
+  pub verdict : EventsCome lengths drop (specs_of formulas) (AreEvents command given names) answer
 
 -- What formulas come to on events that are so: the first of these that is met, or memory ran out.
-pub data IsOutcome (lengths : Lengths) (formulas : List Plain) (AreSo : List Placed → Type 0) : Answer → Type 0 where
+pub data IsOutcome (lengths : Lengths) (drop : Bool) (formulas : List Plain) (AreSo : List Placed → Type 0) : Answer → Type 0 where
   untaken : (place : ℕ) (class : Class) → FirstUntaken is_universal formulas place class
-      → IsOutcome lengths formulas AreSo (Prefix 0 class)
+      → IsOutcome lengths drop formulas AreSo (Prefix 0 class)
   large_closure : AreUniversal formulas → SomePlain HasLargeClosure formulas
-      → IsOutcome lengths formulas AreSo (Limit Closure (most Closure))
+      → IsOutcome lengths drop formulas AreSo (Limit Closure (most Closure))
   many_atoms : AreUniversal formulas → EachPlain HasSmallClosure formulas → SomePlain HasManyAtoms formulas
-      → IsOutcome lengths formulas AreSo (Limit Atoms (most Atoms))
+      → IsOutcome lengths drop formulas AreSo (Limit Atoms (most Atoms))
   large_table : AreUniversal formulas → EachPlain HasSmallClosure formulas → EachPlain HasFewAtoms formulas
-      → SomePlain HasLargeTable formulas → IsOutcome lengths formulas AreSo (Limit Table (most Table))
-  done : (answer : Answer) → AreUniversal formulas → EachPlain IsTaken formulas → EventsCome lengths (specs_of formulas) AreSo answer
-      → IsOutcome lengths formulas AreSo answer
-  spent : IsOutcome lengths formulas AreSo Memory
+      → SomePlain HasLargeTable formulas → IsOutcome lengths drop formulas AreSo (Limit Table (most Table))
+  done : (answer : Answer) → AreUniversal formulas → EachPlain IsTaken formulas → EventsCome lengths drop (specs_of formulas) AreSo answer
+      → IsOutcome lengths drop formulas AreSo answer
+  spent : IsOutcome lengths drop formulas AreSo Memory

@@ -21,8 +21,8 @@ pub record Reads {S : Type 0} (g : Ghosts S) (old new : S) (command : Command) (
 
 -- what the text of an answer shows beside the verdict
 abbrev pub extras_of : Command → Extras
-extras_of (monitor specs traces lengths) = record { kept = false; proof = false }
-extras_of (monitor_made specs count lengths) = record { kept = false; proof = false }
+extras_of (monitor specs traces lengths drop) = record { kept = drop; proof = false }
+extras_of (monitor_made specs count lengths drop) = record { kept = drop; proof = false }
 extras_of (judge formula list) = record { kept = false; proof = false }
 extras_of (decide formula states proof) = record { kept = false; proof = proof }
 extras_of (imply first second states proof) = record { kept = false; proof = proof }

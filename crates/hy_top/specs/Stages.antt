@@ -89,8 +89,8 @@ IsPast command given table = monitoring.SomeBody HasLargeTable command given
 
 -- The work of the command comes to this answer.
 abbrev pub ComesTo : Command → Given → Answer → Type 0
-ComesTo (monitor specs traces lengths) given answer = monitoring.Monitors lengths (monitor specs traces lengths) given answer
-ComesTo (monitor_made specs n lengths) given answer = monitoring.Monitors lengths (monitor_made specs n lengths) given answer
+ComesTo (monitor specs traces lengths drop) given answer = monitoring.Monitors lengths drop (monitor specs traces lengths drop) given answer
+ComesTo (monitor_made specs n lengths drop) given answer = monitoring.Monitors lengths drop (monitor_made specs n lengths drop) given answer
 ComesTo (judge formula list) given answer = judging.Judges (judge formula list) given answer
 ComesTo (decide formula states proof) given answer = deciding.Determines (decide formula states proof) given answer
 ComesTo (imply first second states proof) given answer = deciding.Determines (imply first second states proof) given answer

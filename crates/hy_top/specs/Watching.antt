@@ -1,5 +1,5 @@
 -- What comes of one event after another, given to a monitor.
-use Rattle.std.specs.Prelude.{◌≡◌, ◌⊎◌, ◌+◌, ◌<◌, ◌^◌, ℕ, true, List, [], ◌∷◌, length, Option, Some, None}
+use Rattle.std.specs.Prelude.{◌≡◌, ◌⊎◌, ◌+◌, ◌<◌, ◌^◌, ℕ, Bool, true, List, [], ◌∷◌, length, Option, Some, None}
 use Rattle.hy_base.specs.Limits.{most}
 use Rattle.hy_finite.specs.declared.event.Placed.{Placed}
 use Rattle.hy_finite.specs.declared.lengths.Lengths.{Lengths}
@@ -14,7 +14,7 @@ use Rattle.rv_core.specs.declared.rv_error.RvError.{RvError}
 use Rattle.rv_core.specs.declared.rv_error.RvError.TheVariants as errors
 use Rattle.hy_answer.specs.declared.answer.Answer.{Answer}
 use Rattle.hy_answer.specs.declared.answer.Answer.TheVariants.{Session, Limit, Memory}
-use Rattle.hy_top.specs.Monitoring.{Comes, EventsCome, clean_answer, whole_traces}
+use Rattle.hy_top.specs.Monitoring.{Comes, EventsCome, IsNoViolation, whole_traces}
 use Rattle.hy_top.specs.declared.source.Source.{Source}
 use Rattle.hy_top.specs.declared.source.Source.TheVariants.{Lines, Made}
 
@@ -68,7 +68,9 @@ IsNext old new None = AreLeft old []
 IsNext old new (Some placed) = IsAhead old new placed
 
 -- No event was refused or violated a formula: the monitor stands for the history behind the last one, so that the
--- events come to its answer.
-abbrev pub IsThrough : Lengths → List Spec → Source → Held → Type 0
-IsThrough lengths specs source new =
-    (h : History) × StandsFor new h × EventsCome lengths specs (AreLeft source) (clean_answer (length specs) h)
+-- events come to its answers.
+pub record IsThrough (lengths : Lengths) (drop : Bool) (specs : List Spec) (source : Source) (new : Held) : Type 0 where
+  pub history : History
+  pub stands : StandsFor new history
+  pub comes : (answer : Answer) → IsNoViolation lengths drop specs history answer
+      → EventsCome lengths drop specs (AreLeft source) answer

@@ -62,17 +62,27 @@ pub fn run<S: Shelf, O: Sink, E: Sink>(
             specs,
             traces,
             lengths,
+            drop,
         } => {
-            let due = rvhyper::monitor(alloc, shelf, specs, traces, lengths, &mut names);
-            finish(alloc, due, plain, &names, &[specs, traces], out, err)
+            let due = rvhyper::monitor(alloc, shelf, specs, traces, lengths, drop, &mut names);
+            let extras = Extras {
+                kept: drop,
+                proof: false,
+            };
+            finish(alloc, due, extras, &names, &[specs, traces], out, err)
         }
         Command::MonitorMade {
             specs,
             count,
             lengths,
+            drop,
         } => {
-            let due = rvhyper::monitor_made(alloc, shelf, specs, count, lengths, &mut names);
-            finish(alloc, due, plain, &names, &[specs], out, err)
+            let due = rvhyper::monitor_made(alloc, shelf, specs, count, lengths, drop, &mut names);
+            let extras = Extras {
+                kept: drop,
+                proof: false,
+            };
+            finish(alloc, due, extras, &names, &[specs], out, err)
         }
         Command::Judge { formula, lassos } => {
             let due = eahyper::judge(alloc, shelf, formula, lassos, &mut names);

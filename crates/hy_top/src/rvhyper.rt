@@ -1,6 +1,6 @@
 //! `rvhyper`: from its files to its answers.
 
-ghost use Rattle.std.specs.Prelude.{◌≡◌, ◌≤◌, ◌<◌, ◌^◌, ℕ, All, List, [], length};
+ghost use Rattle.std.specs.Prelude.{◌≡◌, ◌≤◌, ◌<◌, ◌^◌, ℕ, Bool, All, List, [], length};
 ghost use Rattle.hy_base.specs.Shelf.{KeepsShelf};
 ghost use Rattle.hy_base.specs.declared.reading.TheConstants.{BYTES_LIMIT};
 ghost use Rattle.hy_formula.specs.Quantifiers.{Each};
@@ -29,18 +29,19 @@ use rv_core::{Rv, RvNewError};
 use std::alloc::Global;
 
 /// Whether the traces of a file violate the formulas of another under a rule of lengths. Their names
-/// are added to the empty table.
+/// are added to the empty table. Dominated traces are dropped where `drop`.
 pub fn monitor<S: Shelf>(
     alloc: Global,
     shelf: &mut S,
     specs: &str,
     traces: &str,
     lengths: Lengths,
+    drop: bool,
     names: &mut NameTable,
 ) -> Answer
     requires { names.old ≡ [] }
     ensures keeps { KeepsShelf S.Shelf shelf.old shelf.new }
-    ensures follows { let command = monitor specs.now traces.now lengths in
+    ensures follows { let command = monitor specs.now traces.now lengths drop in
         Follows S.Shelf shelf.old shelf.new command result
         (out_text (extras_of command) names.new result) }
 {
@@ -49,25 +50,26 @@ pub fn monitor<S: Shelf>(
         Err(answer) => return answer,
     };
     match events_in(alloc, shelf, traces) {
-        Ok(bytes) => judge_lines(alloc, &specs, lengths, bytes.as_slice(), names),
+        Ok(bytes) => judge_lines(alloc, &specs, lengths, drop, bytes.as_slice(), names),
         Err(answer) => answer,
     }
 }
 
 /// Whether `count` made traces violate the formulas of a file under a rule of lengths. The names of
-/// the formulas are added to the empty table.
+/// the formulas are added to the empty table. Dominated traces are dropped where `drop`.
 pub fn monitor_made<S: Shelf>(
     alloc: Global,
     shelf: &mut S,
     specs: &str,
     count: u32,
     lengths: Lengths,
+    drop: bool,
     names: &mut NameTable,
 ) -> Answer
     requires empty { names.old ≡ [] }
     requires few { count < 2 ^ 31 }
     ensures keeps { KeepsShelf S.Shelf shelf.old shelf.new }
-    ensures follows { let command = monitor_made specs.now count lengths in
+    ensures follows { let command = monitor_made specs.now count lengths drop in
         Follows S.Shelf shelf.old shelf.new command result
         (out_text (extras_of command) names.new result) }
 {
@@ -79,7 +81,7 @@ pub fn monitor_made<S: Shelf>(
         return Answer::Memory;
     };
     let source = Source::of_traces(traces.as_slice());
-    judge(alloc, &formulas, lengths, source)
+    judge(alloc, &formulas, lengths, drop, source)
 }
 
 /// What formulas come to on the events of lines that are taken.
@@ -87,6 +89,7 @@ fn judge_lines(
     alloc: Global,
     specs: &SpecList,
     lengths: Lengths,
+    drop: bool,
     bytes: &[u8],
     names: &NameTable,
 ) -> Answer
@@ -94,22 +97,28 @@ fn judge_lines(
     requires countable { length specs.now < 2 ^ 32 }
     requires few { length bytes.now ≤ BYTES_LIMIT }
     requires good { Each IsGood (lines_of bytes.now) }
-    ensures { IsOutcome lengths (plain_formulas specs.now) (IsEventFile names.now bytes.now)
+    ensures { IsOutcome lengths drop (plain_formulas specs.now) (IsEventFile names.now bytes.now)
         result }
 {
     let source = Source::of_lines(bytes, names);
-    judge(alloc, specs, lengths, source)
+    judge(alloc, specs, lengths, drop, source)
 }
 
 /// What formulas come to on the events of a source.
-fn judge(alloc: Global, specs: &SpecList, lengths: Lengths, source: Source) -> Answer
+fn judge(
+    alloc: Global,
+    specs: &SpecList,
+    lengths: Lengths,
+    drop: bool,
+    source: Source,
+) -> Answer
     requires quantifiers { All HasFewQuantifiers specs.now }
     requires countable { length specs.now < 2 ^ 32 }
     requires few { count_left source < 2 ^ 31 }
     requires ready { IsReady source }
-    ensures { IsOutcome lengths (plain_formulas specs.now) (AreLeft source.entry) result }
+    ensures { IsOutcome lengths drop (plain_formulas specs.now) (AreLeft source.entry) result }
 {
-    match Rv::new(alloc, specs.as_slice(), lengths) {
+    match Rv::new(alloc, specs.as_slice(), lengths, drop) {
         Ok(mut rv) => watch(alloc, &mut rv, specs.len() as u32, source),
         Err(error) => new_answer(error),
     }
@@ -117,8 +126,9 @@ fn judge(alloc: Global, specs: &SpecList, lengths: Lengths, source: Source) -> A
 
 /// The answer for formulas that are not monitored.
 fn new_answer(error: RvNewError) -> Answer
-    ensures { (lengths : Lengths) (formulas : List Formula) → IsNewRefusal formulas error
-        → (source : Source) → IsOutcome lengths (plain_formulas formulas) (AreLeft source) result }
+    ensures { (lengths : Lengths) (drop : Bool) (formulas : List Formula)
+        → IsNewRefusal formulas error → (source : Source)
+        → IsOutcome lengths drop (plain_formulas formulas) (AreLeft source) result }
 {
     match error {
         RvNewError::Prefix { class, .. } => Answer::Prefix { file: 0, class },

@@ -1,11 +1,10 @@
 //! Events, given to a monitor one after another.
 
-ghost use Rattle.std.specs.Prelude.{◌≡◌, ◌+◌, ◌<◌, ◌^◌, IfOk, IfErr, OnOk, IsTrue, List, ℕ, length, replicate};
+ghost use Rattle.std.specs.Prelude.{◌≡◌, ◌+◌, ◌<◌, ◌^◌, IfOk, IfErr, OnOk, IsTrue, length};
 ghost use Rattle.rv_core.specs.Held.{StandsFor, specs_of};
 ghost use Rattle.rv_core.specs.Seen.{held};
 ghost use Rattle.rv_core.specs.Histories.{History, empty_history};
-ghost use Rattle.hy_answer.specs.declared.answer.Answer.TheVariants.{NoViolation};
-ghost use Rattle.hy_top.specs.Monitoring.{EventsCome};
+ghost use Rattle.hy_top.specs.Monitoring.{EventsCome, AreKeptCounts, IsNoViolation};
 ghost use Rattle.hy_top.specs.Watching.{OrMemory, IsEventAnswer, GoesOn, Stops, AreLeft, count_left, IsReady, IsThrough};
 
 use crate::source::Source;
@@ -13,6 +12,7 @@ use hy_answer::Answer;
 use hy_base::{M, Memory, NumList, Steps};
 use hy_bits::Letters;
 use hy_finite::Placed;
+use rv_core::laws::keeping;
 use rv_core::{Reply, Rv, RvError};
 use std::alloc::Global;
 use std::marker::Brand;
@@ -25,7 +25,8 @@ pub fn watch(alloc: Global, rv: &mut Rv, specs: u32, source: Source) -> Answer
     requires specs { specs ≡ length (specs_of (held rv.old)) }
     requires few { count_left source < 2 ^ 31 }
     requires ready { IsReady source }
-    ensures { OrMemory result (EventsCome (held rv.old).rule (specs_of (held rv.old)) (AreLeft source.entry) result) }
+    ensures { OrMemory result (EventsCome (held rv.old).rule (held rv.old).drop
+        (specs_of (held rv.old)) (AreLeft source.entry) result) }
 {
     match watch_on::<Brand>(alloc, rv, source, Blank::new(1)) {
         Ok(()) => clean_answer(alloc, rv, specs),
@@ -47,9 +48,12 @@ fn watch_on<L: Ledger>(
     requires parts { blank.parts ≡ L.parts }
     requires some { 0 < blank.parts }
     ensures specs { specs_of (held rv.new) ≡ specs_of (held rv.old) }
-    ensures through { OnOk result (IsThrough (held rv.old).rule (specs_of (held rv.old)) source.entry (held rv.new)) }
-    ensures ended { IfErr result (λ answer. OrMemory answer
-        (EventsCome (held rv.old).rule (specs_of (held rv.old)) (AreLeft source.entry) answer)) }
+    ensures rule { (held rv.new).rule ≡ (held rv.old).rule }
+    ensures dropping { (held rv.new).drop ≡ (held rv.old).drop }
+    ensures through { OnOk result (IsThrough (held rv.old).rule (held rv.old).drop
+        (specs_of (held rv.old)) source.entry (held rv.new)) }
+    ensures ended { IfErr result (λ answer. OrMemory answer (EventsCome (held rv.old).rule
+        (held rv.old).drop (specs_of (held rv.old)) (AreLeft source.entry) answer)) }
 {
     let mut steps = Steps::<L>::new(blank);
     watch_events(alloc, rv, source, &mut steps)
@@ -67,9 +71,12 @@ fn watch_events<L: Ledger>(
     requires few { count_left source < 2 ^ 31 }
     requires ready { IsReady source }
     ensures specs { specs_of (held rv.new) ≡ specs_of (held rv.old) }
-    ensures through { OnOk result (IsThrough (held rv.old).rule (specs_of (held rv.old)) source.entry (held rv.new)) }
-    ensures ended { IfErr result (λ answer. OrMemory answer
-        (EventsCome (held rv.old).rule (specs_of (held rv.old)) (AreLeft source.entry) answer)) }
+    ensures rule { (held rv.new).rule ≡ (held rv.old).rule }
+    ensures dropping { (held rv.new).drop ≡ (held rv.old).drop }
+    ensures through { OnOk result (IsThrough (held rv.old).rule (held rv.old).drop
+        (specs_of (held rv.old)) source.entry (held rv.new)) }
+    ensures ended { IfErr result (λ answer. OrMemory answer (EventsCome (held rv.old).rule
+        (held rv.old).drop (specs_of (held rv.old)) (AreLeft source.entry) answer)) }
 {
     let mut left = source;
     let mut letters = Letters::new(alloc);
@@ -91,6 +98,7 @@ fn take<L: Ledger>(
     requires few { (held rv.old).arrived < 2 ^ 31 }
     ensures specs { specs_of (held rv.new) ≡ specs_of (held rv.old) }
     ensures rule { (held rv.new).rule ≡ (held rv.old).rule }
+    ensures dropping { (held rv.new).drop ≡ (held rv.old).drop }
     ensures went { OnOk result ((h : History) → StandsFor (held rv.old) h
         → GoesOn (held rv.old).rule (specs_of (held rv.old)) h placed.now (held rv.new)) }
     ensures ended { IfErr result (λ answer. OrMemory answer ((h : History) → StandsFor (held rv.old) h
@@ -125,8 +133,8 @@ fn event_answer(error: RvError, line: u32) -> Answer
 /// The answer that no event was refused or violated one of `specs` formulas.
 fn clean_answer(alloc: Global, rv: &Rv, specs: u32) -> Answer
     requires { specs ≡ length (specs_of (held rv.now)) }
-    ensures { OrMemory result ((kept : List ℕ) × (kept ≡ replicate specs (held rv.now).arrived)
-        × (result ≡ NoViolation (held rv.now).arrived kept (length (held rv.now).sessions))) }
+    ensures { OrMemory result ((h : History) → StandsFor (held rv.now) h
+        → IsNoViolation (held rv.now).rule (held rv.now).drop (specs_of (held rv.now)) h result) }
 {
     match kept_of(alloc, rv, specs) {
         Ok(kept) => Answer::NoViolation {
@@ -141,8 +149,11 @@ fn clean_answer(alloc: Global, rv: &Rv, specs: u32) -> Answer
 /// How many traces are kept for each of `specs` formulas.
 fn kept_of(alloc: Global, rv: &Rv, specs: u32) -> M<NumList>
     requires { specs ≡ length (specs_of (held rv.now)) }
-    ensures { IfOk result (λ kept. kept ≡ replicate specs (held rv.now).arrived) }
+    ensures { IfOk result (λ kept. (h : History) → StandsFor (held rv.now) h
+        → AreKeptCounts (held rv.now).rule (held rv.now).drop (specs_of (held rv.now))
+        h.present.arrived kept) }
 {
+    keeping();
     let mut kept = NumList::new(alloc);
     for spec in 0..specs {
         kept.push(rv.kept(spec))?;

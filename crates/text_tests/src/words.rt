@@ -31,7 +31,21 @@ fn commands_by_their_words(rt: HostRuntime) -> Result<(), AllocError> {
             Ok(Some(Command::Monitor {
                 specs: "spec",
                 traces: "-",
-                lengths: Lengths::Pad
+                lengths: Lengths::Pad,
+                drop: false
+            }))
+        )
+    );
+    let words = words_of(alloc, "--make 7 spec --drop")?;
+    let command = command_of(alloc, Tool::RvHyper, words.as_slice());
+    assert!(rt;
+        matches!(
+            &command,
+            Ok(Some(Command::MonitorMade {
+                specs: "spec",
+                count: 7,
+                lengths: Lengths::Min,
+                drop: true
             }))
         )
     );
@@ -74,6 +88,7 @@ fn words_that_are_no_command(rt: HostRuntime) -> Result<(), AllocError> {
         "-x spec traces",
         "--proof spec traces",
         "--lengths max spec traces",
+        "--drop --drop spec traces",
         "--make 0 spec",
         "--make 3 spec traces",
     ] {

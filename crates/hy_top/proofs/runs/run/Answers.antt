@@ -15,7 +15,7 @@ pub returns-in-Monitor-clause-right : goal.returns-in-Monitor-clause-right
 returns-in-Monitor-clause-right g c = (
   _,
   _,
-  worded (monitor c.in-Monitor.specs.now c.in-Monitor.traces.now c.in-Monitor.lengths) _ _
+  worded (monitor c.in-Monitor.specs.now c.in-Monitor.traces.now c.in-Monitor.lengths c.in-Monitor.drop) _ _
       (rw c.in-Monitor.is at c.in-Ok-command_in.ensures.some) c.monitor-due.ensures.follows,
   c.finish-in-Monitor.ensures.written,
 )
@@ -23,13 +23,13 @@ returns-in-Monitor-clause-right g c = (
 pub returns-in-Monitor-clause-err : goal.returns-in-Monitor-clause-err
 returns-in-Monitor-clause-err g c = (
   _,
-  of_command (monitor c.in-Monitor.specs.now c.in-Monitor.traces.now c.in-Monitor.lengths) _ (rw c.in-Monitor.is at c.in-Ok-command_in.ensures.some),
+  of_command (monitor c.in-Monitor.specs.now c.in-Monitor.traces.now c.in-Monitor.lengths c.in-Monitor.drop) _ (rw c.in-Monitor.is at c.in-Ok-command_in.ensures.some),
   c.finish-in-Monitor.ensures.err,
 )
 
 pub monitor_made-due-requires-clause-few : goal.monitor_made-due-requires-clause-few
 monitor_made-due-requires-clause-few g c =
-    let most = few-made _ _ c.in-MonitorMade.specs.now c.in-MonitorMade.count c.in-MonitorMade.lengths
+    let most = few-made _ _ c.in-MonitorMade.specs.now c.in-MonitorMade.count c.in-MonitorMade.lengths c.in-MonitorMade.drop
     (rw c.in-MonitorMade.is at c.in-Ok-command_in.ensures.some) in
     omega (arith, most)
 
@@ -37,7 +37,7 @@ pub returns-in-MonitorMade-clause-right : goal.returns-in-MonitorMade-clause-rig
 returns-in-MonitorMade-clause-right g c = (
   _,
   _,
-  worded (monitor_made c.in-MonitorMade.specs.now c.in-MonitorMade.count c.in-MonitorMade.lengths) _ _
+  worded (monitor_made c.in-MonitorMade.specs.now c.in-MonitorMade.count c.in-MonitorMade.lengths c.in-MonitorMade.drop) _ _
       (rw c.in-MonitorMade.is at c.in-Ok-command_in.ensures.some) c.monitor_made-due.ensures.follows,
   c.finish-in-MonitorMade.ensures.written,
 )
@@ -45,7 +45,7 @@ returns-in-MonitorMade-clause-right g c = (
 pub returns-in-MonitorMade-clause-err : goal.returns-in-MonitorMade-clause-err
 returns-in-MonitorMade-clause-err g c = (
   _,
-  of_command (monitor_made c.in-MonitorMade.specs.now c.in-MonitorMade.count c.in-MonitorMade.lengths) _
+  of_command (monitor_made c.in-MonitorMade.specs.now c.in-MonitorMade.count c.in-MonitorMade.lengths c.in-MonitorMade.drop) _
       (rw c.in-MonitorMade.is at c.in-Ok-command_in.ensures.some),
   c.finish-in-MonitorMade.ensures.err,
 )

@@ -9,11 +9,11 @@ use Rattle.hy_top.proofs.rvhyper.monitor_made.Goals as goal
 
 pub returns-in-Err-clause-follows : goal.returns-in-Err-clause-follows
 returns-in-Err-clause-follows g c =
-    ends_first g.S.Shelf (monitor_made c.args.specs.now c.args.count c.args.lengths) _ _ _ _ _ refl (rw c.requires.empty at c.in-Err.ensures.ended)
+    ends_first g.S.Shelf (monitor_made c.args.specs.now c.args.count c.args.lengths c.args.drop) _ _ _ _ _ refl (rw c.requires.empty at c.in-Err.ensures.ended)
 
 pub returns-in_default-clause-follows : goal.returns-in_default-clause-follows
 returns-in_default-clause-follows g c =
-    made_follow g.S.Shelf _ _ c.args.specs.now c.args.count c.args.lengths _ _ (rw c.requires.empty at c.in-Ok.ensures.taken) _ spent
+    made_follow g.S.Shelf _ _ c.args.specs.now c.args.count c.args.lengths c.args.drop _ _ (rw c.requires.empty at c.in-Ok.ensures.taken) _ spent
 
 pub of_traces-source-requires : goal.of_traces-source-requires
 of_traces-source-requires g c =
@@ -27,5 +27,5 @@ judge-requires-clause-quantifiers g c =
 pub returns-clause-follows : goal.returns-clause-follows
 returns-clause-follows g c =
     let same : c.as_slice.result.now ≡ made_traces c.specs_in.new.names c.args.count = c.as_slice.ensures ∙ c.in-Ok-make_traces.ensures in
-    made_follow g.S.Shelf _ _ c.args.specs.now c.args.count c.args.lengths _ _ (rw c.requires.empty at c.in-Ok.ensures.taken) _
-    (outcome-by c.args.lengths _ _ (λ es left. c.of_traces-source.ensures.left es left ∙ ap (whole_traces 0) same) c.judge.ensures)
+    made_follow g.S.Shelf _ _ c.args.specs.now c.args.count c.args.lengths c.args.drop _ _ (rw c.requires.empty at c.in-Ok.ensures.taken) _
+    (outcome-by c.args.lengths c.args.drop _ _ (λ es left. c.of_traces-source.ensures.left es left ∙ ap (whole_traces 0) same) c.judge.ensures)

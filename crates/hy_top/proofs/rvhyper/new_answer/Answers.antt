@@ -7,15 +7,15 @@ use Rattle.hy_top.proofs.FirstSpecs.{prefix-outcome, limit-outcome}
 use Rattle.hy_top.proofs.rvhyper.new_answer.Goals as goal
 
 pub returns-in-Prefix : goal.returns-in-Prefix
-returns-in-Prefix c lengths formulas refusal source =
+returns-in-Prefix c lengths drop formulas refusal source =
     let P : RvNewError → Type 0 = IsNewRefusal formulas in
-    prefix-outcome lengths formulas (AreLeft source) _ _ (subst P c.in-Prefix.is refusal)
+    prefix-outcome lengths drop formulas (AreLeft source) _ _ (subst P c.in-Prefix.is refusal)
 
 pub returns-in-Limit : goal.returns-in-Limit
-returns-in-Limit c lengths formulas refusal source =
+returns-in-Limit c lengths drop formulas refusal source =
     let P : RvNewError → Type 0 = IsNewRefusal formulas in
     let (universal, large) = subst P c.in-Limit.is refusal in
-    rw c.most.ensures (limit-outcome lengths formulas (AreLeft source) _ universal large)
+    rw c.most.ensures (limit-outcome lengths drop formulas (AreLeft source) _ universal large)
 
 pub returns-in-Memory : goal.returns-in-Memory
-returns-in-Memory c lengths formulas refusal source = spent
+returns-in-Memory c lengths drop formulas refusal source = spent
