@@ -1,6 +1,7 @@
 -- What is kept of a list is of it, and covers it; and what is kept with a trace more.
-use Rattle.std.proofs.Common.{◌≡◌, ◌↔◌, ℕ, zero, suc, ◌+◌, ◌<◌, Bool, true, false, not, List, [], ◌∷◌, ◌++◌, length, map, nat_eq, get_or, inl, inr, refl, sym, ap, ◌∙◌, subst, arith, append-nil}
+use Rattle.std.proofs.Common.{◌≡◌, ◌↔◌, ℕ, zero, suc, ◌+◌, ◌<◌, Bool, true, false, not, List, [], ◌∷◌, ◌++◌, length, map, nat_eq, if◌then◌else◌, get_or, inl, inr, refl, sym, ap, ◌∙◌, subst, arith, append-nil}
 use Rattle.std.specs.List.{Contains, list_any, filter}
+use Rattle.std.proofs.lemmas.List.{length-map}
 use Rattle.std.proofs.lemmas.List.Elements.{Contains-push_cases}
 use Rattle.hy_formula.specs.Quantifiers.{Each}
 use Rattle.hy_finite.specs.declared.lengths.Lengths.{Lengths}
@@ -13,9 +14,9 @@ use Rattle.dominance.proofs.Elements.{contains-here, contains-later, contains-ca
 use Rattle.dominance.proofs.Replacements.{Covers, over-itself, leaders-cover, trace-apart}
 use Rattle.trie_walk.specs.Finds.{traces_of}
 use Rattle.rv_core.specs.Endings.{Spec, spec_at}
-use Rattle.rv_core.specs.Held.{Held, specs_of, StandsFor}
+use Rattle.rv_core.specs.Held.{Held, specs_of, StandsFor, kept_count}
 use Rattle.rv_core.specs.Histories.{History}
-use Rattle.rv_core.specs.Keeping.{numbered_from, members_of, IsKept, kept_at}
+use Rattle.rv_core.specs.Keeping.{numbered_from, members_of, IsKept, IsKeptCount, kept_at}
 
 -- ---- pairs and their traces
 
@@ -140,20 +141,24 @@ module _ (rule : Lengths) where
       let P : List Trace → Type 0 = λ q. Contains q u in
       (u, subst P (items-members kept) d, over)
 
-all-long : (k : ℕ) (list : List Trace) → length (numbered_from k list) ≡ length list
-all-long k [] = refl
-all-long k (t ∷ ts) = ap suc (all-long (suc k) ts)
-
 -- ---- what a monitor keeps
 
 module _ (m : Held) (h : History) (s : ℕ) (stands : StandsFor m h)
     (lt : s < length (specs_of m)) where
-  pub keeps-all : m.drop ≡ false → length (kept_at m.kept s) ≡ m.arrived
-  keeps-all e =
-      let P : Bool → Type 0 =
-      λ b. IsKept m.rule b (spec_at (specs_of m) s) h.present.arrived (kept_at m.kept s) in
-      let all = subst P e (stands.kept.right s lt) in
-      ap length all ∙ all-long 0 h.present.arrived ∙ sym stands.count
+  pub keeps-count : IsKeptCount m.rule m.drop (spec_at (specs_of m) s) h.present.arrived
+      (kept_count m s)
+  keeps-count = by m.drop (stands.kept.right s lt)
+    where
+      by : (b : Bool)
+          → IsKept m.rule b (spec_at (specs_of m) s) h.present.arrived (kept_at m.kept s)
+          → IsKeptCount m.rule b (spec_at (specs_of m) s) h.present.arrived
+          (if b then length (kept_at m.kept s) else m.arrived)
+      by false is = stands.count
+      by true is = (
+        members_of (kept_at m.kept s),
+        is,
+        sym (length-map (kept_at m.kept s) (λ (p : Numbered). numbered p.0 p.1)),
+      )
 
   pub keeps-apart : (p q : Numbered) → m.drop ≡ true → Contains (kept_at m.kept s) p
       → Contains (kept_at m.kept s) q

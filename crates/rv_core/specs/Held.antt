@@ -1,5 +1,5 @@
 -- What a monitor holds, and the histories that it stands for.
-use Rattle.std.specs.Prelude.{◌≡◌, ℕ, ◌≤◌, Bool, true, List, [], ◌∷◌, length, map}
+use Rattle.std.specs.Prelude.{◌≡◌, ℕ, ◌≤◌, Bool, true, if◌then◌else◌, List, [], ◌∷◌, length, map}
 use Rattle.std.specs.Coded.{×_prop, Unit-prop}
 use Rattle.hy_formula.specs.Quantifiers.{Each}
 use Rattle.hy_finite.specs.declared.lengths.Lengths.{Lengths}
@@ -11,7 +11,7 @@ use Rattle.rv_core.specs.declared.saved.Saved.{Saved}
 use Rattle.rv_core.specs.Opened.{Open, letters_in}
 use Rattle.rv_core.specs.Histories.{Session, Present, History, letters_of}
 use Rattle.rv_core.specs.Endings.{Spec, IsQuiet}
-use Rattle.rv_core.specs.Keeping.{AreKept, AreBelow, AreBelow-prop}
+use Rattle.rv_core.specs.Keeping.{AreKept, AreBelow, AreBelow-prop, kept_at}
 
 pub record Held : Type 0 where
   pub rule : Lengths
@@ -35,6 +35,10 @@ spec_of m = record { variables = m.variables; body = m.body }
 -- the specs that are watched
 abbrev pub specs_of : Held → List Spec
 specs_of m = map spec_of m.machines
+
+-- how many traces are said to be kept for a spec, by its number
+abbrev pub kept_count : Held → ℕ → ℕ
+kept_count m s = if m.drop then length (kept_at m.kept s) else m.arrived
 
 -- Sessions are given by different numbers.
 abbrev pub AreApart : List Session → Type 0

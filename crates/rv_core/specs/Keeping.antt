@@ -19,10 +19,22 @@ numbered_from k (t ∷ ts) = (k, t) ∷ numbered_from (suc k) ts
 abbrev pub members_of : List Numbered → List (leaders.Numbered Trace)
 members_of kept = map (λ (p : Numbered). numbered p.0 p.1) kept
 
+-- The first trace covers the other: it dominates it, where dominated ones are dropped; else they are equal.
+abbrev pub Covers : Lengths → Bool → Spec → Trace → Trace → Type 0
+Covers rule false spec t u = t ≡ u
+Covers rule true spec t u = Dominates rule spec.variables spec.body t u
+
 abbrev pub IsKept : Lengths → Bool → Spec → List Trace → List Numbered → Type 0
 IsKept rule false spec list kept = kept ≡ numbered_from 0 list
 IsKept rule true spec list kept =
     AreLeaders (Dominates rule spec.variables spec.body) list (members_of kept)
+
+-- It is said that so many traces are kept for a spec: all or, where dominated ones are dropped, the leaders.
+abbrev pub IsKeptCount : Lengths → Bool → Spec → List Trace → ℕ → Type 0
+IsKeptCount rule false spec list n = n ≡ length list
+IsKeptCount rule true spec list n =
+    (kept : List (leaders.Numbered Trace))
+    × AreLeaders (Dominates rule spec.variables spec.body) list kept × (n ≡ length kept)
 
 -- what is kept for a spec, by its number
 abbrev pub kept_at : List (List Numbered) → ℕ → List Numbered

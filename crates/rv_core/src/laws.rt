@@ -1,6 +1,6 @@
 //! Laws of runs of events.
 
-ghost use Rattle.std.specs.Prelude.{◌≡◌, ◌↔◌, ◌⊎◌, ◌+◌, ◌<◌, ◌++◌, ◌∷◌, [], ℕ, true, false, List, length};
+ghost use Rattle.std.specs.Prelude.{◌≡◌, ◌↔◌, ◌⊎◌, ◌+◌, ◌<◌, ◌++◌, ◌∷◌, [], ℕ, true, List, length};
 ghost use Rattle.std.specs.List.{Contains};
 ghost use Rattle.hy_finite.specs.declared.event.Event.{Event};
 ghost use Rattle.hy_finite.specs.declared.event.Event.TheVariants as event;
@@ -12,8 +12,8 @@ ghost use Rattle.trie_walk.specs.Finds.{traces_of};
 ghost use Rattle.rv_core.specs.Histories.{History, step, goes, arrives};
 ghost use Rattle.rv_core.specs.Endings.{Spec, spec_at, IsClean, IsQuiet, Ending, clean, Ends, Matched};
 ghost use Rattle.rv_core.specs.declared.rv_error.RvError.TheVariants as errors;
-ghost use Rattle.rv_core.specs.Held.{Held, specs_of, StandsFor};
-ghost use Rattle.rv_core.specs.Keeping.{kept_at};
+ghost use Rattle.rv_core.specs.Held.{Held, specs_of, StandsFor, kept_count};
+ghost use Rattle.rv_core.specs.Keeping.{kept_at, IsKeptCount};
 ghost use Rattle.rv_core.specs.Replies.{Stop, error_at, Runs, EndsAs};
 
 /// A run of events ends, and in one way.
@@ -62,11 +62,12 @@ pub fn runs()
         → EndsAs m.rule (specs_of m) x stop ⊎ ((n : ℕ) × (stop ≡ error_at n errors.Memory)) }
 {}
 
-/// For each spec all traces are kept, as many as have arrived; or, where dominated ones are dropped,
-/// their leaders, of which none dominates another, and one of which dominates each that arrived.
+/// For each spec it is said that as many traces are kept as have arrived; or, where dominated ones
+/// are dropped, as there are leaders. No one that is kept then dominates another, and one dominates
+/// each that arrived.
 pub fn keeping()
-    ensures all { (m : Held) (h : History) (s : ℕ) → StandsFor m h → m.drop ≡ false
-        → s < length (specs_of m) → length (kept_at m.kept s) ≡ m.arrived }
+    ensures counts { (m : Held) (h : History) (s : ℕ) → StandsFor m h → s < length (specs_of m)
+        → IsKeptCount m.rule m.drop (spec_at (specs_of m) s) h.present.arrived (kept_count m s) }
     ensures apart { (m : Held) (h : History) (s : ℕ) (p q : Numbered) → StandsFor m h
         → m.drop ≡ true → s < length (specs_of m) → Contains (kept_at m.kept s) p
         → Contains (kept_at m.kept s) q

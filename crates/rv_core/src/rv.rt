@@ -29,8 +29,7 @@ pub struct Rv {
 }
 
 impl Rv {
-    ghost use Rattle.rv_core.specs.Held.{specs_of};
-    ghost use Rattle.rv_core.specs.Keeping.{kept_at};
+    ghost use Rattle.rv_core.specs.Held.{specs_of, kept_count};
     ghost use Rattle.rv_core.specs.Seen.{held};
 
     /// How many traces have arrived.
@@ -40,13 +39,16 @@ impl Rv {
         self.traces
     }
 
-    /// How many traces are kept for a spec, by its number: all that have arrived or, where
-    /// dominated ones are dropped, their leaders. In time linear in them, times the logarithm of
-    /// their number.
+    /// How many traces are kept for a spec, by its number: all that have arrived, in constant time;
+    /// or, where dominated ones are dropped, their leaders, in time linear in them, times the
+    /// logarithm of their number.
     pub fn kept(&self, spec: u32) -> u32
         requires { spec < length (specs_of (held self.now)) }
-        ensures { result ≡ length (kept_at (held self.now).kept spec) }
+        ensures { result ≡ kept_count (held self.now) spec }
     {
+        if !self.drop_dominated {
+            return self.traces;
+        }
         let version = self.kept.at(spec as usize);
         version.numbers_ascend();
         let traces = self.traces;

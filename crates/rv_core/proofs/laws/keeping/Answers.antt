@@ -1,8 +1,8 @@
-use Rattle.rv_core.proofs.Keepings.{keeps-all, keeps-apart, keeps-covers}
+use Rattle.rv_core.proofs.Keepings.{keeps-count, keeps-apart, keeps-covers}
 use Rattle.rv_core.proofs.laws.keeping.Goals as goal
 
-pub returns-clause-all : goal.returns-clause-all
-returns-clause-all c m h s stands e lt = keeps-all m h s stands lt e
+pub returns-clause-counts : goal.returns-clause-counts
+returns-clause-counts c m h s stands lt = keeps-count m h s stands lt
 
 pub returns-clause-apart : goal.returns-clause-apart
 returns-clause-apart c m h s p q stands e lt = keeps-apart m h s stands lt p q e

@@ -1,8 +1,9 @@
-use Rattle.std.proofs.Common.{◌≡◌, ◌<◌, ◌≤◌, ◌∷◌, ℕ, List, length, ap, sym, ◌∙◌, subst, arith}
+use Rattle.std.proofs.Common.{◌≡◌, ◌<◌, ◌≤◌, ◌∷◌, ℕ, Bool, if◌then◌else◌, List, length, ap, sym, ◌∙◌, subst, arith}
 use Rattle.hy_formula.specs.Quantifiers.{Each}
 use Rattle.trace_trie.specs.Numbered.{Numbered, rest_from}
 use Rattle.dominance.proofs.Elements as members
 use Rattle.rv_core.specs.Keeping.{kept_at}
+use Rattle.rv_core.specs.Seen.{held}
 use Rattle.rv_core.proofs.Places.{each-at}
 use Rattle.rv_core.proofs.Seeing.{kept-there}
 use Rattle.rv_core.proofs.Sifting.{rest-start, rest-head, rest-next, rest-contains}
@@ -58,7 +59,11 @@ loop-number-preserved c =
 
 pub returns : goal.returns
 returns c =
+    let m = held c.args.self.now in
     let list = c.at-version.result.now in
     let none = c.in_default.ensures.none in
-    let same = kept-there c.args.self.now.kept c.args.spec list c.at-version.ensures in
-    omega (arith, ap length none, ap length same, c.loop-number.invariant.counted)
+    let same = kept-there m.kept c.args.spec list c.at-version.ensures in
+    let P : Bool → Type 0 =
+    λ b. c.loop-number.count ≡ (if b then length (kept_at m.kept c.args.spec) else m.arrived) in
+    subst P (sym c.if-not-self.false)
+    (omega (arith, ap length none, ap length same, c.loop-number.invariant.counted))
