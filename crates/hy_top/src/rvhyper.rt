@@ -105,13 +105,7 @@ fn judge_lines(
 }
 
 /// What formulas come to on the events of a source.
-fn judge(
-    alloc: Global,
-    specs: &SpecList,
-    lengths: Lengths,
-    drop: bool,
-    source: Source,
-) -> Answer
+fn judge(alloc: Global, specs: &SpecList, lengths: Lengths, drop: bool, source: Source) -> Answer
     requires quantifiers { All HasFewQuantifiers specs.now }
     requires countable { length specs.now < 2 ^ 32 }
     requires few { count_left source < 2 ^ 31 }
