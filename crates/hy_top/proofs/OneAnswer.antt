@@ -1,5 +1,5 @@
 -- The first stage that is met gives one answer.
-use Rattle.std.proofs.Common.{◌≡◌, ℕ, ◌⊎◌, Bool, true, false, List, [], ◌∷◌, inl, inr, refl, sym, ap, subst, ◌∙◌, arith}
+use Rattle.std.proofs.Common.{◌≡◌, ℕ, ◌⊎◌, Bool, true, false, List, [], ◌∷◌, length, inl, inr, refl, sym, ap, subst, ◌∙◌, arith}
 use Rattle.std.proofs.lemmas.Bool.{cases_lt}
 use Rattle.hy_bits.specs.Letter.{Letter}
 use Rattle.hy_formula.specs.Lassos.{Lasso}
@@ -20,6 +20,7 @@ use Rattle.hy_answer.specs.declared.answer.Answer.TheVariants as answers
 use Rattle.hy_words.specs.Commands.{Command, monitor, monitor_made, judge, decide, imply, compare, check}
 use Rattle.hy_top.specs.Classes.{takes, file_of, RefusesClass, FirstUntaken}
 use Rattle.hy_top.specs.Contents.{content_of, most_quantifiers, IsRefused}
+use Rattle.hy_top.specs.Dropping.{AgreeUncounted, counted_alike, counted_otherwise}
 use Rattle.hy_top.specs.Deciding.{plan_of, plan_against, Determines, DecidesBy, DecidesOne, DecidesTwo, ComparesTwo, sat, unsat, implied, not_implied, beyond, equivalent, first_alone, second_alone, many_branches}
 use Rattle.mc_core.specs.declared.ask.Ask.{Ask}
 use Rattle.aig_net.specs.Nets.{Net}
@@ -28,7 +29,7 @@ use Rattle.hy_top.proofs.Checking.{pair_once, only-not-bad, comes_agree}
 use Rattle.hy_top.specs.Checking.{RefusesName, Checks, ComesBy}
 use Rattle.hy_top.specs.Files.{Given, RefusesText}
 use Rattle.hy_top.specs.Judging.{Judges, holds, fails}
-use Rattle.hy_top.specs.Monitoring.{specs_of, IsViolation, Comes, EventsCome, AreEvents, Monitors}
+use Rattle.hy_top.specs.Monitoring.{specs_of, IsViolation, IsNoViolation, Comes, EventsCome, AreEvents, Monitors}
 use Rattle.hy_top.specs.Monitoring.{ComesTo as ComesToAnswer}
 use Rattle.hy_top.specs.Stages.{names as names_stage}
 use Rattle.hy_top.specs.Stages.{Stage, opening, reading, size, text, class, count, work, Met, First, here, later, ComesTo, Agree, same, other_tuple, other_model, other_proof, other_implied, other_proofs, other_witness, other_side}
@@ -69,25 +70,51 @@ violations-agree lengths specs list a b one two =
     let T : ℕ → Type 0 = λ t. Agree (answers.Violation one.spec one.trace one.tuple) (answers.Violation two.spec t two.tuple) in
     subst P (sym one.answered) (subst Q (sym two.answered) (subst T trace (subst R spec (other_tuple one.spec one.trace one.tuple two.tuple))))
 
-step-agrees : (lengths : Lengths) (specs : List Spec) (line : ℕ) (arriving : Bool) (st : Step) (Rest : History → Answer → Type 0)
-    → ((h : History) (a b : Answer) → Rest h a → Rest h b → Agree a b) → (a b : Answer)
-    → Comes lengths specs line arriving st (λ h. Rest h a) a → Comes lengths specs line arriving st (λ h. Rest h b) b → Agree a b
-step-agrees lengths specs line arriving (refused r) Rest again a b one two = agree (one ∙ sym two)
-step-agrees lengths specs line false (goes h) Rest again a b one two = again h a b one two
-step-agrees lengths specs line true (goes h) Rest again a b (inl one) (inl two) = violations-agree lengths specs h.present.arrived a b one two
-step-agrees lengths specs line true (goes h) Rest again a b (inl one) (inr (clean, two)) =
+-- What comes of one event in two ways is answered in one, or both ways lead on.
+step-agrees : (lengths : Lengths) (specs : List Spec) (line : ℕ) (arriving : Bool) (st : Step)
+    (Rest Other : History → Type 0) (a b : Answer) (Alike : Type 0) → (Agree a b → Alike)
+    → ((h : History) → Rest h → Other h → Alike)
+    → Comes lengths specs line arriving st Rest a → Comes lengths specs line arriving st Other b → Alike
+step-agrees lengths specs line arriving (refused r) Rest Other a b Alike by again one two = by (agree (one ∙ sym two))
+step-agrees lengths specs line false (goes h) Rest Other a b Alike by again one two = again h one two
+step-agrees lengths specs line true (goes h) Rest Other a b Alike by again (inl one) (inl two) =
+    by (violations-agree lengths specs h.present.arrived a b one two)
+step-agrees lengths specs line true (goes h) Rest Other a b Alike by again (inl one) (inr (clean, two)) =
     absurd (same-clean lengths specs h.present.arrived one.spec one.found.first clean)
-step-agrees lengths specs line true (goes h) Rest again a b (inr (clean, one)) (inl two) =
+step-agrees lengths specs line true (goes h) Rest Other a b Alike by again (inr (clean, one)) (inl two) =
     absurd (same-clean lengths specs h.present.arrived two.spec two.found.first clean)
-step-agrees lengths specs line true (goes h) Rest again a b (inr (clean, one)) (inr (also, two)) = again h a b one two
+step-agrees lengths specs line true (goes h) Rest Other a b Alike by again (inr (clean, one)) (inr (also, two)) =
+    again h one two
 
 events-agree : (lengths : Lengths) (drop : Bool) (specs : List Spec) (events : List Placed) (h : History) (a b : Answer)
     → ComesToAnswer lengths drop specs h events a → ComesToAnswer lengths drop specs h events b → Agree a b
 events-agree lengths drop specs [] h a b one two = agree (clean-once lengths drop specs h a b one two)
 events-agree lengths drop specs (placed ∷ events) h a b one two =
     step-agrees lengths specs placed.line (arrives placed.event) (step h placed.event)
-    (λ next x. ComesToAnswer lengths drop specs next events x)
-    (λ next x y. events-agree lengths drop specs events next x y) a b one two
+    (λ next. ComesToAnswer lengths drop specs next events a)
+    (λ next. ComesToAnswer lengths drop specs next events b) a b (Agree a b) (λ same. same)
+    (λ next x y. events-agree lengths drop specs events next a b x y) one two
+
+no-violations-agree : (lengths : Lengths) (one_way other_way : Bool) (specs : List Spec) (h : History) (a b : Answer)
+    → IsNoViolation lengths one_way specs h a → IsNoViolation lengths other_way specs h b → AgreeUncounted a b
+no-violations-agree lengths one_way other_way specs h a b one two =
+    let traces = length h.present.arrived in
+    let live = length h.present.sessions in
+    let P : Answer → Type 0 = λ x. AgreeUncounted x b in
+    let Q : Answer → Type 0 = λ y. AgreeUncounted (answers.NoViolation traces one.kept live) y in
+    subst P (sym one.answered) (subst Q (sym two.answered) (counted_otherwise traces live one.kept two.kept))
+
+-- With dropping and without it events come to the same but for the counts.
+pub dropping-agrees : (lengths : Lengths) (one_way other_way : Bool) (specs : List Spec) (events : List Placed)
+    (h : History) (a b : Answer) → ComesToAnswer lengths one_way specs h events a
+    → ComesToAnswer lengths other_way specs h events b → AgreeUncounted a b
+dropping-agrees lengths one_way other_way specs [] h a b one two =
+    no-violations-agree lengths one_way other_way specs h a b one two
+dropping-agrees lengths one_way other_way specs (placed ∷ events) h a b one two =
+    step-agrees lengths specs placed.line (arrives placed.event) (step h placed.event)
+    (λ next. ComesToAnswer lengths one_way specs next events a)
+    (λ next. ComesToAnswer lengths other_way specs next events b) a b (AgreeUncounted a b) (counted_alike a b)
+    (λ next x y. dropping-agrees lengths one_way other_way specs events next a b x y) one two
 
 -- A command has one list of events.
 one-list : (command : Command) (given : Given) (names : List (List ℕ)) (events others : List Placed) → AreEvents command given names events

@@ -3,6 +3,7 @@ pub mod Circuits
 pub mod Classes
 pub mod Contents
 pub mod Deciding
+pub mod Dropping
 pub mod Files
 pub mod Judging
 pub mod Monitoring

@@ -12,5 +12,5 @@ mod source;
 mod watching;
 
 pub use host::run_here;
-pub use laws::{one_answer, verdict};
+pub use laws::{dropping, one_answer, verdict};
 pub use runs::{Done, run};
