@@ -1,5 +1,5 @@
 -- The answer to each event is right for each history that the monitor stands for.
-use Rattle.std.proofs.Common.{◌≡◌, ℕ, ◌+◌, ◌<◌, ◌≤◌, Bool, true, false, List, [], ◌∷◌, ◌++◌, length, reverse, Option, Some, None, Ok, Err, is_some, not, nat_eq, refl, sym, ap, ◌∙◌, subst, arith}
+use Rattle.std.proofs.Common.{◌≡◌, ℕ, ◌+◌, ◌<◌, ◌≤◌, Bool, true, false, List, [], ◌∷◌, ◌++◌, length, reverse, Some, None, Ok, Err, not, nat_eq, refl, sym, ap, ◌∙◌, subst, arith}
 use Rattle.std.proofs.lemmas.Bool.{eqb-true}
 use Rattle.std.proofs.lemmas.List.{reverse-append}
 use Rattle.hy_base.specs.declared.limit.Kind.TheVariants as kind
@@ -123,6 +123,10 @@ module _ (m : Held) (e : Event) (t : Trace) (os : Open) (brings : Brings m e t o
   pub answered-arrival : (a : Arrival) (reply : Reply) → IsReplyTo m.arrived a reply
       → IsArrival m t a
       → Answers m (after_arrival (changed m m.kept m.arrived os m.clean) a) e (Ok reply)
+  answered-arrival arrival.Known reply r next =
+      let P : Reply → Type 0 =
+      λ q. Answers m (changed m m.kept (m.arrived + 1) os m.clean) e (Ok q) in
+      subst P (sym r) (answered-clean m.kept next)
   answered-arrival (arrival.Clean kept) reply r next =
       let P : Reply → Type 0 =
       λ q. Answers m (changed m kept (m.arrived + 1) os m.clean) e (Ok q) in

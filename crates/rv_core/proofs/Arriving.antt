@@ -1,8 +1,8 @@
 -- Where a trace arrives: a tuple that is found violates the body, none where the list violates nothing; and what is
 -- kept then.
-use Rattle.std.proofs.Common.{◌≡◌, ℕ, zero, suc, ◌+◌, ◌<◌, Bool, List, [], ◌∷◌, ◌++◌, length, map, get_or, inl, inr, refl, sym, ap, ◌∙◌, subst, arith}
+use Rattle.std.proofs.Common.{◌≡◌, ℕ, zero, suc, ◌<◌, Bool, List, [], ◌∷◌, ◌++◌, length, inl, inr, refl, sym, ◌∙◌, subst, arith}
 use Rattle.std.specs.List.{Contains, All, slice_index_or}
-use Rattle.std.proofs.lemmas.List.{length-map, length-append}
+use Rattle.std.proofs.lemmas.List.{length-map}
 use Rattle.std.proofs.lemmas.List.Elements.{All-nil, All-cons, Contains-push, Contains-push_cases, Contains-append_left}
 use Rattle.hy_formula.specs.Quantifiers.{Each}
 use Rattle.hy_finite.specs.declared.lengths.Lengths.{Lengths}
@@ -12,7 +12,7 @@ use Rattle.fin_monitor.specs.Machines.{Machine}
 use Rattle.trace_trie.specs.Numbered.{Numbered}
 use Rattle.dominance.specs.Dominance.{IsTrace, Dominates}
 use Rattle.dominance.specs.Leaders.{IsAt}
-use Rattle.dominance.proofs.Elements.{at-push_old, at-push_new, each-from, each-append, contains-cases, contains-here}
+use Rattle.dominance.proofs.Elements.{at-push_old, at-push_new, each-append}
 use Rattle.dominance.proofs.Replacements.{Covers, over-itself, violates-kept}
 use Rattle.trie_walk.specs.Finds.{AreViolating, numbers_of, traces_of}
 use Rattle.rv_core.specs.Arrivals.{IsPassed}
@@ -121,8 +121,7 @@ module _ (rule : Lengths) (drop : Bool) (m : Machine) (list : List Trace) (t : T
                 let (x, x_in, over) = kept-covers rule drop (spec_of m) list kept is u old in
                 (x, Contains-append_left (traces_of kept) (t ∷ []) x x_in, over)
             | inr e ↦
-                let P : Trace → Type 0 = Dominates rule m.variables m.body t in
-                (
+                let P : Trace → Type 0 = Dominates rule m.variables m.body t in (
                   t,
                   Contains-push (traces_of kept) t,
                   subst P e (over-itself rule m.variables m.body t),

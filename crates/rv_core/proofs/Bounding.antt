@@ -1,5 +1,5 @@
 -- Steps of one walk within the bound of its spec, and of all within the sum.
-use Rattle.std.proofs.Common.{◌≡◌, ℕ, ◌+◌, ◌*◌, ◌<◌, ◌≤◌, Bool, false, IsTrue, List, [], ◌∷◌, ◌++◌, length, slice_get, slice_index_or, Some, take, sum, sym, ap, ◌∙◌, subst, arith}
+use Rattle.std.proofs.Common.{◌≡◌, ℕ, ◌+◌, ◌*◌, ◌<◌, ◌≤◌, Bool, false, IsTrue, List, ◌∷◌, length, slice_get, slice_index_or, Some, take, sum, arith}
 use Rattle.std.specs.List.{Contains}
 use Rattle.std.proofs.lemmas.List.Sums.{sum_by_more, sum_by-take-le}
 use Rattle.std.proofs.lemmas.Nat.{mul-le}
@@ -61,8 +61,12 @@ module _ (m : Held) (t : Trace) (bounds : List ℕ) (are : AreBounds m t bounds)
   bounds-more i lt before after within one =
       let (q, there) = machine-some m.machines i lt in
       let inside : i < length bounds = omega (arith, are.long) in
-      omega (arith, within, one q (slice_index_or bounds i 0) there (are.right i q there),
-      sum_by_more (λ x. x) bounds i 0 inside)
+      omega (
+        arith,
+        within,
+        one q (slice_index_or bounds i 0) there (are.right i q there),
+        sum_by_more (λ x. x) bounds i 0 inside,
+      )
 
   pub bounds-all : (i end : ℕ) → end ≤ start + sum (take i bounds) → end ≤ start + sum bounds
   bounds-all i end within = omega (arith, within, sum_by-take-le (λ x. x) bounds i)

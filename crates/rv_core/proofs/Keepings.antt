@@ -1,8 +1,7 @@
 -- What is kept of a list is of it, and covers it.
-use Rattle.std.proofs.Common.{◌≡◌, ◌↔◌, ℕ, zero, suc, ◌+◌, ◌<◌, Bool, true, false, not, List, [], ◌∷◌, ◌++◌, length, map, nat_eq, if◌then◌else◌, get_or, inl, inr, refl, sym, ap, ◌∙◌, subst, arith, append-nil}
-use Rattle.std.specs.List.{Contains, list_any, filter}
+use Rattle.std.proofs.Common.{◌≡◌, ℕ, ◌<◌, Bool, true, false, List, [], ◌∷◌, ◌++◌, length, if◌then◌else◌, inl, inr, refl, sym, ap, ◌∙◌, subst}
+use Rattle.std.specs.List.{Contains}
 use Rattle.std.proofs.lemmas.List.{length-map}
-use Rattle.std.proofs.lemmas.List.Elements.{Contains-push_cases}
 use Rattle.hy_formula.specs.Quantifiers.{Each}
 use Rattle.hy_finite.specs.declared.lengths.Lengths.{Lengths}
 use Rattle.hy_finite.specs.Traces.{Trace}
@@ -10,7 +9,7 @@ use Rattle.trace_trie.specs.Numbered.{Numbered}
 use Rattle.dominance.specs.Dominance.{Dominates}
 use Rattle.dominance.specs.Leaders.{IsAt, AreLeaders, numbered, items}
 use Rattle.dominance.specs.Leaders as leaders
-use Rattle.dominance.proofs.Elements.{contains-here, contains-later, contains-cases, contains-none, at-push_old, at-push_new, each-from, each-at}
+use Rattle.dominance.proofs.Elements.{contains-here, contains-later, contains-cases, contains-none, each-from}
 use Rattle.dominance.proofs.Leaderships.{kept-apart}
 use Rattle.dominance.proofs.Replacements.{over-itself, over-through}
 use Rattle.dominance.proofs.Replacements as replaced

@@ -1,5 +1,5 @@
 -- What is kept with a trace more are the leaders again.
-use Rattle.std.proofs.Common.{◌≡◌, ◌↔◌, ℕ, ◌+◌, ◌<◌, Bool, true, false, not, cond, nat_eq, List, [], ◌∷◌, ◌++◌, length, ◌⊎◌, inl, inr, refl, sym, ap, ◌∙◌, subst, arith}
+use Rattle.std.proofs.Common.{◌≡◌, ℕ, Bool, true, false, not, cond, nat_eq, List, [], ◌∷◌, ◌++◌, length, ◌⊎◌, inl, inr, refl, sym, ap, ◌∙◌, subst}
 use Rattle.std.specs.List.{Contains, list_any, filter}
 use Rattle.std.proofs.lemmas.Bool.{eq-eqb, eqb-true}
 use Rattle.hy_formula.specs.Quantifiers.{Each}
@@ -132,9 +132,9 @@ module _ (rule : Lengths) (drop : Bool) (m : Machine) (t : Trace) where
         → TestKept (Covers rule drop (spec_of m)) (members_of kept) t (λ y. false) under_test
     tests no_over = record {
       above_right = λ x c. (
-          λ e. absurd (cc),
-          λ o. absurd (each-at (λ (p : Numbered). ¬ IsOver rule drop m t p) kept (x.number, x.item)
-          no_over (member-from kept x c) o),
+        λ e. absurd (cc),
+        λ o. absurd (each-at (λ (p : Numbered). ¬ IsOver rule drop m t p) kept (x.number, x.item)
+            no_over (member-from kept x c) o),
       );
       under_right = λ x c.
           let d = member-from kept x c in

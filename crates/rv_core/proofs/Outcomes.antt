@@ -1,7 +1,7 @@
 -- What comes of a trace for one spec.
-use Rattle.std.proofs.Common.{◌≡◌, ◌↔◌, ◌≤◌, ◌+◌, ℕ, Bool, true, false, IsTrue, List, [], ◌∷◌, ◌++◌, slice_get, Some, inl, inr, refl, sym, ◌∙◌, subst, arith}
+use Rattle.std.proofs.Common.{◌≡◌, ◌↔◌, ◌≤◌, ◌<◌, ◌+◌, ℕ, zero, suc, Bool, true, false, IsTrue, List, [], ◌∷◌, ◌++◌, length, slice_get, Some, inl, inr, refl, sym, ◌∙◌, subst, arith}
 use Rattle.std.specs.List.{Contains}
-use Rattle.std.proofs.lemmas.Option.{same_Some}
+use Rattle.std.proofs.lemmas.Option.{slice_get_within, same_Some}
 use Rattle.hy_formula.specs.Quantifiers.{Each}
 use Rattle.hy_finite.specs.declared.lengths.Lengths.{Lengths}
 use Rattle.hy_finite.specs.Traces.{Trace}
@@ -12,7 +12,7 @@ use Rattle.trie_walk.specs.Finds.{AllMeet, traces_of}
 use Rattle.rv_core.specs.declared.arrival.Outcome.{Outcome}
 use Rattle.rv_core.specs.declared.arrival.Outcome.TheVariants.{Passes}
 use Rattle.rv_core.specs.declared.watch.Watch.{Watch}
-use Rattle.rv_core.specs.Arrivals.{IsPassed, IsOver, AreLeft, none, stays, IsNext, over, last, IsOutcome}
+use Rattle.rv_core.specs.Arrivals.{IsPassed, IsOver, AreLeft, none, stays, IsNext, over, last, IsOutcome, AreNext}
 use Rattle.rv_core.specs.Held.{spec_of}
 use Rattle.rv_core.specs.Keeping.{kept_at}
 use Rattle.rv_core.specs.Seen.{watched, watched_by}
@@ -105,3 +105,29 @@ module _ (rule : Lengths) (watches : List Watch) (kept : List (List Numbered)) (
       let P : Machine → Type 0 = λ q. IsSpecBound rule q (traces_of old) t bound in
       let Q : List Numbered → Type 0 = λ ps. IsSpecBound rule m (traces_of ps) t bound in
       subst P (sym same) (subst Q (kept-there kept s old is) b)
+
+-- ---- all specs
+
+-- an equal one is kept for each
+pub all-known : (rule : Lengths) (drop : Bool) (ms : List Machine) (n : ℕ) (t u : Trace)
+    (kept : List (List Numbered)) → u ≡ t → length kept ≡ length ms → Each (IsHeld u) kept
+    → AreNext rule drop ms n t kept kept
+all-known rule drop ms n t u kept same long holds = record {
+  long = long;
+  passed = λ s m there. (passes s m there).0;
+  right = λ s m there. (passes s m there).1;
+}
+  where
+    each-kept : (lists : List (List Numbered)) (s : ℕ) → s < length lists → Each (IsHeld u) lists
+        → IsHeld u (kept_at lists s)
+    each-kept [] s lt h = absurd (omega arith)
+    each-kept (list ∷ lists) zero lt h = h.0
+    each-kept (list ∷ lists) (suc s) lt h = each-kept lists s (omega arith) h.1
+
+    passes : (s : ℕ) (m : Machine) → slice_get ms s ≡ Some m
+        → IsOutcome rule drop m t n (kept_at kept s) (Passes (kept_at kept s))
+    passes s m there =
+        let P : Trace → Type 0 = λ v. IsHeld v (kept_at kept s) in
+        let lt : s < length kept = omega (arith, slice_get_within ms s m there, long) in
+        held-passes rule m n t (kept_at kept s) drop (kept_at kept s)
+        (subst P same (each-kept kept s lt holds)) refl

@@ -1,17 +1,17 @@
 -- What a monitor stands for after each change of what it holds.
-use Rattle.std.proofs.Common.{◌≡◌, ℕ, zero, suc, ◌+◌, ◌<◌, Bool, true, false, List, [], ◌∷◌, ◌++◌, length, map, slice_get, Some, Result, Ok, Err, OnOk, OnErr, refl, sym, ap, ◌∙◌, subst, arith}
+use Rattle.std.proofs.Common.{◌≡◌, ℕ, zero, suc, ◌+◌, ◌<◌, Bool, List, [], ◌∷◌, ◌++◌, length, map, slice_get, Some, Result, Ok, Err, OnOk, OnErr, refl, sym, ap, ◌∙◌, subst, arith}
 use Rattle.std.proofs.lemmas.List.{length-append, length-map}
 use Rattle.std.proofs.lemmas.Option.{slice_get_within}
 use Rattle.hy_formula.specs.Quantifiers.{Each}
 use Rattle.hy_finite.specs.declared.lengths.Lengths.{Lengths}
-use Rattle.hy_finite.specs.Traces.{Trace, Violates}
+use Rattle.hy_finite.specs.Traces.{Trace}
 use Rattle.fin_monitor.specs.Machines.{Machine}
 use Rattle.trace_trie.specs.Numbered.{Numbered}
 use Rattle.dominance.specs.Dominance.{IsTrace}
 use Rattle.dominance.proofs.Elements.{each-append}
 use Rattle.rv_core.specs.declared.saved.Saved.{Saved}
 use Rattle.rv_core.specs.Histories.{Session, Present, History, with_trace, with_sessions}
-use Rattle.rv_core.specs.Endings.{Spec, spec_at, ViolatesSpec, IsClean, IsQuiet}
+use Rattle.rv_core.specs.Endings.{Spec, spec_at, ViolatesSpec, IsClean}
 use Rattle.rv_core.specs.Opened.{Open}
 use Rattle.rv_core.specs.Keeping.{IsKept, AreKept, AreBelow, kept_at}
 use Rattle.rv_core.specs.Held.{Held, spec_of, specs_of, AreSessions, AreSaves, StandsFor, AreWithin}

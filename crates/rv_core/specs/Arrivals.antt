@@ -1,5 +1,5 @@
 -- What comes of a trace that arrives, for one spec and for all.
-use Rattle.std.specs.Prelude.{◌≡◌, ◌⊎◌, ℕ, ◌+◌, ◌<◌, Bool, true, false, List, [], ◌∷◌, ◌++◌, length, slice_get, Some}
+use Rattle.std.specs.Prelude.{◌≡◌, ◌⊎◌, ℕ, ◌+◌, ◌<◌, Bool, false, List, [], ◌∷◌, ◌++◌, length, slice_get, Some}
 use Rattle.std.specs.List.{Contains}
 use Rattle.hy_formula.specs.Quantifiers.{Each}
 use Rattle.hy_finite.specs.declared.lengths.Lengths.{Lengths}
@@ -10,7 +10,7 @@ use Rattle.trie_walk.specs.Finds.{AreViolating, AllMeet, traces_of}
 use Rattle.rv_core.specs.declared.arrival.Outcome.{Outcome}
 use Rattle.rv_core.specs.declared.arrival.Outcome.TheVariants.{Passes, Violates}
 use Rattle.rv_core.specs.declared.arrival.Arrival.{Arrival}
-use Rattle.rv_core.specs.declared.arrival.Arrival.TheVariants.{Clean, Violation}
+use Rattle.rv_core.specs.declared.arrival.Arrival.TheVariants.{Known, Clean, Violation}
 use Rattle.rv_core.specs.Held.{Held, spec_of}
 use Rattle.rv_core.specs.Keeping.{Covers, AreBelow, kept_at}
 
@@ -69,12 +69,14 @@ pub record FirstFound (rule : Lengths) (machines : List Machine) (n : ℕ) (t : 
       → IsPassed rule m t (kept_at old s)
 
 abbrev pub IsArrival : Held → Trace → Arrival → Type 0
+IsArrival m t Known = AreNext m.rule m.drop m.machines m.arrived t m.kept m.kept
 IsArrival m t (Clean kept) = AreNext m.rule m.drop m.machines m.arrived t m.kept kept
 IsArrival m t (Violation spec tuple) =
     FirstFound m.rule m.machines m.arrived t m.kept spec tuple
 
--- What is kept then has numbers below n, for so many specs.
+-- What is new to be kept has numbers below n, for so many specs.
 abbrev pub FitsArrival : ℕ → ℕ → Arrival → Type 0
+FitsArrival specs n Known = Unit {0}
 FitsArrival specs n (Clean kept) = AreBelow specs n kept
 FitsArrival specs n (Violation spec tuple) = Unit {0}
 
@@ -92,7 +94,8 @@ with_kept m kept clean =
       clean = clean;
     }
 
--- After a violation what was kept stays.
+-- Where equal ones are known what was kept stays, and after a violation too.
 abbrev pub after_arrival : Held → Arrival → Held
+after_arrival m Known = with_kept m m.kept m.clean
 after_arrival m (Clean kept) = with_kept m kept m.clean
 after_arrival m (Violation spec tuple) = with_kept m m.kept false

@@ -9,7 +9,7 @@ ghost use Rattle.rv_core.specs.Replies.{IsReplyTo};
 ghost use Rattle.rv_core.specs.Seen.{watched_by};
 ghost use Rattle.rv_core.specs.StepBounds.{IsSpecBound, AreBounds};
 
-use crate::kept::Kept;
+use crate::kept::{Kept, all_hold};
 use crate::reply::Reply;
 use crate::rv::Rv;
 use hy_base::{List, M, Steps};
@@ -31,6 +31,8 @@ pub(crate) enum Outcome {
 /// What comes of a trace for all specs.
 #[derive(Drop)]
 pub(crate) enum Arrival {
+    /// For each spec an equal trace is kept, and nothing changes.
+    Known,
     /// No spec is violated, and this is kept.
     Clean(Kept),
     /// The first spec that is violated, and by which traces.
@@ -40,7 +42,8 @@ pub(crate) enum Arrival {
 impl Rv {
     ghost use Rattle.rv_core.specs.Seen.{held};
 
-    /// What would come of the trace. It takes all memory that its arrival takes.
+    /// What would come of the trace. It takes all memory that its arrival takes: none, where an equal
+    /// one is kept for each spec.
     pub(crate) fn arrival<L: Ledger>(
         &self,
         alloc: Global,
@@ -55,6 +58,9 @@ impl Rv {
         ensures bounded { (bounds : List ℕ) → AreBounds (held self.now) trace.now bounds
             → steps.new ≤ steps.old + sum bounds }
     {
+        if all_hold(&self.kept, trace.as_slice()) {
+            return Ok(Arrival::Known);
+        }
         let mut next = List::new(alloc);
         for i in 0..self.watches.len() {
             match self.outcome(alloc, i, trace, steps)? {
@@ -112,14 +118,14 @@ impl Rv {
     /// The trace arrives.
     pub(crate) fn take_arrival(&mut self, arrival: Arrival) -> Reply
         requires few { (held self.old).arrived < 2 ^ 31 }
-        requires below {
-            FitsArrival (length self.old.watches) ((held self.old).arrived + 1) arrival }
+        requires below { FitsArrival (length self.old.watches) ((held self.old).arrived + 1) arrival }
         ensures held { held self.new ≡ after_arrival (held self.old) arrival }
         ensures reply { IsReplyTo (held self.old).arrived arrival result }
     {
         let trace = self.traces;
         self.traces = trace + 1;
         match arrival {
+            Arrival::Known => Reply::Arrived { trace },
             Arrival::Clean(kept) => {
                 self.kept = kept;
                 Reply::Arrived { trace }

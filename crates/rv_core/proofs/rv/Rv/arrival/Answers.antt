@@ -1,4 +1,4 @@
-use Rattle.std.proofs.Common.{◌≡◌, ◌∙◌, ◌+◌, ◌<◌, ◌≤◌, ◌∷◌, ◌++◌, [], ℕ, length, List, slice_get, Some, sym, subst, ap, arith, length-append}
+use Rattle.std.proofs.Common.{◌≡◌, ◌∙◌, ◌+◌, ◌<◌, ◌∷◌, [], ℕ, length, List, slice_get, Some, sym, subst, ap, arith, length-append}
 use Rattle.std.proofs.lemmas.List.{length-map}
 use Rattle.std.proofs.lemmas.Option.{slice_get_within}
 use Rattle.fin_monitor.specs.Machines.{Machine}
@@ -9,8 +9,16 @@ use Rattle.rv_core.specs.Keeping.{kept_at}
 use Rattle.rv_core.specs.Seen.{watched, watched_by, held}
 use Rattle.rv_core.proofs.Below.{machine-some, next-below}
 use Rattle.rv_core.proofs.Bounding.{bounds-more, bounds-all}
+use Rattle.rv_core.proofs.Outcomes.{all-known}
 use Rattle.rv_core.proofs.Seeing.{more-there, next-more}
 use Rattle.rv_core.proofs.rv.Rv.arrival.Goals as goal
+
+pub returns-then-all_hold-clause-arrival : goal.returns-then-all_hold-clause-arrival
+returns-then-all_hold-clause-arrival g c =
+    let rv = c.args.self.now in
+    all-known rv.rule rv.drop_dominated (watched_by rv.watches) rv.traces c.args.trace.now
+    c.as_slice.result.now rv.kept c.as_slice.ensures
+    (rv.below.0 ∙ sym (length-map rv.watches watched)) (c.all_hold.ensures.0 c.if-all_hold.true)
 
 pub loop-i-init : goal.loop-i-init
 loop-i-init g c =
@@ -136,8 +144,7 @@ returns-clause-below g c =
       right = λ s m at.
           let within = slice_get_within ms s m at in
           c.loop-i.invariant.right s m (omega arith) at;
-    } in
-    (
+    } in (
       c.loop-i.invariant.long ∙ end ∙ long,
       next-below rv.rule rv.drop_dominated ms rv.traces c.args.trace.now rv.kept c.loop-i.next next
           rv.below.1,

@@ -1,4 +1,4 @@
-use Rattle.std.proofs.Common.{◌≡◌, ◌≤◌, ◌<◌, ◌∷◌, ◌++◌, [], ℕ, List, Bool, sym, ap, ◌∙◌, subst}
+use Rattle.std.proofs.Common.{◌<◌, List, Bool, sym, subst}
 use Rattle.std.specs.List.{Contains}
 use Rattle.std.proofs.lemmas.List.Elements.{Contains-push}
 use Rattle.hy_formula.specs.Quantifiers.{Each}

@@ -1,12 +1,11 @@
-use Rattle.std.proofs.Common.{◌≡◌, ◌<◌, ◌≤◌, ◌∷◌, ◌++◌, [], ℕ, Bool, true, false, ◌+◌, List, length, ap, sym, ◌∙◌, subst, arith}
-use Rattle.std.specs.Result.{IfOk}
+use Rattle.std.proofs.Common.{◌≡◌, ◌<◌, true, false, ◌+◌, List, length, ap, sym, ◌∙◌, subst, arith}
 use Rattle.hy_formula.specs.Quantifiers.{Each}
-use Rattle.trace_trie.specs.Numbered.{Numbered, rest_from, without_number}
+use Rattle.trace_trie.specs.Numbered.{Numbered}
 use Rattle.dominance.proofs.Elements.{each-at, each-filter}
-use Rattle.rv_core.specs.Arrivals.{IsOver, IsUnder, IsNext, over}
+use Rattle.rv_core.specs.Arrivals.{IsOver, IsUnder, over}
 use Rattle.rv_core.specs.Seen.{watched}
 use Rattle.rv_core.proofs.Places.{ok-more}
-use Rattle.rv_core.proofs.Sifting.{IsSifted, rest-head, rest-next, rest-contains, sifted-start, sifted-stays, sifted-dropped, sifted-end}
+use Rattle.rv_core.proofs.Sifting.{IsSifted, rest-next, rest-contains, sifted-start, sifted-stays, sifted-dropped, sifted-end}
 use Rattle.rv_core.proofs.watch.Watch.leaders.Goals as goal
 use Rattle.rv_core.proofs.watch.Watch.leaders.Goals.{then-branch-2+in_ok-left-2, else-branch-2}
 

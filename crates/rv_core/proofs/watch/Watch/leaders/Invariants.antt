@@ -1,4 +1,4 @@
-use Rattle.std.proofs.Common.{ℕ, ◌<◌, true, length}
+use Rattle.std.proofs.Common.{◌<◌, true, length}
 use Rattle.hy_formula.specs.Quantifiers.{Each}
 use Rattle.trace_trie.specs.Numbered.{Numbered, rest_from}
 use Rattle.rv_core.specs.Seen.{watched}
