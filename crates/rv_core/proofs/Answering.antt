@@ -1,5 +1,5 @@
 -- The answer to each event is right for each history that the monitor stands for.
-use Rattle.std.proofs.Common.{◌≡◌, ℕ, ◌+◌, ◌<◌, ◌≤◌, Bool, true, false, List, [], ◌∷◌, ◌++◌, length, reverse, Option, Some, None, Ok, Err, is_some, not, nat_eq, refl, sym, ap, ◌∙◌, subst, arith}
+use Rattle.std.proofs.Common.{◌≡◌, ℕ, ◌+◌, ◌<◌, ◌≤◌, Bool, true, false, List, [], ◌∷◌, ◌++◌, length, reverse, Some, None, Ok, Err, not, nat_eq, refl, sym, ap, ◌∙◌, subst, arith}
 use Rattle.std.proofs.lemmas.Bool.{eqb-true}
 use Rattle.std.proofs.lemmas.List.{reverse-append}
 use Rattle.hy_base.specs.declared.limit.Kind.TheVariants as kind
@@ -14,11 +14,12 @@ use Rattle.rv_core.specs.declared.reply.Reply.TheVariants.{Quiet, Arrived, Viola
 use Rattle.rv_core.specs.declared.rv_error.RvError.{RvError}
 use Rattle.rv_core.specs.declared.rv_error.RvError.TheVariants as error
 use Rattle.rv_core.specs.declared.saved.Saved.{Saved}
-use Rattle.rv_core.specs.declared.kept.Found.{Found}
+use Rattle.rv_core.specs.declared.arrival.Arrival.{Arrival}
+use Rattle.rv_core.specs.declared.arrival.Arrival.TheVariants as arrival
 use Rattle.rv_core.specs.Histories.{Session, History, too_long, too_many_sessions, too_many_saves, no_session, no_save, extended, closed, with_trace, goes, step, arrives, back_step}
 use Rattle.rv_core.specs.Opened.{Open, letters_in, Extends, longer, opened, IsNotTaken, Closes}
 use Rattle.rv_core.specs.Held.{Held, specs_of, AreSessions, StandsFor}
-use Rattle.rv_core.specs.Arrivals.{with_last, ArePassed, Gains, FirstFound, IsArrival}
+use Rattle.rv_core.specs.Arrivals.{AreNext, FirstFound, IsArrival, after_arrival}
 use Rattle.rv_core.specs.Replies.{takes_memory, IsAnswer, quiet, arrived, violated, refused_by, spent, Answers, IsAsBefore, IsReplyTo}
 use Rattle.rv_core.proofs.SessionLists.{sessions-extended, sessions-closed}
 use Rattle.rv_core.proofs.Stepping.{goes-longer, goes-opened, refused-long, refused-many, goes-end, refused-end, goes-save, refused-save}
@@ -91,25 +92,25 @@ end-brings m n word os known closes h s = (
 )
 
 module _ (m : Held) (e : Event) (t : Trace) (os : Open) (brings : Brings m e t os)
-    (is : arrives e ≡ true) (more : IsTrace t) (kept : List (List Numbered)) where
-  answered-clean : ArePassed m.rule m.machines (with_last m.arrived t m.kept) t
-      → Gains m.rule m.drop m.machines m.arrived t m.kept kept
-      → Answers m (changed m kept (m.arrived + 1) os true) e (Ok (Arrived m.arrived))
-  answered-clean passed gains = record {
+    (is : arrives e ≡ true) (more : IsTrace t) where
+  answered-clean : (kept : List (List Numbered))
+      → AreNext m.rule m.drop m.machines m.arrived t m.kept kept
+      → Answers m (changed m kept (m.arrived + 1) os m.clean) e (Ok (Arrived m.arrived))
+  answered-clean kept next = record {
     rule = refl;
     specs = refl;
     right = λ h s.
         let (ss, goes-on, sessions) = brings h s in
         let P : ℕ → Type 0 =
-        λ n. IsAnswer m (changed m kept (m.arrived + 1) os true) e h (Ok (Arrived n)) in
+        λ n. IsAnswer m (changed m kept (m.arrived + 1) os m.clean) e h (Ok (Arrived n)) in
         subst P (sym s.count)
         (arrived (with_trace h t ss) goes-on is
-        (arrival-stands m kept os h t ss s more passed gains sessions));
+        (arrival-stands m kept os h t ss s more next sessions));
   }
 
   answered-violated : (k : ℕ) (tuple : List ℕ)
-      → FirstFound m.rule m.machines (with_last m.arrived t m.kept) t k tuple
-      → Answers m (changed m kept (m.arrived + 1) os false) e (Ok (Violation k m.arrived tuple))
+      → FirstFound m.rule m.machines m.arrived t m.kept k tuple
+      → Answers m (changed m m.kept (m.arrived + 1) os false) e (Ok (Violation k m.arrived tuple))
   answered-violated k tuple found = record {
     rule = refl;
     specs = refl;
@@ -119,15 +120,21 @@ module _ (m : Held) (e : Event) (t : Trace) (os : Open) (brings : Brings m e t o
         (arrival-found m h t k tuple s more found) refl;
   }
 
-  pub answered-arrival : (found : Option Found) (reply : Reply) → IsReplyTo m.arrived found reply
-      → IsArrival m t kept found
-      → Answers m (changed m kept (m.arrived + 1) os (not (is_some found))) e (Ok reply)
-  answered-arrival None reply r (passed, gains) =
-      let P : Reply → Type 0 = λ q. Answers m (changed m kept (m.arrived + 1) os true) e (Ok q) in
-      subst P (sym r) (answered-clean passed gains)
-  answered-arrival (Some f) reply r first =
-      let P : Reply → Type 0 = λ q. Answers m (changed m kept (m.arrived + 1) os false) e (Ok q) in
-      subst P (sym r) (answered-violated f.spec f.tuple first)
+  pub answered-arrival : (a : Arrival) (reply : Reply) → IsReplyTo m.arrived a reply
+      → IsArrival m t a
+      → Answers m (after_arrival (changed m m.kept m.arrived os m.clean) a) e (Ok reply)
+  answered-arrival arrival.Known reply r next =
+      let P : Reply → Type 0 =
+      λ q. Answers m (changed m m.kept (m.arrived + 1) os m.clean) e (Ok q) in
+      subst P (sym r) (answered-clean m.kept next)
+  answered-arrival (arrival.Clean kept) reply r next =
+      let P : Reply → Type 0 =
+      λ q. Answers m (changed m kept (m.arrived + 1) os m.clean) e (Ok q) in
+      subst P (sym r) (answered-clean kept next)
+  answered-arrival (arrival.Violation k tuple) reply r first =
+      let P : Reply → Type 0 =
+      λ q. Answers m (changed m m.kept (m.arrived + 1) os false) e (Ok q) in
+      subst P (sym r) (answered-violated k tuple first)
 
 pub same-before : (m : Held) → IsAsBefore m m
 same-before m =

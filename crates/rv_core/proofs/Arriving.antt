@@ -1,8 +1,8 @@
 -- Where a trace arrives: a tuple that is found violates the body, none where the list violates nothing; and what is
 -- kept then.
-use Rattle.std.proofs.Common.{◌≡◌, ℕ, zero, suc, ◌+◌, ◌<◌, Bool, List, [], ◌∷◌, ◌++◌, length, map, get_or, inl, inr, refl, sym, ap, ◌∙◌, subst, arith}
+use Rattle.std.proofs.Common.{◌≡◌, ℕ, zero, suc, ◌<◌, Bool, List, [], ◌∷◌, ◌++◌, length, inl, inr, refl, sym, ◌∙◌, subst, arith}
 use Rattle.std.specs.List.{Contains, All, slice_index_or}
-use Rattle.std.proofs.lemmas.List.{length-map, length-append}
+use Rattle.std.proofs.lemmas.List.{length-map}
 use Rattle.std.proofs.lemmas.List.Elements.{All-nil, All-cons, Contains-push, Contains-push_cases, Contains-append_left}
 use Rattle.hy_formula.specs.Quantifiers.{Each}
 use Rattle.hy_finite.specs.declared.lengths.Lengths.{Lengths}
@@ -12,13 +12,14 @@ use Rattle.fin_monitor.specs.Machines.{Machine}
 use Rattle.trace_trie.specs.Numbered.{Numbered}
 use Rattle.dominance.specs.Dominance.{IsTrace, Dominates}
 use Rattle.dominance.specs.Leaders.{IsAt}
-use Rattle.dominance.proofs.Elements.{at-push_old, at-push_new, each-from, each-append, contains-cases, contains-here}
+use Rattle.dominance.proofs.Elements.{at-push_old, at-push_new, each-append}
 use Rattle.dominance.proofs.Replacements.{Covers, over-itself, violates-kept}
-use Rattle.trie_walk.specs.Finds.{AreViolating, AllMeet, numbers_of, traces_of}
+use Rattle.trie_walk.specs.Finds.{AreViolating, numbers_of, traces_of}
+use Rattle.rv_core.specs.Arrivals.{IsPassed}
 use Rattle.rv_core.specs.Held.{spec_of}
 use Rattle.rv_core.specs.Keeping.{IsKept}
 use Rattle.rv_core.specs.Replies.{IsViolatedBy}
-use Rattle.rv_core.proofs.Keepings.{traces-push, kept-at, kept-among, kept-covers}
+use Rattle.rv_core.proofs.Keepings.{kept-at, kept-among, kept-covers}
 
 at-default : (list : List Trace) (k : ℕ) (x d : Trace) → IsAt list k x
     → slice_index_or list k d ≡ x
@@ -87,45 +88,59 @@ module _ (rule : Lengths) (drop : Bool) (m : Machine) (list : List Trace) (t : T
         );
       })
 
-  module _ (some : Each IsTrace list) (more : IsTrace t)
-      (clean : ¬ Violates rule m.variables m.body list) where
-    more-among : Each (Contains (list ++ t ∷ [])) (traces_of kept ++ t ∷ [])
-    more-among =
-        by (traces_of kept) (kept-among rule drop (spec_of m) list kept is)
+  module _ (clean : ¬ Violates rule m.variables m.body list) where
+    -- the list violates what it did before a trace that it has
+    again : Contains list t → ¬ Violates rule m.variables m.body (list ++ t ∷ [])
+    again has (tuple, (is, fails)) =
+        clean (tuple, (record { count = is.count; members = by tuple is.members }, fails))
       where
-        by : (us : List Trace) → Each (Contains list) us
-            → Each (Contains (list ++ t ∷ [])) (us ++ t ∷ [])
-        by [] e = (Contains-push list t, tt)
-        by (u ∷ us) (here, e) = (Contains-append_left list (t ∷ []) u here, by us e)
+        by : (us : List Trace) → Each (Contains (list ++ t ∷ [])) us → Each (Contains list) us
+        by [] e = tt
+        by (u ∷ us) (here, e) = (
+          elim (Contains-push_cases list t u here) [
+            | inl old ↦ old
+            | inr same ↦ let P : Trace → Type 0 = Contains list in subst P same has
+          ],
+          by us e,
+        )
 
-    more-covers : Covers rule m.variables m.body (traces_of kept ++ t ∷ []) (list ++ t ∷ [])
-    more-covers u c =
-        elim (Contains-push_cases list t u c) [
-          | inl old ↦
-              let (x, x_in, over) = kept-covers rule drop (spec_of m) list kept is u old in
-              (x, Contains-append_left (traces_of kept) (t ∷ []) x x_in, over)
-          | inr e ↦
-              let P : Trace → Type 0 = Dominates rule m.variables m.body t in
-              (
-                t,
-                Contains-push (traces_of kept) t,
-                subst P e (over-itself rule m.variables m.body t),
-              )
-        ]
+    module _ (some : Each IsTrace list) (more : IsTrace t) where
+      more-among : Each (Contains (list ++ t ∷ [])) (traces_of kept ++ t ∷ [])
+      more-among =
+          by (traces_of kept) (kept-among rule drop (spec_of m) list kept is)
+        where
+          by : (us : List Trace) → Each (Contains list) us
+              → Each (Contains (list ++ t ∷ [])) (us ++ t ∷ [])
+          by [] e = (Contains-push list t, tt)
+          by (u ∷ us) (here, e) = (Contains-append_left list (t ∷ []) u here, by us e)
 
-    kept-clean : ¬ Violates rule m.variables m.body (traces_of kept)
-    kept-clean v =
-        clean ((violates-kept rule m.variables m.body (traces_of kept) list some
-        (kept-among rule drop (spec_of m) list kept is)
-        (kept-covers rule drop (spec_of m) list kept is)).1 v)
+      more-covers : Covers rule m.variables m.body (traces_of kept ++ t ∷ []) (list ++ t ∷ [])
+      more-covers u c =
+          elim (Contains-push_cases list t u c) [
+            | inl old ↦
+                let (x, x_in, over) = kept-covers rule drop (spec_of m) list kept is u old in
+                (x, Contains-append_left (traces_of kept) (t ∷ []) x x_in, over)
+            | inr e ↦
+                let P : Trace → Type 0 = Dominates rule m.variables m.body t in (
+                  t,
+                  Contains-push (traces_of kept) t,
+                  subst P e (over-itself rule m.variables m.body t),
+                )
+          ]
 
-    pub stays-clean : AllMeet m rule (traces_of (kept ++ (length list, t) ∷ [])) t
-        → ¬ Violates rule m.variables m.body (list ++ t ∷ [])
-    stays-clean meet v =
-        let all = each-append IsTrace list (t ∷ []) some (more, tt) in
-        let (tuple, by) =
-        (violates-kept rule m.variables m.body (traces_of kept ++ t ∷ []) (list ++ t ∷ []) all
-        more-among more-covers).0 v in
-        let has = arriving rule m.variables m.body (traces_of kept) t kept-clean tuple by in
-        let P : List Trace → Type 0 = λ us. AllMeet m rule us t in
-        by.1 (subst P (traces-push kept (length list, t)) meet tuple by.0 has)
+      kept-clean : ¬ Violates rule m.variables m.body (traces_of kept)
+      kept-clean v =
+          clean ((violates-kept rule m.variables m.body (traces_of kept) list some
+          (kept-among rule drop (spec_of m) list kept is)
+          (kept-covers rule drop (spec_of m) list kept is)).1 v)
+
+      pub stays-clean : IsPassed rule m t kept → ¬ Violates rule m.variables m.body (list ++ t ∷ [])
+      stays-clean (inl (n, c)) v =
+          let (lt, at) = kept-at rule drop (spec_of m) list kept is (n, t) c in again (n, lt, at) v
+      stays-clean (inr meet) v =
+          let all = each-append IsTrace list (t ∷ []) some (more, tt) in
+          let (tuple, by) =
+          (violates-kept rule m.variables m.body (traces_of kept ++ t ∷ []) (list ++ t ∷ []) all
+          more-among more-covers).0 v in
+          let has = arriving rule m.variables m.body (traces_of kept) t kept-clean tuple by in
+          by.1 (meet tuple by.0 has)

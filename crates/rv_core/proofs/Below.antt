@@ -1,8 +1,5 @@
 -- What is kept with a trace more has numbers below the next one.
-use Rattle.std.proofs.Common.{◌≡◌, ℕ, zero, suc, ◌+◌, ◌<◌, List, [], ◌∷◌, ◌++◌, length, slice_get, Some, Option, None, Bool, true, false, not, is_some, ◌⊎◌, inl, inr, refl, sym, ap, ◌∙◌, subst, arith}
-use Rattle.std.specs.List.{Contains}
-use Rattle.std.proofs.lemmas.List.{length-map}
-use Rattle.std.proofs.lemmas.List.Elements.{Contains-push}
+use Rattle.std.proofs.Common.{◌≡◌, ℕ, zero, suc, ◌+◌, ◌<◌, List, [], ◌∷◌, ◌++◌, length, slice_get, Some, Bool, refl, sym, subst, arith}
 use Rattle.std.proofs.lemmas.Option.{slice_get_within}
 use Rattle.hy_formula.specs.Quantifiers.{Each}
 use Rattle.hy_finite.specs.declared.lengths.Lengths.{Lengths}
@@ -10,9 +7,7 @@ use Rattle.hy_finite.specs.Traces.{Trace}
 use Rattle.fin_monitor.specs.Machines.{Machine}
 use Rattle.trace_trie.specs.Numbered.{Numbered}
 use Rattle.dominance.proofs.Elements.{each-append}
-use Rattle.rv_core.specs.declared.kept.Found.{Found}
-use Rattle.rv_core.specs.Arrivals.{with_last, AreNext, IsNext, over, last, Gains, IsSearch, IsArrival}
-use Rattle.rv_core.specs.Held.{Held}
+use Rattle.rv_core.specs.Arrivals.{AreNext, IsNext, over, last}
 use Rattle.rv_core.specs.Keeping.{AreBelow, kept_at}
 use Rattle.rv_core.proofs.Places.{each-more, each-from}
 use Rattle.rv_core.proofs.Seeing.{kept-there}
@@ -32,68 +27,41 @@ below-push n t list e =
     each-append (λ (p : Numbered). p.0 < n + 1) list ((n, t) ∷ []) (below-more n list e)
     (omega arith, tt)
 
--- each has the trace last
-pub last-there : (n : ℕ) (t : Trace) (kept : List (List Numbered))
-    → Each (λ (list : List Numbered). Contains list (n, t)) (with_last n t kept)
-last-there n t [] = tt
-last-there n t (list ∷ lists) = (Contains-push list (n, t), last-there n t lists)
-
-pub last-below : (specs n : ℕ) (t : Trace) (kept : List (List Numbered)) → AreBelow specs n kept
-    → AreBelow specs (n + 1) (with_last n t kept)
-last-below specs n t kept (long, below) =
-    (length-map kept (λ (ps : List Numbered). ps ++ (n, t) ∷ []) ∙ long, by kept below)
-  where
-    by : (lists : List (List Numbered)) → Each (Below n) lists
-        → Each (Below (n + 1)) (with_last n t lists)
-    by [] e = tt
-    by (list ∷ lists) (here, e) = (below-push n t list here, by lists e)
-
 below-at : (n : ℕ) (kept : List (List Numbered)) (s : ℕ) → Each (Below n) kept
     → Below n (kept_at kept s)
 below-at n [] s e = tt
 below-at n (list ∷ lists) zero e = e.0
 below-at n (list ∷ lists) (suc s) e = below-at n lists s e.1
 
-one-below : (rule : Lengths) (m : Machine) (t : Trace) (n : ℕ) (old new : List Numbered)
-    → IsNext rule m t n old new → Below n old → Below (n + 1) new
-one-below rule m t n old new (over p c o e) below =
+one-below : (rule : Lengths) (drop : Bool) (m : Machine) (t : Trace) (n : ℕ)
+    (old new : List Numbered) → IsNext rule drop m t n old new → Below n old → Below (n + 1) new
+one-below rule drop m t n old new (over p c o e) below =
     let P : List Numbered → Type 0 = Below (n + 1) in subst P (sym e) (below-more n old below)
-one-below rule m t n old new (last left no_over are e) below =
+one-below rule drop m t n old new (last left no_over are e) below =
     let P : List Numbered → Type 0 = Below (n + 1) in
     subst P (sym e)
-    (below-push n t left (left-each rule m t (λ (p : Numbered). p.0 < n) old left are below))
+    (below-push n t left (left-each rule drop m t (λ (p : Numbered). p.0 < n) old left are below))
 
-machine-some : (ms : List Machine) (s : ℕ) → s < length ms
+pub machine-some : (ms : List Machine) (s : ℕ) → s < length ms
     → (m : Machine) × (slice_get ms s ≡ Some m)
 machine-some [] s lt = absurd (omega arith)
 machine-some (m ∷ ms) zero lt = (m, refl)
 machine-some (m ∷ ms) (suc s) lt = machine-some ms s (omega arith)
 
-pub next-below : (rule : Lengths) (ms : List Machine) (n : ℕ) (t : Trace)
-    (old new : List (List Numbered)) → AreNext rule ms n t old new → Each (Below n) old
+pub next-below : (rule : Lengths) (drop : Bool) (ms : List Machine) (n : ℕ) (t : Trace)
+    (old new : List (List Numbered)) → AreNext rule drop ms n t old new → Each (Below n) old
     → Each (Below (n + 1)) new
-next-below rule ms n t old new next below =
+next-below rule drop ms n t old new next below =
     each-from (Below (n + 1)) new (λ s list at.
     let within = slice_get_within new s list at in
     let (m, there) = machine-some ms s (omega (arith, within, next.long)) in
     let P : List Numbered → Type 0 = Below (n + 1) in
     subst P (kept-there new s list at)
-    (one-below rule m t n (kept_at old s) (kept_at new s) (next.right s m there)
+    (one-below rule drop m t n (kept_at old s) (kept_at new s) (next.right s m there)
     (below-at n old s below)))
 
--- what comes of an arrival after which all is kept
-pub arrival-all : (m : Held) (t : Trace) (kept : List (List Numbered)) (found : Option Found)
-    → kept ≡ with_last m.arrived t m.kept → IsSearch m.rule m.machines kept t found
-    → (is_some found ≡ true) ⊎ (m.drop ≡ false) → IsArrival m t kept found
-arrival-all m t kept (Some f) e search why =
-    let P : List (List Numbered) → Type 0 =
-    λ ks. IsSearch m.rule m.machines ks t (Some f) in subst P e search
-arrival-all m t kept None e search (inl some) = absurd (cc)
-arrival-all m t kept None e search (inr all) =
-    let P : List (List Numbered) → Type 0 = λ ks. IsSearch m.rule m.machines ks t None in
-    let Q : Bool → Type 0 = λ b. Gains m.rule b m.machines m.arrived t m.kept kept in
-    (subst P e search, subst Q (sym all) e)
-
-pub not-not : (b : Bool) → not b ≡ true → b ≡ false
-not-not true e = absurd (cc)
-not-not false e = refl
+-- numbers below one that grows
+pub all-below : (specs n : ℕ) (kept : List (List Numbered)) → AreBelow specs n kept
+    → AreBelow specs (n + 1) kept
+all-below specs n kept (long, below) =
+    (long, each-more (Below n) (Below (n + 1)) kept (below-more n) below)

@@ -1,14 +1,19 @@
--- Steps of one search within the bound of its spec, and of all within the sum.
-use Rattle.std.proofs.Common.{◌≡◌, ℕ, ◌+◌, ◌*◌, ◌≤◌, Bool, false, IsTrue, List, [], ◌∷◌, ◌++◌, length, slice_get, slice_index_or, Some, take, sum, sym, ap, ◌∙◌, subst, arith}
+-- Steps of one walk within the bound of its spec, and of all within the sum.
+use Rattle.std.proofs.Common.{◌≡◌, ℕ, ◌+◌, ◌*◌, ◌<◌, ◌≤◌, Bool, false, IsTrue, List, ◌∷◌, length, slice_get, slice_index_or, Some, take, sum, arith}
 use Rattle.std.specs.List.{Contains}
+use Rattle.std.proofs.lemmas.List.Sums.{sum_by_more, sum_by-take-le}
 use Rattle.std.proofs.lemmas.Nat.{mul-le}
 use Rattle.hy_finite.specs.declared.lengths.Lengths.{Lengths}
 use Rattle.hy_finite.specs.Traces.{Trace}
 use Rattle.fin_monitor.specs.Machines.{Machine}
 use Rattle.dominance.proofs.Elements.{contains-here}
 use Rattle.trie_walk.specs.JointPrefixes.{Row, IsJointPrefix, IsFirstPrefix}
-use Rattle.rv_core.specs.StepBounds.{IsBound, by_joint, by_first}
+use Rattle.trie_walk.specs.Finds.{traces_of}
+use Rattle.rv_core.specs.Held.{Held}
+use Rattle.rv_core.specs.Keeping.{kept_at}
+use Rattle.rv_core.specs.StepBounds.{IsBound, by_joint, by_first, IsSpecBound, AreBounds}
 use Rattle.rv_core.specs.Watched.{IsExact}
+use Rattle.rv_core.proofs.Below.{machine-some}
 
 -- a first joint prefix is a joint one
 joint-of : (rule : Lengths) (list : List Trace) (t : Trace) (n : ℕ) (rows : List Row)
@@ -44,3 +49,24 @@ joint-bound said rule m list t old new e exact joint bound (by_joint prefixes al
     joint prefixes all
 joint-bound said rule m list t old new e exact joint bound (by_first prefixes same all) =
     let f : IsTrue said = exact rule same in absurd (cc)
+
+-- ---- specs one after another
+
+module _ (m : Held) (t : Trace) (bounds : List ℕ) (are : AreBounds m t bounds) (start : ℕ) where
+  pub bounds-more : (i : ℕ) → i < length m.machines → (before after : ℕ)
+      → before ≤ start + sum (take i bounds)
+      → ((q : Machine) (bound : ℕ) → slice_get m.machines i ≡ Some q
+      → IsSpecBound m.rule q (traces_of (kept_at m.kept i)) t bound → after ≤ before + bound)
+      → after ≤ start + sum (take (i + 1) bounds)
+  bounds-more i lt before after within one =
+      let (q, there) = machine-some m.machines i lt in
+      let inside : i < length bounds = omega (arith, are.long) in
+      omega (
+        arith,
+        within,
+        one q (slice_index_or bounds i 0) there (are.right i q there),
+        sum_by_more (λ x. x) bounds i 0 inside,
+      )
+
+  pub bounds-all : (i end : ℕ) → end ≤ start + sum (take i bounds) → end ≤ start + sum bounds
+  bounds-all i end within = omega (arith, within, sum_by-take-le (λ x. x) bounds i)

@@ -1,5 +1,5 @@
 -- Formulas one after another, and their watches before all events.
-use Rattle.std.proofs.Common.{◌≡◌, ℕ, zero, suc, ◌<◌, ◌≤◌, Bool, true, false, List, [], ◌∷◌, ◌++◌, length, map, replicate, Option, Some, None, inl, inr, refl, sym, ◌∙◌, subst, arith}
+use Rattle.std.proofs.Common.{◌≡◌, ℕ, zero, suc, ◌<◌, ◌≤◌, Bool, true, List, [], ◌∷◌, ◌++◌, length, map, replicate, Option, Some, None, inl, inr, refl, sym, ◌∙◌, subst, arith}
 use Rattle.std.proofs.lemmas.List.{length-map, length-replicate}
 use Rattle.hy_base.specs.declared.limit.Kind.{Kind}
 use Rattle.hy_base.specs.declared.limit.Kind.TheVariants as kind
@@ -13,16 +13,15 @@ use Rattle.fin_monitor.specs.declared.monitor_error.MonitorError.TheVariants as 
 use Rattle.fin_monitor.specs.Limits.{HasLargeClosure, HasSmallClosure, HasManyAtoms, HasFewAtoms, HasLargeTable, IsTaken, IsRefusal}
 use Rattle.fin_monitor.specs.Machines.{Machine}
 use Rattle.trace_trie.specs.Numbered.{Numbered}
-use Rattle.dominance.specs.Dominance.{Dominates}
 use Rattle.dominance.proofs.Leaderships.{none-kept}
-use Rattle.dominance.proofs.Replacements.{over-itself, over-through}
 use Rattle.rv_core.specs.Endings.{Spec, spec_at, IsClean}
 use Rattle.rv_core.specs.Histories.{empty_history}
 use Rattle.rv_core.specs.declared.saved.Saved.{Saved}
 use Rattle.rv_core.specs.Opened.{Open}
 use Rattle.rv_core.specs.Held.{Held, spec_of, StandsFor}
-use Rattle.rv_core.specs.Keeping.{IsKept, AreKept, AreBelow, kept_at}
+use Rattle.rv_core.specs.Keeping.{Covers, IsKept, AreKept, AreBelow, kept_at}
 use Rattle.rv_core.specs.Built.{spec_of_formula, SomeBody, EachBody, IsCause, earlier, IsFresh, AreFresh}
+use Rattle.rv_core.proofs.Keepings.{covers-itself, covers-through}
 use Rattle.rv_core.proofs.Places.{each-push, each-more}
 
 module _ (P : Tree → Type 0) where
@@ -129,9 +128,8 @@ none-at (suc n) zero = refl
 none-at (suc n) (suc s) = none-at n s
 
 none-is_kept : (rule : Lengths) (drop : Bool) (spec : Spec) → IsKept rule drop spec [] []
-none-is_kept rule false spec = refl
-none-is_kept rule true spec = none-kept (Dominates rule spec.variables spec.body)
-    (over-itself rule spec.variables spec.body) (over-through rule spec.variables spec.body)
+none-is_kept rule drop spec =
+    none-kept (Covers rule drop spec) (covers-itself rule drop spec) (covers-through rule drop spec)
 
 none-are_kept : (rule : Lengths) (drop : Bool) (ms : List Machine)
     → AreKept rule drop (map spec_of ms) [] (replicate (length ms) [])

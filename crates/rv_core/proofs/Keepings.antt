@@ -1,8 +1,7 @@
--- What is kept of a list is of it, and covers it; and what is kept with a trace more.
-use Rattle.std.proofs.Common.{◌≡◌, ◌↔◌, ℕ, zero, suc, ◌+◌, ◌<◌, Bool, true, false, not, List, [], ◌∷◌, ◌++◌, length, map, nat_eq, if◌then◌else◌, get_or, inl, inr, refl, sym, ap, ◌∙◌, subst, arith, append-nil}
-use Rattle.std.specs.List.{Contains, list_any, filter}
+-- What is kept of a list is of it, and covers it.
+use Rattle.std.proofs.Common.{◌≡◌, ℕ, ◌<◌, Bool, true, false, List, [], ◌∷◌, ◌++◌, length, if◌then◌else◌, inl, inr, refl, sym, ap, ◌∙◌, subst}
+use Rattle.std.specs.List.{Contains}
 use Rattle.std.proofs.lemmas.List.{length-map}
-use Rattle.std.proofs.lemmas.List.Elements.{Contains-push_cases}
 use Rattle.hy_formula.specs.Quantifiers.{Each}
 use Rattle.hy_finite.specs.declared.lengths.Lengths.{Lengths}
 use Rattle.hy_finite.specs.Traces.{Trace}
@@ -10,13 +9,15 @@ use Rattle.trace_trie.specs.Numbered.{Numbered}
 use Rattle.dominance.specs.Dominance.{Dominates}
 use Rattle.dominance.specs.Leaders.{IsAt, AreLeaders, numbered, items}
 use Rattle.dominance.specs.Leaders as leaders
-use Rattle.dominance.proofs.Elements.{contains-here, contains-later, contains-cases, contains-none, at-push_old, at-push_new, each-from, each-at}
-use Rattle.dominance.proofs.Replacements.{Covers, over-itself, leaders-cover, trace-apart}
+use Rattle.dominance.proofs.Elements.{contains-here, contains-later, contains-cases, contains-none, each-from}
+use Rattle.dominance.proofs.Leaderships.{kept-apart}
+use Rattle.dominance.proofs.Replacements.{over-itself, over-through}
+use Rattle.dominance.proofs.Replacements as replaced
 use Rattle.trie_walk.specs.Finds.{traces_of}
 use Rattle.rv_core.specs.Endings.{Spec, spec_at}
 use Rattle.rv_core.specs.Held.{Held, specs_of, StandsFor, kept_count}
 use Rattle.rv_core.specs.Histories.{History}
-use Rattle.rv_core.specs.Keeping.{numbered_from, members_of, IsKept, IsKeptCount, kept_at}
+use Rattle.rv_core.specs.Keeping.{Covers, members_of, IsKept, IsKeptCount, kept_at}
 
 -- ---- pairs and their traces
 
@@ -24,10 +25,6 @@ pub traces-push : (kept : List Numbered) (p : Numbered)
     → traces_of (kept ++ p ∷ []) ≡ traces_of kept ++ p.1 ∷ []
 traces-push [] p = refl
 traces-push (q ∷ qs) p = ap (λ ts. q.1 ∷ ts) (traces-push qs p)
-
-pub items-members : (kept : List Numbered) → items (members_of kept) ≡ traces_of kept
-items-members [] = refl
-items-members (p ∷ ps) = ap (λ ts. p.1 ∷ ts) (items-members ps)
 
 pub traces-from : (kept : List Numbered) (t : Trace) → Contains (traces_of kept) t
     → (n : ℕ) × Contains kept (n, t)
@@ -77,69 +74,46 @@ member-from (q ∷ qs) x c =
       | inr later ↦ contains-later q (x.number, x.item) qs (member-from qs x later)
     ]
 
--- ---- all traces
+-- ---- what covers a trace
 
-pub all-more : (k : ℕ) (list : List Trace) (t : Trace)
-    → numbered_from k (list ++ t ∷ []) ≡ numbered_from k list ++ (k + length list, t) ∷ []
-all-more k [] t =
-    ap (λ n. (n, t) ∷ []) (let e : k ≡ k + 0 = omega arith in e)
-all-more k (u ∷ us) t =
-    ap (λ ps. (k, u) ∷ ps) (all-more (suc k) us t
-    ∙ ap (λ n. numbered_from (suc k) us ++ (n, t) ∷ [])
-    (let e : suc k + length us ≡ k + suc (length us) = omega arith in e))
+module _ (rule : Lengths) where
+  pub covers-itself : (drop : Bool) (spec : Spec) (t : Trace) → Covers rule drop spec t t
+  covers-itself false spec t = refl
+  covers-itself true spec t = over-itself rule spec.variables spec.body t
 
-pub traces-all : (k : ℕ) (list : List Trace) → traces_of (numbered_from k list) ≡ list
-traces-all k [] = refl
-traces-all k (t ∷ ts) = ap (λ us. t ∷ us) (traces-all (suc k) ts)
+  pub covers-through : (drop : Bool) (spec : Spec) (t u v : Trace) → Covers rule drop spec t u
+      → Covers rule drop spec u v → Covers rule drop spec t v
+  covers-through false spec t u v e f = e ∙ f
+  covers-through true spec t u v p q = over-through rule spec.variables spec.body t u v p q
 
-all-at : (k : ℕ) (list : List Trace) (p : Numbered) → Contains (numbered_from k list) p
-    → (j : ℕ) × (p.0 ≡ k + j) × IsAt list j p.1
-all-at k [] p c = absurd (contains-none p c)
-all-at k (t ∷ ts) p c =
-    elim (contains-cases (k, t) p (numbered_from (suc k) ts) c) [
-      | inl e ↦
-          let n : k ≡ p.0 = ap (λ (q : Numbered). q.0) e in
-          (0, omega arith, (omega arith, ap (λ (q : Numbered). q.1) e))
-      | inr later ↦
-          let (j, n, at) = all-at (suc k) ts p later in
-          (suc j, omega arith, (omega (arith, at.0), at.1))
-    ]
+  dominates : (drop : Bool) (spec : Spec) (t u : Trace) → Covers rule drop spec t u
+      → Dominates rule spec.variables spec.body t u
+  dominates false spec t u e =
+      let P : Trace → Type 0 = Dominates rule spec.variables spec.body t in
+      subst P e (over-itself rule spec.variables spec.body t)
+  dominates true spec t u o = o
 
 -- ---- what is kept is of the list, and covers it
 
-module _ (rule : Lengths) where
-  pub kept-at : (drop : Bool) (spec : Spec) (list : List Trace) (kept : List Numbered)
-      → IsKept rule drop spec list kept → (p : Numbered) → Contains kept p → IsAt list p.0 p.1
-  kept-at false spec list kept e p c =
-      let P : List Numbered → Type 0 = λ q. Contains q p in
-      let (j, n, at) = all-at 0 list p (subst P e c) in
-      let same : j ≡ p.0 = omega arith in
-      let Q : ℕ → Type 0 = λ k. IsAt list k p.1 in
-      subst Q same at
-  kept-at true spec list kept are p c = ((are.exact p.0 p.1).0 (member-of kept p c)).there
+module _ (rule : Lengths) (drop : Bool) (spec : Spec) (list : List Trace) (kept : List Numbered)
+    (is : IsKept rule drop spec list kept) where
+  pub kept-at : (p : Numbered) → Contains kept p → IsAt list p.0 p.1
+  kept-at p c = ((is.exact p.0 p.1).0 (member-of kept p c)).there
 
-  pub kept-among : (drop : Bool) (spec : Spec) (list : List Trace) (kept : List Numbered)
-      → IsKept rule drop spec list kept → Each (Contains list) (traces_of kept)
-  kept-among drop spec list kept is =
+  pub kept-among : Each (Contains list) (traces_of kept)
+  kept-among =
       each-from (Contains list) (traces_of kept) (λ t c.
-      let (n, d) = traces-from kept t c in
-      let (lt, at) = kept-at drop spec list kept is (n, t) d in (n, lt, at))
+      let (n, d) = traces-from kept t c in let (lt, at) = kept-at (n, t) d in (n, lt, at))
 
-  pub kept-covers : (drop : Bool) (spec : Spec) (list : List Trace) (kept : List Numbered)
-      → IsKept rule drop spec list kept
-      → Covers rule spec.variables spec.body (traces_of kept) list
-  kept-covers false spec list kept e t c =
-      let P : List Trace → Type 0 = λ q. Contains q t in
-      (
-        t,
-        subst P (sym (ap traces_of e ∙ traces-all 0 list)) c,
-        over-itself rule spec.variables spec.body t,
-      )
-  kept-covers true spec list kept are t c =
-      let (u, d, over) =
-      leaders-cover rule spec.variables spec.body list (members_of kept) are t c in
-      let P : List Trace → Type 0 = λ q. Contains q u in
-      (u, subst P (items-members kept) d, over)
+  covered : (t : Trace) → Contains list t
+      → (u : Trace) × Contains (traces_of kept) u × Covers rule drop spec u t
+  covered t (k, lt, e) =
+      let (x, c, o) = is.covers k t (lt, e) in
+      (x.item, traces-of kept (x.number, x.item) (member-from kept x c), o)
+
+  pub kept-covers : replaced.Covers rule spec.variables spec.body (traces_of kept) list
+  kept-covers t c =
+      let (u, d, o) = covered t c in (u, d, dominates rule drop spec u t o)
 
 -- ---- what a monitor keeps
 
@@ -160,22 +134,20 @@ module _ (m : Held) (h : History) (s : ℕ) (stands : StandsFor m h)
         sym (length-map (kept_at m.kept s) (λ (p : Numbered). numbered p.0 p.1)),
       )
 
-  pub keeps-apart : (p q : Numbered) → m.drop ≡ true → Contains (kept_at m.kept s) p
-      → Contains (kept_at m.kept s) q
-      → Dominates m.rule (spec_at (specs_of m) s).variables (spec_at (specs_of m) s).body p.1 q.1
-      → p ≡ q
-  keeps-apart p q e in_p in_q over =
-      let P : Bool → Type 0 =
-      λ b. IsKept m.rule b (spec_at (specs_of m) s) h.present.arrived (kept_at m.kept s) in
-      let are = subst P e (stands.kept.right s lt) in
+  pub keeps-apart : (p q : Numbered) → Contains (kept_at m.kept s) p → Contains (kept_at m.kept s) q
+      → Covers m.rule m.drop (spec_at (specs_of m) s) p.1 q.1 → p ≡ q
+  keeps-apart p q in_p in_q over =
       let spec = spec_at (specs_of m) s in
       let kept = kept_at m.kept s in
       ap (λ (x : leaders.Numbered Trace). (x.number, x.item))
-      (trace-apart m.rule spec.variables spec.body h.present.arrived (members_of kept) are
-      (numbered p.0 p.1) (numbered q.0 q.1) (member-of kept p in_p) (member-of kept q in_q) over)
+      (kept-apart (Covers m.rule m.drop spec) (covers-itself m.rule m.drop spec)
+      (covers-through m.rule m.drop spec) h.present.arrived (members_of kept)
+      (stands.kept.right s lt) (numbered p.0 p.1) (numbered q.0 q.1) (member-of kept p in_p)
+      (member-of kept q in_q) over)
 
-  pub keeps-covers : Covers m.rule (spec_at (specs_of m) s).variables (spec_at (specs_of m) s).body
-      (traces_of (kept_at m.kept s)) h.present.arrived
+  pub keeps-covers : (t : Trace) → Contains h.present.arrived t
+      → (u : Trace) × Contains (traces_of (kept_at m.kept s)) u
+      × Covers m.rule m.drop (spec_at (specs_of m) s) u t
   keeps-covers =
-      kept-covers m.rule m.drop (spec_at (specs_of m) s) h.present.arrived (kept_at m.kept s)
+      covered m.rule m.drop (spec_at (specs_of m) s) h.present.arrived (kept_at m.kept s)
       (stands.kept.right s lt)

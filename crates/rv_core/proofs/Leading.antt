@@ -1,5 +1,5 @@
 -- What is kept with a trace more are the leaders again.
-use Rattle.std.proofs.Common.{◌≡◌, ◌↔◌, ℕ, ◌+◌, ◌<◌, Bool, true, false, not, cond, nat_eq, List, [], ◌∷◌, ◌++◌, length, ◌⊎◌, inl, inr, refl, sym, ap, ◌∙◌, subst, arith}
+use Rattle.std.proofs.Common.{◌≡◌, ℕ, Bool, true, false, not, cond, nat_eq, List, [], ◌∷◌, ◌++◌, length, ◌⊎◌, inl, inr, refl, sym, ap, ◌∙◌, subst}
 use Rattle.std.specs.List.{Contains, list_any, filter}
 use Rattle.std.proofs.lemmas.Bool.{eq-eqb, eqb-true}
 use Rattle.hy_formula.specs.Quantifiers.{Each}
@@ -7,30 +7,28 @@ use Rattle.hy_finite.specs.declared.lengths.Lengths.{Lengths}
 use Rattle.hy_finite.specs.Traces.{Trace}
 use Rattle.fin_monitor.specs.Machines.{Machine}
 use Rattle.trace_trie.specs.Numbered.{Numbered}
-use Rattle.dominance.specs.Dominance.{Dominates}
 use Rattle.dominance.specs.Leaders.{IsAt, AreLeaders, TestKept, numbered, kept_by}
 use Rattle.dominance.specs.Leaders as leaders
 use Rattle.dominance.proofs.Elements.{contains-here, contains-later, contains-cases, contains-none, at-one, each-at, any-from, any-of, false-or-true}
 use Rattle.dominance.proofs.Leaderships.{refused-new, kept-step}
-use Rattle.dominance.proofs.Replacements.{over-itself, over-through}
 use Rattle.rv_core.specs.Arrivals.{IsOver, IsUnder, AreLeft, none, dropped, stays, IsNext, over, last}
 use Rattle.rv_core.specs.Held.{spec_of}
-use Rattle.rv_core.specs.Keeping.{IsKept, members_of, numbered_from}
-use Rattle.rv_core.proofs.Keepings.{kept-at, member-of, member-from, all-more}
+use Rattle.rv_core.specs.Keeping.{Covers, IsKept, members_of}
+use Rattle.rv_core.proofs.Keepings.{covers-itself, covers-through, kept-at, member-of, member-from}
 
 pub members-push : (kept : List Numbered) (p : Numbered)
     → members_of (kept ++ p ∷ []) ≡ members_of kept ++ numbered p.0 p.1 ∷ []
 members-push [] p = refl
 members-push (q ∷ qs) p = ap (λ xs. numbered q.0 q.1 ∷ xs) (members-push qs p)
 
-module _ (rule : Lengths) (m : Machine) (t : Trace) where
-  -- each one is dominated, or left
-  under-or-left : (kept left : List Numbered) → AreLeft rule m t kept left → (p : Numbered)
-      → Contains kept p → IsUnder rule m t p ⊎ Contains left p
+module _ (rule : Lengths) (drop : Bool) (m : Machine) (t : Trace) where
+  -- each one is covered, or left
+  under-or-left : (kept left : List Numbered) → AreLeft rule drop m t kept left → (p : Numbered)
+      → Contains kept p → IsUnder rule drop m t p ⊎ Contains left p
   under-or-left kept left none p c = absurd (contains-none p c)
   under-or-left kept left (dropped q ps rest is more) p c =
       elim (contains-cases q p ps c) [
-        | inl e ↦ let P : Numbered → Type 0 = IsUnder rule m t in inl (subst P e is)
+        | inl e ↦ let P : Numbered → Type 0 = IsUnder rule drop m t in inl (subst P e is)
         | inr later ↦ under-or-left ps rest more p later
       ]
   under-or-left kept left (stays q ps rest not_under more) p c =
@@ -44,9 +42,9 @@ module _ (rule : Lengths) (m : Machine) (t : Trace) where
         ]
       ]
 
-  -- what is left was kept, and is not dominated
-  left-was : (kept left : List Numbered) → AreLeft rule m t kept left → (p : Numbered)
-      → Contains left p → Contains kept p × (¬ IsUnder rule m t p)
+  -- what is left was kept, and is not covered
+  left-was : (kept left : List Numbered) → AreLeft rule drop m t kept left → (p : Numbered)
+      → Contains left p → Contains kept p × (¬ IsUnder rule drop m t p)
   left-was kept left none p c = absurd (contains-none p c)
   left-was kept left (dropped q ps rest is more) p c =
       let (was, fact) = left-was ps rest more p c in (contains-later q p ps was, fact)
@@ -54,17 +52,17 @@ module _ (rule : Lengths) (m : Machine) (t : Trace) where
       elim (contains-cases q p rest c) [
         | inl e ↦
             let P : Numbered → Type 0 = Contains (q ∷ ps) in
-            let Q : Numbered → Type 0 = λ r. ¬ IsUnder rule m t r in
+            let Q : Numbered → Type 0 = λ r. ¬ IsUnder rule drop m t r in
             (subst P e (contains-here q ps), subst Q e not_under)
         | inr later ↦
             let (was, fact) = left-was ps rest more p later in (contains-later q p ps was, fact)
       ]
 
-  -- a test that says which are dominated leaves the same
-  filter-left : (kept left : List Numbered) → AreLeft rule m t kept left
+  -- a test that says which are covered leaves the same
+  filter-left : (kept left : List Numbered) → AreLeft rule drop m t kept left
       → (f : leaders.Numbered Trace → Bool)
-      → ((p : Numbered) → Contains kept p → IsUnder rule m t p → f (numbered p.0 p.1) ≡ true)
-      → ((p : Numbered) → Contains kept p → (¬ IsUnder rule m t p) → f (numbered p.0 p.1) ≡ false)
+      → ((p : Numbered) → Contains kept p → IsUnder rule drop m t p → f (numbered p.0 p.1) ≡ true)
+      → ((p : Numbered) → Contains kept p → (¬ IsUnder rule drop m t p) → f (numbered p.0 p.1) ≡ false)
       → filter (λ (y : leaders.Numbered Trace). not (f y)) (members_of kept) ≡ members_of left
   filter-left kept left none f is_under is_left = refl
   filter-left kept left (dropped q ps rest is more) f is_under is_left =
@@ -79,12 +77,12 @@ module _ (rule : Lengths) (m : Machine) (t : Trace) where
       (λ p c. is_under p (contains-later q p ps c)) (λ p c. is_left p (contains-later q p ps c)))
 
   module _ (list : List Trace) (kept left : List Numbered)
-      (is : IsKept rule true (spec_of m) list kept) (are : AreLeft rule m t kept left) where
-    -- a kept one is dominated where its number is not left
+      (is : IsKept rule drop (spec_of m) list kept) (are : AreLeft rule drop m t kept left) where
+    -- a kept one is covered where its number is not left
     abbrev number_left : ℕ → Bool
     number_left n = list_any (λ (q : Numbered). nat_eq q.0 n) left
 
-    left-number : (p : Numbered) → Contains kept p → (¬ IsUnder rule m t p)
+    left-number : (p : Numbered) → Contains kept p → (¬ IsUnder rule drop m t p)
         → number_left p.0 ≡ true
     left-number p c not_under =
         elim (under-or-left kept left are p c) [
@@ -94,22 +92,22 @@ module _ (rule : Lengths) (m : Machine) (t : Trace) where
         ]
 
     number-left : (p : Numbered) → Contains kept p → number_left p.0 ≡ true
-        → ¬ IsUnder rule m t p
+        → ¬ IsUnder rule drop m t p
     number-left p c e under =
         let (q, in_left, same) = any-from (λ (q : Numbered). nat_eq q.0 p.0) left e in
         let (was, not_under) = left-was kept left are q in_left in
         let number : q.0 ≡ p.0 = eqb-true q.0 p.0 same in
         let P : ℕ → Type 0 = λ k. IsAt list k q.1 in
-        let at = subst P number (kept-at rule true (spec_of m) list kept is q was) in
+        let at = subst P number (kept-at rule drop (spec_of m) list kept is q was) in
         let item : p.1 ≡ q.1 =
-        at-one list p.0 p.1 q.1 (kept-at rule true (spec_of m) list kept is p c) at in
-        let Q : Trace → Type 0 = λ u. Dominates rule m.variables m.body t u in
+        at-one list p.0 p.1 q.1 (kept-at rule drop (spec_of m) list kept is p c) at in
+        let Q : Trace → Type 0 = Covers rule drop (spec_of m) t in
         not_under (subst Q item under)
 
     abbrev under_test : leaders.Numbered Trace → Bool
     under_test y = not (number_left y.number)
 
-    under-true : (p : Numbered) → Contains kept p → IsUnder rule m t p
+    under-true : (p : Numbered) → Contains kept p → IsUnder rule drop m t p
         → under_test (numbered p.0 p.1) ≡ true
     under-true p c under =
         elim (false-or-true (number_left p.0)) [
@@ -117,12 +115,12 @@ module _ (rule : Lengths) (m : Machine) (t : Trace) where
           | inr e ↦ ap not e
         ]
 
-    under-false : (p : Numbered) → Contains kept p → (¬ IsUnder rule m t p)
+    under-false : (p : Numbered) → Contains kept p → (¬ IsUnder rule drop m t p)
         → under_test (numbered p.0 p.1) ≡ false
     under-false p c not_under = ap not (left-number p c not_under)
 
     true-under : (p : Numbered) → Contains kept p → under_test (numbered p.0 p.1) ≡ true
-        → IsUnder rule m t p
+        → IsUnder rule drop m t p
     true-under p c e =
         elim (under-or-left kept left are p c) [
           | inl under ↦ under
@@ -130,13 +128,13 @@ module _ (rule : Lengths) (m : Machine) (t : Trace) where
               let f = under-false p c (left-was kept left are p in_left).1 in absurd (cc)
         ]
 
-    tests : Each (λ (p : Numbered). ¬ IsOver rule m t p) kept
-        → TestKept (Dominates rule m.variables m.body) (members_of kept) t (λ y. false) under_test
+    tests : Each (λ (p : Numbered). ¬ IsOver rule drop m t p) kept
+        → TestKept (Covers rule drop (spec_of m)) (members_of kept) t (λ y. false) under_test
     tests no_over = record {
       above_right = λ x c. (
-          λ e. absurd (cc),
-          λ o. absurd (each-at (λ (p : Numbered). ¬ IsOver rule m t p) kept (x.number, x.item)
-          no_over (member-from kept x c) o),
+        λ e. absurd (cc),
+        λ o. absurd (each-at (λ (p : Numbered). ¬ IsOver rule drop m t p) kept (x.number, x.item)
+            no_over (member-from kept x c) o),
       );
       under_right = λ x c.
           let d = member-from kept x c in
@@ -147,14 +145,14 @@ module _ (rule : Lengths) (m : Machine) (t : Trace) where
     none-above [] = refl
     none-above (x ∷ xs) = none-above xs
 
-    taken : Each (λ (p : Numbered). ¬ IsOver rule m t p) kept
-        → IsKept rule true (spec_of m) (list ++ t ∷ []) (left ++ (length list, t) ∷ [])
+    taken : Each (λ (p : Numbered). ¬ IsOver rule drop m t p) kept
+        → IsKept rule drop (spec_of m) (list ++ t ∷ []) (left ++ (length list, t) ∷ [])
     taken no_over =
-        let Over = Dominates rule m.variables m.body in
+        let Over = Covers rule drop (spec_of m) in
         let x = numbered (length list) t in
         let rest = filter (λ (y : leaders.Numbered Trace). not (under_test y)) (members_of kept) in
-        let step = kept-step Over (over-itself rule m.variables m.body)
-        (over-through rule m.variables m.body) list t (members_of kept) is (λ y. false) under_test
+        let step = kept-step Over (covers-itself rule drop (spec_of m))
+        (covers-through rule drop (spec_of m)) list t (members_of kept) is (λ y. false) under_test
         (tests no_over) in
         let P : List (leaders.Numbered Trace) → Type 0 = AreLeaders Over (list ++ t ∷ []) in
         let Q : Bool → Type 0 = λ b. P (cond b (members_of kept) (rest ++ x ∷ [])) in
@@ -163,21 +161,13 @@ module _ (rule : Lengths) (m : Machine) (t : Trace) where
         (subst Q (none-above (members_of kept)) step)
 
   pub next-kept : (list : List Trace) (kept new : List Numbered)
-      → IsKept rule true (spec_of m) list kept → IsNext rule m t (length list) kept new
-      → IsKept rule true (spec_of m) (list ++ t ∷ []) new
+      → IsKept rule drop (spec_of m) list kept → IsNext rule drop m t (length list) kept new
+      → IsKept rule drop (spec_of m) (list ++ t ∷ []) new
   next-kept list kept new is (over p c o e) =
-      let P : List Numbered → Type 0 = IsKept rule true (spec_of m) (list ++ t ∷ []) in
-      subst P (sym e) (refused-new (Dominates rule m.variables m.body)
-      (over-itself rule m.variables m.body) (over-through rule m.variables m.body) list t
+      let P : List Numbered → Type 0 = IsKept rule drop (spec_of m) (list ++ t ∷ []) in
+      subst P (sym e) (refused-new (Covers rule drop (spec_of m))
+      (covers-itself rule drop (spec_of m)) (covers-through rule drop (spec_of m)) list t
       (members_of kept) is (numbered p.0 p.1) (member-of kept p c) o)
   next-kept list kept new is (last left no_over are e) =
-      let P : List Numbered → Type 0 = IsKept rule true (spec_of m) (list ++ t ∷ []) in
+      let P : List Numbered → Type 0 = IsKept rule drop (spec_of m) (list ++ t ∷ []) in
       subst P (sym e) (taken list kept left is are no_over)
-
-pub kept-more : (rule : Lengths) (m : Machine) (list : List Trace) (t : Trace)
-    (kept : List Numbered) → IsKept rule false (spec_of m) list kept
-    → IsKept rule false (spec_of m) (list ++ t ∷ []) (kept ++ (length list, t) ∷ [])
-kept-more rule m list t kept is =
-    ap (λ ps. ps ++ (length list, t) ∷ []) is
-    ∙ sym (all-more 0 list t ∙ ap (λ n. numbered_from 0 list ++ (n, t) ∷ [])
-    (let e : 0 + length list ≡ length list = omega arith in e))

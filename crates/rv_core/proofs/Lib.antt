@@ -7,6 +7,7 @@ mod Calling
 mod Ending
 mod Keepings
 mod Leading
+mod Outcomes
 mod Places
 mod Seeing
 mod SessionLists

@@ -1,16 +1,16 @@
 -- Numbered traces one after another, and those of them that are left.
-use Rattle.std.proofs.Common.{◌≡◌, ℕ, suc, ◌+◌, ◌<◌, ◌≤◌, Bool, true, false, nat_lt, cond, not, List, [], ◌∷◌, ◌++◌, length, inl, inr, refl, sym, ap, ◌∙◌, subst, add-one, arith, append_assoc, append-nil}
+use Rattle.std.proofs.Common.{◌≡◌, ℕ, ◌+◌, ◌<◌, ◌≤◌, Bool, true, false, nat_lt, cond, not, List, [], ◌∷◌, ◌++◌, refl, sym, ap, ◌∙◌, subst, arith, append_assoc, append-nil}
 use Rattle.std.specs.List.{Contains}
 use Rattle.std.proofs.lemmas.Bool.{eq-eqb, lt-ltb, le-ltb, ltb-true, ltb-false}
-use Rattle.std.proofs.lemmas.List.Elements.{Contains-append_left, Contains-append_right}
+use Rattle.std.proofs.lemmas.List.Elements.{Contains-append_right}
 use Rattle.hy_formula.specs.Quantifiers.{Each}
 use Rattle.hy_finite.specs.declared.lengths.Lengths.{Lengths}
 use Rattle.hy_finite.specs.Traces.{Trace}
 use Rattle.fin_monitor.specs.Machines.{Machine}
 use Rattle.trace_trie.specs.Numbered.{Numbered, IsAscending, rest_from, without_number}
 use Rattle.trace_trie.proofs.Numbering.{without-other, without-append}
-use Rattle.dominance.proofs.Elements.{contains-here, each-at, each-append}
-use Rattle.rv_core.specs.Arrivals.{IsOver, IsUnder, AreLeft, none, dropped, stays, IsNext, over, last}
+use Rattle.dominance.proofs.Elements.{contains-here, each-append}
+use Rattle.rv_core.specs.Arrivals.{IsOver, IsUnder, AreLeft, none, dropped, stays, IsNext, last}
 use Rattle.rv_core.proofs.Places.{each-more}
 
 -- ---- what is left of a list from a number on
@@ -84,38 +84,38 @@ without-here p more =
 
 -- ---- those that are left
 
-module _ (rule : Lengths) (m : Machine) (t : Trace) where
-  left-dropped : (kept left : List Numbered) (p : Numbered) → AreLeft rule m t kept left
-      → IsUnder rule m t p → AreLeft rule m t (kept ++ p ∷ []) left
+module _ (rule : Lengths) (drop : Bool) (m : Machine) (t : Trace) where
+  left-dropped : (kept left : List Numbered) (p : Numbered) → AreLeft rule drop m t kept left
+      → IsUnder rule drop m t p → AreLeft rule drop m t (kept ++ p ∷ []) left
   left-dropped kept left p none is = dropped p [] [] is none
   left-dropped kept left p (dropped q ps rest under more) is =
       dropped q (ps ++ p ∷ []) rest under (left-dropped ps rest p more is)
   left-dropped kept left p (stays q ps rest not_under more) is =
       stays q (ps ++ p ∷ []) rest not_under (left-dropped ps rest p more is)
 
-  left-stays : (kept left : List Numbered) (p : Numbered) → AreLeft rule m t kept left
-      → (¬ IsUnder rule m t p) → AreLeft rule m t (kept ++ p ∷ []) (left ++ p ∷ [])
+  left-stays : (kept left : List Numbered) (p : Numbered) → AreLeft rule drop m t kept left
+      → (¬ IsUnder rule drop m t p) → AreLeft rule drop m t (kept ++ p ∷ []) (left ++ p ∷ [])
   left-stays kept left p none is = stays p [] [] is none
   left-stays kept left p (dropped q ps rest under more) is =
       dropped q (ps ++ p ∷ []) (rest ++ p ∷ []) under (left-stays ps rest p more is)
   left-stays kept left p (stays q ps rest not_under more) is =
       stays q (ps ++ p ∷ []) (rest ++ p ∷ []) not_under (left-stays ps rest p more is)
 
-  pub left-each : (P : Numbered → Type 0) (kept left : List Numbered) → AreLeft rule m t kept left
+  pub left-each : (P : Numbered → Type 0) (kept left : List Numbered) → AreLeft rule drop m t kept left
       → Each P kept → Each P left
   left-each P kept left none e = tt
   left-each P kept left (dropped q ps rest under more) (here, e) = left-each P ps rest more e
   left-each P kept left (stays q ps rest not_under more) (here, e) = (here, left-each P ps rest more e)
 
-  -- Up to a number all are compared: none dominates the trace, and those that it dominates are dropped.
+  -- Up to a number all are compared: none covers the trace, and those that it covers are dropped.
   pub record IsSifted (kept : List Numbered) (from : ℕ) (left : List Numbered) : Type 0 where
     pub front : List Numbered
     pub front_left : List Numbered
     pub whole : kept ≡ front ++ rest_from from kept
     pub below : Each (λ (p : Numbered). p.0 < from) front
-    pub are : AreLeft rule m t front front_left
+    pub are : AreLeft rule drop m t front front_left
     pub left_is : left ≡ front_left ++ rest_from from kept
-    pub no_over : Each (λ (p : Numbered). ¬ IsOver rule m t p) front
+    pub no_over : Each (λ (p : Numbered). ¬ IsOver rule drop m t p) front
 
   pub sifted-start : (kept : List Numbered) → IsSifted kept 0 kept
   sifted-start kept = record {
@@ -130,7 +130,7 @@ module _ (rule : Lengths) (m : Machine) (t : Trace) where
 
   module _ (kept : List Numbered) (from : ℕ) (left : List Numbered) (p : Numbered)
       (more : List Numbered) (s : IsSifted kept from left) (ascending : IsAscending kept)
-      (rest : rest_from from kept ≡ p ∷ more) (not_over : ¬ IsOver rule m t p) where
+      (rest : rest_from from kept ≡ p ∷ more) (not_over : ¬ IsOver rule drop m t p) where
     le : from ≤ p.0
     le = rest-head from kept p more rest
 
@@ -146,9 +146,9 @@ module _ (rule : Lengths) (m : Machine) (t : Trace) where
         (each-more (λ (q : Numbered). q.0 < from) (λ (q : Numbered). q.0 < p.0 + 1) s.front
         (λ q lt. omega (arith, le)) s.below) (omega arith, tt)
 
-    no_over : Each (λ (q : Numbered). ¬ IsOver rule m t q) (s.front ++ p ∷ [])
+    no_over : Each (λ (q : Numbered). ¬ IsOver rule drop m t q) (s.front ++ p ∷ [])
     no_over =
-        each-append (λ (q : Numbered). ¬ IsOver rule m t q) s.front (p ∷ []) s.no_over (not_over, tt)
+        each-append (λ (q : Numbered). ¬ IsOver rule drop m t q) s.front (p ∷ []) s.no_over (not_over, tt)
 
     above : Each (λ (q : Numbered). p.0 < q.0) more
     above = by (s.front) kept ascending (s.whole ∙ ap (λ ps. s.front ++ ps) rest)
@@ -160,7 +160,7 @@ module _ (rule : Lengths) (m : Machine) (t : Trace) where
             let P : List Numbered → Type 0 = IsAscending in
             by xs (xs ++ p ∷ more) (subst P e h).1 refl
 
-    pub sifted-stays : (¬ IsUnder rule m t p) → IsSifted kept (p.0 + 1) left
+    pub sifted-stays : (¬ IsUnder rule drop m t p) → IsSifted kept (p.0 + 1) left
     sifted-stays not_under = record {
       front = s.front ++ p ∷ [];
       front_left = s.front_left ++ p ∷ [];
@@ -173,7 +173,7 @@ module _ (rule : Lengths) (m : Machine) (t : Trace) where
       no_over = no_over;
     }
 
-    pub sifted-dropped : IsUnder rule m t p
+    pub sifted-dropped : IsUnder rule drop m t p
         → IsSifted kept (p.0 + 1) (without_number p.0 left)
     sifted-dropped under =
         let other = λ (q : Numbered). (q.0 ≡ p.0 → ⊥) in
@@ -199,13 +199,13 @@ module _ (rule : Lengths) (m : Machine) (t : Trace) where
 
   pub sifted-end : (n : ℕ) (kept : List Numbered) (from : ℕ) (left new : List Numbered)
       → IsSifted kept from left → rest_from from kept ≡ [] → new ≡ left ++ (n, t) ∷ []
-      → IsNext rule m t n kept new
+      → IsNext rule drop m t n kept new
   sifted-end n kept from left new s none_left e =
       let whole : kept ≡ s.front =
       s.whole ∙ ap (λ ps. s.front ++ ps) none_left ∙ append-nil s.front in
       let left_is : left ≡ s.front_left =
       s.left_is ∙ ap (λ ps. s.front_left ++ ps) none_left ∙ append-nil s.front_left in
-      let P : List Numbered → Type 0 = Each (λ (p : Numbered). ¬ IsOver rule m t p) in
-      let Q : List Numbered → Type 0 = λ ps. AreLeft rule m t ps s.front_left in
+      let P : List Numbered → Type 0 = Each (λ (p : Numbered). ¬ IsOver rule drop m t p) in
+      let Q : List Numbered → Type 0 = λ ps. AreLeft rule drop m t ps s.front_left in
       last s.front_left (subst P (sym whole) s.no_over) (subst Q (sym whole) s.are)
       (e ∙ ap (λ ps. ps ++ (n, t) ∷ []) left_is)

@@ -1,25 +1,24 @@
 -- What a monitor stands for after each change of what it holds.
-use Rattle.std.proofs.Common.{◌≡◌, ℕ, zero, suc, ◌+◌, ◌<◌, Bool, true, false, List, [], ◌∷◌, ◌++◌, length, map, slice_get, Some, Result, Ok, Err, OnOk, OnErr, refl, sym, ap, ◌∙◌, subst, arith}
+use Rattle.std.proofs.Common.{◌≡◌, ℕ, zero, suc, ◌+◌, ◌<◌, Bool, List, [], ◌∷◌, ◌++◌, length, map, slice_get, Some, Result, Ok, Err, OnOk, OnErr, refl, sym, ap, ◌∙◌, subst, arith}
 use Rattle.std.proofs.lemmas.List.{length-append, length-map}
 use Rattle.std.proofs.lemmas.Option.{slice_get_within}
 use Rattle.hy_formula.specs.Quantifiers.{Each}
 use Rattle.hy_finite.specs.declared.lengths.Lengths.{Lengths}
-use Rattle.hy_finite.specs.Traces.{Trace, Violates}
+use Rattle.hy_finite.specs.Traces.{Trace}
 use Rattle.fin_monitor.specs.Machines.{Machine}
 use Rattle.trace_trie.specs.Numbered.{Numbered}
 use Rattle.dominance.specs.Dominance.{IsTrace}
 use Rattle.dominance.proofs.Elements.{each-append}
-use Rattle.trie_walk.specs.Finds.{AreViolating, AllMeet, traces_of}
 use Rattle.rv_core.specs.declared.saved.Saved.{Saved}
 use Rattle.rv_core.specs.Histories.{Session, Present, History, with_trace, with_sessions}
-use Rattle.rv_core.specs.Endings.{Spec, spec_at, ViolatesSpec, IsClean, IsQuiet}
+use Rattle.rv_core.specs.Endings.{Spec, spec_at, ViolatesSpec, IsClean}
 use Rattle.rv_core.specs.Opened.{Open}
 use Rattle.rv_core.specs.Keeping.{IsKept, AreKept, AreBelow, kept_at}
 use Rattle.rv_core.specs.Held.{Held, spec_of, specs_of, AreSessions, AreSaves, StandsFor, AreWithin}
-use Rattle.rv_core.specs.Arrivals.{with_last, Gains, ArePassed, IsPassed, FirstFound}
+use Rattle.rv_core.specs.Arrivals.{IsPassed, AreNext, FirstFound}
 use Rattle.rv_core.specs.Replies.{IsFound, IsViolatedBy}
 use Rattle.rv_core.proofs.Arriving.{found-in, stays-clean}
-use Rattle.rv_core.proofs.Leading.{next-kept, kept-more}
+use Rattle.rv_core.proofs.Leading.{next-kept}
 
 -- ---- specs by their numbers
 
@@ -39,58 +38,44 @@ spec-below : (ms : List Machine) (k : ℕ) (m : Machine) → slice_get ms k ≡ 
     → k < length (map spec_of ms)
 spec-below ms k m at = omega (arith, slice_get_within ms k m at, length-map ms spec_of)
 
-last-at : (n : ℕ) (t : Trace) (kept : List (List Numbered)) (s : ℕ) → s < length kept
-    → kept_at (with_last n t kept) s ≡ kept_at kept s ++ (n, t) ∷ []
-last-at n t [] s lt = absurd (omega arith)
-last-at n t (x ∷ xs) zero lt = refl
-last-at n t (x ∷ xs) (suc s) lt = last-at n t xs s (omega arith)
-
 -- ---- a list of traces, and what is kept of it
 
 module _ (rule : Lengths) (drop : Bool) (ms : List Machine) (list : List Trace)
-    (kept : List (List Numbered)) (are : AreKept rule drop (map spec_of ms) list kept) where
+    (kept : List (List Numbered)) (are : AreKept rule drop (map spec_of ms) list kept)
+    (t : Trace) where
   kept-of : (s : ℕ) (m : Machine) → slice_get ms s ≡ Some m
       → IsKept rule drop (spec_of m) list (kept_at kept s)
   kept-of s m at =
       let P : Spec → Type 0 = λ q. IsKept rule drop q list (kept_at kept s) in
       subst P (spec-there ms s m at) (are.right s (spec-below ms s m at))
 
-  last-of : (t : Trace) (s : ℕ) (m : Machine) → slice_get ms s ≡ Some m
-      → kept_at (with_last (length list) t kept) s ≡ kept_at kept s ++ (length list, t) ∷ []
-  last-of t s m at =
-      last-at (length list) t kept s (omega (arith, spec-below ms s m at, are.long))
-
-  module _ (t : Trace) (some : Each IsTrace list) (more : IsTrace t)
+  module _ (some : Each IsTrace list) (more : IsTrace t)
       (clean : IsClean rule (map spec_of ms) list) where
     passed-clean : (s : ℕ) (m : Machine) → slice_get ms s ≡ Some m
-        → IsPassed rule (with_last (length list) t kept) t s m
+        → IsPassed rule m t (kept_at kept s)
         → ¬ ViolatesSpec rule (list ++ t ∷ []) (spec_at (map spec_of ms) s)
     passed-clean s m at passed =
-        let P : List Numbered → Type 0 = λ ps. AllMeet m rule (traces_of ps) t in
         let Q : Spec → Type 0 = λ q. ¬ ViolatesSpec rule list q in
         let R : Spec → Type 0 = λ q. ¬ ViolatesSpec rule (list ++ t ∷ []) q in
         subst R (sym (spec-there ms s m at))
-        (stays-clean rule drop m list t (kept_at kept s) (kept-of s m at) some more
-        (subst Q (spec-there ms s m at) (clean s (spec-below ms s m at)))
-        (subst P (last-of t s m at) passed))
+        (stays-clean rule drop m list t (kept_at kept s) (kept-of s m at)
+        (subst Q (spec-there ms s m at) (clean s (spec-below ms s m at))) some more passed)
 
-    -- an arrival for which no tuple was found is clean
-    pub all-clean : ArePassed rule ms (with_last (length list) t kept) t
-        → IsClean rule (map spec_of ms) (list ++ t ∷ [])
+    -- an arrival that each spec passes is clean
+    pub all-clean : ((s : ℕ) (m : Machine) → slice_get ms s ≡ Some m
+        → IsPassed rule m t (kept_at kept s)) → IsClean rule (map spec_of ms) (list ++ t ∷ [])
     all-clean passed s lt =
         let (m, at) = spec-some ms s lt in passed-clean s m at (passed s m at)
 
-    -- the first spec for which one was found is the first that is violated
-    pub found-first : (k : ℕ) (tuple : List ℕ)
-        → FirstFound rule ms (with_last (length list) t kept) t k tuple
+    -- the first spec for which a tuple was found is the first that is violated
+    pub found-first : (k : ℕ) (tuple : List ℕ) → FirstFound rule ms (length list) t kept k tuple
         → IsFound rule (map spec_of ms) (list ++ t ∷ []) k (length list) tuple
     found-first k tuple f =
-        let P : List Numbered → Type 0 = λ ps. AreViolating f.machine rule ps tuple in
         let Q : Spec → Type 0 = λ q. IsViolatedBy rule q (list ++ t ∷ []) tuple in
         let by_tuple : Q (spec_at (map spec_of ms) k) =
         subst Q (sym (spec-there ms k f.machine f.there))
         (found-in rule drop f.machine list t (kept_at kept k) (kept-of k f.machine f.there) tuple
-        (subst P (last-of t k f.machine f.there) f.violating)) in
+        f.violating) in
         let below = spec-below ms k f.machine f.there in
         let long = length-append list (t ∷ []) in
         record {
@@ -105,35 +90,18 @@ module _ (rule : Lengths) (drop : Bool) (ms : List Machine) (list : List Trace)
           by_tuple = by_tuple;
         }
 
--- what is kept with the trace is what is to be kept
-pub gained : (rule : Lengths) (drop : Bool) (ms : List Machine) (list : List Trace) (t : Trace)
-    (old new : List (List Numbered)) → AreKept rule drop (map spec_of ms) list old
-    → Gains rule drop ms (length list) t old new
-    → AreKept rule drop (map spec_of ms) (list ++ t ∷ []) new
-gained rule false ms list t old new are e =
-    let P : List (List Numbered) → Type 0 =
-    AreKept rule false (map spec_of ms) (list ++ t ∷ []) in
-    let more = λ (ps : List Numbered). ps ++ (length list, t) ∷ [] in
-    subst P (sym e) (record {
-      long = length-map old more ∙ are.long;
-      right = λ s lt.
-          let (m, at) = spec-some ms s lt in
-          let Q : Spec → Type 0 =
-          λ q. IsKept rule false q (list ++ t ∷ []) (kept_at (with_last (length list) t old) s) in
-          let R : List Numbered → Type 0 = IsKept rule false (spec_of m) (list ++ t ∷ []) in
-          subst Q (sym (spec-there ms s m at))
-          (subst R (sym (last-of rule false ms list old are t s m at))
-          (kept-more rule m list t (kept_at old s) (kept-of rule false ms list old are s m at)));
-    })
-gained rule true ms list t old new are next = record {
-  long = next.long ∙ sym (length-map ms spec_of);
-  right = λ s lt.
-      let (m, at) = spec-some ms s lt in
-      let Q : Spec → Type 0 = λ q. IsKept rule true q (list ++ t ∷ []) (kept_at new s) in
-      subst Q (sym (spec-there ms s m at))
-      (next-kept rule m t list (kept_at old s) (kept_at new s)
-      (kept-of rule true ms list old are s m at) (next.right s m at));
-}
+  -- what is kept with the trace is what is to be kept
+  pub gained : (new : List (List Numbered)) → AreNext rule drop ms (length list) t kept new
+      → AreKept rule drop (map spec_of ms) (list ++ t ∷ []) new
+  gained new next = record {
+    long = next.long ∙ sym (length-map ms spec_of);
+    right = λ s lt.
+        let (m, at) = spec-some ms s lt in
+        let Q : Spec → Type 0 = λ q. IsKept rule drop q (list ++ t ∷ []) (kept_at new s) in
+        subst Q (sym (spec-there ms s m at))
+        (next-kept rule drop m t list (kept_at kept s) (kept_at new s) (kept-of s m at)
+        (next.right s m at));
+  }
 
 -- ---- saves
 
@@ -172,37 +140,33 @@ changed m kept n os b =
 
 pub arrival-stands : (m : Held) (kept : List (List Numbered)) (os : Open) (h : History) (t : Trace)
     (ss : List Session) → StandsFor m h → IsTrace t
-    → ArePassed m.rule m.machines (with_last m.arrived t m.kept) t
-    → Gains m.rule m.drop m.machines m.arrived t m.kept kept → AreSessions os ss
-    → StandsFor (changed m kept (m.arrived + 1) os true) (with_trace h t ss)
-arrival-stands m kept os h t ss s more passed gains sessions =
+    → AreNext m.rule m.drop m.machines m.arrived t m.kept kept → AreSessions os ss
+    → StandsFor (changed m kept (m.arrived + 1) os m.clean) (with_trace h t ss)
+arrival-stands m kept os h t ss s more gains sessions =
     let list = h.present.arrived in
     let long = length-append list (t ∷ []) in
-    let Passed : ℕ → Type 0 = λ n. ArePassed m.rule m.machines (with_last n t m.kept) t in
-    let Gained : ℕ → Type 0 = λ n. Gains m.rule m.drop m.machines n t m.kept kept in
+    let Next : ℕ → Type 0 = λ n. AreNext m.rule m.drop m.machines n t m.kept kept in
+    let next = subst Next s.count gains in
     record {
-      clean = refl;
+      clean = s.clean;
       some = each-append IsTrace list (t ∷ []) s.some (more, tt);
       count = omega (arith, long, s.count);
-      kept = gained m.rule m.drop m.machines list t m.kept kept s.kept
-          (subst Gained s.count gains);
+      kept = gained m.rule m.drop m.machines list m.kept s.kept t kept next;
       sessions = sessions;
       saves = saves-more m.rule m.drop (specs_of m) list t m.saves h.saves s.saves;
       quiet = record {
         now = all-clean m.rule m.drop m.machines list m.kept s.kept t s.some more s.quiet.now
-            (subst Passed s.count passed);
+            next.passed;
         saved = s.quiet.saved;
       };
     }
 
 pub arrival-found : (m : Held) (h : History) (t : Trace) (k : ℕ) (tuple : List ℕ)
-    → StandsFor m h → IsTrace t
-    → FirstFound m.rule m.machines (with_last m.arrived t m.kept) t k tuple
+    → StandsFor m h → IsTrace t → FirstFound m.rule m.machines m.arrived t m.kept k tuple
     → IsFound m.rule (specs_of m) (h.present.arrived ++ t ∷ []) k m.arrived tuple
 arrival-found m h t k tuple s more found =
     let list = h.present.arrived in
-    let First : ℕ → Type 0 =
-    λ n. FirstFound m.rule m.machines (with_last n t m.kept) t k tuple in
+    let First : ℕ → Type 0 = λ n. FirstFound m.rule m.machines n t m.kept k tuple in
     let Found : ℕ → Type 0 = λ n. IsFound m.rule (specs_of m) (list ++ t ∷ []) k n tuple in
     subst Found (sym s.count)
     (found-first m.rule m.drop m.machines list m.kept s.kept t s.some more s.quiet.now k tuple

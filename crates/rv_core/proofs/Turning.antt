@@ -1,7 +1,7 @@
 -- Where the order of two traces does not matter, the tuples with a trace first are enough.
-use Rattle.std.proofs.Common.{◌≡◌, ℕ, ◌<◌, ◌≤◌, List, [], ◌∷◌, length, inl, inr, refl, sym, subst, ◌∙◌, arith}
+use Rattle.std.proofs.Common.{◌≡◌, ◌≤◌, List, [], ◌∷◌, length, inl, inr, sym, subst, ◌∙◌, arith}
 use Rattle.std.specs.List.{Contains}
-use Rattle.hy_formula.specs.Quantifiers.{Each, IsTuple}
+use Rattle.hy_formula.specs.Quantifiers.{Each}
 use Rattle.hy_finite.specs.declared.lengths.Lengths.{Lengths}
 use Rattle.hy_finite.specs.declared.lengths.Lengths.TheVariants.{Min}
 use Rattle.hy_finite.specs.Traces.{Trace, Meets, judged, trace_words}

@@ -1,31 +1,34 @@
--- What becomes of what is kept where a trace arrives, and what is found.
-use Rattle.std.specs.Prelude.{◌≡◌, ℕ, ◌+◌, ◌<◌, Bool, true, false, not, List, [], ◌∷◌, ◌++◌, length, map, slice_get, Option, Some, None, is_some}
+-- What comes of a trace that arrives, for one spec and for all.
+use Rattle.std.specs.Prelude.{◌≡◌, ◌⊎◌, ℕ, ◌+◌, ◌<◌, Bool, false, List, [], ◌∷◌, ◌++◌, length, slice_get, Some}
 use Rattle.std.specs.List.{Contains}
 use Rattle.hy_formula.specs.Quantifiers.{Each}
 use Rattle.hy_finite.specs.declared.lengths.Lengths.{Lengths}
 use Rattle.hy_finite.specs.Traces.{Trace}
 use Rattle.fin_monitor.specs.Machines.{Machine}
-use Rattle.trace_trie.specs.Numbered.{Numbered}
-use Rattle.dominance.specs.Dominance.{Dominates}
+use Rattle.trace_trie.specs.Numbered.{Numbered, IsHeld}
 use Rattle.trie_walk.specs.Finds.{AreViolating, AllMeet, traces_of}
-use Rattle.rv_core.specs.declared.kept.Found.{Found}
-use Rattle.rv_core.specs.Keeping.{kept_at}
-use Rattle.rv_core.specs.Held.{Held}
+use Rattle.rv_core.specs.declared.arrival.Outcome.{Outcome}
+use Rattle.rv_core.specs.declared.arrival.Outcome.TheVariants.{Passes, Violates}
+use Rattle.rv_core.specs.declared.arrival.Arrival.{Arrival}
+use Rattle.rv_core.specs.declared.arrival.Arrival.TheVariants.{Known, Clean, Violation}
+use Rattle.rv_core.specs.Held.{Held, spec_of}
+use Rattle.rv_core.specs.Keeping.{Covers, AreBelow, kept_at}
 
--- ---- what is kept
+-- ---- one spec
 
--- the trace last in what is kept for each spec
-abbrev pub with_last : ℕ → Trace → List (List Numbered) → List (List Numbered)
-with_last n t kept = map (λ (list : List Numbered). list ++ (n, t) ∷ []) kept
+-- Nothing is violated with the trace that was not before: an equal one is kept, or all tuples with it of those that
+-- are kept meet the body.
+abbrev pub IsPassed : Lengths → Machine → Trace → List Numbered → Type 0
+IsPassed rule m t kept = IsHeld t kept ⊎ AllMeet m rule (traces_of kept ++ t ∷ []) t
 
-module _ (rule : Lengths) (m : Machine) (t : Trace) where
+module _ (rule : Lengths) (drop : Bool) (m : Machine) (t : Trace) where
   abbrev pub IsOver : Numbered → Type 0
-  IsOver p = Dominates rule m.variables m.body p.1 t
+  IsOver p = Covers rule drop (spec_of m) p.1 t
 
   abbrev pub IsUnder : Numbered → Type 0
-  IsUnder p = Dominates rule m.variables m.body t p.1
+  IsUnder p = Covers rule drop (spec_of m) t p.1
 
-  -- Those that the trace dominates are dropped, and the others are left in their order.
+  -- Those that the trace covers are dropped, and the others are left in their order.
   pub data AreLeft : List Numbered → List Numbered → Type 0 where
     none : AreLeft [] []
     dropped : (p : Numbered) (kept left : List Numbered) → IsUnder p → AreLeft kept left
@@ -33,58 +36,53 @@ module _ (rule : Lengths) (m : Machine) (t : Trace) where
     stays : (p : Numbered) (kept left : List Numbered) → (¬ IsUnder p) → AreLeft kept left
         → AreLeft (p ∷ kept) (p ∷ left)
 
-  -- What is kept with the trace: what was kept, where one of these dominates it; else what it does not dominate of
-  -- these, and the trace last.
+  -- What is kept with the trace: what was kept, where one of these covers it; else what it does not cover of these,
+  -- and the trace last.
   pub data IsNext (n : ℕ) (old new : List Numbered) : Type 0 where
     over : (p : Numbered) → Contains old p → IsOver p → new ≡ old → IsNext n old new
     last : (left : List Numbered) → Each (λ (p : Numbered). ¬ IsOver p) old → AreLeft old left
         → new ≡ left ++ (n, t) ∷ [] → IsNext n old new
 
--- It is what is kept with the trace for each spec, where dominated ones are dropped.
-pub record AreNext (rule : Lengths) (machines : List Machine) (n : ℕ) (t : Trace)
+  -- What comes of it: what is kept then, or a tuple that violates the body.
+  abbrev pub IsOutcome : ℕ → List Numbered → Outcome → Type 0
+  IsOutcome n old (Passes new) = IsPassed rule m t old × IsNext n old new
+  IsOutcome n old (Violates tuple) = AreViolating m rule (old ++ (n, t) ∷ []) tuple
+
+-- ---- all specs
+
+-- Each spec is passed, and this is kept then.
+pub record AreNext (rule : Lengths) (drop : Bool) (machines : List Machine) (n : ℕ) (t : Trace)
     (old new : List (List Numbered)) : Type 0 where
   pub long : length new ≡ length machines
+  pub passed : (s : ℕ) (m : Machine) → slice_get machines s ≡ Some m
+      → IsPassed rule m t (kept_at old s)
   pub right : (s : ℕ) (m : Machine) → slice_get machines s ≡ Some m
-      → IsNext rule m t n (kept_at old s) (kept_at new s)
+      → IsNext rule drop m t n (kept_at old s) (kept_at new s)
 
-abbrev pub Gains : Lengths → Bool → List Machine → ℕ → Trace → (old new : List (List Numbered)) → Type 0
-Gains rule false machines n t old new = new ≡ with_last n t old
-Gains rule true machines n t old new = AreNext rule machines n t old new
-
--- ---- what is found
-
--- For the spec no tuple with the trace of those that are kept violates the body.
-abbrev pub IsPassed : Lengths → List (List Numbered) → Trace → ℕ → Machine → Type 0
-IsPassed rule kept t s m = AllMeet m rule (traces_of (kept_at kept s)) t
-
-abbrev pub ArePassed : Lengths → List Machine → List (List Numbered) → Trace → Type 0
-ArePassed rule machines kept t = (s : ℕ) (m : Machine) → slice_get machines s ≡ Some m
-    → IsPassed rule kept t s m
-
--- The spec with this number is the first for which there is such a tuple, and the tuple is one.
-pub record FirstFound (rule : Lengths) (machines : List Machine) (kept : List (List Numbered))
-    (t : Trace) (k : ℕ) (tuple : List ℕ) : Type 0 where
+-- The spec with this number is violated by this tuple, and those before it are passed.
+pub record FirstFound (rule : Lengths) (machines : List Machine) (n : ℕ) (t : Trace)
+    (old : List (List Numbered)) (k : ℕ) (tuple : List ℕ) : Type 0 where
   pub machine : Machine
   pub there : slice_get machines k ≡ Some machine
-  pub violating : AreViolating machine rule (kept_at kept k) tuple
+  pub violating : AreViolating machine rule (kept_at old k ++ (n, t) ∷ []) tuple
   pub before : (s : ℕ) (m : Machine) → s < k → slice_get machines s ≡ Some m
-      → IsPassed rule kept t s m
+      → IsPassed rule m t (kept_at old s)
 
-abbrev pub IsSearch : Lengths → List Machine → List (List Numbered) → Trace → Option Found → Type 0
-IsSearch rule machines kept t None = ArePassed rule machines kept t
-IsSearch rule machines kept t (Some f) = FirstFound rule machines kept t f.spec f.tuple
+abbrev pub IsArrival : Held → Trace → Arrival → Type 0
+IsArrival m t Known = AreNext m.rule m.drop m.machines m.arrived t m.kept m.kept
+IsArrival m t (Clean kept) = AreNext m.rule m.drop m.machines m.arrived t m.kept kept
+IsArrival m t (Violation spec tuple) =
+    FirstFound m.rule m.machines m.arrived t m.kept spec tuple
 
--- What is found where a trace arrives, and what is kept then; after a violation nothing is said of it.
-abbrev pub IsArrival : Held → Trace → List (List Numbered) → Option Found → Type 0
-IsArrival m t kept None =
-    ArePassed m.rule m.machines (with_last m.arrived t m.kept) t
-    × Gains m.rule m.drop m.machines m.arrived t m.kept kept
-IsArrival m t kept (Some f) =
-    FirstFound m.rule m.machines (with_last m.arrived t m.kept) t f.spec f.tuple
+-- What is new to be kept has numbers below n, for so many specs.
+abbrev pub FitsArrival : ℕ → ℕ → Arrival → Type 0
+FitsArrival specs n Known = Unit {0}
+FitsArrival specs n (Clean kept) = AreBelow specs n kept
+FitsArrival specs n (Violation spec tuple) = Unit {0}
 
--- what a monitor holds then
-abbrev pub after_arrival : Held → List (List Numbered) → Option Found → Held
-after_arrival m kept found =
+-- what a monitor holds with a trace more, where this is kept then
+abbrev pub with_kept : Held → List (List Numbered) → Bool → Held
+with_kept m kept clean =
     record {
       rule = m.rule;
       drop = m.drop;
@@ -93,5 +91,11 @@ after_arrival m kept found =
       kept = kept;
       sessions = m.sessions;
       saves = m.saves;
-      clean = not (is_some found);
+      clean = clean;
     }
+
+-- Where equal ones are known what was kept stays, and after a violation too.
+abbrev pub after_arrival : Held → Arrival → Held
+after_arrival m Known = with_kept m m.kept m.clean
+after_arrival m (Clean kept) = with_kept m kept m.clean
+after_arrival m (Violation spec tuple) = with_kept m m.kept false

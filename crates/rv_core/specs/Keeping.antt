@@ -1,5 +1,5 @@
--- What is kept of the traces that arrived, for a spec: all of them or, where dominated ones are dropped, their leaders.
-use Rattle.std.specs.Prelude.{◌≡◌, ℕ, suc, ◌<◌, Bool, true, false, List, [], ◌∷◌, length, map, slice_index_or}
+-- What is kept of the traces that arrived, for a spec: those that no other one covers, of equal ones the first.
+use Rattle.std.specs.Prelude.{◌≡◌, ℕ, ◌<◌, Bool, true, false, List, [], ◌∷◌, length, map, slice_index_or}
 use Rattle.std.specs.Coded.{×_prop, Unit-prop, le_prop, Coded-set, coded_ℕ}
 use Rattle.hy_formula.specs.Quantifiers.{Each}
 use Rattle.hy_finite.specs.declared.lengths.Lengths.{Lengths}
@@ -10,26 +10,22 @@ use Rattle.dominance.specs.Leaders.{AreLeaders, numbered}
 use Rattle.dominance.specs.Leaders as leaders
 use Rattle.rv_core.specs.Endings.{Spec, spec_at}
 
--- the traces with their numbers, which go on from k
-abbrev pub numbered_from : ℕ → List Trace → List Numbered
-numbered_from k [] = []
-numbered_from k (t ∷ ts) = (k, t) ∷ numbered_from (suc k) ts
+-- The first trace covers the other: it dominates it, where dominated ones are dropped; else they are
+-- equal.
+abbrev pub Covers : Lengths → Bool → Spec → Trace → Trace → Type 0
+Covers rule false spec t u = t ≡ u
+Covers rule true spec t u = Dominates rule spec.variables spec.body t u
 
 -- numbered traces as members that arrived
 abbrev pub members_of : List Numbered → List (leaders.Numbered Trace)
 members_of kept = map (λ (p : Numbered). numbered p.0 p.1) kept
 
--- The first trace covers the other: it dominates it, where dominated ones are dropped; else they are equal.
-abbrev pub Covers : Lengths → Bool → Spec → Trace → Trace → Type 0
-Covers rule false spec t u = t ≡ u
-Covers rule true spec t u = Dominates rule spec.variables spec.body t u
-
+-- What is kept are the leaders.
 abbrev pub IsKept : Lengths → Bool → Spec → List Trace → List Numbered → Type 0
-IsKept rule false spec list kept = kept ≡ numbered_from 0 list
-IsKept rule true spec list kept =
-    AreLeaders (Dominates rule spec.variables spec.body) list (members_of kept)
+IsKept rule drop spec list kept = AreLeaders (Covers rule drop spec) list (members_of kept)
 
--- It is said that so many traces are kept for a spec: all or, where dominated ones are dropped, the leaders.
+-- It is said that so many traces are kept for a spec: where dominated ones are dropped, as there are
+-- leaders; else all that arrived, equal ones too.
 abbrev pub IsKeptCount : Lengths → Bool → Spec → List Trace → ℕ → Type 0
 IsKeptCount rule false spec list n = n ≡ length list
 IsKeptCount rule true spec list n =

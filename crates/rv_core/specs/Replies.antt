@@ -1,5 +1,5 @@
 -- What a monitor answers to an event, and to events one after another.
-use Rattle.std.specs.Prelude.{◌≡◌, ℕ, suc, ◌<◌, Bool, true, false, List, [], ◌∷◌, length, All, Option, Some, None, Result, Ok, Err}
+use Rattle.std.specs.Prelude.{◌≡◌, ℕ, suc, ◌<◌, Bool, true, false, List, [], ◌∷◌, length, All, Result, Ok, Err}
 use Rattle.hy_base.specs.declared.limit.Kind.TheVariants as kind
 use Rattle.hy_finite.specs.declared.event.Event.{Event}
 use Rattle.hy_finite.specs.declared.event.Event.TheVariants as event
@@ -7,7 +7,8 @@ use Rattle.hy_finite.specs.declared.lengths.Lengths.{Lengths}
 use Rattle.hy_finite.specs.Traces.{Trace, ViolatesBy, picked}
 use Rattle.rv_core.specs.declared.reply.Reply.{Reply}
 use Rattle.rv_core.specs.declared.reply.Reply.TheVariants.{Quiet, Arrived, Violation}
-use Rattle.rv_core.specs.declared.kept.Found.{Found}
+use Rattle.rv_core.specs.declared.arrival.Arrival.{Arrival}
+use Rattle.rv_core.specs.declared.arrival.Arrival.TheVariants as arrival
 use Rattle.rv_core.specs.declared.rv_error.RvError.{RvError}
 use Rattle.rv_core.specs.declared.rv_error.RvError.TheVariants as error
 use Rattle.rv_core.specs.Histories.{History, Refusal, no_session, no_save, too_long, too_many_sessions, too_many_saves, refused, goes, step, arrives}
@@ -73,10 +74,11 @@ pub record IsAsBefore (old new : Held) : Type 0 where
   pub clean : new.clean ≡ old.clean
   pub stands : (h : History) → StandsFor old h → StandsFor new h
 
--- The answer where the trace with this number arrived, and what was found.
-abbrev pub IsReplyTo : ℕ → Option Found → Reply → Type 0
-IsReplyTo trace None reply = reply ≡ Arrived trace
-IsReplyTo trace (Some found) reply = reply ≡ Violation found.spec trace found.tuple
+-- The answer where the trace with this number arrived, and this came of it.
+abbrev pub IsReplyTo : ℕ → Arrival → Reply → Type 0
+IsReplyTo trace arrival.Known reply = reply ≡ Arrived trace
+IsReplyTo trace (arrival.Clean kept) reply = reply ≡ Arrived trace
+IsReplyTo trace (arrival.Violation spec tuple) reply = reply ≡ Violation spec trace tuple
 
 -- how a run of calls ends: behind its last event, or at an event, by its number, that was answered by an error or a
 -- violation

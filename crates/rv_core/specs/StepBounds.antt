@@ -1,5 +1,5 @@
 -- How many steps of the monitors a trace makes at most that arrives.
-use Rattle.std.specs.Prelude.{◌≡◌, ℕ, ◌*◌, List, length, slice_get, slice_index_or, Some}
+use Rattle.std.specs.Prelude.{◌≡◌, ◌⊎◌, ℕ, ◌*◌, List, [], ◌∷◌, ◌++◌, length, slice_get, slice_index_or, Some}
 use Rattle.std.specs.List.{Contains}
 use Rattle.hy_finite.specs.declared.event.Event.{Event}
 use Rattle.hy_finite.specs.declared.event.Event.TheVariants as event
@@ -9,8 +9,6 @@ use Rattle.fin_monitor.specs.Machines.{Machine}
 use Rattle.dominance.specs.Dominance.{IsSymmetric}
 use Rattle.trie_walk.specs.Finds.{traces_of}
 use Rattle.trie_walk.specs.JointPrefixes.{Row, IsJointPrefix, IsFirstPrefix}
-use Rattle.trace_trie.specs.Numbered.{Numbered}
-use Rattle.rv_core.specs.Arrivals.{with_last}
 use Rattle.rv_core.specs.Held.{Held}
 use Rattle.rv_core.specs.Keeping.{kept_at}
 use Rattle.rv_core.specs.Opened.{letters_in}
@@ -23,9 +21,9 @@ Brings m (event.Letter n a) u = ⊥
 Brings m event.Save u = ⊥
 Brings m event.Back u = ⊥
 
--- A bound for a body: for each of its variables as many as a list has that has each joint prefix of the tuples of
--- members of the list with the trace; or, where the order of two traces does not matter, as many as one has that has
--- each of those with the trace first.
+-- A bound for a walk over the tuples of members of a list that have the trace: for each variable of the body as many as
+-- a list has that has each joint prefix of these tuples; or, where the order of two traces does not matter, as many as
+-- one has that has each of those with the trace first.
 pub data IsBound (rule : Lengths) (m : Machine) (list : List Trace) (t : Trace) : ℕ → Type 0 where
   by_joint : (prefixes : List (List Row))
       → ((rows : List Row) → IsJointPrefix rule list t m.variables rows → Contains prefixes rows)
@@ -34,13 +32,14 @@ pub data IsBound (rule : Lengths) (m : Machine) (list : List Trace) (t : Trace) 
       → ((rows : List Row) → IsFirstPrefix rule list t m.variables rows → Contains prefixes rows)
       → IsBound rule m list t (length prefixes)
 
--- Each spec has its bound, for the traces that tuples are made of.
-pub record AreBoundsOf (rule : Lengths) (machines : List Machine) (kept : List (List Numbered))
-    (t : Trace) (bounds : List ℕ) : Type 0 where
-  pub long : length bounds ≡ length machines
-  pub right : (s : ℕ) (m : Machine) → slice_get machines s ≡ Some m
-      → IsBound rule m (traces_of (kept_at kept s)) t (slice_index_or bounds s 0)
+-- A bound for a spec for which these are kept: none where the trace equals one of them; else one for a walk over them
+-- and the trace.
+abbrev pub IsSpecBound : Lengths → Machine → List Trace → Trace → ℕ → Type 0
+IsSpecBound rule m kept t bound =
+    (Contains kept t × (bound ≡ 0)) ⊎ IsBound rule m (kept ++ t ∷ []) t bound
 
--- Each spec has its bound, for what is kept and the trace.
-abbrev pub AreBounds : Held → Trace → List ℕ → Type 0
-AreBounds m t bounds = AreBoundsOf m.rule m.machines (with_last m.arrived t m.kept) t bounds
+-- Each spec has its bound.
+pub record AreBounds (m : Held) (t : Trace) (bounds : List ℕ) : Type 0 where
+  pub long : length bounds ≡ length m.machines
+  pub right : (s : ℕ) (q : Machine) → slice_get m.machines s ≡ Some q
+      → IsSpecBound m.rule q (traces_of (kept_at m.kept s)) t (slice_index_or bounds s 0)

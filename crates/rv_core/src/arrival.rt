@@ -1,30 +1,49 @@
 //! What comes of a trace that arrives.
 
-ghost use Rattle.std.specs.Prelude.{◌≡◌, ◌+◌, ◌<◌, ◌≤◌, ◌^◌, ℕ, List, length, sum, IfOk};
-ghost use Rattle.rv_core.specs.Arrivals.{IsArrival, after_arrival};
-ghost use Rattle.rv_core.specs.Keeping.{AreBelow};
+ghost use Rattle.std.specs.Prelude.{◌≡◌, ◌+◌, ◌<◌, ◌≤◌, ◌^◌, ℕ, List, length, sum, slice_get, Some, IfOk};
+ghost use Rattle.fin_monitor.specs.Machines.{Machine};
+ghost use Rattle.trie_walk.specs.Finds.{traces_of};
+ghost use Rattle.rv_core.specs.Arrivals.{IsOutcome, IsArrival, FitsArrival, after_arrival};
+ghost use Rattle.rv_core.specs.Keeping.{kept_at};
 ghost use Rattle.rv_core.specs.Replies.{IsReplyTo};
-ghost use Rattle.rv_core.specs.StepBounds.{AreBounds};
+ghost use Rattle.rv_core.specs.Seen.{watched_by};
+ghost use Rattle.rv_core.specs.StepBounds.{IsSpecBound, AreBounds};
 
-use crate::kept::{Found, Kept, first_violation, leaders, with_trace};
+use crate::kept::{Kept, all_hold};
 use crate::reply::Reply;
 use crate::rv::Rv;
-use hy_base::{M, Steps};
+use hy_base::{List, M, Steps};
 use hy_finite::Trace;
 use std::alloc::Global;
 use std::sync::ledger::Ledger;
+use trace_trie::Version;
+use tuple_walk::Tuple;
 
-/// What is kept with a trace that arrives, and the violation that it brings, if any.
+/// What comes of a trace for one spec.
 #[derive(Drop)]
-pub(crate) struct Arrival {
-    kept: Kept,
-    found: Option<Found>,
+pub(crate) enum Outcome {
+    /// The spec is not violated, and this is kept for it.
+    Passes(Version),
+    /// The spec is violated by these traces.
+    Violates(Tuple),
+}
+
+/// What comes of a trace for all specs.
+#[derive(Drop)]
+pub(crate) enum Arrival {
+    /// For each spec an equal trace is kept, and nothing changes.
+    Known,
+    /// No spec is violated, and this is kept.
+    Clean(Kept),
+    /// The first spec that is violated, and by which traces.
+    Violation { spec: u32, tuple: Tuple },
 }
 
 impl Rv {
     ghost use Rattle.rv_core.specs.Seen.{held};
 
-    /// What would come of the trace. It takes all memory that its arrival takes.
+    /// What would come of the trace. It takes all memory that its arrival takes: none, where an equal
+    /// one is kept for each spec.
     pub(crate) fn arrival<L: Ledger>(
         &self,
         alloc: Global,
@@ -32,48 +51,89 @@ impl Rv {
         steps: &mut Steps<L>,
     ) -> M<Arrival>
         requires few { (held self.now).arrived < 2 ^ 31 }
-        ensures arrival { IfOk result (λ a. IsArrival (held self.now) trace.now a.kept a.found) }
-        ensures below { IfOk result (λ a.
-            AreBelow (length self.now.watches) ((held self.now).arrived + 1) a.kept) }
+        ensures arrival { IfOk result (IsArrival (held self.now) trace.now) }
+        ensures below { IfOk result
+            (FitsArrival (length self.now.watches) ((held self.now).arrived + 1)) }
         ensures counted { steps.old ≤ steps.new }
         ensures bounded { (bounds : List ℕ) → AreBounds (held self.now) trace.now bounds
             → steps.new ≤ steps.old + sum bounds }
     {
-        let watches = self.watches.as_slice();
-        let number = self.traces;
-        let all = with_trace(alloc, &self.kept, number, trace)?;
-        let found = first_violation(
-            alloc,
-            watches,
-            self.rule,
-            &all,
-            number,
-            trace.as_slice(),
-            steps,
-        );
-        if found.is_some() || !self.drop_dominated {
-            return Ok(Arrival { kept: all, found });
+        if all_hold(&self.kept, trace.as_slice()) {
+            return Ok(Arrival::Known);
         }
-        let kept = leaders(alloc, watches, self.rule, &self.kept, number, trace)?;
-        Ok(Arrival { kept, found })
+        let mut next = List::new(alloc);
+        for i in 0..self.watches.len() {
+            match self.outcome(alloc, i, trace, steps)? {
+                Outcome::Passes(version) => next.push(version)?,
+                Outcome::Violates(tuple) => {
+                    let spec = i as u32;
+                    return Ok(Arrival::Violation { spec, tuple });
+                }
+            }
+        }
+        Ok(Arrival::Clean(next))
+    }
+
+    /// What would come of the trace for the spec with this number.
+    ///
+    /// Where an equal one is kept there are no new tuples, and none is walked. Else the trace is put
+    /// with those that are kept and its tuples are walked; and where dominated ones are dropped, it
+    /// is compared with those.
+    fn outcome<L: Ledger>(
+        &self,
+        alloc: Global,
+        spec: usize,
+        trace: &Trace,
+        steps: &mut Steps<L>,
+    ) -> M<Outcome>
+        requires few { (held self.now).arrived < 2 ^ 31 }
+        requires there { spec < length self.now.watches }
+        ensures outcome { (m : Machine) → slice_get (watched_by self.now.watches) spec ≡ Some m
+            → IfOk result (IsOutcome self.now.rule self.now.drop_dominated m trace.now
+            self.now.traces (kept_at self.now.kept spec)) }
+        ensures counted { steps.old ≤ steps.new }
+        ensures bounded { (m : Machine) (bound : ℕ)
+            → slice_get (watched_by self.now.watches) spec ≡ Some m
+            → IsSpecBound self.now.rule m (traces_of (kept_at self.now.kept spec)) trace.now bound
+            → steps.new ≤ steps.old + bound }
+    {
+        let watch = self.watches.at(spec);
+        let kept = self.kept.at(spec);
+        let number = self.traces;
+        let letters = trace.as_slice();
+        if kept.holds(letters) {
+            return Ok(Outcome::Passes(kept.share()?));
+        }
+        let all = kept.insert(number, trace)?;
+        match watch.find(alloc, self.rule, &all, number, letters, steps) {
+            Some(tuple) => Ok(Outcome::Violates(tuple)),
+            None if self.drop_dominated => {
+                let left = watch.leaders(alloc, self.rule, kept, number, trace)?;
+                Ok(Outcome::Passes(left))
+            }
+            None => Ok(Outcome::Passes(all)),
+        }
     }
 
     /// The trace arrives.
     pub(crate) fn take_arrival(&mut self, arrival: Arrival) -> Reply
         requires few { (held self.old).arrived < 2 ^ 31 }
-        requires below {
-            AreBelow (length self.old.watches) ((held self.old).arrived + 1) arrival.kept }
-        ensures held { held self.new ≡ after_arrival (held self.old) arrival.kept arrival.found }
-        ensures reply { IsReplyTo (held self.old).arrived arrival.found result }
+        requires below { FitsArrival (length self.old.watches) ((held self.old).arrived + 1) arrival }
+        ensures held { held self.new ≡ after_arrival (held self.old) arrival }
+        ensures reply { IsReplyTo (held self.old).arrived arrival result }
     {
-        let Arrival { kept, found } = arrival;
         let trace = self.traces;
-        self.kept = kept;
         self.traces = trace + 1;
-        self.clean = found.is_none();
-        match found {
-            None => Reply::Arrived { trace },
-            Some(Found { spec, tuple }) => Reply::Violation { spec, trace, tuple },
+        match arrival {
+            Arrival::Known => Reply::Arrived { trace },
+            Arrival::Clean(kept) => {
+                self.kept = kept;
+                Reply::Arrived { trace }
+            }
+            Arrival::Violation { spec, tuple } => {
+                self.clean = false;
+                Reply::Violation { spec, trace, tuple }
+            }
         }
     }
 }

@@ -25,8 +25,8 @@ impl Rv {
     ghost use Rattle.rv_core.specs.Seen.{held};
 
     /// The monitor of formulas, which number their specs from 0, before all events. Tuples of traces
-    /// are judged by the rule. With `drop_dominated` of the traces that arrive only leaders are
-    /// kept: those that no other one dominates, of equal ones the first.
+    /// are judged by the rule. Of equal traces that arrive the first is kept; with `drop_dominated`
+    /// leaders alone are: those that no other one dominates.
     ///
     /// `Prefix` names the first formula that is not universal. Else `Limit` comes exactly where a
     /// closure has more than 1,024 members; or else a body more than 16 indexed atoms; or else more

@@ -1,6 +1,6 @@
 //! What a spec is watched by.
 
-ghost use Rattle.std.specs.Prelude.{◌≡◌, ◌↔◌, ◌+◌, ◌<◌, ◌≤◌, ℕ, IfOk, IfSome, IfNone, IsTrue};
+ghost use Rattle.std.specs.Prelude.{◌≡◌, ◌↔◌, ◌+◌, ◌<◌, ◌≤◌, ℕ, true, IfOk, IfSome, IfNone, IsTrue};
 ghost use Rattle.std.specs.Coded.{→_prop};
 ghost use Rattle.hy_formula.specs.Quantifiers.{Each};
 ghost use Rattle.trace_trie.specs.Numbered.{Numbered};
@@ -89,7 +89,7 @@ impl Watch {
         trace: &Trace,
     ) -> M<Version>
         requires { Each (λ (p : Numbered). p.0 < number) kept.now }
-        ensures { IfOk result (IsNext rule (watched self.now) trace.now number kept.now) }
+        ensures { IfOk result (IsNext rule true (watched self.now) trace.now number kept.now) }
     {
         kept.numbers_ascend();
         let mut left = kept.share()?;

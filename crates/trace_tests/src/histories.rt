@@ -7,7 +7,7 @@ ghost use Rattle.rv_core.specs.Built.{HasFewQuantifiers};
 use hy_base::Steps;
 use hy_finite::{Lengths, read_events};
 use hy_formula::{Atom, Body, Class, Formula, NameTable, Prefix, Quant};
-use rv_core::{Reply, Rv, RvError, RvNewError};
+use rv_core::{Reply, Rv, RvError, RvNewError, Tuple};
 use std::alloc::Global;
 use std::marker::Brand;
 use std::process::Abort;
@@ -98,6 +98,31 @@ fn play<L: Ledger, R: AllocGlobal + Abort>(
     Ok(rv.kept(0))
 }
 
+/// Gives a monitor the events of a file, and says by which traces the last one brings a violation, if
+/// it does.
+fn violated_by<L: Ledger, R: AllocGlobal + Abort>(
+    rt: &R,
+    file: &[u8],
+    drop_dominated: bool,
+    steps: &mut Steps<L>,
+) -> Result<Option<Tuple>, Fail>
+    requires { length file.now < 1000 }
+{
+    let alloc = rt.alloc();
+    let specs = [secrecy(alloc, Quant::Forall)?, not_both(alloc)?];
+    let events = read_events(alloc, file, &names(alloc)?)?;
+    let mut rv = Rv::new(alloc, &specs, Lengths::Min, drop_dominated)?;
+    let mut found = None;
+    for placed in events.as_slice() {
+        assert!(rt; rv.is_clean() && rv.traces() < 1000);
+        match rv.event(alloc, &placed.event, steps)? {
+            Reply::Violation { tuple, .. } => found = Some(tuple),
+            _ => found = None,
+        }
+    }
+    Ok(found)
+}
+
 fn all<L: Ledger, R: AllocGlobal + Abort>(rt: &R, blank: Blank) -> Result<(), Fail>
     requires name { blank.name ≡ L.name }
     requires parts { blank.parts ≡ L.parts }
@@ -139,6 +164,30 @@ fn leaders<L: Ledger, R: AllocGlobal + Abort>(rt: &R, blank: Blank) -> Result<()
     Ok(())
 }
 
+/// Equal traces arrive each with its number and count, and the first of them is named.
+fn equals<L: Ledger, R: AllocGlobal + Abort>(rt: &R, blank: Blank) -> Result<(), Fail>
+    requires name { blank.name ≡ L.name }
+    requires parts { blank.parts ≡ L.parts }
+    requires some { 0 < blank.parts }
+{
+    let mut steps = Steps::<L>::new(blank);
+    // A trace of a session equals one that came whole; a prefix of one does not.
+    let sessions = b"{o};{}\n@1 {o}\n{o};{}\n@1 {}\n@1 end\n{o}\n{o}";
+    let answers = [0, 100, 1, 100, 2, 3, 4];
+    assert_eq!(rt; play(rt, sessions, false, &answers, &mut steps)?, 5);
+    // A back brings the count of its save, and what arrived since is new again.
+    let saves = b"{o}\n{o}\n!save\n{o};{}\n{o};{}\n!back\n{o};{}\n{o}";
+    let answers = [0, 1, 100, 2, 3, 100, 2, 3];
+    assert_eq!(rt; play(rt, saves, false, &answers, &mut steps)?, 4);
+    for drop_dominated in [false, true] {
+        match violated_by(rt, b"{o}\n{o}\n{o}\n{}", drop_dominated, &mut steps)? {
+            Some(tuple) => assert_eq!(rt; tuple.as_slice(), [3, 0].as_slice()),
+            None => assert!(rt; false),
+        }
+    }
+    Ok(())
+}
+
 #[test]
 fn runs(rt: HostRuntime) -> Result<(), Fail> {
     all::<Brand, HostRuntime>(&rt, Blank::new(1))
@@ -147,6 +196,11 @@ fn runs(rt: HostRuntime) -> Result<(), Fail> {
 #[test]
 fn drops(rt: HostRuntime) -> Result<(), Fail> {
     leaders::<Brand, HostRuntime>(&rt, Blank::new(1))
+}
+
+#[test]
+fn repeats(rt: HostRuntime) -> Result<(), Fail> {
+    equals::<Brand, HostRuntime>(&rt, Blank::new(1))
 }
 
 /// The first formula that is not universal is named.

@@ -1,5 +1,5 @@
 -- Children of two lists, and one child swapped for another.
-use Rattle.std.proofs.Common.{◌≡◌, ◌≢◌, ℕ, ◌<◌, Bool, true, false, not, cond, List, [], ◌∷◌, ◌++◌, length, length-append, append_assoc, append-nil, refl, sym, ap, ◌∙◌, subst, arith}
+use Rattle.std.proofs.Common.{◌≡◌, ◌≢◌, ℕ, ◌<◌, Bool, true, false, not, cond, List, [], ◌∷◌, ◌++◌, length, append_assoc, refl, sym, ap, ◌∙◌, subst, arith}
 use Rattle.std.specs.FinSet.{contains}
 use Rattle.hy_bits.specs.Letter.{Letter}
 use Rattle.hy_formula.specs.Quantifiers.{Each}

@@ -10,3 +10,4 @@ pub mod Numbering
 pub mod Ordering
 pub mod Parts
 pub mod Rests
+pub mod Walking

@@ -1,10 +1,9 @@
 -- Looking a number up in two lists, and taking it from them.
-use Rattle.std.proofs.Common.{◌≡◌, ℕ, ◌<◌, ◌≤◌, Bool, true, false, not, cond, List, [], ◌∷◌, ◌++◌, length, Some, None, eqb, refl, sym, ap, ◌∙◌, inl, inr, arith}
-use Rattle.std.proofs.lemmas.Bool.{cases_eq, eq-eqb, ne_eqb}
+use Rattle.std.proofs.Common.{◌≡◌, ℕ, false, not, cond, List, [], ◌∷◌, ◌++◌, length, Some, None, eqb, refl, ap, ◌∙◌, arith}
+use Rattle.std.proofs.lemmas.Bool.{ne_eqb}
 use Rattle.std.proofs.lemmas.List.Elements.{filter-append}
-use Rattle.std.specs.List.{filter}
 use Rattle.hy_formula.specs.Quantifiers.{Each}
-use Rattle.trace_trie.specs.Numbered.{Numbered, with_number, without_number, first_number}
+use Rattle.trace_trie.specs.Numbered.{Numbered, with_number, without_number}
 
 pub without-other : (n : ℕ) (xs : List Numbered) → Each (λ (p : Numbered). p.0 ≡ n → ⊥) xs → without_number n xs ≡ xs
 without-other n [] h = refl

@@ -1,12 +1,12 @@
 -- Lists of traces in the order of their numbers.
-use Rattle.std.proofs.Common.{◌≡◌, ◌≢◌, ℕ, suc, ◌<◌, ◌≤◌, ◌+◌, Bool, true, false, not, ◌&&◌, cond, ltb, List, [], ◌∷◌, ◌++◌, length, map, refl, sym, ap, ◌∙◌, subst, inl, inr, arith}
+use Rattle.std.proofs.Common.{◌≡◌, suc, ◌<◌, ◌≤◌, Bool, true, false, cond, ltb, List, [], ◌∷◌, ◌++◌, length, map, refl, sym, ap, ◌∙◌, subst, inl, inr, arith}
 use Rattle.std.proofs.lemmas.Bool.{ltb-true, ltb-false, lt-ltb, le-ltb, cases_Bool}
 use Rattle.std.specs.List.{filter, Contains}
 use Rattle.hy_bits.specs.Letter.{Letter}
 use Rattle.hy_formula.specs.Quantifiers.{Each}
-use Rattle.trace_trie.specs.Numbered.{Numbered, IsAscending, begins, tail, under, without_number, put_in_order, in_order}
+use Rattle.trace_trie.specs.Numbered.{Numbered, begins, tail, under, put_in_order, in_order}
 use Rattle.trace_trie.specs.Kids.{IsMore}
-use Rattle.trace_trie.proofs.Each.{each-append, each-left, each-right, each-like, each-filter}
+use Rattle.trace_trie.proofs.Each.{each-like, each-filter}
 use Rattle.trace_trie.proofs.Holding.{contains-here, contains-later, contains-cases, contains-none}
 
 -- ---- what holds of each pair

@@ -1,7 +1,7 @@
 -- What is known of a list of traces by number that has two parts.
-use Rattle.std.proofs.Common.{◌≡◌, ℕ, ◌<◌, ◌≤◌, List, [], ◌∷◌, ◌++◌, length, length-append, refl, sym, ap, ◌∙◌, subst, arith}
+use Rattle.std.proofs.Common.{◌≡◌, ℕ, ◌<◌, ◌≤◌, List, [], ◌∷◌, ◌++◌, length, length-append, sym, ap, ◌∙◌, subst, arith}
 use Rattle.hy_formula.specs.Quantifiers.{Each}
-use Rattle.trace_trie.specs.Numbered.{Numbered, with_number, without_number, first_number}
+use Rattle.trace_trie.specs.Numbered.{Numbered, with_number, without_number}
 use Rattle.trace_trie.specs.NumberTrees.{pairs, IsSplit}
 use Rattle.trace_trie.specs.declared.numbers.NumberTree.{NumberTree}
 use Rattle.trace_trie.specs.declared.numbers.NumberTree.TheVariants.{Two}

@@ -1,5 +1,5 @@
 -- What is left of the traces that pass a node, by its children.
-use Rattle.std.proofs.Common.{◌≡◌, ◌≢◌, ℕ, ◌<◌, ◌≤◌, Bool, true, false, not, cond, eqb, List, [], ◌∷◌, ◌++◌, length, length-append, append_assoc, append-nil, map, Some, refl, sym, ap, ◌∙◌, subst, inl, inr, arith}
+use Rattle.std.proofs.Common.{◌≡◌, ◌≢◌, ℕ, ◌<◌, Bool, true, false, not, cond, eqb, List, [], ◌∷◌, ◌++◌, length, append_assoc, append-nil, map, refl, sym, ap, ◌∙◌, subst, inl, inr, arith}
 use Rattle.std.proofs.lemmas.Bool.{cases_Bool}
 use Rattle.std.proofs.lemmas.List.{map-append}
 use Rattle.std.proofs.lemmas.List.Elements.{filter-append}
@@ -13,7 +13,7 @@ use Rattle.trace_trie.specs.Cursors.{AreDistinct, GoesOn}
 use Rattle.trace_trie.proofs.Each.{each-append, each-left, each-right, each-like, each-map, each-unmap}
 use Rattle.trace_trie.proofs.Holding.{contains-here, contains-later}
 use Rattle.trace_trie.proofs.Numbering.{without-other, without-append}
-use Rattle.trace_trie.proofs.Lettering.{equal-letter, letter-itself, same-false, same-apart}
+use Rattle.trace_trie.proofs.Lettering.{equal-letter, letter-itself}
 use Rattle.trace_trie.proofs.Kids.{behind-none}
 
 pub spread-append : (xs ys : List Kid) → spread (xs ++ ys) ≡ spread xs ++ spread ys

@@ -1,5 +1,5 @@
 -- What the children of a node are seen as, and what a node is.
-use Rattle.std.specs.Prelude.{◌≡◌, ℕ, ◌<◌, Bool, true, false, List, [], ◌∷◌, ◌++◌, length}
+use Rattle.std.specs.Prelude.{◌≡◌, ◌<◌, true, false, List, [], ◌∷◌, ◌++◌, length}
 use Rattle.std.specs.FinSet.{contains}
 use Rattle.hy_formula.specs.Quantifiers.{Each}
 use Rattle.trace_trie.specs.Numbered.{Numbered, ended}

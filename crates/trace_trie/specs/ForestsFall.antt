@@ -1,6 +1,6 @@
 -- Behind each child, and in each part of a fork, fewer letters are left.
-use Rattle.std.specs.Prelude.{◌≡◌, ℕ, ◌+◌, ◌<◌, ◌≤◌, max, List, [], ◌∷◌, ◌++◌, length}
-use Rattle.std.proofs.Common.{arith, length-append, ap, sym, ◌∙◌, refl}
+use Rattle.std.specs.Prelude.{◌≡◌, ◌+◌, ◌<◌, ◌≤◌, max, List, [], ◌∷◌, ◌++◌, length}
+use Rattle.std.proofs.Common.{arith}
 use Rattle.hy_bits.specs.Letter.{Letter}
 use Rattle.trace_trie.specs.declared.forest.Branch.{Branch}
 use Rattle.trace_trie.specs.declared.forest.Branch.TheVariants.{Bare, Child, Fork}

@@ -1,6 +1,6 @@
 -- The children of a node of a trie: each has its letter, and what is left behind it of the traces
 -- that pass it.
-use Rattle.std.specs.Prelude.{◌≡◌, ◌≢◌, ℕ, ◌<◌, cond, List, [], ◌∷◌, ◌++◌, length, map}
+use Rattle.std.specs.Prelude.{◌≡◌, ◌≢◌, ◌<◌, cond, List, [], ◌∷◌, ◌++◌, length, map}
 use Rattle.hy_bits.specs.Letter.{Letter}
 use Rattle.hy_formula.specs.Quantifiers.{Each}
 use Rattle.trace_trie.specs.Numbered.{Numbered, same_letter, led_by}

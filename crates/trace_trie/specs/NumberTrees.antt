@@ -1,5 +1,5 @@
 -- What a tree of traces by number is seen as.
-use Rattle.std.specs.Prelude.{ℕ, ◌<◌, ◌≤◌, List, [], ◌∷◌, ◌++◌, length}
+use Rattle.std.specs.Prelude.{◌<◌, ◌≤◌, List, [], ◌∷◌, ◌++◌, length}
 use Rattle.hy_formula.specs.Quantifiers.{Each}
 use Rattle.trace_trie.specs.Numbered.{Numbered}
 use Rattle.trace_trie.specs.declared.numbers.NumberTree.{NumberTree}

@@ -1,5 +1,5 @@
 -- Each part of a tree has fewer traces than the tree.
-use Rattle.std.specs.Prelude.{◌≤◌, max, ◌∷◌, length}
+use Rattle.std.specs.Prelude.{◌≤◌, max, length}
 use Rattle.std.proofs.Common.{arith, length-append}
 use Rattle.trace_trie.specs.declared.numbers.NumberTree.{NumberTree}
 use Rattle.trace_trie.specs.declared.numbers.NumberTree.TheVariants.{Nothing, One, Two}

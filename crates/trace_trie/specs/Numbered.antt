@@ -1,6 +1,6 @@
 -- Lists of traces, or of what is left of them, with their numbers.
-use Rattle.std.specs.Prelude.{◌≡◌, ℕ, ◌+◌, ◌<◌, ◌≤◌, Bool, true, false, not, ◌&&◌, cond, nat_eq, nat_lt, List, [], ◌∷◌, length, map, Option, Some, None}
-use Rattle.std.specs.List.{filter}
+use Rattle.std.specs.Prelude.{ℕ, ◌+◌, ◌<◌, ◌≤◌, Bool, false, not, ◌&&◌, cond, nat_eq, nat_lt, List, [], ◌∷◌, length, map, Option, Some, None}
+use Rattle.std.specs.List.{Contains, filter}
 use Rattle.std.specs.FinSet.{is_subset}
 use Rattle.hy_bits.specs.Letter.{Letter}
 use Rattle.hy_formula.specs.Quantifiers.{Each}
@@ -26,6 +26,10 @@ without_number n list = filter (λ (p : Numbered). not (nat_eq p.0 n)) list
 abbrev pub with_number : ℕ → List Numbered → Option (List Letter)
 with_number n [] = None
 with_number n (p ∷ ps) = cond (nat_eq p.0 n) (Some p.1) (with_number n ps)
+
+-- The trace stands in the list, with some number.
+abbrev pub IsHeld : List Letter → List Numbered → Type 0
+IsHeld t list = (n : ℕ) × Contains list (n, t)
 
 -- what is left of the list from the first number on that is not below n
 abbrev pub rest_from : ℕ → List Numbered → List Numbered

@@ -65,6 +65,20 @@ impl<'a> Cursor<'a> {
         }
     }
 
+    /// The child of a letter, as `child`; `None` where no trace goes on by it. Takes no memory, and
+    /// at most 64 steps.
+    pub fn child_of(&self, letter: LetterMask) -> Option<Cursor<'a>>
+        ensures some { IfSome result (λ child.
+            rests_at child ≡ under letter (rests_at self.now)) }
+        ensures none { IfNone result (under letter (rests_at self.now) ≡ []) }
+    {
+        self.children.kids_differ();
+        match self.children.get(letter) {
+            Some(grown) => Some(Cursor::of(grown.ends, grown.children)),
+            None => None,
+        }
+    }
+
     /// A trace that ends here, where there is one. Takes no memory.
     pub fn first(&self) -> Option<u32>
         ensures some { IfSome result (λ n. Contains (rests_at self.now) (n, [])) }

@@ -152,7 +152,7 @@ impl Forest {
     }
 
     /// The child of a letter, where there is one. Takes no memory, and at most 64 steps.
-    fn get(&self, letter: LetterMask) -> Option<Grown<'_>>
+    pub(crate) fn get(&self, letter: LetterMask) -> Option<Grown<'_>>
         ensures some { IfSome result (λ grown. behind letter self.now
             ≡ passing grown.ends.now grown.children.now) }
         ensures none { IfNone result (behind letter self.now ≡ []) }

@@ -114,7 +114,11 @@ impl Numbers {
             NumberTree::Nothing => None,
             NumberTree::One(number, trace) => {
                 let trace: &Trace = trace;
-                if *number < from { None } else { Some((*number, trace)) }
+                if *number < from {
+                    None
+                } else {
+                    Some((*number, trace))
+                }
             }
             NumberTree::Two(split, _, first, second) => {
                 if *split <= from {

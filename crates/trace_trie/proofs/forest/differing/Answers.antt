@@ -1,5 +1,4 @@
-use Rattle.std.proofs.Common.{◌≡◌, ℕ, ◌<◌, sym, ◌∙◌, arith}
-use Rattle.std.specs.FinSet.{contains}
+use Rattle.std.proofs.Common.{sym, ◌∙◌, arith}
 use Rattle.trace_trie.proofs.Lettering.{equal-letter, same-below}
 use Rattle.trace_trie.proofs.forest.differing.Goals as goal
 

@@ -1,11 +1,11 @@
-use Rattle.std.proofs.Common.{◌≡◌, ℕ, ◌<◌, ◌+◌, ◌≤◌, List, [], ◌∷◌, slice_get, length, sym, ap, ◌∙◌, subst, drop, arith}
+use Rattle.std.proofs.Common.{◌≡◌, ◌<◌, ◌+◌, ◌≤◌, List, [], ◌∷◌, slice_get, length, sym, ap, ◌∙◌, subst, drop, arith}
 use Rattle.hy_bits.specs.Letter.{Letter}
 use Rattle.hy_formula.specs.Quantifiers.{Each}
 use Rattle.trace_trie.specs.Numbered.{Numbered, ended}
 use Rattle.trace_trie.specs.Kids.{behind, spread, IsMore}
 use Rattle.trace_trie.specs.Forests.{passing}
 use Rattle.trace_trie.proofs.Each.{each-left, each-right, each-unmap}
-use Rattle.trace_trie.proofs.Rests.{each-behind, more-spread, more-ended}
+use Rattle.trace_trie.proofs.Rests.{each-behind, more-spread}
 use Rattle.trace_trie.proofs.Lettering.{drop-at}
 use Rattle.trace_trie.proofs.node.+planted.Goals as goal
 

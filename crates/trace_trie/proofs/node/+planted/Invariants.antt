@@ -1,4 +1,4 @@
-use Rattle.std.proofs.Common.{ℕ, ◌-◌, length}
+use Rattle.std.proofs.Common.{◌-◌, length}
 use Rattle.trace_trie.proofs.node.+planted.Given as goal
 
 abbrev pub decreases-planted : goal.decreases-planted

@@ -1,90 +1,159 @@
-use Rattle.std.proofs.Common.{◌≡◌, ◌∙◌, ◌+◌, false, ℕ, length, List, inl, inr, sym, subst, ap, arith, rules}
-use Rattle.std.specs.List.{Contains}
+use Rattle.std.proofs.Common.{◌≡◌, ◌∙◌, ◌+◌, ◌<◌, ◌∷◌, [], ℕ, length, List, slice_get, Some, sym, subst, ap, arith, length-append}
 use Rattle.std.proofs.lemmas.List.{length-map}
-use Rattle.hy_formula.specs.Quantifiers.{Each}
-use Rattle.hy_finite.specs.Traces.{Trace}
+use Rattle.std.proofs.lemmas.Option.{slice_get_within}
 use Rattle.fin_monitor.specs.Machines.{Machine}
 use Rattle.trace_trie.specs.Numbered.{Numbered}
-use Rattle.rv_core.specs.declared.watch.Watch.{Watch}
-use Rattle.rv_core.specs.Arrivals.{with_last, AreNext, IsSearch, IsArrival}
-use Rattle.rv_core.specs.Keeping.{AreBelow}
+use Rattle.rv_core.specs.declared.arrival.Outcome.{Outcome}
+use Rattle.rv_core.specs.Arrivals.{IsPassed, IsNext, IsOutcome, AreNext}
+use Rattle.rv_core.specs.Keeping.{kept_at}
 use Rattle.rv_core.specs.Seen.{watched, watched_by, held}
-use Rattle.rv_core.proofs.Seeing.{bounds-along}
-use Rattle.rv_core.proofs.Below.{last-there, last-below, next-below, arrival-all, not-not}
+use Rattle.rv_core.proofs.Below.{machine-some, next-below}
+use Rattle.rv_core.proofs.Bounding.{bounds-more, bounds-all}
+use Rattle.rv_core.proofs.Outcomes.{all-known}
+use Rattle.rv_core.proofs.Seeing.{more-there, next-more}
 use Rattle.rv_core.proofs.rv.Rv.arrival.Goals as goal
-use Rattle.rv_core.proofs.rv.Rv.arrival.Goals.{then-is_some-via-then-is_some, then-is_some-via-else-is_some+then-not-self}
 
-pub first_violation-found-requires-clause-there :
-    goal.first_violation-found-requires-clause-there
-first_violation-found-requires-clause-there g c =
-    let n = c.args.self.now.traces in
-    let P : Trace → List (List Numbered) → Type 0 =
-    λ t kept. Each (λ (list : List Numbered). Contains list (n, t)) kept in
-    let Q : List (List Numbered) → Type 0 = P c.args.trace.now in
-    let R : Trace → Type 0 = λ t. P t c.in_ok-all.all in
-    subst R (sym c.as_slice.ensures) (subst Q (sym c.in_ok-all.ensures)
-    (last-there n c.args.trace.now c.args.self.now.kept))
+pub returns-then-all_hold-clause-arrival : goal.returns-then-all_hold-clause-arrival
+returns-then-all_hold-clause-arrival g c =
+    let rv = c.args.self.now in
+    all-known rv.rule rv.drop_dominated (watched_by rv.watches) rv.traces c.args.trace.now
+    c.as_slice.result.now rv.kept c.as_slice.ensures
+    (rv.below.0 ∙ sym (length-map rv.watches watched)) (c.all_hold.ensures.0 c.if-all_hold.true)
 
-pub returns-then-is_some-clause-arrival : goal.returns-then-is_some-clause-arrival
-returns-then-is_some-clause-arrival g c =
-    let m = held c.args.self.now in
-    let found = c.first_violation-found.result in
-    let P : List Watch → Type 0 =
-    λ ws. IsSearch m.rule (watched_by ws) c.in_ok-all.all c.as_slice.result.now found in
-    let Q : Trace → Type 0 = λ t. IsSearch m.rule m.machines c.in_ok-all.all t found in
-    let searched = subst Q c.as_slice.ensures
-    (subst P c.as_slice-watches.ensures c.first_violation-found.ensures.found) in
-    elim c.then-is_some.branch [
-      | then-is_some-via-then-is_some w ↦
-          arrival-all m c.args.trace.now c.in_ok-all.all found c.in_ok-all.ensures searched
-          (inl (sym c.is_some.ensures ∙ w.if-is_some.true))
-      | then-is_some-via-else-is_some+then-not-self w ↦
-          let e = w.if-not-self.true in
-          let all : c.args.self.now.drop_dominated ≡ false = search (rules, not-not) in
-          arrival-all m c.args.trace.now c.in_ok-all.all found c.in_ok-all.ensures searched (inr all)
-    ]
+pub loop-i-init : goal.loop-i-init
+loop-i-init g c =
+    record {
+      long = ap length c.new-next.ensures;
+      passed = λ s m lt at. absurd (omega arith);
+      right = λ s m lt at. absurd (omega arith);
+      grown = omega arith;
+      bounded = λ bounds are. omega arith;
+    }
 
-pub returns-then-is_some-clause-below : goal.returns-then-is_some-clause-below
-returns-then-is_some-clause-below g c =
-    let n = c.args.self.now.traces in
-    let specs = length c.args.self.now.watches in
-    let P : List (List Numbered) → Type 0 = AreBelow specs (n + 1) in
-    subst P (sym c.in_ok-all.ensures)
-    (last-below specs n c.args.trace.now c.args.self.now.kept c.args.self.now.below)
+pub loop-i-preserved : goal.loop-i-preserved
+loop-i-preserved g c =
+    let rv = c.args.self.now in
+    let t = c.args.trace.now in
+    let i = c.loop-i.i in
+    let x = c.in-Passes.version in
+    let ms = watched_by rv.watches in
+    let before = c.loop-i.invariant in
+    let lt : i < length ms =
+    omega (arith, length-map rv.watches watched, c.loop-i-test.true) in
+    let (m, there) = machine-some ms i lt in
+    let P : Outcome → Type 0 =
+    IsOutcome rv.rule rv.drop_dominated m t rv.traces (kept_at rv.kept i) in
+    let (passed, next) = subst P c.in-Passes.is (c.in_ok-version.ensures.outcome m there) in
+    let added = c.in_ok-push-in-Passes.ensures.added in
+    let Q : List (List Numbered) → Type 0 =
+    λ made. (s : ℕ) (q : Machine) → s < i + 1 → slice_get ms s ≡ Some q
+    → IsNext rv.rule rv.drop_dominated q t rv.traces (kept_at rv.kept s) (kept_at made s) in
+    let more = length-append c.loop-i.next (x ∷ []) in
+    record {
+      long = omega (arith, ap length added, more, before.long);
+      passed = more-there (λ s q. IsPassed rv.rule q t (kept_at rv.kept s)) ms i m there passed
+          before.passed;
+      right = subst Q (sym added)
+          (next-more rv.rule rv.drop_dominated ms rv.traces t rv.kept c.loop-i.next i m x there
+          before.long next before.right);
+      grown = omega (arith, before.grown, c.outcome.ensures.counted);
+      bounded = λ bounds are.
+          bounds-more (held rv) t bounds are c.args.steps.now i lt c.loop-i.steps
+          c.outcome.new.steps (before.bounded bounds are) c.outcome.ensures.bounded;
+    }
+
+pub returns-in-Violates-clause-arrival : goal.returns-in-Violates-clause-arrival
+returns-in-Violates-clause-arrival g c =
+    let rv = c.args.self.now in
+    let t = c.args.trace.now in
+    let i = c.loop-i.i in
+    let (m, there) =
+    machine-some (watched_by rv.watches) i
+    (omega (arith, length-map rv.watches watched, c.loop-i-test.true)) in
+    let P : Outcome → Type 0 =
+    IsOutcome rv.rule rv.drop_dominated m t rv.traces (kept_at rv.kept i) in
+    record {
+      machine = m;
+      there = there;
+      violating = subst P c.in-Violates.is (c.in_ok-version.ensures.outcome m there);
+      before = c.loop-i.invariant.passed;
+    }
+
+pub returns-in-Violates-clause-counted : goal.returns-in-Violates-clause-counted
+returns-in-Violates-clause-counted g c =
+    omega (arith, c.loop-i.invariant.grown, c.outcome.ensures.counted)
+
+pub returns-in-Violates-clause-bounded : goal.returns-in-Violates-clause-bounded
+returns-in-Violates-clause-bounded g c bounds are =
+    let rv = c.args.self.now in
+    let i = c.loop-i.i in
+    let lt : i < length (watched_by rv.watches) =
+    omega (arith, length-map rv.watches watched, c.loop-i-test.true) in
+    bounds-all (held rv) c.args.trace.now bounds are c.args.steps.now (i + 1) c.outcome.new.steps
+    (bounds-more (held rv) c.args.trace.now bounds are c.args.steps.now i lt c.loop-i.steps
+    c.outcome.new.steps (c.loop-i.invariant.bounded bounds are) c.outcome.ensures.bounded)
+
+pub returns-in_err-version-clause-bounded : goal.returns-in_err-version-clause-bounded
+returns-in_err-version-clause-bounded g c bounds are =
+    let rv = c.args.self.now in
+    let i = c.loop-i.i in
+    let lt : i < length (watched_by rv.watches) =
+    omega (arith, length-map rv.watches watched, c.loop-i-test.true) in
+    bounds-all (held rv) c.args.trace.now bounds are c.args.steps.now (i + 1) c.outcome.new.steps
+    (bounds-more (held rv) c.args.trace.now bounds are c.args.steps.now i lt c.loop-i.steps
+    c.outcome.new.steps (c.loop-i.invariant.bounded bounds are) c.outcome.ensures.bounded)
+
+pub returns-in_err-push-in-Passes-clause-bounded : goal.returns-in_err-push-in-Passes-clause-bounded
+returns-in_err-push-in-Passes-clause-bounded g c bounds are =
+    let rv = c.args.self.now in
+    let i = c.loop-i.i in
+    let lt : i < length (watched_by rv.watches) =
+    omega (arith, length-map rv.watches watched, c.loop-i-test.true) in
+    bounds-all (held rv) c.args.trace.now bounds are c.args.steps.now (i + 1) c.outcome.new.steps
+    (bounds-more (held rv) c.args.trace.now bounds are c.args.steps.now i lt c.loop-i.steps
+    c.outcome.new.steps (c.loop-i.invariant.bounded bounds are) c.outcome.ensures.bounded)
+
+pub returns-clause-arrival : goal.returns-clause-arrival
+returns-clause-arrival g c =
+    let rv = c.args.self.now in
+    let ms = watched_by rv.watches in
+    let long = length-map rv.watches watched in
+    let end : c.loop-i.i ≡ length ms = omega (arith, long) in
+    record {
+      long = c.loop-i.invariant.long ∙ end;
+      passed = λ s m at.
+          let within = slice_get_within ms s m at in
+          c.loop-i.invariant.passed s m (omega arith) at;
+      right = λ s m at.
+          let within = slice_get_within ms s m at in
+          c.loop-i.invariant.right s m (omega arith) at;
+    }
 
 pub returns-clause-below : goal.returns-clause-below
 returns-clause-below g c =
-    let n = c.args.self.now.traces in
-    let watches = c.as_slice-watches.result.now in
-    let next = c.in_ok-kept.ensures in
-    let long = length-map watches watched in
-    let same = ap length c.as_slice-watches.ensures in
-    (
-      next.long ∙ long ∙ same,
-      next-below c.args.self.now.rule (watched_by watches) n c.args.trace.now
-      c.args.self.now.kept c.in_ok-kept.kept next c.args.self.now.below.1,
+    let rv = c.args.self.now in
+    let ms = watched_by rv.watches in
+    let long = length-map rv.watches watched in
+    let end : c.loop-i.i ≡ length ms = omega (arith, long) in
+    let next : AreNext rv.rule rv.drop_dominated ms rv.traces c.args.trace.now rv.kept c.loop-i.next =
+    record {
+      long = c.loop-i.invariant.long ∙ end;
+      passed = λ s m at.
+          let within = slice_get_within ms s m at in
+          c.loop-i.invariant.passed s m (omega arith) at;
+      right = λ s m at.
+          let within = slice_get_within ms s m at in
+          c.loop-i.invariant.right s m (omega arith) at;
+    } in (
+      c.loop-i.invariant.long ∙ end ∙ long,
+      next-below rv.rule rv.drop_dominated ms rv.traces c.args.trace.now rv.kept c.loop-i.next next
+          rv.below.1,
     )
 
-pub returns-then-is_some-clause-bounded : goal.returns-then-is_some-clause-bounded
-returns-then-is_some-clause-bounded g c bounds are =
-    c.first_violation-found.ensures.bounded bounds
-    (bounds-along c.args.self.now.rule c.as_slice-watches.result.now c.args.self.now.watches
-    c.in_ok-all.all (with_last c.args.self.now.traces c.args.trace.now c.args.self.now.kept)
-    c.as_slice.result.now c.args.trace.now bounds c.as_slice-watches.ensures
-    c.in_ok-all.ensures c.as_slice.ensures are)
-
-pub returns-in_err-kept-clause-bounded : goal.returns-in_err-kept-clause-bounded
-returns-in_err-kept-clause-bounded g c bounds are =
-    c.first_violation-found.ensures.bounded bounds
-    (bounds-along c.args.self.now.rule c.as_slice-watches.result.now c.args.self.now.watches
-    c.in_ok-all.all (with_last c.args.self.now.traces c.args.trace.now c.args.self.now.kept)
-    c.as_slice.result.now c.args.trace.now bounds c.as_slice-watches.ensures
-    c.in_ok-all.ensures c.as_slice.ensures are)
+pub returns-clause-counted : goal.returns-clause-counted
+returns-clause-counted g c = c.loop-i.invariant.grown
 
 pub returns-clause-bounded : goal.returns-clause-bounded
 returns-clause-bounded g c bounds are =
-    c.first_violation-found.ensures.bounded bounds
-    (bounds-along c.args.self.now.rule c.as_slice-watches.result.now c.args.self.now.watches
-    c.in_ok-all.all (with_last c.args.self.now.traces c.args.trace.now c.args.self.now.kept)
-    c.as_slice.result.now c.args.trace.now bounds c.as_slice-watches.ensures
-    c.in_ok-all.ensures c.as_slice.ensures are)
+    bounds-all (held c.args.self.now) c.args.trace.now bounds are c.args.steps.now c.loop-i.i
+    c.loop-i.steps (c.loop-i.invariant.bounded bounds are)

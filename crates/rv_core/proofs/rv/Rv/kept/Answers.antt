@@ -1,6 +1,6 @@
-use Rattle.std.proofs.Common.{◌≡◌, ◌<◌, ◌≤◌, ◌∷◌, ℕ, Bool, if◌then◌else◌, List, length, ap, sym, ◌∙◌, subst, arith}
+use Rattle.std.proofs.Common.{◌≡◌, ◌<◌, ◌≤◌, Bool, if◌then◌else◌, List, length, ap, sym, subst, arith}
 use Rattle.hy_formula.specs.Quantifiers.{Each}
-use Rattle.trace_trie.specs.Numbered.{Numbered, rest_from}
+use Rattle.trace_trie.specs.Numbered.{Numbered}
 use Rattle.dominance.proofs.Elements as members
 use Rattle.rv_core.specs.Keeping.{kept_at}
 use Rattle.rv_core.specs.Seen.{held}

@@ -27,7 +27,6 @@ returns-in_err-arrival-clause-answers g c =
 pub returns-clause-answers : goal.returns-clause-answers
 returns-clause-answers g c =
     let m = held c.args.self.now in
-    let a = c.in_ok-arrival.arrival in
     let t = c.unwrap-trace.result in
     let copied = c.in_ok-copy.field-0 in
     let same : t ≡ copied =
@@ -41,5 +40,5 @@ returns-clause-answers g c =
     subst P (sym c.take_arrival.ensures.held)
     (answered-arrival m (event.End c.args.session) t c.close.new.self
     (end-brings m c.args.session t c.close.new.self known c.close.ensures) refl
-    (omega (arith, short.0, ap length same)) a.kept a.found c.take_arrival.result
+    (omega (arith, short.0, ap length same)) c.in_ok-arrival.arrival c.take_arrival.result
     c.take_arrival.ensures.reply c.in_ok-arrival.ensures.arrival)

@@ -15,10 +15,9 @@ returns-in_err-arrival-clause-answers g c =
 pub returns-clause-answers : goal.returns-clause-answers
 returns-clause-answers g c =
     let m = held c.args.self.now in
-    let a = c.in_ok-arrival.arrival in
     let P : Held → Type 0 =
     λ new. Answers m new (event.Whole c.args.trace.now) (Ok c.take_arrival.result) in
     subst P (sym c.take_arrival.ensures.held)
     (answered-arrival m (event.Whole c.args.trace.now) c.args.trace.now m.sessions
-    (whole-brings m c.args.trace.now) refl (omega arith) a.kept a.found c.take_arrival.result
-    c.take_arrival.ensures.reply c.in_ok-arrival.ensures.arrival)
+    (whole-brings m c.args.trace.now) refl (omega arith) c.in_ok-arrival.arrival
+    c.take_arrival.result c.take_arrival.ensures.reply c.in_ok-arrival.ensures.arrival)

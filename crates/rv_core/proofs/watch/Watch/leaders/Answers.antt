@@ -1,12 +1,11 @@
-use Rattle.std.proofs.Common.{◌≡◌, ◌<◌, ◌≤◌, ◌∷◌, ◌++◌, [], ℕ, Bool, true, false, ◌+◌, List, length, ap, sym, ◌∙◌, subst, arith}
-use Rattle.std.specs.Result.{IfOk}
+use Rattle.std.proofs.Common.{◌≡◌, ◌<◌, true, false, ◌+◌, List, length, ap, sym, ◌∙◌, subst, arith}
 use Rattle.hy_formula.specs.Quantifiers.{Each}
-use Rattle.trace_trie.specs.Numbered.{Numbered, rest_from, without_number}
+use Rattle.trace_trie.specs.Numbered.{Numbered}
 use Rattle.dominance.proofs.Elements.{each-at, each-filter}
-use Rattle.rv_core.specs.Arrivals.{IsOver, IsUnder, IsNext, over}
+use Rattle.rv_core.specs.Arrivals.{IsOver, IsUnder, over}
 use Rattle.rv_core.specs.Seen.{watched}
 use Rattle.rv_core.proofs.Places.{ok-more}
-use Rattle.rv_core.proofs.Sifting.{IsSifted, rest-head, rest-next, rest-contains, sifted-start, sifted-stays, sifted-dropped, sifted-end}
+use Rattle.rv_core.proofs.Sifting.{IsSifted, rest-next, rest-contains, sifted-start, sifted-stays, sifted-dropped, sifted-end}
 use Rattle.rv_core.proofs.watch.Watch.leaders.Goals as goal
 use Rattle.rv_core.proofs.watch.Watch.leaders.Goals.{then-branch-2+in_ok-left-2, else-branch-2}
 
@@ -16,11 +15,11 @@ differ e = cc
 pub loop-other-init : goal.loop-other-init
 loop-other-init c =
     let m = watched c.args.self.now in
-    let P : List Numbered → Type 0 = IsSifted c.args.rule m c.args.trace.now c.args.kept.now 0 in
+    let P : List Numbered → Type 0 = IsSifted c.args.rule true m c.args.trace.now c.args.kept.now 0 in
     let Q : List Numbered → Type 0 = Each (λ (p : Numbered). p.0 < c.args.number) in
     record {
       sifted = subst P (sym c.in_ok-left.ensures)
-          (sifted-start c.args.rule m c.args.trace.now c.args.kept.now);
+          (sifted-start c.args.rule true m c.args.trace.now c.args.kept.now);
       below = subst Q (sym c.in_ok-left.ensures) c.requires;
     }
 
@@ -58,16 +57,16 @@ loop-other-preserved c =
     let p : Numbered = (c.in-Some.other, c.in-Some.held.now) in
     let (more, e) = c.in-Some.ensures.some in
     let ascending = c.numbers_ascend.ensures.ascending in
-    let not_over : ¬ IsOver c.args.rule m c.args.trace.now p =
+    let not_over : ¬ IsOver c.args.rule true m c.args.trace.now p =
     λ is. differ (sym c.if-branch.false ∙ c.in_ok-is_over.ensures.1 is) in
     let P : List Numbered → Type 0 =
-    IsSifted c.args.rule m c.args.trace.now kept (c.in-Some.other + 1) in
+    IsSifted c.args.rule true m c.args.trace.now kept (c.in-Some.other + 1) in
     let Q : List Numbered → Type 0 = Each (λ (p : Numbered). p.0 < c.args.number) in
     elim c.if-branch-2.branch [
       | then-branch-2+in_ok-left-2 w ↦
           let same = w.left-is ∙ w.in_ok-left-2.ensures in
           record {
-            sifted = subst P (sym same) (sifted-dropped c.args.rule m c.args.trace.now kept from
+            sifted = subst P (sym same) (sifted-dropped c.args.rule true m c.args.trace.now kept from
                 c.loop-other.left p more c.loop-other.invariant.sifted ascending e not_over
                 (c.in_ok-is_over-2.ensures.0 w.if-branch-2.true));
             below = subst Q (sym same)
@@ -75,10 +74,10 @@ loop-other-preserved c =
                 c.loop-other.invariant.below);
           }
       | else-branch-2 w ↦
-          let not_under : ¬ IsUnder c.args.rule m c.args.trace.now p =
+          let not_under : ¬ IsUnder c.args.rule true m c.args.trace.now p =
           λ is. differ (sym w.if-branch-2.false ∙ c.in_ok-is_over-2.ensures.1 is) in
           record {
-            sifted = subst P (sym w.left-is) (sifted-stays c.args.rule m c.args.trace.now kept from
+            sifted = subst P (sym w.left-is) (sifted-stays c.args.rule true m c.args.trace.now kept from
                 c.loop-other.left p more c.loop-other.invariant.sifted ascending e not_over
                 not_under);
             below = subst Q (sym w.left-is) c.loop-other.invariant.below;
@@ -89,7 +88,7 @@ pub returns : goal.returns
 returns c =
     let m = watched c.args.self.now in
     ok-more c.insert.result
-    (λ made added. sifted-end c.args.rule m c.args.trace.now c.args.number c.args.kept.now
+    (λ made added. sifted-end c.args.rule true m c.args.trace.now c.args.number c.args.kept.now
     c.loop-other.from c.loop-other.left made c.loop-other.invariant.sifted
     c.in_default.ensures.none added)
     c.insert.ensures

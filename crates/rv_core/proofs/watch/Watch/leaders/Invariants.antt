@@ -1,4 +1,4 @@
-use Rattle.std.proofs.Common.{ℕ, ◌<◌, length}
+use Rattle.std.proofs.Common.{◌<◌, true, length}
 use Rattle.hy_formula.specs.Quantifiers.{Each}
 use Rattle.trace_trie.specs.Numbered.{Numbered, rest_from}
 use Rattle.rv_core.specs.Seen.{watched}
@@ -7,7 +7,7 @@ use Rattle.rv_core.proofs.watch.Watch.leaders.Given as goal
 
 abbrev pub invariant-loop-other : goal.invariant-loop-other
 invariant-loop-other l = record {
-  sifted : IsSifted l.rule (watched l.self) l.trace l.kept l.from l.left;
+  sifted : IsSifted l.rule true (watched l.self) l.trace l.kept l.from l.left;
   below : Each (λ (p : Numbered). p.0 < l.number) l.left;
 }
 

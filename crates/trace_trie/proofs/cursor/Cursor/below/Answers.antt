@@ -1,9 +1,8 @@
-use Rattle.std.proofs.Common.{◌≡◌, ℕ, List, [], Option, Some, sym, ◌∙◌, subst}
+use Rattle.std.proofs.Common.{ℕ, List, [], Option, sym, ◌∙◌, subst}
 use Rattle.std.proofs.lemmas.Option.{IfSome_then}
 use Rattle.std.specs.List.{Contains}
 use Rattle.std.specs.Option.{IfSome}
 use Rattle.hy_bits.specs.Letter.{Letter}
-use Rattle.trace_trie.specs.Numbered.{Numbered}
 use Rattle.trace_trie.specs.Kids.{spread}
 use Rattle.trace_trie.specs.Cursors.{rests_at}
 use Rattle.trace_trie.proofs.Finding.{first-some, any-passing}

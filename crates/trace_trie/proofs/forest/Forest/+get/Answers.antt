@@ -1,4 +1,4 @@
-use Rattle.std.proofs.Common.{◌≡◌, sym, ◌∙◌}
+use Rattle.std.proofs.Common.{sym, ◌∙◌}
 use Rattle.trace_trie.proofs.Forked.{at_fork, behind-have, behind-lack}
 use Rattle.trace_trie.proofs.forest.Forest.+get.Goals as goal
 

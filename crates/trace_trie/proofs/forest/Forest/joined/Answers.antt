@@ -1,4 +1,4 @@
-use Rattle.std.proofs.Common.{◌≡◌, ℕ, ◌<◌, ◌+◌, ◌++◌, length, length-append, sym, ap, ◌∙◌, subst, arith}
+use Rattle.std.proofs.Common.{◌≡◌, ◌<◌, ◌+◌, ◌++◌, length, length-append, ap, ◌∙◌, subst, arith}
 use Rattle.trace_trie.specs.Kids.{AreKids}
 use Rattle.trace_trie.proofs.Kids.{kids-append}
 use Rattle.trace_trie.proofs.forest.Forest.joined.Goals as goal

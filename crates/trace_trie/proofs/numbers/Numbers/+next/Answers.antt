@@ -17,11 +17,10 @@ returns-then-split-from-clause-none t c =
 pub returns-in-Some-clause-some : goal.returns-in-Some-clause-some
 returns-in-Some-clause-some t c =
     let at = at_two c.self.view_is c.self.invariant c.in-Two.is in
-    let (more, e) = c.in-Some.ensures.some in
-    (
+    let (more, e) = c.in-Some.ensures.some in (
       more ++ c.in-Two.second.value,
       rest-first c.args.from at (c.in-Some.found.0, c.in-Some.found.1.now) more
-      (ap (rest_from c.args.from) (sym c.deref-in-Two.ensures) ∙ e),
+          (ap (rest_from c.args.from) (sym c.deref-in-Two.ensures) ∙ e),
     )
 
 pub returns-in-None-clause-some : goal.returns-in-None-clause-some

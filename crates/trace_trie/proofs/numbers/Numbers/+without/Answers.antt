@@ -1,4 +1,4 @@
-use Rattle.std.proofs.Common.{◌≡◌, ◌≤◌, ◌<◌, List, not, eqb, ◌++◌, subst, sym, ap, ◌∙◌}
+use Rattle.std.proofs.Common.{◌≡◌, ◌≤◌, ◌<◌, List, not, eqb, subst, sym, ap, ◌∙◌}
 use Rattle.hy_formula.specs.Quantifiers.{Each}
 use Rattle.trace_trie.specs.Numbered.{Numbered, without_number}
 use Rattle.trace_trie.proofs.Each.{each-filter}

@@ -1,7 +1,6 @@
-use Rattle.std.proofs.Common.{◌≡◌, ℕ, ◌<◌, ◌≤◌, List, [], ◌∷◌, ◌++◌, length, sym, ap, ◌∙◌, subst, arith}
-use Rattle.hy_bits.specs.Letter.{Letter}
+use Rattle.std.proofs.Common.{◌≡◌, ◌<◌, ◌≤◌, List, [], ◌∷◌, ◌++◌, length, sym, ap, ◌∙◌, subst, arith}
 use Rattle.hy_formula.specs.Quantifiers.{Each}
-use Rattle.trace_trie.specs.Numbered.{Numbered, IsAscending, AreTraces, in_order}
+use Rattle.trace_trie.specs.Numbered.{Numbered, IsAscending, AreTraces}
 use Rattle.trace_trie.specs.Forests.{passing}
 use Rattle.trace_trie.proofs.Each.{each-append}
 use Rattle.trace_trie.proofs.Ascending.{ascending-push}

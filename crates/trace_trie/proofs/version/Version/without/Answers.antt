@@ -1,5 +1,4 @@
-use Rattle.std.proofs.Common.{◌≡◌, ℕ, ◌≤◌, not, eqb, List, length, sym, ap, ◌∙◌, subst}
-use Rattle.hy_bits.specs.Letter.{Letter}
+use Rattle.std.proofs.Common.{◌≡◌, ◌≤◌, not, eqb, List, length, sym, ap, ◌∙◌, subst}
 use Rattle.hy_formula.specs.Quantifiers.{Each}
 use Rattle.trace_trie.specs.Numbered.{Numbered, IsAscending, AreTraces, in_order, without_number}
 use Rattle.trace_trie.specs.Forests.{passing}

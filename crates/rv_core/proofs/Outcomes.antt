@@ -1,0 +1,133 @@
+-- What comes of a trace for one spec.
+use Rattle.std.proofs.Common.{◌≡◌, ◌↔◌, ◌≤◌, ◌<◌, ◌+◌, ℕ, zero, suc, Bool, true, false, IsTrue, List, [], ◌∷◌, ◌++◌, length, slice_get, Some, inl, inr, refl, sym, ◌∙◌, subst, arith}
+use Rattle.std.specs.List.{Contains}
+use Rattle.std.proofs.lemmas.Option.{slice_get_within, same_Some}
+use Rattle.hy_formula.specs.Quantifiers.{Each}
+use Rattle.hy_finite.specs.declared.lengths.Lengths.{Lengths}
+use Rattle.hy_finite.specs.Traces.{Trace}
+use Rattle.fin_monitor.specs.Machines.{Machine}
+use Rattle.trace_trie.specs.Numbered.{Numbered, IsHeld}
+use Rattle.dominance.proofs.Elements.{each-from}
+use Rattle.trie_walk.specs.Finds.{AllMeet, traces_of}
+use Rattle.rv_core.specs.declared.arrival.Outcome.{Outcome}
+use Rattle.rv_core.specs.declared.arrival.Outcome.TheVariants.{Passes}
+use Rattle.rv_core.specs.declared.watch.Watch.{Watch}
+use Rattle.rv_core.specs.Arrivals.{IsPassed, IsOver, AreLeft, none, stays, IsNext, over, last, IsOutcome, AreNext}
+use Rattle.rv_core.specs.Held.{spec_of}
+use Rattle.rv_core.specs.Keeping.{kept_at}
+use Rattle.rv_core.specs.Seen.{watched, watched_by}
+use Rattle.rv_core.specs.StepBounds.{IsBound, IsSpecBound}
+use Rattle.rv_core.proofs.Keepings.{covers-itself, traces-from, traces-push}
+use Rattle.rv_core.proofs.Seeing.{seen-at, kept-there}
+
+module _ (rule : Lengths) (m : Machine) (n : ℕ) (t : Trace) (old : List Numbered) where
+  -- an equal one is kept
+  pub held-passes : (drop : Bool) (new : List Numbered) → IsHeld t old → new ≡ old
+      → IsOutcome rule drop m t n old (Passes new)
+  held-passes drop new (k, c) same =
+      (inl (k, c), over (k, t) c (covers-itself rule drop (spec_of m) t) same)
+
+  meets : AllMeet m rule (traces_of (old ++ (n, t) ∷ [])) t → IsPassed rule m t old
+  meets all =
+      let P : List Trace → Type 0 = λ us. AllMeet m rule us t in
+      inr (subst P (traces-push old (n, t)) all)
+
+  -- dominated ones are dropped
+  pub leaders-pass : (all new : List Numbered) → AllMeet m rule (traces_of all) t
+      → all ≡ old ++ (n, t) ∷ [] → IsNext rule true m t n old new
+      → IsOutcome rule true m t n old (Passes new)
+  leaders-pass all new meet added next =
+      let P : List Numbered → Type 0 = λ ps. AllMeet m rule (traces_of ps) t in
+      (meets (subst P added meet), next)
+
+  -- no equal one is kept
+  module _ (absent : ¬ IsHeld t old) where
+    no-over : Each (λ (p : Numbered). ¬ IsOver rule false m t p) old
+    no-over =
+        each-from (λ (p : Numbered). ¬ IsOver rule false m t p) old (λ p c e.
+        let P : Trace → Type 0 = λ u. Contains old (p.0, u) in absent (p.0, subst P e c))
+
+    left-all : (ps : List Numbered) → Each (λ (p : Numbered). ¬ IsOver rule false m t p) ps
+        → AreLeft rule false m t ps ps
+    left-all [] e = none
+    left-all (p ∷ ps) (here, e) = stays p ps ps (λ same. here (sym same)) (left-all ps e)
+
+    pub all-pass : (new : List Numbered) → AllMeet m rule (traces_of new) t
+        → new ≡ old ++ (n, t) ∷ [] → IsOutcome rule false m t n old (Passes new)
+    all-pass new all added =
+        let P : List Numbered → Type 0 = λ ps. AllMeet m rule (traces_of ps) t in
+        (meets (subst P added all), last old no-over (left-all old no-over) added)
+
+    walk-bound : (bound : ℕ) → IsSpecBound rule m (traces_of old) t bound
+        → IsBound rule m (traces_of (old ++ (n, t) ∷ [])) t bound
+    walk-bound bound (inl (c, e)) = let (k, d) = traces-from old t c in absurd (absent (k, d))
+    walk-bound bound (inr b) =
+        let P : List Trace → Type 0 = λ us. IsBound rule m us t bound in
+        subst P (sym (traces-push old (n, t))) b
+
+    -- steps of a walk, by the same letters
+    pub walk-steps : (all : List Numbered) (u : Trace) (start end : ℕ) → all ≡ old ++ (n, t) ∷ []
+        → u ≡ t
+        → ((bound : ℕ) → IsBound rule m (traces_of all) u bound → end ≤ start + bound)
+        → (bound : ℕ) → IsSpecBound rule m (traces_of old) t bound → end ≤ start + bound
+    walk-steps all u start end added same steps bound b =
+        let P : Trace → Type 0 = λ v. IsBound rule m (traces_of all) v bound in
+        let Q : List Numbered → Type 0 = λ ps. IsBound rule m (traces_of ps) t bound in
+        steps bound (subst P (sym same) (subst Q (sym added) (walk-bound bound b)))
+
+pub not-held : (b : Bool) (u t : Trace) (old : List Numbered) → IsTrue b ↔ IsHeld u old → u ≡ t
+    → b ≡ false → ¬ IsHeld t old
+not-held b u t old holds same is_false held =
+    let P : Trace → Type 0 = λ v. IsHeld v old in
+    let yes : b ≡ true = holds.1 (subst P (sym same) held) in
+    absurd (cc)
+
+-- ---- the spec with a number
+
+module _ (rule : Lengths) (watches : List Watch) (kept : List (List Numbered)) (t : Trace) (s : ℕ)
+    (w : Watch) (old : List Numbered) (at : slice_get watches s ≡ Some w)
+    (is : slice_get kept s ≡ Some old) (m : Machine)
+    (there : slice_get (watched_by watches) s ≡ Some m) where
+  same : watched w ≡ m
+  same = same_Some _ _ (sym (seen-at watches s w at) ∙ there)
+
+  pub outcome-at : (drop : Bool) (n : ℕ) (outcome : Outcome)
+      → IsOutcome rule drop (watched w) t n old outcome
+      → IsOutcome rule drop m t n (kept_at kept s) outcome
+  outcome-at drop n outcome o =
+      let P : Machine → Type 0 = λ q. IsOutcome rule drop q t n (kept_at kept s) outcome in
+      let Q : List Numbered → Type 0 = λ ps. IsOutcome rule drop (watched w) t n ps outcome in
+      subst P same (subst Q (sym (kept-there kept s old is)) o)
+
+  pub bound-at : (bound : ℕ) → IsSpecBound rule m (traces_of (kept_at kept s)) t bound
+      → IsSpecBound rule (watched w) (traces_of old) t bound
+  bound-at bound b =
+      let P : Machine → Type 0 = λ q. IsSpecBound rule q (traces_of old) t bound in
+      let Q : List Numbered → Type 0 = λ ps. IsSpecBound rule m (traces_of ps) t bound in
+      subst P (sym same) (subst Q (kept-there kept s old is) b)
+
+-- ---- all specs
+
+-- an equal one is kept for each
+pub all-known : (rule : Lengths) (drop : Bool) (ms : List Machine) (n : ℕ) (t u : Trace)
+    (kept : List (List Numbered)) → u ≡ t → length kept ≡ length ms → Each (IsHeld u) kept
+    → AreNext rule drop ms n t kept kept
+all-known rule drop ms n t u kept same long holds = record {
+  long = long;
+  passed = λ s m there. (passes s m there).0;
+  right = λ s m there. (passes s m there).1;
+}
+  where
+    each-kept : (lists : List (List Numbered)) (s : ℕ) → s < length lists → Each (IsHeld u) lists
+        → IsHeld u (kept_at lists s)
+    each-kept [] s lt h = absurd (omega arith)
+    each-kept (list ∷ lists) zero lt h = h.0
+    each-kept (list ∷ lists) (suc s) lt h = each-kept lists s (omega arith) h.1
+
+    passes : (s : ℕ) (m : Machine) → slice_get ms s ≡ Some m
+        → IsOutcome rule drop m t n (kept_at kept s) (Passes (kept_at kept s))
+    passes s m there =
+        let P : Trace → Type 0 = λ v. IsHeld v (kept_at kept s) in
+        let lt : s < length kept = omega (arith, slice_get_within ms s m there, long) in
+        held-passes rule m n t (kept_at kept s) drop (kept_at kept s)
+        (subst P same (each-kept kept s lt holds)) refl
