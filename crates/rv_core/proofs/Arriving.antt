@@ -14,7 +14,7 @@ use Rattle.dominance.specs.Dominance.{IsTrace, Dominates}
 use Rattle.dominance.specs.Leaders.{IsAt}
 use Rattle.dominance.proofs.Elements.{at-push_old, at-push_new, each-append}
 use Rattle.dominance.proofs.Replacements.{Covers, over-itself, violates-kept}
-use Rattle.trie_walk.specs.Finds.{AreViolating, numbers_of, traces_of}
+use Rattle.tuple_walk.specs.Finds.{AreViolating, numbers_of, traces_of}
 use Rattle.rv_core.specs.Arrivals.{IsPassed}
 use Rattle.rv_core.specs.Held.{spec_of}
 use Rattle.rv_core.specs.Keeping.{IsKept}

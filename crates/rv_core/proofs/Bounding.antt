@@ -7,8 +7,8 @@ use Rattle.hy_finite.specs.declared.lengths.Lengths.{Lengths}
 use Rattle.hy_finite.specs.Traces.{Trace}
 use Rattle.fin_monitor.specs.Machines.{Machine}
 use Rattle.dominance.proofs.Elements.{contains-here}
-use Rattle.trie_walk.specs.JointPrefixes.{Row, IsJointPrefix, IsFirstPrefix}
-use Rattle.trie_walk.specs.Finds.{traces_of}
+use Rattle.tuple_walk.specs.JointPrefixes.{Row, IsJointPrefix, IsFirstPrefix}
+use Rattle.tuple_walk.specs.Finds.{traces_of}
 use Rattle.rv_core.specs.Held.{Held}
 use Rattle.rv_core.specs.Keeping.{kept_at}
 use Rattle.rv_core.specs.StepBounds.{IsBound, by_joint, by_first, IsSpecBound, AreBounds}

@@ -13,7 +13,7 @@ use Rattle.dominance.proofs.Elements.{contains-here, contains-later, contains-ca
 use Rattle.dominance.proofs.Leaderships.{kept-apart}
 use Rattle.dominance.proofs.Replacements.{over-itself, over-through}
 use Rattle.dominance.proofs.Replacements as replaced
-use Rattle.trie_walk.specs.Finds.{traces_of}
+use Rattle.tuple_walk.specs.Finds.{traces_of}
 use Rattle.rv_core.specs.Endings.{Spec, spec_at}
 use Rattle.rv_core.specs.Held.{Held, specs_of, StandsFor, kept_count}
 use Rattle.rv_core.specs.Histories.{History}

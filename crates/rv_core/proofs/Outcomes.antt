@@ -8,7 +8,7 @@ use Rattle.hy_finite.specs.Traces.{Trace}
 use Rattle.fin_monitor.specs.Machines.{Machine}
 use Rattle.trace_trie.specs.Numbered.{Numbered, IsHeld}
 use Rattle.dominance.proofs.Elements.{each-from}
-use Rattle.trie_walk.specs.Finds.{AllMeet, traces_of}
+use Rattle.tuple_walk.specs.Finds.{AllMeet, traces_of}
 use Rattle.rv_core.specs.declared.arrival.Outcome.{Outcome}
 use Rattle.rv_core.specs.declared.arrival.Outcome.TheVariants.{Passes}
 use Rattle.rv_core.specs.declared.watch.Watch.{Watch}

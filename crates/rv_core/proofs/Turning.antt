@@ -10,7 +10,7 @@ use Rattle.fin_monitor.specs.Machines.{Machine}
 use Rattle.trace_trie.specs.Numbered.{Numbered, AreTraces}
 use Rattle.dominance.specs.Dominance.{IsTrace, IsSymmetric}
 use Rattle.dominance.proofs.Elements.{contains-cases, contains-none, each-at}
-use Rattle.trie_walk.specs.Finds.{AllMeet, FirstMeet, traces_of}
+use Rattle.tuple_walk.specs.Finds.{AllMeet, FirstMeet, traces_of}
 use Rattle.rv_core.specs.Watched.{MayTurn}
 use Rattle.rv_core.proofs.Keepings.{traces-from}
 

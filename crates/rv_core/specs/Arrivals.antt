@@ -6,7 +6,7 @@ use Rattle.hy_finite.specs.declared.lengths.Lengths.{Lengths}
 use Rattle.hy_finite.specs.Traces.{Trace}
 use Rattle.fin_monitor.specs.Machines.{Machine}
 use Rattle.trace_trie.specs.Numbered.{Numbered, IsHeld}
-use Rattle.trie_walk.specs.Finds.{AreViolating, AllMeet, traces_of}
+use Rattle.tuple_walk.specs.Finds.{AreViolating, AllMeet, traces_of}
 use Rattle.rv_core.specs.declared.arrival.Outcome.{Outcome}
 use Rattle.rv_core.specs.declared.arrival.Outcome.TheVariants.{Passes, Violates}
 use Rattle.rv_core.specs.declared.arrival.Arrival.{Arrival}

@@ -7,8 +7,8 @@ use Rattle.hy_finite.specs.declared.lengths.Lengths.{Lengths}
 use Rattle.hy_finite.specs.Traces.{Trace}
 use Rattle.fin_monitor.specs.Machines.{Machine}
 use Rattle.dominance.specs.Dominance.{IsSymmetric}
-use Rattle.trie_walk.specs.Finds.{traces_of}
-use Rattle.trie_walk.specs.JointPrefixes.{Row, IsJointPrefix, IsFirstPrefix}
+use Rattle.tuple_walk.specs.Finds.{traces_of}
+use Rattle.tuple_walk.specs.JointPrefixes.{Row, IsJointPrefix, IsFirstPrefix}
 use Rattle.rv_core.specs.Held.{Held}
 use Rattle.rv_core.specs.Keeping.{kept_at}
 use Rattle.rv_core.specs.Opened.{letters_in}

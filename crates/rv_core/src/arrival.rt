@@ -2,7 +2,7 @@
 
 ghost use Rattle.std.specs.Prelude.{◌≡◌, ◌+◌, ◌<◌, ◌≤◌, ◌^◌, ℕ, List, length, sum, slice_get, Some, IfOk};
 ghost use Rattle.fin_monitor.specs.Machines.{Machine};
-ghost use Rattle.trie_walk.specs.Finds.{traces_of};
+ghost use Rattle.tuple_walk.specs.Finds.{traces_of};
 ghost use Rattle.rv_core.specs.Arrivals.{IsOutcome, IsArrival, FitsArrival, after_arrival};
 ghost use Rattle.rv_core.specs.Keeping.{kept_at};
 ghost use Rattle.rv_core.specs.Replies.{IsReplyTo};

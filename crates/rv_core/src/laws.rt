@@ -7,7 +7,7 @@ ghost use Rattle.hy_finite.specs.declared.event.Event.TheVariants as event;
 ghost use Rattle.hy_finite.specs.declared.lengths.Lengths.{Lengths as Rule};
 ghost use Rattle.hy_finite.specs.Traces.{Trace};
 ghost use Rattle.trace_trie.specs.Numbered.{Numbered};
-ghost use Rattle.trie_walk.specs.Finds.{traces_of};
+ghost use Rattle.tuple_walk.specs.Finds.{traces_of};
 ghost use Rattle.rv_core.specs.Histories.{History, step, goes, arrives};
 ghost use Rattle.rv_core.specs.Endings.{Spec, spec_at, IsClean, IsQuiet, Ending, clean, Ends, Matched};
 ghost use Rattle.rv_core.specs.declared.rv_error.RvError.TheVariants as errors;

@@ -8,7 +8,7 @@ ghost use Rattle.std.specs.List.{Contains};
 ghost use Rattle.hy_finite.specs.declared.lengths.Lengths.{Lengths as Rule};
 ghost use Rattle.fin_monitor.specs.Seen.{machine_of};
 ghost use Rattle.dominance.specs.Dominance.{Dominates};
-ghost use Rattle.trie_walk.specs.Finds.{AreViolating, AllMeet, traces_of};
+ghost use Rattle.tuple_walk.specs.Finds.{AreViolating, AllMeet, traces_of};
 ghost use Rattle.rv_core.specs.Watched.{MayTurn, MayTurn-prop, IsExact, IsExact-prop};
 ghost use Rattle.rv_core.specs.Arrivals.{IsNext};
 ghost use Rattle.rv_core.specs.StepBounds.{IsBound};
@@ -21,7 +21,7 @@ use hy_finite::{Lengths, Trace};
 use std::alloc::Global;
 use std::sync::ledger::Ledger;
 use trace_trie::Version;
-use trie_walk::{find, find_first};
+use tuple_walk::{find, find_first};
 use tuple_walk::Tuple;
 
 /// The monitor of a spec's body.

@@ -15,7 +15,7 @@ use std::process::Abort;
 use std::sync::ledger::{Blank, Ledger};
 use std::test::Fail;
 use trace_trie::Version;
-use trie_walk::{find, find_first};
+use tuple_walk::{find, find_first};
 
 /// That not each of the variables, `n` of them, has the name of its own number at first.
 fn not_all(alloc: Global, n: u8) -> Result<Body, Fail>

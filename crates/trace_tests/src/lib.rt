@@ -16,5 +16,3 @@ mod made;
 mod monitors;
 #[cfg(test)]
 mod tries;
-#[cfg(test)]
-mod tuples;

@@ -1,6 +1,11 @@
-pub mod Holding
-pub mod Joints
-pub mod Picks
-pub mod Rows
-pub mod Running
-pub mod Tuples
+pub mod Choosing
+pub mod Ending
+pub mod Lists
+pub mod Longest
+pub mod Nexts
+pub mod Onlys
+pub mod Placing
+pub mod Scanning
+pub mod Starting
+pub mod Stepping
+pub mod Ways

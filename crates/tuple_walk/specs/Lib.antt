@@ -1,5 +1,6 @@
-pub mod Choices
+pub mod Finds
+pub mod Four
+pub mod JointPrefixes
+pub mod Places
 pub mod Searches
-pub mod Seen
-pub mod States
-pub mod Watched
+pub mod Walks

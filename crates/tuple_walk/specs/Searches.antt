@@ -1,42 +1,118 @@
--- What is found among the tuples that have the newest trace.
-use Rattle.std.specs.Prelude.{◌≡◌, ℕ, ◌+◌, ◌-◌, ◌<◌, ◌⊎◌, Bool, IsTrue, List, [], ◌∷◌, ◌++◌, length, All, Option, Some, None}
+-- What a walk finds from a state of the monitor on.
+use Rattle.std.specs.Prelude.{◌≡◌, ℕ, zero, suc, ◌≤◌, true, false, List, [], ◌∷◌, length, map, slice_index_or, Option, Some, None}
 use Rattle.std.specs.List.{Contains}
-use Rattle.hy_finite.specs.Traces.{Trace, Meets, ViolatesBy, Violates, picked}
-use Rattle.tuple_walk.specs.States.{AreCodes}
-use Rattle.tuple_walk.specs.Watched.{Watched, count_of, Holds}
+use Rattle.hy_bits.specs.Letter.{Letter}
+use Rattle.hy_formula.specs.Quantifiers.{Each}
+use Rattle.hy_finite.specs.declared.lengths.Lengths.{Lengths}
+use Rattle.hy_finite.specs.declared.lengths.Lengths.TheVariants.{Min, Pad}
+use Rattle.hy_finite.specs.Traces.{Trace, judged, trace_words}
+use Rattle.fin_monitor.specs.Machines.{Machine, next_state, is_accepting, code_at}
+use Rattle.trace_trie.specs.Numbered.{Numbered, tail}
+use Rattle.tuple_walk.specs.Finds.{numbers_of, traces_of}
+use Rattle.tuple_walk.specs.Places.{HasEnded}
+use Rattle.tuple_walk.specs.JointPrefixes.{Row, entry, IsPrefixOf}
 
--- The numbers are those of traces, one for each variable; and these violate the body.
-pub record IsViolation (w : Watched) (tuple : List ℕ) : Type 0 where
-  pub long : length tuple ≡ w.machine.variables
-  pub inside : All (λ k. k < count_of w) tuple
-  pub violates : (traces : List Trace) → Holds w traces
-      → ViolatesBy w.lengths w.machine.variables w.machine.body traces (picked traces tuple)
+-- the state after the first letters of a tuple
+abbrev pub state_over : Machine → ℕ → List Trace → ℕ → ℕ
+state_over m q tuple zero = q
+state_over m q tuple (suc k) =
+    state_over m (next_state m q (code_at m (trace_words tuple) 0)) (map tail tuple) k
 
--- With the newest trace there is a violation only where there was one without it.
-abbrev pub StaysClean : Watched → Type 0
-StaysClean w = (older : List Trace) (newest : Trace) → Holds w (older ++ newest ∷ [])
-    → ¬ Violates w.lengths w.machine.variables w.machine.body older
-    → ¬ Violates w.lengths w.machine.variables w.machine.body (older ++ newest ∷ [])
+-- The monitor accepts the tuple on its judged length.
+abbrev pub IsAccepted : Machine → Lengths → ℕ → List Trace → Type 0
+IsAccepted m lengths q tuple =
+    is_accepting m (state_over m q tuple (judged lengths tuple)) ≡ true
 
-abbrev pub newest_of : Watched → ℕ
-newest_of w = count_of w - 1
+abbrev pub IsRejected : Machine → Lengths → ℕ → List Trace → Type 0
+IsRejected m lengths q tuple =
+    is_accepting m (state_over m q tuple (judged lengths tuple)) ≡ false
 
--- The numbers make a tuple with the newest trace of those that are chosen.
-pub record Completes (w : Watched) (chosen : List ℕ) (has_newest : Bool)
-    (more : List ℕ) : Type 0 where
-  pub long : length chosen + length more ≡ w.machine.variables
-  pub inside : All (λ k. k < count_of w) more
-  pub newest : IsTrue has_newest ⊎ Contains more (newest_of w)
+-- one member of each list
+abbrev pub AreFrom : {A : Type 0} → List (List A) → List A → Type 0
+AreFrom [] [] = Unit {0}
+AreFrom [] (x ∷ xs) = ⊥
+AreFrom (list ∷ lists) [] = ⊥
+AreFrom (list ∷ lists) (x ∷ xs) = Contains list x × AreFrom lists xs
 
--- What is answered for the tuples that begin with the chosen traces, whose codes these are.
-abbrev pub IsSearch : Watched → List ℕ → Bool → List ℕ → Option (List ℕ) → Type 0
-IsSearch w chosen has_newest codes (Some tuple) =
-    (length tuple ≡ w.machine.variables) × All (λ k. k < count_of w) tuple
-    × ((traces : List Trace) → Holds w traces
-    → AreCodes w.machine w.lengths (picked traces chosen) codes
-    → ¬ Meets w.lengths w.machine.body (picked traces tuple))
-IsSearch w chosen has_newest codes None =
-    (traces : List Trace) → Holds w traces
-    → AreCodes w.machine w.lengths (picked traces chosen) codes
-    → (more : List ℕ) → Completes w chosen has_newest more
-    → Meets w.lengths w.machine.body (picked traces (chosen ++ more))
+-- one trace of each list
+abbrev pub IsTupleOf : List (List Numbered) → List Trace → Type 0
+IsTupleOf wholes tuple = AreFrom (map traces_of wholes) tuple
+
+-- Members with these numbers are rejected.
+pub record AreRejected (m : Machine) (lengths : Lengths) (q : ℕ) (wholes : List (List Numbered))
+    (numbers : List ℕ) : Type 0 where
+  pub pairs : List Numbered
+  pub members : AreFrom wholes pairs
+  pub same : numbers_of pairs ≡ numbers
+  pub rejected : IsRejected m lengths q (traces_of pairs)
+
+-- The tuples with so many positions at least are accepted.
+abbrev pub AreAccepted : Machine → Lengths → ℕ → ℕ → List (List Numbered) → Type 0
+AreAccepted m lengths q least wholes = (tuple : List Trace) → IsTupleOf wholes tuple
+    → least ≤ judged lengths tuple → IsAccepted m lengths q tuple
+
+abbrev pub IsSearch : Machine → Lengths → ℕ → ℕ → List (List Numbered) → Option (List ℕ) → Type 0
+IsSearch m lengths q least wholes (Some numbers) = AreRejected m lengths q wholes numbers
+IsSearch m lengths q least wholes None = AreAccepted m lengths q least wholes
+
+-- The tuples that begin with one of the letters at a place are accepted.
+abbrev pub AreAcceptedBy : Machine → Lengths → ℕ → ℕ → List Letter → List (List Numbered) → Type 0
+AreAcceptedBy m lengths q i letters wholes = (tuple : List Trace) → IsTupleOf wholes tuple
+    → 1 ≤ judged lengths tuple → (a : Letter) → Contains letters a
+    → entry (slice_index_or tuple i []) ≡ Some a → IsAccepted m lengths q tuple
+
+abbrev pub IsSearchBy : Machine → Lengths → ℕ → ℕ → List Letter → List (List Numbered)
+    → Option (List ℕ) → Type 0
+IsSearchBy m lengths q i letters wholes (Some numbers) = AreRejected m lengths q wholes numbers
+IsSearchBy m lengths q i letters wholes None = AreAcceptedBy m lengths q i letters wholes
+
+-- ---- where tuples are judged
+
+-- Some tuple has no position left.
+abbrev pub CanStop : Lengths → List (List Numbered) → Type 0
+CanStop Min wholes = (rests : List Numbered) × Contains wholes rests × HasEnded rests
+CanStop Pad wholes = Each HasEnded wholes
+
+-- A member of each list, that has ended where one of the list has.
+abbrev pub AreEnded : List (List Numbered) → List Numbered → Type 0
+AreEnded [] [] = Unit {0}
+AreEnded [] (p ∷ ps) = ⊥
+AreEnded (rests ∷ lists) [] = ⊥
+AreEnded (rests ∷ lists) (p ∷ ps) =
+    Contains rests p × (HasEnded rests → p.1 ≡ []) × AreEnded lists ps
+
+-- ---- steps
+
+-- The rows differ from one another.
+abbrev pub AreApart : {A : Type 0} → List A → Type 0
+AreApart [] = Unit {0}
+AreApart (x ∷ xs) = (¬ Contains xs x) × AreApart xs
+
+-- The rows are a joint prefix of a tuple.
+abbrev pub IsPrefixIn : Lengths → List (List Numbered) → List Row → Type 0
+IsPrefixIn lengths wholes rows =
+    (tuple : List Trace) × IsTupleOf wholes tuple × IsPrefixOf lengths tuple rows
+
+-- So many steps are at most one for each of some joint prefixes.
+pub record AreSteps (lengths : Lengths) (wholes : List (List Numbered)) (made : ℕ) : Type 0 where
+  pub visited : List (List Row)
+  pub apart : AreApart visited
+  pub inside : Each (IsPrefixIn lengths wholes) visited
+  pub many : made ≤ length visited
+
+-- the letter or none of a place in the first row
+abbrev pub entry_in : ℕ → List Row → Option Letter
+entry_in i [] = None
+entry_in i (row ∷ rows) = slice_index_or row i None
+
+abbrev pub BeginsBy : ℕ → List Letter → List Row → Type 0
+BeginsBy i letters rows = (a : Letter) × Contains letters a × (entry_in i rows ≡ Some a)
+
+-- The same, for joint prefixes that begin with one of the letters at a place.
+pub record AreStepsBy (lengths : Lengths) (i : ℕ) (letters : List Letter)
+    (wholes : List (List Numbered)) (made : ℕ) : Type 0 where
+  pub visited : List (List Row)
+  pub apart : AreApart visited
+  pub inside : Each (IsPrefixIn lengths wholes) visited
+  pub begin : Each (BeginsBy i letters) visited
+  pub many : made ≤ length visited

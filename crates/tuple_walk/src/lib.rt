@@ -1,12 +1,11 @@
-//! The tuples that a new trace makes with those that have arrived, each run through a monitor.
+//! Walks over the tuples that a trace makes with those of a version: nodes of its trie go together,
+//! so that a joint prefix of many tuples is stepped once.
 #![tactic(auto)]
 
-mod chosen;
-mod join;
-mod run;
+mod finds;
+mod place;
 mod tuple;
 mod walk;
-mod watch;
 
+pub use finds::{find, find_first};
 pub use tuple::Tuple;
-pub use watch::Watch;

@@ -1,43 +1,135 @@
-//! The walk over the tuples that the newest trace makes with those that have arrived.
+//! The walk down from one place for each variable.
 
-ghost use Rattle.std.specs.Prelude.{◌≡◌, ◌+◌, ◌<◌, ◌≤◌, ◌++◌, ◌∷◌, [], length, take, All, IsTrue, ◌↔◌, IfSome, IfNone, List as Sequence};
-ghost use Rattle.hy_finite.specs.Traces.{Trace, Meets};
-ghost use Rattle.fin_monitor.specs.Seen.{machine_of};
-ghost use Rattle.tuple_walk.specs.Choices.{chosen_of};
-ghost use Rattle.tuple_walk.specs.Searches.{IsSearch, IsViolation, StaysClean};
-ghost use Rattle.tuple_walk.specs.Seen.{watched};
-ghost use Rattle.tuple_walk.specs.States.{AreCodes, AreCodesOf, IsColumn};
-ghost use Rattle.tuple_walk.specs.Watched.{Holds, count_of, trace_at};
+ghost use Rattle.std.specs.Prelude.{◌≡◌, ◌-◌, ◌<◌, ◌≤◌, true, false, List, map, take, drop, slice_get, IfSome, IfNone, Some, None};
+ghost use Rattle.std.specs.Bool.{OnTrue, OnFalse};
+ghost use Rattle.std.specs.List.{list_any};
+ghost use Rattle.hy_formula.specs.Quantifiers.{Each};
+ghost use Rattle.hy_finite.specs.declared.lengths.Lengths.TheVariants.{Min, Pad};
+ghost use Rattle.hy_finite.specs.Traces.{Trace, judged};
+ghost use Rattle.fin_monitor.specs.Codes.{code_of, joint_letter};
+ghost use Rattle.fin_monitor.specs.Machines.{codes, is_accepting, states_of};
+ghost use Rattle.trace_trie.specs.Numbered.{Numbered};
+ghost use Rattle.tuple_walk.specs.declared.place.Place.{Place as Seen};
+ghost use Rattle.tuple_walk.specs.Finds.{numbers_of};
+ghost use Rattle.tuple_walk.specs.Four.{four, first_places, letters_in};
+ghost use Rattle.tuple_walk.specs.Places.{whole_of, rests_of, taken_of, letter_or, is_letter, HasNoGap, IsOpen, IsMoved, IsOnly, AreOnly, IsWay, AreSome};
+ghost use Rattle.tuple_walk.specs.Searches.{IsSearch, IsSearchBy, IsTupleOf, CanStop, AreEnded, AreSteps, AreStepsBy};
+ghost use Rattle.tuple_walk.specs.Walks.{machine_in, places_in, rests_in, wholes_in};
 
-use crate::chosen::Chosen;
-use crate::join::join;
-use crate::run::{after, after_both};
-use crate::tuple::Tuple;
-use crate::watch::Watch;
+use crate::place::{Place, Places, Spot};
+use fin_monitor::Monitor;
 use hy_base::Steps;
-use hy_finite::MOST_LETTERS;
+use hy_finite::Lengths;
+use std::alloc::Global;
 use std::sync::ledger::Ledger;
+use crate::tuple::Tuple;
 
-impl Watch {
-    /// A tuple with the newest trace that violates the formula, or none where there is none. Where
-    /// none is found, and the traces before the newest one violate nothing, nothing is violated.
-    ///
-    /// It runs each tuple with the newest trace until none can be rejected any more, and stops at
-    /// the first that violates: in time at most the number of these tuples times their letters. It
-    /// takes no memory.
-    pub fn find<L: Ledger>(&self, steps: &mut Steps<L>) -> Option<Tuple>
-        requires { 0 < count_of (watched self.now) }
-        ensures found { IfSome result (IsViolation (watched self.now)) }
-        ensures clean { IfNone result (StaysClean (watched self.now)) }
-        ensures counted { steps.old ≤ steps.new }
+/// Most variables of a formula.
+pub(crate) const MOST_PLACES: usize = 4;
+
+/// What a walk goes by.
+#[derive(Clone, Copy)]
+pub(crate) struct Walk<'a> {
+    pub(crate) alloc: Global,
+    pub(crate) monitor: &'a Monitor,
+    pub(crate) lengths: Lengths,
+}
+
+impl<'a> Walk<'a> {
+    /// A tuple from the places that is rejected from state `q` on.
+    #[cycle(walk)]
+    pub(crate) fn search<L: Ledger>(
+        &self,
+        places: &Places<'a>,
+        q: u32,
+        steps: &mut Steps<L>,
+    ) -> Option<Tuple>
+        requires some { 1 ≤ (machine_in self.now).variables }
+        requires state { q < states_of (machine_in self.now) }
+        requires open { Each IsOpen (places_in self.now places.now) }
+        requires members { AreSome (rests_in self.now places.now) }
+        ensures searched { IsSearch (machine_in self.now) self.now.lengths q 0
+            (rests_in self.now places.now) result }
+        ensures steps { steps.old ≤ steps.new }
+        ensures counted { AreSteps self.now.lengths (rests_in self.now places.now)
+            (steps.new - steps.old) }
     {
-        let newest = self.count() - 1;
-        if self.monitor.vars() == 1 {
-            return self.find_alone(newest, steps);
+        if self.monitor.is_settled(q) {
+            return None;
         }
-        for k in 0..self.count() {
-            let chosen = Chosen::none().with(k, newest);
-            match self.complete(chosen, self.column(k, 0), steps) {
+        if self.rejects(places, q) {
+            return self.tuple_of(places);
+        }
+        match self.only(places) {
+            Some(moved) => self.advance(&moved, q, steps),
+            None => self.choose(places, 0, q, steps),
+        }
+    }
+
+    /// As `search`, where what a step takes is chosen at the first `i` places; at least one step.
+    #[cycle(walk)]
+    fn choose<L: Ledger>(
+        &self,
+        places: &Places<'a>,
+        i: usize,
+        q: u32,
+        steps: &mut Steps<L>,
+    ) -> Option<Tuple>
+        requires some { 1 ≤ (machine_in self.now).variables }
+        requires state { q < states_of (machine_in self.now) }
+        requires within { i ≤ (machine_in self.now).variables }
+        requires moved { Each (IsMoved self.now.lengths) (first_places i places.now) }
+        requires open { Each IsOpen (drop i (places_in self.now places.now)) }
+        requires members { AreSome (wholes_in self.now places.now) }
+        ensures searched { IsSearch (machine_in self.now) self.now.lengths q 1
+            (wholes_in self.now places.now) result }
+        ensures steps { steps.old ≤ steps.new }
+        ensures counted { AreSteps self.now.lengths (wholes_in self.now places.now)
+            (steps.new - steps.old) }
+    {
+        if i == self.monitor.vars() as usize {
+            return self.advance(places, q, steps);
+        }
+        match self.choose_letter(places, i, q, steps) {
+            Some(tuple) => return Some(tuple),
+            None => {}
+        }
+        let spot = places.at(i).spot;
+        spot.letters_differ();
+        match self.gap(&spot) {
+            Some(place) => self.choose(&places.with(i, &place), i + 1, q, steps),
+            None => None,
+        }
+    }
+
+    /// As `choose`, with a letter at place `i`.
+    #[cycle(walk)]
+    fn choose_letter<L: Ledger>(
+        &self,
+        places: &Places<'a>,
+        i: usize,
+        q: u32,
+        steps: &mut Steps<L>,
+    ) -> Option<Tuple>
+        requires some { 1 ≤ (machine_in self.now).variables }
+        requires state { q < states_of (machine_in self.now) }
+        requires within { i < (machine_in self.now).variables }
+        requires moved { Each (IsMoved self.now.lengths) (first_places i places.now) }
+        requires open { Each IsOpen (drop i (places_in self.now places.now)) }
+        requires members { AreSome (wholes_in self.now places.now) }
+        ensures searched { IsSearchBy (machine_in self.now) self.now.lengths q i
+            (letters_in i (four places.now))
+            (wholes_in self.now places.now) result }
+        ensures steps { steps.old ≤ steps.new }
+        ensures counted { AreStepsBy self.now.lengths i (letters_in i (four places.now))
+            (wholes_in self.now places.now)
+            (steps.new - steps.old) }
+    {
+        let spot = places.at(i).spot;
+        spot.letters_differ();
+        for k in 0..spot.len() {
+            let next = places.with(i, &spot.letter(k));
+            match self.choose(&next, i + 1, q, steps) {
                 Some(tuple) => return Some(tuple),
                 None => {}
             }
@@ -45,132 +137,196 @@ impl Watch {
         None
     }
 
-    /// As `find`, for one variable.
-    fn find_alone<L: Ledger>(&self, newest: u32, steps: &mut Steps<L>) -> Option<Tuple>
-        requires newest { newest + 1 ≡ count_of (watched self.now) }
-        requires one { (machine_of self.now.monitor).variables ≡ 1 }
-        ensures found { IfSome result (IsViolation (watched self.now)) }
-        ensures clean { IfNone result (StaysClean (watched self.now)) }
-        ensures counted { steps.old ≤ steps.new }
+    /// As `choose`, where all is chosen.
+    #[cycle(walk)]
+    fn advance<L: Ledger>(&self, places: &Places<'a>, q: u32, steps: &mut Steps<L>) -> Option<Tuple>
+        requires some { 1 ≤ (machine_in self.now).variables }
+        requires state { q < states_of (machine_in self.now) }
+        requires moved { Each (IsMoved self.now.lengths) (places_in self.now places.now) }
+        requires members { AreSome (wholes_in self.now places.now) }
+        ensures searched { IsSearch (machine_in self.now) self.now.lengths q 1
+            (wholes_in self.now places.now) result }
+        ensures steps { steps.old ≤ steps.new }
+        ensures counted { AreSteps self.now.lengths (wholes_in self.now places.now)
+            (steps.new - steps.old) }
     {
-        let q = after(
-            &self.monitor,
-            self.monitor.start(),
-            self.column(newest, 0),
-            0,
-            steps,
-        );
-        if self.monitor.accepts(q) {
-            None
+        if !self.some_letter(places) {
+            return None;
+        }
+        let q = self.monitor.step(q, self.joint(places), steps);
+        self.search(&places.opened(), q, steps)
+    }
+
+    /// The places behind one step, where there is one way on at each, and a letter at some.
+    fn only(&self, places: &Places<'a>) -> Option<Places<'a>>
+        ensures moved { IfSome result (λ p. Each (IsMoved self.now.lengths)
+            (places_in self.now p)) }
+        ensures only { IfSome result (λ p. AreOnly self.now.lengths
+            (rests_in self.now places.now) (wholes_in self.now p)) }
+        ensures letter { IfSome result (λ p. list_any is_letter
+            (map taken_of (places_in self.now p)) ≡ true) }
+    {
+        let Some(first) = self.only_at(places, 0) else {
+            return None;
+        };
+        let Some(second) = self.only_at(places, 1) else {
+            return None;
+        };
+        let Some(third) = self.only_at(places, 2) else {
+            return None;
+        };
+        let Some(fourth) = self.only_at(places, 3) else {
+            return None;
+        };
+        let moved = Places::of(&first, &second, &third, &fourth);
+        if self.some_letter(&moved) {
+            Some(moved)
         } else {
-            Some(Chosen::none().with(newest, newest).tuple(self.alloc))
+            None
         }
     }
 
-    /// A tuple with the newest trace that violates the formula and begins with the chosen traces,
-    /// whose codes these are.
-    fn complete<L: Ledger>(
-        &self,
-        chosen: Chosen,
-        codes: &[u16],
-        steps: &mut Steps<L>,
-    ) -> Option<Tuple>
-        requires some { 1 ≤ length (chosen_of chosen) }
-        requires left { length (chosen_of chosen) < (machine_of self.now.monitor).variables }
-        requires chosen { All (λ k. k < count_of (watched self.now)) (chosen_of chosen) }
-        requires arrived { 0 < count_of (watched self.now) }
-        requires codes { AreCodesOf (machine_of self.now.monitor) codes.now }
-        requires long { 1 ≤ length codes.now }
-        requires short { length codes.now ≤ 1024 }
-        ensures searched { IsSearch (watched self.now) (chosen_of chosen) chosen.has_newest
-            codes.now result }
-        ensures counted { steps.old ≤ steps.new }
+    /// As `only_way`, at place `i`. Behind those of the variables a place stays.
+    fn only_at(&self, places: &Places<'a>, i: usize) -> Option<Place<'a>>
+        requires { i < 4 }
+        ensures moved { IfSome result (λ p. i < (machine_in self.now).variables
+            → IsMoved self.now.lengths p) }
+        ensures only { IfSome result (λ p. (old : Seen)
+            → slice_get (four places.now) i ≡ Some old → i < (machine_in self.now).variables
+            → IsOnly self.now.lengths (rests_of old.spot) (whole_of p)) }
     {
-        if chosen.count() + 1 == self.monitor.vars() as usize {
-            return self.complete_last(chosen, codes, steps);
+        let place = places.at(i);
+        if i < self.monitor.vars() as usize {
+            self.only_way(&place.spot)
+        } else {
+            Some(place)
         }
-        let newest = self.count() - 1;
-        let mut joined = [0; MOST_LETTERS];
-        for k in 0..self.count() {
-            let positions = self.join_with(codes, k, chosen.count(), &mut joined);
-            let longer = chosen.with(k, newest);
-            match self.complete(longer, &joined[..positions], steps) {
-                Some(tuple) => return Some(tuple),
-                None => {}
+    }
+
+    /// The place behind one step, where there is one way on.
+    fn only_way(&self, spot: &Spot<'a>) -> Option<Place<'a>>
+        ensures moved { IfSome result (IsMoved self.now.lengths) }
+        ensures only { IfSome result (λ p. IsOnly self.now.lengths (rests_of spot.now)
+            (whole_of p)) }
+    {
+        spot.letters_differ();
+        let gap = self.gap(spot);
+        match spot.len() {
+            0 => gap,
+            1 => {
+                if gap.is_some() {
+                    None
+                } else {
+                    Some(spot.letter(0))
+                }
+            }
+            _ => None,
+        }
+    }
+
+    /// The place past the end of a trace, where one ends at the spot and tuples are judged there.
+    fn gap(&self, spot: &Spot<'a>) -> Option<Place<'a>>
+        ensures moved { IfSome result (IsMoved self.now.lengths) }
+        ensures way { IfSome result (λ p. IsWay (rests_of spot.now) None (whole_of p)) }
+        ensures none { IfNone result (HasNoGap self.now.lengths (rests_of spot.now)) }
+    {
+        match self.lengths {
+            Lengths::Min => None,
+            Lengths::Pad => spot.gap(),
+        }
+    }
+
+    /// Whether some tuple from the places is rejected where it has no position left.
+    fn rejects(&self, places: &Places<'a>, q: u32) -> bool
+        requires some { 1 ≤ (machine_in self.now).variables }
+        requires state { q < states_of (machine_in self.now) }
+        ensures stop { OnTrue result (CanStop self.now.lengths (rests_in self.now places.now)) }
+        ensures rejects { OnTrue result (is_accepting (machine_in self.now) q ≡ false) }
+        ensures accepts { OnFalse result ((tuple : List Trace)
+            → IsTupleOf (rests_in self.now places.now) tuple
+            → judged self.now.lengths tuple ≡ 0 → is_accepting (machine_in self.now) q ≡ true) }
+    {
+        if self.monitor.accepts(q) {
+            false
+        } else {
+            self.stops(places)
+        }
+    }
+
+    /// Whether some tuple from the places has no position left.
+    fn stops(&self, places: &Places<'a>) -> bool
+        ensures yes { OnTrue result (CanStop self.now.lengths (rests_in self.now places.now)) }
+        ensures no { OnFalse result (¬ CanStop self.now.lengths (rests_in self.now places.now)) }
+    {
+        match self.lengths {
+            Lengths::Min => self.some_ended(places),
+            Lengths::Pad => self.all_ended(places),
+        }
+    }
+
+    /// Whether a trace ends at some place.
+    fn some_ended(&self, places: &Places<'a>) -> bool
+        ensures yes { OnTrue result (CanStop Min (rests_in self.now places.now)) }
+        ensures no { OnFalse result (¬ CanStop Min (rests_in self.now places.now)) }
+    {
+        for i in 0..self.monitor.vars() as usize {
+            if places.at(i).spot.ended().is_some() {
+                return true;
             }
         }
-        None
+        false
     }
 
-    /// Puts the codes of a tuple with trace `k` behind it first into `joined`, and says how many
-    /// they are. `codes` are those of the tuple.
-    fn join_with(
-        &self,
-        codes: &[u16],
-        k: u32,
-        variable: usize,
-        joined: &mut [u16; MOST_LETTERS],
-    ) -> usize
-        requires trace { k < count_of (watched self.now) }
-        requires variable { variable < (machine_of self.now.monitor).variables }
-        requires codes { AreCodesOf (machine_of self.now.monitor) codes.now }
-        requires long { 1 ≤ length codes.now }
-        requires short { length codes.now ≤ 1024 }
-        ensures codes { (traces : Sequence Trace) → Holds (watched self.now) traces
-            → (tuple : Sequence Trace) → 1 ≤ length tuple → variable ≡ length tuple
-            → AreCodes (machine_of self.now.monitor) self.now.lengths tuple codes.now
-            → AreCodes (machine_of self.now.monitor) self.now.lengths
-            (tuple ++ trace_at traces k ∷ []) (take result joined.new) }
-        ensures inside { AreCodesOf (machine_of self.now.monitor) (take result joined.new) }
-        ensures long { 1 ≤ result }
-        ensures short { result ≤ 1024 }
+    /// Whether a trace ends at each place.
+    fn all_ended(&self, places: &Places<'a>) -> bool
+        ensures yes { OnTrue result (CanStop Pad (rests_in self.now places.now)) }
+        ensures no { OnFalse result (¬ CanStop Pad (rests_in self.now places.now)) }
     {
-        join(self.lengths, codes, self.column(k, variable), joined)
-    }
-
-    /// As `complete`, where one variable is left.
-    fn complete_last<L: Ledger>(
-        &self,
-        chosen: Chosen,
-        codes: &[u16],
-        steps: &mut Steps<L>,
-    ) -> Option<Tuple>
-        requires some { 1 ≤ length (chosen_of chosen) }
-        requires left { length (chosen_of chosen) + 1 ≡ (machine_of self.now.monitor).variables }
-        requires chosen { All (λ k. k < count_of (watched self.now)) (chosen_of chosen) }
-        requires arrived { 0 < count_of (watched self.now) }
-        requires codes { AreCodesOf (machine_of self.now.monitor) codes.now }
-        requires long { 1 ≤ length codes.now }
-        requires short { length codes.now ≤ 1024 }
-        ensures searched { IsSearch (watched self.now) (chosen_of chosen) chosen.has_newest
-            codes.now result }
-        ensures counted { steps.old ≤ steps.new }
-    {
-        let newest = self.count() - 1;
-        let from = if chosen.has_newest() { 0 } else { newest };
-        for k in from..self.count() {
-            if !self.satisfies(codes, self.column(k, chosen.count()), steps) {
-                return Some(chosen.with(k, newest).tuple(self.alloc));
+        for i in 0..self.monitor.vars() as usize {
+            if places.at(i).spot.ended().is_none() {
+                return false;
             }
         }
-        None
+        true
     }
 
-    /// Whether a tuple satisfies the formula, where these are the codes of all its traces but the
-    /// last and the parts of the last.
-    fn satisfies<L: Ledger>(&self, codes: &[u16], column: &[u16], steps: &mut Steps<L>) -> bool
-        requires codes { AreCodesOf (machine_of self.now.monitor) codes.now }
-        requires column { AreCodesOf (machine_of self.now.monitor) column.now }
-        requires some_codes { 1 ≤ length codes.now }
-        requires some_column { 1 ≤ length column.now }
-        ensures satisfies { (tuple : Sequence Trace) (t : Trace) → 1 ≤ length tuple
-            → AreCodes (machine_of self.now.monitor) self.now.lengths tuple codes.now
-            → IsColumn (machine_of self.now.monitor) (length tuple) t column.now
-            → IsTrue result
-            ↔ Meets self.now.lengths (machine_of self.now.monitor).body (tuple ++ t ∷ []) }
-        ensures counted { steps.old ≤ steps.new }
+    /// The numbers of a tuple from the places, with traces that have ended where there are some.
+    fn tuple_of(&self, places: &Places<'a>) -> Option<Tuple>
+        ensures some { IfSome result (λ numbers. (pairs : List Numbered)
+            × AreEnded (rests_in self.now places.now) pairs
+            × (numbers_of pairs ≡ numbers)) }
+        ensures none { IfNone result (¬ AreSome (rests_in self.now places.now)) }
     {
-        let q = after_both(&self.monitor, self.lengths, codes, column, steps);
-        self.monitor.accepts(q)
+        let mut numbers = [0; MOST_PLACES];
+        let count = self.monitor.vars() as usize;
+        for i in 0..count {
+            numbers[i] = places.at(i).spot.any()?;
+        }
+        Some(Tuple::new(self.alloc, numbers, count))
+    }
+
+    /// Whether a letter is taken at some place.
+    fn some_letter(&self, places: &Places<'a>) -> bool
+        ensures { result ≡ list_any is_letter (map taken_of (places_in self.now places.now)) }
+    {
+        for i in 0..self.monitor.vars() as usize {
+            if places.has_letter(i) {
+                return true;
+            }
+        }
+        false
+    }
+
+    /// The code of the letters that are taken.
+    fn joint(&self, places: &Places<'a>) -> u32
+        ensures code { result ≡ code_of (joint_letter (map letter_or (map taken_of
+            (places_in self.now places.now)))) (machine_in self.now).atoms }
+        ensures within { result < codes (machine_in self.now) }
+    {
+        let mut code = 0;
+        for i in 0..self.monitor.vars() {
+            code |= self.monitor.part(i, places.letter(i as usize));
+        }
+        code
     }
 }

@@ -4,7 +4,7 @@ use Rattle.std.proofs.lemmas.List.Elements.{Contains-push}
 use Rattle.hy_formula.specs.Quantifiers.{Each}
 use Rattle.hy_finite.specs.Traces.{Trace}
 use Rattle.trace_trie.specs.Numbered.{Numbered, IsHeld}
-use Rattle.trie_walk.specs.Finds.{AreViolating, AllMeet, traces_of}
+use Rattle.tuple_walk.specs.Finds.{AreViolating, AllMeet, traces_of}
 use Rattle.rv_core.specs.declared.arrival.Outcome.TheVariants.{Passes, Violates}
 use Rattle.rv_core.specs.Arrivals.{IsOutcome}
 use Rattle.rv_core.specs.Seen.{watched}

@@ -2,7 +2,7 @@ use Rattle.rv_core.specs.Seen.{watched}
 use Rattle.rv_core.proofs.Turning.{all-meet}
 use Rattle.rv_core.proofs.Places.{none-more}
 use Rattle.rv_core.proofs.Bounding.{first-bound, joint-bound}
-use Rattle.trie_walk.specs.Finds.{traces_of}
+use Rattle.tuple_walk.specs.Finds.{traces_of}
 use Rattle.rv_core.proofs.watch.Watch.find.Goals as goal
 
 pub returns-then-self-clause-none : goal.returns-then-self-clause-none

@@ -1,7 +1,0 @@
-use Rattle.std.proofs.Common.{◌<◌, ℕ, [], get_or}
-use Rattle.trie_walk.specs.Places.{HasEnded}
-use Rattle.trie_walk.specs.Walks.{rests_in}
-use Rattle.trie_walk.proofs.walk.Walk.all_ended.Given as goal
-
-abbrev pub invariant-loop-i : goal.invariant-loop-i
-invariant-loop-i l = (k : ℕ) → k < l.i → HasEnded (get_or (rests_in l.self l.places) k [])

@@ -1,6 +1,0 @@
-pub mod Finds
-pub mod Four
-pub mod JointPrefixes
-pub mod Places
-pub mod Searches
-pub mod Walks

@@ -1,9 +1,0 @@
-//! Walks over the tuples that a trace makes with those of a version: nodes of its trie go together,
-//! so that a joint prefix of many tuples is stepped once.
-#![tactic(auto)]
-
-mod finds;
-mod place;
-mod walk;
-
-pub use finds::{find, find_first};

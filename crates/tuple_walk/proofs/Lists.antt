@@ -1,0 +1,145 @@
+-- Members of lists, and lists of different members.
+use Rattle.std.proofs.Common.{◌≡◌, ℕ, zero, suc, ◌≤◌, List, [], ◌∷◌, ◌++◌, length, map, take, set, slice_get, Some, inl, inr, refl, sym, ap, ◌∙◌, subst, arith}
+use Rattle.std.specs.List.{Contains}
+use Rattle.std.proofs.lemmas.List.Elements.{Contains-append_cases}
+use Rattle.hy_formula.specs.Quantifiers.{Each}
+use Rattle.hy_formula.proofs.Tuples.{contains-here, contains-later, contains-cases, contains-none}
+use Rattle.tuple_walk.specs.Searches.{AreApart}
+
+pub map-of : {A B : Type 0} (f : A → B) (xs : List A) (x : A) → Contains xs x
+    → Contains (map f xs) (f x)
+map-of f [] x c = absurd (contains-none x c)
+map-of {A} {B} f (y ∷ ys) x c =
+    elim (contains-cases y x ys c) [
+      | inl e ↦
+          let P : A → Type 0 = λ q. Contains (f y ∷ map f ys) (f q) in
+          subst P e (contains-here (f y) (map f ys))
+      | inr later ↦ contains-later (f y) (f x) (map f ys) (map-of f ys x later)
+    ]
+
+pub map-from : {A B : Type 0} (f : A → B) (xs : List A) (y : B) → Contains (map f xs) y
+    → (x : A) × Contains xs x × (f x ≡ y)
+map-from f [] y c = absurd (contains-none y c)
+map-from f (x ∷ xs) y c =
+    elim (contains-cases (f x) y (map f xs) c) [
+      | inl e ↦ (x, contains-here x xs, e)
+      | inr later ↦
+          let (z, d, e) = map-from f xs y later in (z, contains-later x z xs d, e)
+    ]
+
+pub long-map : {A B : Type 0} (f : A → B) (xs : List A) → length (map f xs) ≡ length xs
+long-map f [] = refl
+long-map f (x ∷ xs) = ap suc (long-map f xs)
+
+pub map-take : {A B : Type 0} (f : A → B) (k : ℕ) (xs : List A)
+    → map f (take k xs) ≡ take k (map f xs)
+map-take f zero xs = refl
+map-take f (suc k) [] = refl
+map-take f (suc k) (x ∷ xs) = ap (λ ys. f x ∷ ys) (map-take f k xs)
+
+pub map-set : {A B : Type 0} (f : A → B) (xs : List A) (i : ℕ) (x : A)
+    → map f (set xs i x) ≡ set (map f xs) i (f x)
+map-set f [] i x = refl
+map-set f (y ∷ ys) zero x = refl
+map-set f (y ∷ ys) (suc i) x = ap (λ zs. f y ∷ zs) (map-set f ys i x)
+
+pub get-contains : {A : Type 0} (xs : List A) (i : ℕ) (x : A) → slice_get xs i ≡ Some x
+    → Contains xs x
+get-contains [] i x e = absurd (cc)
+get-contains (y ∷ ys) zero x e =
+    let same : y ≡ x = cc in
+    let P = Contains (y ∷ ys) in
+    subst P same (contains-here y ys)
+get-contains (y ∷ ys) (suc i) x e = contains-later y x ys (get-contains ys i x e)
+
+pub each-at : {A : Type 0} (P : A → Type 0) (xs : List A) (x : A) → Each P xs → Contains xs x
+    → P x
+each-at P [] x h c = absurd (contains-none x c)
+each-at P (y ∷ ys) x h c =
+    elim (contains-cases y x ys c) [
+      | inl e ↦ subst P e h.0
+      | inr later ↦ each-at P ys x h.1 later
+    ]
+
+pub each-map : {A B : Type 0} (P : B → Type 0) (f : A → B) (xs : List A)
+    → Each (λ x. P (f x)) xs → Each P (map f xs)
+each-map P f [] h = tt
+each-map P f (x ∷ xs) h = (h.0, each-map P f xs h.1)
+
+pub each-append : {A : Type 0} (P : A → Type 0) (xs ys : List A) → Each P xs → Each P ys
+    → Each P (xs ++ ys)
+each-append P [] ys h k = k
+each-append P (x ∷ xs) ys h k = (h.0, each-append P xs ys h.1 k)
+
+pub each-like : {A : Type 0} (P Q : A → Type 0) → ((x : A) → P x → Q x) → (xs : List A)
+    → Each P xs → Each Q xs
+each-like P Q f [] h = tt
+each-like P Q f (x ∷ xs) h = (f x h.0, each-like P Q f xs h.1)
+
+-- ---- different members
+
+pub apart-append : {A : Type 0} (xs ys : List A) → AreApart xs → AreApart ys
+    → ((x : A) → Contains xs x → ¬ Contains ys x) → AreApart (xs ++ ys)
+apart-append [] ys o p apart = p
+apart-append {A} (x ∷ xs) ys o p apart = (
+  λ c. elim (Contains-append_cases xs ys x c) [
+    | inl h ↦ o.0 h
+    | inr h ↦ apart x (contains-here x xs) h
+  ],
+  apart-append xs ys o.1 p (λ y c. apart y (contains-later x y xs c)),
+)
+
+pub apart-map : {A B : Type 0} (f : A → B) → ((x y : A) → f x ≡ f y → x ≡ y) → (xs : List A)
+    → AreApart xs → AreApart (map f xs)
+apart-map f one [] o = tt
+apart-map {A} f one (x ∷ xs) o = (
+  λ c.
+      let (y, d, e) = map-from f xs (f x) c in
+      let P : A → Type 0 = Contains xs in
+      o.0 (subst P (one y x e) d),
+  apart-map f one xs o.1,
+)
+
+-- the list without one member
+record IsWithout {A : Type 0} (ys : List A) (x : A) : Type 0 where
+  less : List A
+  long : suc (length less) ≡ length ys
+  others : (y : A) → Contains ys y → (¬ (x ≡ y)) → Contains less y
+
+one-less : {A : Type 0} (ys : List A) (x : A) → Contains ys x → IsWithout ys x
+one-less [] x c = absurd (contains-none x c)
+one-less {A} (y ∷ ys) x c =
+    elim (contains-cases y x ys c) [
+      | inl e ↦ record {
+        less = ys;
+        long = refl;
+        others = λ z d n. elim (contains-cases y z ys d) [
+          | inl same ↦ absurd (n (sym e ∙ same))
+          | inr later ↦ later
+        ];
+      }
+      | inr later ↦
+          let w = one-less ys x later in
+          record {
+            less = y ∷ w.less;
+            long = ap suc w.long;
+            others = λ z d n. elim (contains-cases y z ys d) [
+              | inl same ↦
+                  let P : A → Type 0 = Contains (y ∷ w.less) in
+                  subst P same (contains-here y w.less)
+              | inr behind ↦ contains-later y z w.less (w.others z behind n)
+            ];
+          }
+    ]
+
+-- different members of a list are at most as many as it has
+pub apart-most : {A : Type 0} (xs ys : List A) → AreApart xs
+    → ((x : A) → Contains xs x → Contains ys x) → length xs ≤ length ys
+apart-most [] ys o among = omega arith
+apart-most {A} (x ∷ xs) ys o among =
+    let w = one-less ys x (among x (contains-here x xs)) in
+    let more : length xs ≤ length w.less =
+    apart-most xs w.less o.1
+    (λ y c. w.others y (among y (contains-later x y xs c))
+    (λ e. let P : A → Type 0 = Contains xs in o.0 (subst P (sym e) c))) in
+    omega (arith, w.long, more)

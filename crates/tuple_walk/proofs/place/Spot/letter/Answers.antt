@@ -1,0 +1,27 @@
+use Rattle.std.proofs.Common.{◌≡◌, ◌<◌, length, List, slice_get, Some, sym, subst}
+use Rattle.hy_bits.specs.Letter.{Letter as NameSet}
+use Rattle.trace_trie.specs.Cursors.{letters_of, rests_at}
+use Rattle.trace_trie.specs.Numbered.{Numbered, under, led_by}
+use Rattle.tuple_walk.specs.declared.place.Spot.{Spot}
+use Rattle.tuple_walk.specs.Places.{rests_of, letters_at, IsWay}
+use Rattle.tuple_walk.proofs.Lists.{each-at, get-contains}
+use Rattle.tuple_walk.proofs.Ways.{letter-way}
+use Rattle.tuple_walk.proofs.place.Spot.letter.Goals as goal
+
+pub returns-in-Node-clause-way : goal.returns-in-Node-clause-way
+returns-in-Node-clause-way c a e =
+    let rests = rests_at c.in-Node.cursor in
+    let letters = letters_of c.in-Node.cursor in
+    let At : Spot → Type 0 = λ s. slice_get (letters_at s) c.args.i ≡ Some a in
+    let at : slice_get letters c.args.i ≡ Some a = subst At c.in-Node.is e in
+    let is : c.letter.result ≡ a = cc (c.letter.ensures, at) in
+    let child : rests_at c.child.result ≡ under a rests = c.child.ensures a at in
+    let way : IsWay rests (Some a) (led_by a (under a rests)) =
+    letter-way a rests (each-at (λ (b : NameSet). 0 < length (under b rests)) letters a
+    c.letters_differ.ensures.some (get-contains letters c.args.i a at)) in
+    let led : led_by c.letter.result (rests_at c.child.result) ≡ led_by a (under a rests) =
+    λ i. led_by (is i) (child i) in
+    let P : Spot → Type 0 = λ s. IsWay (rests_of s) (Some a)
+    (led_by c.letter.result (rests_at c.child.result)) in
+    let Q : List Numbered → Type 0 = IsWay rests (Some a) in
+    subst P (sym c.in-Node.is) (subst Q (sym led) way)

@@ -1,0 +1,437 @@
+use Rattle.std.proofs.Common.{◌≡◌, ◌+◌, ◌-◌, ◌<◌, ◌≤◌, true, ℕ, List, [], length, map, take, slice_get, Some, None, refl, sym, ap, ◌∙◌, subst, arith}
+use Rattle.std.specs.List.{list_any}
+use Rattle.std.proofs.lemmas.Bool.{eqb-true, OnTrue_at, OnFalse_at}
+use Rattle.hy_bits.specs.Letter.{Letter}
+use Rattle.hy_formula.specs.Quantifiers.{Each}
+use Rattle.hy_formula.proofs.Tuples.{contains-none}
+use Rattle.fin_monitor.specs.Machines.{settled_state}
+use Rattle.trace_trie.specs.Cursors.{AreLetters}
+use Rattle.trace_trie.specs.Numbered.{Numbered}
+use Rattle.tuple_walk.specs.Four.{four, first_places, letters_in}
+use Rattle.tuple_walk.specs.Places.{whole_of, letters_at, letter_or, taken_of, is_letter, IsOpen, IsMoved, AreSome}
+use Rattle.tuple_walk.specs.Searches.{AreSteps, AreStepsBy, AreAcceptedBy}
+use Rattle.tuple_walk.specs.Walks.{machine_in, places_in, rests_in, wholes_in}
+use Rattle.tuple_walk.proofs.Choosing.{no-steps_by, steps-letters}
+use Rattle.tuple_walk.proofs.Ending.{settled-accepted}
+use Rattle.tuple_walk.proofs.Longest.{longest, longest-step}
+use Rattle.tuple_walk.proofs.Nexts.{next-longest, next-some, next-rejected, next-more, next-steps, next-gap, no-gap-accepted, tuple-search, chosen-search, no-letter, step-search, at-some, take-whole, gap-search}
+use Rattle.tuple_walk.proofs.Onlys.{only-longest, only-some, only-search, only-steps}
+use Rattle.tuple_walk.proofs.Placing.{moved-more, open-less, at-letters, open-wholes, opened-left, opened-open}
+use Rattle.tuple_walk.proofs.Stepping.{left_at, some-left, step-steps, taken-code}
+use Rattle.tuple_walk.proofs.walk.Walk.+walk.Goals as goal
+
+-- ---- advance
+
+pub advance-returns-then-not-some_letter-clause-searched :
+    goal.advance-returns-then-not-some_letter-clause-searched
+advance-returns-then-not-some_letter-clause-searched g t c =
+    let w = c.args.self.now in
+    no-letter (machine_in w) w.lengths c.args.q (places_in w c.args.places.now) c.requires.moved
+    (sym c.some_letter.ensures ∙ c.if-not-some_letter.true)
+
+pub advance-search-requires : goal.advance-search-requires
+advance-search-requires g t c κs within =
+    let w = c.args.self.now in
+    let n = (machine_in w).variables in
+    let ps = four c.args.places.now in
+    let letter : list_any is_letter (map taken_of (take n ps)) ≡ true =
+    sym c.some_letter.ensures ∙ c.if-not-some_letter.false in
+    let left = opened-left n ps (four c.opened.result) c.opened.ensures in
+    let fewer = longest-step w.lengths (take n ps) c.requires.moved c.requires.members letter in
+    let same = ap longest left in (
+      omega (arith, c.decreases, fewer, same),
+      (
+        within,
+        (
+          c.requires.some,
+          (
+            c.step-q.ensures.within,
+            (
+              opened-open n ps (four c.opened.result) c.opened.ensures,
+              subst AreSome (sym left) (some-left (take n ps) c.requires.members),
+            ),
+          ),
+        ),
+      ),
+    )
+
+pub advance-returns-clause-searched : goal.advance-returns-clause-searched
+advance-returns-clause-searched g t c =
+    let w = c.args.self.now in
+    let n = (machine_in w).variables in
+    let ps = four c.args.places.now in
+    step-search (machine_in w) w.lengths c.args.q c.joint.result c.step-q.result (take n ps)
+    c.requires.moved (sym c.some_letter.ensures ∙ c.if-not-some_letter.false)
+    c.step-q.ensures.next c.joint.ensures.code (rests_in w c.opened.result)
+    (opened-left n ps (four c.opened.result) c.opened.ensures) c.search.result
+    c.search.ensures.searched
+
+pub advance-returns-clause-counted : goal.advance-returns-clause-counted
+advance-returns-clause-counted g t c =
+    let w = c.args.self.now in
+    let n = (machine_in w).variables in
+    let ps = four c.args.places.now in
+    let behind = c.search.new.steps - c.step-q.new.steps in
+    let P : List (List Numbered) → Type 0 = λ ls. AreSteps w.lengths ls behind in
+    let Q : ℕ → Type 0 = AreSteps w.lengths (map whole_of (take n ps)) in
+    let sum : behind + 1 ≡ c.search.new.steps - c.args.steps.now =
+    omega (arith, c.step-q.ensures.counted, c.search.ensures.steps) in
+    subst Q sum (step-steps (machine_in w) w.lengths c.args.q c.joint.result c.step-q.result
+    (take n ps) c.requires.moved (sym c.some_letter.ensures ∙ c.if-not-some_letter.false)
+    c.step-q.ensures.next
+    (λ ts f. c.joint.ensures.code ∙ taken-code (machine_in w) _ ts (ap (map letter_or) f))
+    behind c.requires.members
+    (subst P (opened-left n ps (four c.opened.result) c.opened.ensures) c.search.ensures.counted))
+
+-- ---- choose
+
+pub choose-advance-requires : goal.choose-advance-requires
+choose-advance-requires g t c κs within =
+    let w = c.args.self.now in
+    let all : c.args.i ≡ (machine_in w).variables = omega (arith, c.vars.ensures.vars) in
+    let few : (machine_in w).variables ≤ 4 = w.monitor.now.right.few in
+    let P : ℕ → Type 0 = λ k. Each (IsMoved w.lengths) (first_places k c.args.places.now) in (
+      omega (arith, c.decreases, few),
+      (
+        within,
+        (c.requires.some, (c.requires.state, (subst P all c.requires.moved, c.requires.members))),
+      ),
+    )
+
+pub choose-choose_letter-requires : goal.choose-choose_letter-requires
+choose-choose_letter-requires g t c κs within =
+    let w = c.args.self.now in
+    let few : (machine_in w).variables ≤ 4 = w.monitor.now.right.few in (
+      omega (arith, c.decreases, few),
+      (
+        within,
+        (
+          c.requires.some,
+          (
+            c.requires.state,
+            (
+              omega (arith, c.vars.ensures.vars),
+              (c.requires.moved, (c.requires.open, c.requires.members)),
+            ),
+          ),
+        ),
+      ),
+    )
+
+pub choose-choose-requires : goal.choose-choose-requires
+choose-choose-requires g t c κs within =
+    let w = c.args.self.now in
+    let n = (machine_in w).variables in
+    let i = c.args.i in
+    let ps = four c.args.places.now in
+    let next = four c.with.result in
+    let few : n ≤ 4 = w.monitor.now.right.few in
+    let lt : i < n = omega (arith, c.vars.ensures.vars) in
+    let fewer = next-longest n i ps next c.at.result c.in-Some-gap.place lt few c.at.ensures
+    c.requires.open c.with.ensures None c.in-Some-gap.ensures.way in (
+      omega (arith, c.decreases, few, fewer),
+      (
+        within,
+        (
+          c.requires.some,
+          (
+            c.requires.state,
+            (
+              omega arith,
+              (
+                moved-more (IsMoved w.lengths) i ps c.in-Some-gap.place next (omega arith)
+                    c.with.ensures c.requires.moved c.in-Some-gap.ensures.moved,
+                (
+                  open-less IsOpen i n ps c.in-Some-gap.place next c.with.ensures c.requires.open,
+                  next-some n i ps next c.at.result c.in-Some-gap.place lt few c.at.ensures
+                      c.requires.open c.with.ensures None c.in-Some-gap.ensures.way
+                      c.requires.members,
+                ),
+              ),
+            ),
+          ),
+        ),
+      ),
+    )
+
+pub choose-returns-in-Some-gap-clause-searched : goal.choose-returns-in-Some-gap-clause-searched
+choose-returns-in-Some-gap-clause-searched g t c =
+    let w = c.args.self.now in
+    let n = (machine_in w).variables in
+    let i = c.args.i in
+    let ps = four c.args.places.now in
+    let few : n ≤ 4 = w.monitor.now.right.few in
+    let lt : i < n = omega (arith, c.vars.ensures.vars) in
+    let P : List Letter → Type 0 = λ l. AreLetters l (left_at c.at.result) in
+    gap-search (machine_in w) w.lengths c.args.q n i ps (four c.with.result) c.at.result
+    c.in-Some-gap.place lt few c.at.ensures c.requires.open c.with.ensures
+    c.in-Some-gap.ensures.way (letters_in i ps)
+    (subst P (sym (at-letters i ps c.at.result c.at.ensures)) c.letters_differ.ensures)
+    c.in-None.ensures.searched c.choose.result c.choose.ensures.searched
+
+pub choose-returns-in-Some-gap-clause-counted : goal.choose-returns-in-Some-gap-clause-counted
+choose-returns-in-Some-gap-clause-counted g t c =
+    let w = c.args.self.now in
+    let n = (machine_in w).variables in
+    let i = c.args.i in
+    let ps = four c.args.places.now in
+    let few : n ≤ 4 = w.monitor.now.right.few in
+    let lt : i < n = omega (arith, c.vars.ensures.vars) in
+    next-gap n i ps (four c.with.result) c.at.result c.in-Some-gap.place lt few c.at.ensures
+    c.requires.open c.with.ensures None c.in-Some-gap.ensures.way w.lengths (letters_in i ps) refl
+    (c.choose_letter.new.steps - c.args.steps.now)
+    (c.choose.new.steps - c.choose_letter.new.steps)
+    (c.choose.new.steps - c.args.steps.now)
+    (omega (arith, c.choose_letter.ensures.steps, c.choose.ensures.steps))
+    c.choose_letter.ensures.counted c.choose.ensures.counted
+
+pub choose-returns-in-None-gap-clause-searched : goal.choose-returns-in-None-gap-clause-searched
+choose-returns-in-None-gap-clause-searched g t c =
+    let w = c.args.self.now in
+    let n = (machine_in w).variables in
+    let i = c.args.i in
+    let ps = four c.args.places.now in
+    let few : n ≤ 4 = w.monitor.now.right.few in
+    let lt : i < n = omega (arith, c.vars.ensures.vars) in
+    let P : List Letter → Type 0 = λ l. AreLetters l (left_at c.at.result) in
+    no-gap-accepted (machine_in w) w.lengths c.args.q n i ps c.at.result lt few c.at.ensures
+    c.requires.open (letters_in i ps)
+    (subst P (sym (at-letters i ps c.at.result c.at.ensures)) c.letters_differ.ensures)
+    c.in-None-gap.ensures.none c.in-None.ensures.searched
+
+-- ---- choose_letter
+
+pub choose_letter-loop-k-init : goal.choose_letter-loop-k-init
+choose_letter-loop-k-init g t c =
+    let w = c.args.self.now in
+    let P : ℕ → Type 0 = AreStepsBy w.lengths c.args.i [] (wholes_in w c.args.places.now) in
+    let none : 0 ≡ c.args.steps.now - c.args.steps.now = omega arith in
+    record {
+      accepted = λ tuple h some a e f. absurd (contains-none a e);
+      steps = omega arith;
+      counted = subst P none (no-steps_by w.lengths (wholes_in w c.args.places.now) c.args.i []);
+    }
+
+pub choose_letter-choose-requires : goal.choose_letter-choose-requires
+choose_letter-choose-requires g t c κs within =
+    let w = c.args.self.now in
+    let n = (machine_in w).variables in
+    let i = c.args.i in
+    let ps = four c.args.places.now in
+    let next = four c.with-next.result in
+    let few : n ≤ 4 = w.monitor.now.right.few in
+    let (a, there) = at-some (letters_at c.at.result.spot) c.loop-k.k
+    (omega (arith, c.len-k-end.ensures, c.loop-k-test.true)) in
+    let way = c.letter.ensures.way a there in
+    let fewer = next-longest n i ps next c.at.result c.letter.result c.requires.within few
+    c.at.ensures c.requires.open c.with-next.ensures (Some a) way in (
+      omega (arith, c.decreases, few, fewer, c.requires.within),
+      (
+        within,
+        (
+          c.requires.some,
+          (
+            c.requires.state,
+            (
+              omega (arith, c.requires.within),
+              (
+                moved-more (IsMoved w.lengths) i ps c.letter.result next
+                    (omega (arith, c.requires.within)) c.with-next.ensures c.requires.moved
+                    (c.letter.ensures.moved w.lengths),
+                (
+                  open-less IsOpen i n ps c.letter.result next c.with-next.ensures
+                      c.requires.open,
+                  next-some n i ps next c.at.result c.letter.result c.requires.within few
+                      c.at.ensures c.requires.open c.with-next.ensures (Some a) way
+                      c.requires.members,
+                ),
+              ),
+            ),
+          ),
+        ),
+      ),
+    )
+
+pub choose_letter-returns-in-Some-clause-searched :
+    goal.choose_letter-returns-in-Some-clause-searched
+choose_letter-returns-in-Some-clause-searched g t c =
+    let w = c.args.self.now in
+    let few : (machine_in w).variables ≤ 4 = w.monitor.now.right.few in
+    let (a, there) = at-some (letters_at c.at.result.spot) c.loop-k.k
+    (omega (arith, c.len-k-end.ensures, c.loop-k-test.true)) in
+    next-rejected (machine_in w).variables c.args.i (four c.args.places.now)
+    (four c.with-next.result) c.at.result c.letter.result c.requires.within few c.at.ensures
+    c.requires.open c.with-next.ensures (Some a) (c.letter.ensures.way a there) (machine_in w)
+    w.lengths c.args.q c.in-Some.tuple c.in-Some.ensures.searched
+
+pub choose_letter-returns-in-Some-clause-steps : goal.choose_letter-returns-in-Some-clause-steps
+choose_letter-returns-in-Some-clause-steps g t c =
+    omega (arith, c.loop-k.invariant.steps, c.choose.ensures.steps)
+
+pub choose_letter-returns-in-Some-clause-counted :
+    goal.choose_letter-returns-in-Some-clause-counted
+choose_letter-returns-in-Some-clause-counted g t c =
+    let w = c.args.self.now in
+    let ps = four c.args.places.now in
+    let few : (machine_in w).variables ≤ 4 = w.monitor.now.right.few in
+    let (a, there) = at-some (letters_at c.at.result.spot) c.loop-k.k
+    (omega (arith, c.len-k-end.ensures, c.loop-k-test.true)) in
+    let letters = letters_in c.args.i ps in
+    let is : letters ≡ letters_at c.at.result.spot =
+    at-letters c.args.i ps c.at.result c.at.ensures in
+    let P : List Letter → Type 0 = λ l. AreLetters l (left_at c.at.result) in
+    let Q : List Letter → Type 0 = λ l. slice_get l c.loop-k.k ≡ Some a in
+    let are : AreLetters letters (left_at c.at.result) =
+    subst P (sym is) c.letters_differ.ensures in
+    steps-letters w.lengths (wholes_in w c.args.places.now) c.args.i letters (c.loop-k.k + 1)
+    (c.choose.new.steps - c.args.steps.now)
+    (next-steps (machine_in w).variables c.args.i ps
+    (four c.with-next.result) c.at.result c.letter.result c.requires.within few c.at.ensures
+    c.requires.open c.with-next.ensures (Some a) (c.letter.ensures.way a there) w.lengths letters
+    c.loop-k.k a refl are.distinct (subst Q (sym is) there)
+    (c.loop-k.steps - c.args.steps.now) (c.choose.new.steps - c.loop-k.steps)
+    (c.choose.new.steps - c.args.steps.now)
+    (omega (arith, c.loop-k.invariant.steps, c.choose.ensures.steps))
+    c.loop-k.invariant.counted c.choose.ensures.counted)
+
+pub choose_letter-loop-k-preserved : goal.choose_letter-loop-k-preserved
+choose_letter-loop-k-preserved g t c =
+    let w = c.args.self.now in
+    let ps = four c.args.places.now in
+    let few : (machine_in w).variables ≤ 4 = w.monitor.now.right.few in
+    let (a, there) = at-some (letters_at c.at.result.spot) c.loop-k.k
+    (omega (arith, c.len-k-end.ensures, c.loop-k-test.true)) in
+    let letters = letters_in c.args.i ps in
+    let is : letters ≡ letters_at c.at.result.spot =
+    at-letters c.args.i ps c.at.result c.at.ensures in
+    let P : List Letter → Type 0 = λ l. AreLetters l (left_at c.at.result) in
+    let Q : List Letter → Type 0 = λ l. slice_get l c.loop-k.k ≡ Some a in
+    let are : AreLetters letters (left_at c.at.result) =
+    subst P (sym is) c.letters_differ.ensures in
+    record {
+      accepted = next-more (machine_in w).variables c.args.i ps (four c.with-next.result)
+          c.at.result c.letter.result c.requires.within few c.at.ensures c.requires.open
+          c.with-next.ensures (Some a) (c.letter.ensures.way a there) (machine_in w) w.lengths
+          c.args.q letters c.loop-k.k a refl (subst Q (sym is) there) c.loop-k.invariant.accepted
+          c.in-None.ensures.searched;
+      steps = omega (arith, c.loop-k.invariant.steps, c.choose.ensures.steps);
+      counted = next-steps (machine_in w).variables c.args.i ps (four c.with-next.result)
+          c.at.result c.letter.result c.requires.within few c.at.ensures c.requires.open
+          c.with-next.ensures (Some a) (c.letter.ensures.way a there) w.lengths letters
+          c.loop-k.k a refl are.distinct (subst Q (sym is) there)
+          (c.loop-k.steps - c.args.steps.now) (c.choose.new.steps - c.loop-k.steps)
+          (c.choose.new.steps - c.args.steps.now)
+          (omega (arith, c.loop-k.invariant.steps, c.choose.ensures.steps))
+          c.loop-k.invariant.counted c.choose.ensures.counted;
+    }
+
+pub choose_letter-returns-clause-searched : goal.choose_letter-returns-clause-searched
+choose_letter-returns-clause-searched g t c =
+    let w = c.args.self.now in
+    let ps = four c.args.places.now in
+    let letters = letters_in c.args.i ps in
+    let long = ap length (at-letters c.args.i ps c.at.result c.at.ensures) in
+    let P : List Letter → Type 0 = λ l. AreAcceptedBy (machine_in w) w.lengths c.args.q c.args.i l
+    (wholes_in w c.args.places.now) in
+    subst P (take-whole c.loop-k.k letters
+    (omega (arith, long, c.len-k-end.ensures, c.loop-k-test.false)))
+    c.loop-k.invariant.accepted
+
+pub choose_letter-returns-clause-steps : goal.choose_letter-returns-clause-steps
+choose_letter-returns-clause-steps g t c = c.loop-k.invariant.steps
+
+pub choose_letter-returns-clause-counted : goal.choose_letter-returns-clause-counted
+choose_letter-returns-clause-counted g t c =
+    let w = c.args.self.now in
+    steps-letters w.lengths (wholes_in w c.args.places.now) c.args.i
+    (letters_in c.args.i (four c.args.places.now)) c.loop-k.k
+    (c.loop-k.steps - c.args.steps.now) c.loop-k.invariant.counted
+
+-- ---- search
+
+pub search-returns-then-is_settled-clause-searched :
+    goal.search-returns-then-is_settled-clause-searched
+search-returns-then-is_settled-clause-searched g t c =
+    let w = c.args.self.now in
+    settled-accepted (machine_in w) w.monitor.now.right w.lengths c.args.q
+    (eqb-true c.args.q (settled_state (machine_in w))
+    (sym c.is_settled.ensures ∙ c.if-is_settled.true)) (rests_in w c.args.places.now)
+
+pub search-returns-then-rejects-clause-searched : goal.search-returns-then-rejects-clause-searched
+search-returns-then-rejects-clause-searched g t c =
+    let w = c.args.self.now in
+    tuple-search (machine_in w) w.lengths c.args.q (rests_in w c.args.places.now)
+    c.tuple_of.result c.tuple_of.ensures.some c.tuple_of.ensures.none c.requires.members
+    (OnTrue_at c.if-rejects.true c.rejects.ensures.stop)
+    (OnTrue_at c.if-rejects.true c.rejects.ensures.rejects)
+
+pub search-choose-requires : goal.search-choose-requires
+search-choose-requires g t c κs within =
+    let w = c.args.self.now in
+    let same = open-wholes (places_in w c.args.places.now) c.requires.open in
+    let long = ap longest same in (
+      omega (arith, c.decreases, long),
+      (
+        within,
+        (
+          c.requires.some,
+          (
+            c.requires.state,
+            (
+              omega arith,
+              (tt, (c.requires.open, subst AreSome (sym same) c.requires.members)),
+            ),
+          ),
+        ),
+      ),
+    )
+
+pub search-returns-in-None-clause-searched : goal.search-returns-in-None-clause-searched
+search-returns-in-None-clause-searched g t c =
+    let w = c.args.self.now in
+    chosen-search (machine_in w) w.lengths c.args.q (rests_in w c.args.places.now)
+    (wholes_in w c.args.places.now)
+    (open-wholes (places_in w c.args.places.now) c.requires.open) c.choose.result
+    (OnFalse_at c.if-rejects.false c.rejects.ensures.accepts) c.choose.ensures.searched
+
+pub search-returns-in-None-clause-counted : goal.search-returns-in-None-clause-counted
+search-returns-in-None-clause-counted g t c =
+    let w = c.args.self.now in
+    let P : List (List Numbered) → Type 0 = λ ls. AreSteps w.lengths ls
+    (c.choose.new.steps - c.args.steps.now) in
+    subst P (open-wholes (places_in w c.args.places.now) c.requires.open) c.choose.ensures.counted
+
+pub search-advance-requires : goal.search-advance-requires
+search-advance-requires g t c κs within =
+    let w = c.args.self.now in
+    let rests = rests_in w c.args.places.now in
+    let wholes = wholes_in w c.in-Some.moved in
+    let fewer = only-longest w.lengths rests wholes c.in-Some.ensures.only in (
+      omega (arith, c.decreases, fewer),
+      (
+        within,
+        (
+          c.requires.some,
+          (
+            c.requires.state,
+            (c.in-Some.ensures.moved, only-some w.lengths rests wholes c.in-Some.ensures.only),
+          ),
+        ),
+      ),
+    )
+
+pub search-returns-in-Some-clause-searched : goal.search-returns-in-Some-clause-searched
+search-returns-in-Some-clause-searched g t c =
+    let w = c.args.self.now in
+    let rests = rests_in w c.args.places.now in
+    let wholes = wholes_in w c.in-Some.moved in
+    chosen-search (machine_in w) w.lengths c.args.q rests rests refl c.advance.result
+    (OnFalse_at c.if-rejects.false c.rejects.ensures.accepts)
+    (only-search (machine_in w) w.lengths c.args.q rests wholes c.in-Some.ensures.only
+    c.advance.result c.advance.ensures.searched)
+
+pub search-returns-in-Some-clause-counted : goal.search-returns-in-Some-clause-counted
+search-returns-in-Some-clause-counted g t c =
+    let w = c.args.self.now in
+    only-steps w.lengths (rests_in w c.args.places.now) (wholes_in w c.in-Some.moved)
+    c.in-Some.ensures.only (c.advance.new.steps - c.args.steps.now) c.advance.ensures.counted

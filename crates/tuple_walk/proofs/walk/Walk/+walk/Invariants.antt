@@ -1,0 +1,29 @@
+use Rattle.std.proofs.Common.{◌+◌, ◌*◌, ◌-◌, ◌≤◌, take}
+use Rattle.tuple_walk.specs.Four.{four, letters_in}
+use Rattle.tuple_walk.specs.Searches.{AreAcceptedBy, AreStepsBy}
+use Rattle.tuple_walk.specs.Walks.{machine_in, rests_in, wholes_in}
+use Rattle.tuple_walk.proofs.Longest.{longest}
+use Rattle.tuple_walk.proofs.walk.Walk.+walk.Given as goal
+
+abbrev pub decreases-advance : goal.decreases-advance
+decreases-advance g l = 11 * longest (wholes_in l.self.now l.places.now)
+
+abbrev pub decreases-choose : goal.decreases-choose
+decreases-choose g l = 11 * longest (wholes_in l.self.now l.places.now) + (9 - 2 * l.i)
+
+abbrev pub decreases-choose_letter : goal.decreases-choose_letter
+decreases-choose_letter g l = 11 * longest (wholes_in l.self.now l.places.now) + (8 - 2 * l.i)
+
+abbrev pub decreases-search : goal.decreases-search
+decreases-search g l = 11 * longest (rests_in l.self.now l.places.now) + 10
+
+abbrev pub invariant-choose_letter-loop-k : goal.invariant-choose_letter-loop-k
+invariant-choose_letter-loop-k g l =
+    let letters = take l.k (letters_in l.i (four l.places)) in
+    record {
+      accepted : AreAcceptedBy (machine_in l.self) l.self.lengths l.q l.i letters
+          (wholes_in l.self l.places);
+      steps : l.fn.steps ≤ l.steps;
+      counted : AreStepsBy l.self.lengths l.i letters (wholes_in l.self l.places)
+          (l.steps - l.fn.steps);
+    }

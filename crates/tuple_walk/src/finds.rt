@@ -1,0 +1,108 @@
+//! Tuples of a version with a new trace.
+
+ghost use Rattle.std.specs.Prelude.{◌≡◌, ◌+◌, ◌*◌, ◌≤◌, ◌∷◌, ◌<◌, [], ℕ, List, length, replicate, set, take, IfSome, IfNone};
+ghost use Rattle.std.specs.List.{Contains};
+ghost use Rattle.hy_formula.specs.Quantifiers.{Each};
+ghost use Rattle.fin_monitor.specs.Seen.{machine_of};
+ghost use Rattle.tuple_walk.specs.Finds.{AreViolating, AllMeet, FirstMeet, IsFirst, traces_of};
+ghost use Rattle.tuple_walk.specs.Four.{four, rests};
+ghost use Rattle.tuple_walk.specs.Places.{IsOpen};
+ghost use Rattle.tuple_walk.specs.JointPrefixes.{Row, IsJointPrefix, IsFirstPrefix};
+
+use crate::place::{Place, Places, Spot};
+use crate::walk::Walk;
+use fin_monitor::Monitor;
+use hy_base::Steps;
+use hy_bits::LetterMask;
+use hy_finite::Lengths;
+use std::alloc::Global;
+use std::sync::ledger::Ledger;
+use trace_trie::Version;
+use crate::tuple::Tuple;
+
+/// The numbers of a tuple of traces of the version, with the given one at some place, that violates
+/// the formula; `None` exactly where each such tuple satisfies it. Takes no memory.
+///
+/// Traces that begin alike are walked together: for each place of the given trace, each joint
+/// prefix of such tuples is stepped at most once, and none from a state on from which nothing is
+/// rejected. The stack is as deep as the longest trace has letters.
+pub fn find<'a, L: Ledger>(
+    alloc: Global,
+    version: &'a Version,
+    monitor: &'a Monitor,
+    number: u32,
+    trace: &'a [LetterMask],
+    lengths: Lengths,
+    steps: &mut Steps<L>,
+) -> Option<Tuple>
+    requires member { Contains version.now (number, trace.now) }
+    requires some { 1 ≤ (machine_of monitor.now).variables }
+    ensures found { IfSome result (AreViolating (machine_of monitor.now) lengths version.now) }
+    ensures given { IfSome result (λ numbers. Contains numbers number) }
+    ensures none { IfNone result
+        (AllMeet (machine_of monitor.now) lengths (traces_of version.now) trace.now) }
+    ensures counted { steps.old ≤ steps.new }
+    ensures bounded { (prefixes : List (List Row)) → ((rows : List Row)
+        → IsJointPrefix lengths (traces_of version.now) trace.now
+        (machine_of monitor.now).variables rows → Contains prefixes rows)
+        → steps.new ≤ steps.old + (machine_of monitor.now).variables * length prefixes }
+{
+    version.numbers_ascend();
+    let walk = Walk {
+        alloc,
+        monitor,
+        lengths,
+    };
+    for place in 0..monitor.vars() as usize {
+        let places = start(version, place, number, trace);
+        match walk.search(&places, monitor.start(), steps) {
+            Some(tuple) => return Some(tuple),
+            None => {}
+        }
+    }
+    None
+}
+
+/// As `find`, with the given trace at the first place. Each joint prefix of such tuples is stepped
+/// at most once.
+pub fn find_first<'a, L: Ledger>(
+    alloc: Global,
+    version: &'a Version,
+    monitor: &'a Monitor,
+    number: u32,
+    trace: &'a [LetterMask],
+    lengths: Lengths,
+    steps: &mut Steps<L>,
+) -> Option<Tuple>
+    requires member { Contains version.now (number, trace.now) }
+    requires some { 1 ≤ (machine_of monitor.now).variables }
+    ensures found { IfSome result (AreViolating (machine_of monitor.now) lengths version.now) }
+    ensures given { IfSome result (IsFirst number) }
+    ensures none { IfNone result
+        (FirstMeet (machine_of monitor.now) lengths (traces_of version.now) trace.now) }
+    ensures counted { steps.old ≤ steps.new }
+    ensures bounded { (prefixes : List (List Row)) → ((rows : List Row)
+        → IsFirstPrefix lengths (traces_of version.now) trace.now
+        (machine_of monitor.now).variables rows → Contains prefixes rows)
+        → steps.new ≤ steps.old + length prefixes }
+{
+    version.numbers_ascend();
+    let walk = Walk {
+        alloc,
+        monitor,
+        lengths,
+    };
+    let places = start(version, 0, number, trace);
+    walk.search(&places, monitor.start(), steps)
+}
+
+/// The places before all letters, with the given trace alone at one place.
+fn start<'a>(version: &'a Version, place: usize, number: u32, trace: &'a [LetterMask]) -> Places<'a>
+    requires { place < 4 }
+    ensures rests { (n : ℕ) → rests n result
+        ≡ take n (set (replicate 4 version.now) place ((number, trace.now) ∷ [])) }
+    ensures open { Each IsOpen (four result) }
+{
+    let alone = Place::at(&Spot::Alone(number, trace));
+    Places::all(&Spot::Node(version.root())).with(place, &alone)
+}
