@@ -28,6 +28,8 @@ pub struct Case {
     /// `None` until the line that says it.
     pub status: Option<u8>,
     pub out: Text,
+    /// What the output may be in place of that, where several texts are right.
+    pub others: Vec<Text>,
     /// What is expected of the lassos behind the text of `out`, where some are.
     pub lassos: Option<Lassos>,
     pub err: Text,
@@ -60,6 +62,7 @@ impl Case {
             most: NonZeroU32::MAX,
             status: None,
             out: Text::new(alloc),
+            others: Vec::new(alloc),
             lassos: None,
             err: Text::new(alloc),
         })
@@ -79,6 +82,7 @@ impl Case {
             "most" => self.most = text.parse::<NonZeroU32>().context("no number from 1")?,
             "status" => self.status = Some(text.parse::<u8>().context("no status")?),
             "out" => self.out = text_of(alloc, text)?,
+            "or" => self.others.push(text_of(alloc, text)?)?,
             "lassos" => self.count_lassos(text)?,
             "satisfy" => self.expected()?.satisfy = Some(text_of(alloc, text)?),
             "violate" => self.expected()?.violate = Some(text_of(alloc, text)?),

@@ -17,6 +17,7 @@
 //! most N              how many bytes one put takes at most
 //! status N            the exit status that is expected
 //! out TEXT            what the output is to receive; nothing where no line says it
+//! or TEXT             another text that the output may be in place of that
 //! lassos N            behind that text the output is to have N lassos
 //! satisfy TEXT        a formula that these lassos satisfy
 //! violate TEXT        a formula that these lassos do not satisfy

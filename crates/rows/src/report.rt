@@ -5,7 +5,7 @@ use crate::escape::escaped;
 use crate::lassos::are_wanted;
 use crate::running::status_of;
 use anyhow::{Result, bail};
-use hy_base::{MemShelf, MemSink};
+use hy_base::{MemShelf, MemSink, Text};
 use std::fmt;
 
 /// How many cases of a file were run, and how many gave another answer than the expected one.
@@ -53,7 +53,7 @@ pub fn report(rt: &HostRuntime, tally: &mut Tally, case: Case) -> Result<()> {
     let same = status == given
         && case.err.as_slice() == err.bytes()
         && match &case.lassos {
-            None => wanted == out.bytes(),
+            None => wanted == out.bytes() || is_among(&case.others, out.bytes()),
             Some(lassos) => are_wanted(rt, wanted, lassos, out.bytes())?,
         };
     tally.cases = tally.cases.saturating_add(1);
@@ -64,6 +64,11 @@ pub fn report(rt: &HostRuntime, tally: &mut Tally, case: Case) -> Result<()> {
     println!(rt; "{name}: status {given} for {status}")?;
     print_part(rt, "out", case.out.as_slice(), out.bytes())?;
     print_part(rt, "err", case.err.as_slice(), err.bytes())
+}
+
+/// Whether the text is one of these.
+fn is_among(texts: &[Text], text: &[u8]) -> bool {
+    texts.iter().any(|it| it.as_slice() == text)
 }
 
 /// Prints what a stream received and what it was to receive, where these differ.
