@@ -1,5 +1,5 @@
--- Where a trace arrives: a tuple that is found violates the body, none where the list violates nothing; and what is
--- kept then.
+-- Where a trace arrives: a tuple that is found violates the body, none where the list violates
+-- nothing; and what is kept then.
 use Rattle.std.proofs.Common.{◌≡◌, ℕ, zero, suc, ◌<◌, Bool, List, [], ◌∷◌, ◌++◌, length, inl, inr, refl, sym, ◌∙◌, subst, arith}
 use Rattle.std.specs.List.{Contains, All, slice_index_or}
 use Rattle.std.proofs.lemmas.List.{length-map}

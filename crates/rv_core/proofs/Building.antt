@@ -145,7 +145,8 @@ pub none-below : (n bound : ℕ) → AreBelow n bound (replicate n [])
 none-below n bound = (length-replicate n [], by n)
   where
     by : (k : ℕ)
-        → Each (λ (list : List Numbered). Each (λ (p : Numbered). p.0 < bound) list) (replicate k [])
+        → Each (λ (list : List Numbered). Each (λ (p : Numbered). p.0 < bound) list)
+        (replicate k [])
     by zero = tt
     by (suc k) = (tt, by k)
 

@@ -59,7 +59,8 @@ member-of (q ∷ qs) p c =
           λ r. Contains (members_of (q ∷ qs)) (numbered r.0 r.1) in
           subst P e (contains-here (numbered q.0 q.1) (members_of qs))
       | inr later ↦
-          contains-later (numbered q.0 q.1) (numbered p.0 p.1) (members_of qs) (member-of qs p later)
+          contains-later (numbered q.0 q.1) (numbered p.0 p.1) (members_of qs)
+          (member-of qs p later)
     ]
 
 pub member-from : (kept : List Numbered) (x : leaders.Numbered Trace)

@@ -62,7 +62,8 @@ module _ (rule : Lengths) (drop : Bool) (m : Machine) (t : Trace) where
   filter-left : (kept left : List Numbered) → AreLeft rule drop m t kept left
       → (f : leaders.Numbered Trace → Bool)
       → ((p : Numbered) → Contains kept p → IsUnder rule drop m t p → f (numbered p.0 p.1) ≡ true)
-      → ((p : Numbered) → Contains kept p → (¬ IsUnder rule drop m t p) → f (numbered p.0 p.1) ≡ false)
+      → ((p : Numbered) → Contains kept p → (¬ IsUnder rule drop m t p)
+      → f (numbered p.0 p.1) ≡ false)
       → filter (λ (y : leaders.Numbered Trace). not (f y)) (members_of kept) ≡ members_of left
   filter-left kept left none f is_under is_left = refl
   filter-left kept left (dropped q ps rest is more) f is_under is_left =
@@ -72,7 +73,8 @@ module _ (rule : Lengths) (drop : Bool) (m : Machine) (t : Trace) where
       (λ p c. is_left p (contains-later q p ps c))
   filter-left kept left (stays q ps rest not_under more) f is_under is_left =
       let tail = filter (λ (y : leaders.Numbered Trace). not (f y)) (members_of ps) in
-      ap (λ b. cond (not b) (numbered q.0 q.1 ∷ tail) tail) (is_left q (contains-here q ps) not_under)
+      ap (λ b. cond (not b) (numbered q.0 q.1 ∷ tail) tail)
+      (is_left q (contains-here q ps) not_under)
       ∙ ap (λ xs. numbered q.0 q.1 ∷ xs) (filter-left ps rest more f
       (λ p c. is_under p (contains-later q p ps c)) (λ p c. is_left p (contains-later q p ps c)))
 

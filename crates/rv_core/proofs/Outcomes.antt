@@ -108,6 +108,21 @@ module _ (rule : Lengths) (watches : List Watch) (kept : List (List Numbered)) (
 
 -- ---- all specs
 
+-- as many as there are specs
+pub all-made : (rule : Lengths) (drop : Bool) (ms : List Machine) (n : ℕ) (t : Trace)
+    (old made : List (List Numbered)) (i : ℕ) → i ≡ length ms → length made ≡ i
+    → ((s : ℕ) (m : Machine) → s < i → slice_get ms s ≡ Some m → IsPassed rule m t (kept_at old s))
+    → ((s : ℕ) (m : Machine) → s < i → slice_get ms s ≡ Some m
+    → IsNext rule drop m t n (kept_at old s) (kept_at made s))
+    → AreNext rule drop ms n t old made
+all-made rule drop ms n t old made i end long passed right = record {
+  long = long ∙ end;
+  passed = λ s m at.
+      let within = slice_get_within ms s m at in passed s m (omega arith) at;
+  right = λ s m at.
+      let within = slice_get_within ms s m at in right s m (omega arith) at;
+}
+
 -- an equal one is kept for each
 pub all-known : (rule : Lengths) (drop : Bool) (ms : List Machine) (n : ℕ) (t u : Trace)
     (kept : List (List Numbered)) → u ≡ t → length kept ≡ length ms → Each (IsHeld u) kept

@@ -101,11 +101,13 @@ module _ (rule : Lengths) (drop : Bool) (m : Machine) (t : Trace) where
   left-stays kept left p (stays q ps rest not_under more) is =
       stays q (ps ++ p ∷ []) (rest ++ p ∷ []) not_under (left-stays ps rest p more is)
 
-  pub left-each : (P : Numbered → Type 0) (kept left : List Numbered) → AreLeft rule drop m t kept left
+  pub left-each : (P : Numbered → Type 0) (kept left : List Numbered)
+      → AreLeft rule drop m t kept left
       → Each P kept → Each P left
   left-each P kept left none e = tt
   left-each P kept left (dropped q ps rest under more) (here, e) = left-each P ps rest more e
-  left-each P kept left (stays q ps rest not_under more) (here, e) = (here, left-each P ps rest more e)
+  left-each P kept left (stays q ps rest not_under more) (here, e) =
+      (here, left-each P ps rest more e)
 
   -- Up to a number all are compared: none covers the trace, and those that it covers are dropped.
   pub record IsSifted (kept : List Numbered) (from : ℕ) (left : List Numbered) : Type 0 where
@@ -148,7 +150,8 @@ module _ (rule : Lengths) (drop : Bool) (m : Machine) (t : Trace) where
 
     no_over : Each (λ (q : Numbered). ¬ IsOver rule drop m t q) (s.front ++ p ∷ [])
     no_over =
-        each-append (λ (q : Numbered). ¬ IsOver rule drop m t q) s.front (p ∷ []) s.no_over (not_over, tt)
+        each-append (λ (q : Numbered). ¬ IsOver rule drop m t q) s.front (p ∷ []) s.no_over
+        (not_over, tt)
 
     above : Each (λ (q : Numbered). p.0 < q.0) more
     above = by (s.front) kept ascending (s.whole ∙ ap (λ ps. s.front ++ ps) rest)

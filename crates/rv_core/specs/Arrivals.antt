@@ -16,15 +16,17 @@ use Rattle.rv_core.specs.Keeping.{Covers, AreBelow, kept_at}
 
 -- ---- one spec
 
--- Nothing is violated with the trace that was not before: an equal one is kept, or all tuples with it of those that
--- are kept meet the body.
+-- Nothing is violated with the trace that was not before: an equal one is kept, or all tuples with
+-- it of those that are kept meet the body.
 abbrev pub IsPassed : Lengths → Machine → Trace → List Numbered → Type 0
 IsPassed rule m t kept = IsHeld t kept ⊎ AllMeet m rule (traces_of kept ++ t ∷ []) t
 
 module _ (rule : Lengths) (drop : Bool) (m : Machine) (t : Trace) where
+  -- The kept one covers the trace.
   abbrev pub IsOver : Numbered → Type 0
   IsOver p = Covers rule drop (spec_of m) p.1 t
 
+  -- The trace covers the kept one.
   abbrev pub IsUnder : Numbered → Type 0
   IsUnder p = Covers rule drop (spec_of m) t p.1
 
@@ -36,8 +38,8 @@ module _ (rule : Lengths) (drop : Bool) (m : Machine) (t : Trace) where
     stays : (p : Numbered) (kept left : List Numbered) → (¬ IsUnder p) → AreLeft kept left
         → AreLeft (p ∷ kept) (p ∷ left)
 
-  -- What is kept with the trace: what was kept, where one of these covers it; else what it does not cover of these,
-  -- and the trace last.
+  -- What is kept with the trace: what was kept, where one of these covers it; else what it does not
+  -- cover of these, and the trace last.
   pub data IsNext (n : ℕ) (old new : List Numbered) : Type 0 where
     over : (p : Numbered) → Contains old p → IsOver p → new ≡ old → IsNext n old new
     last : (left : List Numbered) → Each (λ (p : Numbered). ¬ IsOver p) old → AreLeft old left
@@ -74,11 +76,11 @@ IsArrival m t (Clean kept) = AreNext m.rule m.drop m.machines m.arrived t m.kept
 IsArrival m t (Violation spec tuple) =
     FirstFound m.rule m.machines m.arrived t m.kept spec tuple
 
--- What is new to be kept has numbers below n, for so many specs.
-abbrev pub FitsArrival : ℕ → ℕ → Arrival → Type 0
-FitsArrival specs n Known = Unit {0}
-FitsArrival specs n (Clean kept) = AreBelow specs n kept
-FitsArrival specs n (Violation spec tuple) = Unit {0}
+-- What is kept then, where it changes, has numbers below n, for so many specs.
+abbrev pub FitsIn : ℕ → ℕ → Arrival → Type 0
+FitsIn specs n Known = Unit {0}
+FitsIn specs n (Clean kept) = AreBelow specs n kept
+FitsIn specs n (Violation spec tuple) = Unit {0}
 
 -- what a monitor holds with a trace more, where this is kept then
 abbrev pub with_kept : Held → List (List Numbered) → Bool → Held
@@ -94,7 +96,7 @@ with_kept m kept clean =
       clean = clean;
     }
 
--- Where equal ones are known what was kept stays, and after a violation too.
+-- What was kept stays where an equal one is, and after a violation.
 abbrev pub after_arrival : Held → Arrival → Held
 after_arrival m Known = with_kept m m.kept m.clean
 after_arrival m (Clean kept) = with_kept m kept m.clean

@@ -1,5 +1,6 @@
--- Which specs a list of traces violates, and how a run of events ends: at the first event that is refused or brings a
--- trace after which the traces that arrived violate a spec, or behind the last event.
+-- Which specs a list of traces violates, and how a run of events ends: at the first event that is
+-- refused or brings a trace after which the traces that arrived violate a spec, or behind the last
+-- event.
 use Rattle.std.specs.Prelude.{◌≡◌, ℕ, suc, ◌<◌, ◌⊎◌, Bool, true, false, List, [], ◌∷◌, length, slice_index_or}
 use Rattle.hy_formula.specs.Trees.{Tree, always}
 use Rattle.hy_formula.specs.Quantifiers.{Each}
@@ -31,8 +32,9 @@ pub record FirstViolated (rule : Lengths) (specs : List Spec) (list : List Trace
   pub violated : ViolatesSpec rule list (spec_at specs s)
   pub before : (r : ℕ) → r < s → ¬ ViolatesSpec rule list (spec_at specs r)
 
--- how a run ends: behind its last event, with what came of all; at an event that is refused, by its number; or at an
--- arrival, by its number, with the first spec that is violated and what came of the events up to it
+-- how a run ends: behind its last event, with what came of all; at an event that is refused, by its
+-- number; or at an arrival, by its number, with the first spec that is violated and what came of
+-- the events up to it
 pub data Ending : Type 0 where
   clean : History → Ending
   refusal : ℕ → Refusal → Ending

@@ -51,8 +51,8 @@ pub record AreSessions (sessions : Open) (ss : List Session) : Type 0 where
   pub count : length sessions ≡ length ss
   pub apart : AreApart ss
 
--- A save stands for a pair: it has the traces that arrived, what is kept of them, and the open sessions. They are at
--- most as many traces as arrived later.
+-- A save stands for a pair: it has the traces that arrived, what is kept of them, and the open
+-- sessions. They are at most as many traces as arrived later.
 pub record IsSave (rule : Lengths) (drop : Bool) (specs : List Spec) (later : List Trace)
     (s : Saved) (p : Present) : Type 0 where
   pub fewer : length p.arrived ≤ length later
@@ -69,8 +69,8 @@ AreSaves rule drop specs later (s ∷ ss) [] = ⊥
 AreSaves rule drop specs later (s ∷ ss) (p ∷ ps) =
     IsSave rule drop specs later s p × AreSaves rule drop specs p.arrived ss ps
 
--- The monitor stands for a history: it has the traces that arrived, each of some letters, what is kept of them, the
--- open sessions and the saves, and no list of arrived traces violates a spec.
+-- The monitor stands for a history: it has the traces that arrived, each of some letters, what is
+-- kept of them, the open sessions and the saves, and no list of arrived traces violates a spec.
 pub record StandsFor (m : Held) (h : History) : Type 0 where
   pub clean : m.clean ≡ true
   pub some : Each IsTrace h.present.arrived

@@ -1,4 +1,5 @@
--- What is kept of the traces that arrived, for a spec: those that no other one covers, of equal ones the first.
+-- What is kept of the traces that arrived, for a spec: those that no other one covers, of equal
+-- ones the first.
 use Rattle.std.specs.Prelude.{◌≡◌, ℕ, ◌<◌, Bool, true, false, List, [], ◌∷◌, length, map, slice_index_or}
 use Rattle.std.specs.Coded.{×_prop, Unit-prop, le_prop, Coded-set, coded_ℕ}
 use Rattle.hy_formula.specs.Quantifiers.{Each}
@@ -10,8 +11,8 @@ use Rattle.dominance.specs.Leaders.{AreLeaders, numbered}
 use Rattle.dominance.specs.Leaders as leaders
 use Rattle.rv_core.specs.Endings.{Spec, spec_at}
 
--- The first trace covers the other: it dominates it, where dominated ones are dropped; else they are
--- equal.
+-- The first trace covers the other: it dominates it, where dominated ones are dropped; else they
+-- are equal.
 abbrev pub Covers : Lengths → Bool → Spec → Trace → Trace → Type 0
 Covers rule false spec t u = t ≡ u
 Covers rule true spec t u = Dominates rule spec.variables spec.body t u
@@ -24,8 +25,8 @@ members_of kept = map (λ (p : Numbered). numbered p.0 p.1) kept
 abbrev pub IsKept : Lengths → Bool → Spec → List Trace → List Numbered → Type 0
 IsKept rule drop spec list kept = AreLeaders (Covers rule drop spec) list (members_of kept)
 
--- It is said that so many traces are kept for a spec: where dominated ones are dropped, as there are
--- leaders; else all that arrived, equal ones too.
+-- It is said that so many traces are kept for a spec: where dominated ones are dropped, as there
+-- are leaders; else all that arrived, equal ones too.
 abbrev pub IsKeptCount : Lengths → Bool → Spec → List Trace → ℕ → Type 0
 IsKeptCount rule false spec list n = n ≡ length list
 IsKeptCount rule true spec list n =

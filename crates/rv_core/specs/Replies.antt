@@ -37,15 +37,16 @@ pub record IsViolatedBy (rule : Lengths) (spec : Spec) (list : List Trace)
   pub inside : All (λ k. k < length list) tuple
   pub violates : ViolatesBy rule spec.variables spec.body list (picked list tuple)
 
--- What is answered where a trace arrives by which the list violates a spec: the first such spec, the number of the
--- trace, and a tuple.
+-- What is answered where a trace arrives by which the list violates a spec: the first such spec,
+-- the number of the trace, and a tuple.
 pub record IsFound (rule : Lengths) (specs : List Spec) (list : List Trace) (s trace : ℕ)
     (tuple : List ℕ) : Type 0 where
   pub first : FirstViolated rule specs list s
   pub last : suc trace ≡ length list
   pub by_tuple : IsViolatedBy rule (spec_at specs s) list tuple
 
--- The answer to an event of a monitor that stood for a history, and what the monitor stands for then.
+-- The answer to an event of a monitor that stood for a history, and what the monitor stands for
+-- then.
 pub data IsAnswer (old new : Held) (e : Event) (h : History) : Result Reply RvError → Type 0 where
   quiet : (next : History) → step h e ≡ goes next → arrives e ≡ false → StandsFor new next
       → IsAnswer old new e h (Ok Quiet)
@@ -59,8 +60,8 @@ pub data IsAnswer (old new : Held) (e : Event) (h : History) : Result Reply RvEr
       → IsAnswer old new e h (Err (error_of r))
   spent : takes_memory e ≡ true → StandsFor new h → IsAnswer old new e h (Err error.Memory)
 
--- What a call of `event` says: the specs and the rule stay, and its answer is right for each history that the monitor
--- stood for.
+-- What a call of `event` says: the specs and the rule stay, and its answer is right for each
+-- history that the monitor stood for.
 pub record Answers (old new : Held) (e : Event) (result : Result Reply RvError) : Type 0 where
   pub rule : new.rule ≡ old.rule
   pub specs : specs_of new ≡ specs_of old
@@ -80,15 +81,15 @@ IsReplyTo trace arrival.Known reply = reply ≡ Arrived trace
 IsReplyTo trace (arrival.Clean kept) reply = reply ≡ Arrived trace
 IsReplyTo trace (arrival.Violation spec tuple) reply = reply ≡ Violation spec trace tuple
 
--- how a run of calls ends: behind its last event, or at an event, by its number, that was answered by an error or a
--- violation
+-- how a run of calls ends: behind its last event, or at an event, by its number, that was answered
+-- by an error or a violation
 pub data Stop : Type 0 where
   through : Held → Stop
   error_at : ℕ → RvError → Stop
   violation_at : (event spec trace : ℕ) → List ℕ → Stop
 
--- The events, the first of them with number k, are given to the monitor one after another, up to the first that is
--- answered by an error or a violation.
+-- The events, the first of them with number k, are given to the monitor one after another, up to
+-- the first that is answered by an error or a violation.
 pub data Runs : ℕ → Held → List Event → Stop → Type 0 where
   at_end : (k : ℕ) (m : Held) → Runs k m [] (through m)
   on_quiet : (k : ℕ) (m next : Held) (e : Event) (es : List Event) (stop : Stop)
@@ -103,8 +104,8 @@ pub data Runs : ℕ → Held → List Event → Stop → Type 0 where
   at_error : (k : ℕ) (m next : Held) (e : Event) (es : List Event) (error : RvError)
       → Answers m next e (Err error) → Runs k m (e ∷ es) (error_at k error)
 
--- The calls end as the events do: with what the monitor stands for, at the same event and for the same cause, or at
--- the same event with a violation.
+-- The calls end as the events do: with what the monitor stands for, at the same event and for the
+-- same cause, or at the same event with a violation.
 abbrev pub EndsAs : Lengths → List Spec → Ending → Stop → Type 0
 EndsAs rule specs (clean h) (through m) = StandsFor m h
 EndsAs rule specs (refusal k r) (error_at n e) = (n ≡ k) × (e ≡ error_of r)

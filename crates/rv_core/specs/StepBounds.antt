@@ -21,9 +21,9 @@ Brings m (event.Letter n a) u = ⊥
 Brings m event.Save u = ⊥
 Brings m event.Back u = ⊥
 
--- A bound for a walk over the tuples of members of a list that have the trace: for each variable of the body as many as
--- a list has that has each joint prefix of these tuples; or, where the order of two traces does not matter, as many as
--- one has that has each of those with the trace first.
+-- A bound for a walk over the tuples of members of a list that have the trace: for each variable of
+-- the body as many as a list has that has each joint prefix of these tuples; or, where the order of
+-- two traces does not matter, as many as one has that has each of those with the trace first.
 pub data IsBound (rule : Lengths) (m : Machine) (list : List Trace) (t : Trace) : ℕ → Type 0 where
   by_joint : (prefixes : List (List Row))
       → ((rows : List Row) → IsJointPrefix rule list t m.variables rows → Contains prefixes rows)
@@ -32,8 +32,8 @@ pub data IsBound (rule : Lengths) (m : Machine) (list : List Trace) (t : Trace) 
       → ((rows : List Row) → IsFirstPrefix rule list t m.variables rows → Contains prefixes rows)
       → IsBound rule m list t (length prefixes)
 
--- A bound for a spec for which these are kept: none where the trace equals one of them; else one for a walk over them
--- and the trace.
+-- A bound for a spec for which these are kept: none where the trace equals one of them; else one
+-- for a walk over them and the trace.
 abbrev pub IsSpecBound : Lengths → Machine → List Trace → Trace → ℕ → Type 0
 IsSpecBound rule m kept t bound =
     (Contains kept t × (bound ≡ 0)) ⊎ IsBound rule m (kept ++ t ∷ []) t bound

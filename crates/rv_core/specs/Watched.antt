@@ -1,4 +1,5 @@
--- What a watch is for: the monitor of a spec's body, and whether exchanging two traces changes what it says.
+-- What a watch is for: the monitor of a spec's body, and whether exchanging two traces changes what
+-- it says.
 use Rattle.std.specs.Prelude.{◌≡◌, Bool, true, IsTrue, [], ◌∷◌}
 use Rattle.std.specs.Coded.{×_prop, Π_prop, →_prop, Coded-set, coded_ℕ, coded_bool}
 use Rattle.hy_finite.specs.declared.lengths.Lengths.{Lengths}

@@ -3,7 +3,7 @@
 ghost use Rattle.std.specs.Prelude.{◌≡◌, ◌+◌, ◌<◌, ◌≤◌, ◌^◌, ℕ, List, length, sum, slice_get, Some, IfOk};
 ghost use Rattle.fin_monitor.specs.Machines.{Machine};
 ghost use Rattle.tuple_walk.specs.Finds.{traces_of};
-ghost use Rattle.rv_core.specs.Arrivals.{IsOutcome, IsArrival, FitsArrival, after_arrival};
+ghost use Rattle.rv_core.specs.Arrivals.{IsOutcome, IsArrival, FitsIn, after_arrival};
 ghost use Rattle.rv_core.specs.Keeping.{kept_at};
 ghost use Rattle.rv_core.specs.Replies.{IsReplyTo};
 ghost use Rattle.rv_core.specs.Seen.{watched_by};
@@ -42,8 +42,8 @@ pub(crate) enum Arrival {
 impl Rv {
     ghost use Rattle.rv_core.specs.Seen.{held};
 
-    /// What would come of the trace. It takes all memory that its arrival takes: none, where an equal
-    /// one is kept for each spec.
+    /// What would come of the trace. It takes all memory that its arrival takes: none, where an
+    /// equal one is kept for each spec.
     pub(crate) fn arrival<L: Ledger>(
         &self,
         alloc: Global,
@@ -53,7 +53,7 @@ impl Rv {
         requires few { (held self.now).arrived < 2 ^ 31 }
         ensures arrival { IfOk result (IsArrival (held self.now) trace.now) }
         ensures below { IfOk result
-            (FitsArrival (length self.now.watches) ((held self.now).arrived + 1)) }
+            (FitsIn (length self.now.watches) ((held self.now).arrived + 1)) }
         ensures counted { steps.old ≤ steps.new }
         ensures bounded { (bounds : List ℕ) → AreBounds (held self.now) trace.now bounds
             → steps.new ≤ steps.old + sum bounds }
@@ -76,9 +76,9 @@ impl Rv {
 
     /// What would come of the trace for the spec with this number.
     ///
-    /// Where an equal one is kept there are no new tuples, and none is walked. Else the trace is put
-    /// with those that are kept and its tuples are walked; and where dominated ones are dropped, it
-    /// is compared with those.
+    /// Where an equal one is kept there are no new tuples, and none is walked. Else the trace is
+    /// put with those that are kept and its tuples are walked; and where dominated ones are
+    /// dropped, it is compared with those.
     fn outcome<L: Ledger>(
         &self,
         alloc: Global,
@@ -118,7 +118,7 @@ impl Rv {
     /// The trace arrives.
     pub(crate) fn take_arrival(&mut self, arrival: Arrival) -> Reply
         requires few { (held self.old).arrived < 2 ^ 31 }
-        requires below { FitsArrival (length self.old.watches) ((held self.old).arrived + 1) arrival }
+        requires below { FitsIn (length self.old.watches) ((held self.old).arrived + 1) arrival }
         ensures held { held self.new ≡ after_arrival (held self.old) arrival }
         ensures reply { IsReplyTo (held self.old).arrived arrival result }
     {

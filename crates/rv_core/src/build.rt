@@ -24,14 +24,14 @@ impl Rv {
     ghost use Rattle.rv_core.specs.Held.{specs_of, StandsFor};
     ghost use Rattle.rv_core.specs.Seen.{held};
 
-    /// The monitor of formulas, which number their specs from 0, before all events. Tuples of traces
-    /// are judged by the rule. Of equal traces that arrive the first is kept; with `drop_dominated`
-    /// leaders alone are: those that no other one dominates.
+    /// The monitor of formulas, which number their specs from 0, before all events. Tuples of
+    /// traces are judged by the rule. Of equal traces that arrive the first is kept; with
+    /// `drop_dominated` leaders alone are: those that no other one dominates.
     ///
     /// `Prefix` names the first formula that is not universal. Else `Limit` comes exactly where a
     /// closure has more than 1,024 members; or else a body more than 16 indexed atoms; or else more
-    /// than 4,194,304 residuals times joint letters; each kind over all formulas before the next. In
-    /// time and memory those of `Monitor::build` for each formula.
+    /// than 4,194,304 residuals times joint letters; each kind over all formulas before the next.
+    /// In time and memory those of `Monitor::build` for each formula.
     pub fn new(
         alloc: Global,
         formulas: &[Formula],

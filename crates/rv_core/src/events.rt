@@ -27,23 +27,23 @@ impl Rv {
 
     /// Takes the next event of a run.
     ///
-    /// A whole trace arrives. A letter opens its session or goes last in it. An end closes its session,
-    /// and its letters are a trace that arrives. A save puts aside the traces that have arrived and the
-    /// open sessions, and a back brings those that were put aside last. A trace that arrives is judged
-    /// for each spec up to the first that is violated: where an equal one is kept nothing comes of it;
-    /// else its tuples with what is kept are walked, and it is kept too or, where dominated traces are
-    /// dropped, compared with what is kept.
+    /// A whole trace arrives. A letter opens its session or goes last in it. An end closes its
+    /// session, and its letters are a trace that arrives. A save puts aside the traces that have
+    /// arrived and the open sessions, and a back brings those that were put aside last. A trace
+    /// that arrives is judged for each spec up to the first that is violated: where an equal one is
+    /// kept nothing comes of it; else its tuples with what is kept are walked, and it is kept too
+    /// or, where dominated traces are dropped, compared with what is kept.
     ///
-    /// `NoLetter` where the session that ends is not open, `NoSave` where there is nothing put aside;
-    /// `Limit` where a session has 1,024 letters already, 1,024 sessions are open, or 64 saves are put
-    /// aside. Where it is refused, for memory too, all is as before. A back takes no memory. After a
-    /// violation the monitor takes no more events.
+    /// `NoLetter` where the session that ends is not open, `NoSave` where there is nothing put
+    /// aside; `Limit` where a session has 1,024 letters already, 1,024 sessions are open, or 64
+    /// saves are put aside. Where it is refused, for memory too, all is as before. A back takes no
+    /// memory. After a violation the monitor takes no more events.
     ///
-    /// Where a trace arrives the steps grow at most by a bound for each spec, and by none for a spec
-    /// that keeps an equal one; else they do not grow. A whole trace that each spec keeps already
-    /// takes no memory, and for each time linear in its letters. A letter takes constant time but for
-    /// growth, a back time linear in the open sessions and specs and a save, in time and memory, in
-    /// the letters of the sessions and in the specs.
+    /// Where a trace arrives the steps grow at most by a bound for each spec, and by none for a
+    /// spec that keeps an equal one; else they do not grow. A whole trace that each spec keeps
+    /// already takes no memory, and for each time linear in its letters. A letter takes constant
+    /// time but for growth, a back time linear in the open sessions and specs and a save, in time
+    /// and memory, in the letters of the sessions and in the specs.
     pub fn event<L: Ledger>(
         &mut self,
         alloc: Global,

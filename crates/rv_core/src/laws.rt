@@ -53,8 +53,8 @@ pub fn quiet_steps()
 {}
 
 /// Calls of `event`, one after another up to the first that is answered by a violation or an error,
-/// end as the events do: with the first one that brings a violation or is refused, or behind the last
-/// one. Unless memory ran out.
+/// end as the events do: with the first one that brings a violation or is refused, or behind the
+/// last one. Unless memory ran out.
 pub fn runs()
     ensures { (k : ℕ) (m : Held) (h : History) (events : List Event) (stop : Stop) (x : Ending)
         → StandsFor m h → Runs k m events stop → Ends m.rule (specs_of m) k h events x
@@ -62,8 +62,8 @@ pub fn runs()
 {}
 
 /// For each spec it is said that as many traces are kept as have arrived; or, where dominated ones
-/// are dropped, as there are leaders. Of those that are kept none covers another, and one covers each
-/// that arrived: it dominates it where dominated ones are dropped, and else equals it.
+/// are dropped, as there are leaders. Of those that are kept none covers another, and one covers
+/// each that arrived: it dominates it where dominated ones are dropped, and else equals it.
 pub fn keeping()
     ensures counts { (m : Held) (h : History) (s : ℕ) → StandsFor m h → s < length (specs_of m)
         → IsKeptCount m.rule m.drop (spec_at (specs_of m) s) h.present.arrived (kept_count m s) }

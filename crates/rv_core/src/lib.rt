@@ -1,5 +1,5 @@
-//! The monitor of runs: traces that arrive whole or letter by letter in sessions, saves and returns,
-//! and the first violation of a universal formula.
+//! The monitor of runs: traces that arrive whole or letter by letter in sessions, saves and
+//! returns, and the first violation of a universal formula.
 #![tactic(auto)]
 
 mod arrival;

@@ -39,10 +39,10 @@ impl Rv {
         self.traces
     }
 
-    /// How many traces are kept for a spec, by its number. Where dominated ones are dropped these are
-    /// the leaders, and it takes time linear in them, times the logarithm of their number. Else each
-    /// trace that has arrived counts, also one that is kept but once with its equals, in constant
-    /// time.
+    /// How many traces are kept for a spec, by its number. Where dominated ones are dropped these
+    /// are the leaders, and it takes time linear in them, times the logarithm of their number. Else
+    /// each trace that has arrived counts, also one that is kept but once with its equals, in
+    /// constant time.
     pub fn kept(&self, spec: u32) -> u32
         requires { spec < length (specs_of (held self.now)) }
         ensures { result ≡ kept_count (held self.now) spec }

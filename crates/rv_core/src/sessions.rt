@@ -15,8 +15,8 @@ use std::marker::Model;
 /// The most sessions that are open at once.
 const MOST_SESSIONS: usize = 1024;
 
-/// The letters of each open session, found by its number. At most 1,024 sessions are open, each with
-/// 1 to 1,024 letters.
+/// The letters of each open session, found by its number. At most 1,024 sessions are open, each
+/// with 1 to 1,024 letters.
 #[derive(Drop)]
 pub(crate) struct Sessions {
     map: IndexMap<u32, Letters>,

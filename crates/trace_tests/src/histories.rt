@@ -58,8 +58,8 @@ fn names(alloc: Global) -> Result<NameTable, Fail> {
     Ok(table)
 }
 
-/// An answer as a number: 100 for quiet, that of a trace which arrived, and for a violation 200, ten
-/// times the spec and the trace.
+/// An answer as a number: 100 for quiet, that of a trace which arrived, and for a violation 200,
+/// ten times the spec and the trace.
 fn number_of(answer: Result<Reply, RvError>) -> u32 {
     match answer {
         Ok(Reply::Quiet) => 100,
@@ -98,8 +98,8 @@ fn play<L: Ledger, R: AllocGlobal + Abort>(
     Ok(rv.kept(0))
 }
 
-/// Gives a monitor the events of a file, and says by which traces the last one brings a violation, if
-/// it does.
+/// Gives a monitor the events of a file, and says by which traces the last one brings a violation,
+/// if it does.
 fn violated_by<L: Ledger, R: AllocGlobal + Abort>(
     rt: &R,
     file: &[u8],
@@ -143,8 +143,8 @@ fn all<L: Ledger, R: AllocGlobal + Abort>(rt: &R, blank: Blank) -> Result<(), Fa
     Ok(())
 }
 
-/// Of equal traces the first is kept, and each trace of other inputs, or of more letters. The second
-/// spec keeps one trace, but that is not asked for.
+/// Of equal traces the first is kept, and each trace of other inputs, or of more letters. The
+/// second spec keeps one trace, but that is not asked for.
 fn leaders<L: Ledger, R: AllocGlobal + Abort>(rt: &R, blank: Blank) -> Result<(), Fail>
     requires name { blank.name ≡ L.name }
     requires parts { blank.parts ≡ L.parts }

@@ -11,7 +11,8 @@ loop-version-preserved c =
     let lists = c.as_slice-version-items.result.now in
     let i = c.loop-version.version-index in
     let x = c.version-item.result in
-    let at = slice_get_read lists (length lists) i x refl c.loop-version-test.true c.version-item.is in
+    let at = slice_get_read lists (length lists) i x refl c.loop-version-test.true
+    c.version-item.is in
     let P : List (List Numbered) → Type 0 = Each (IsHeld c.args.letters.now) in
     subst P (sym (take-next lists i x at))
     (each-push (IsHeld c.args.letters.now) (take i lists) x c.loop-version.invariant
@@ -22,7 +23,8 @@ returns-then-not-holds c =
     let lists = c.as_slice-version-items.result.now in
     let i = c.loop-version.version-index in
     let x = c.version-item.result in
-    let at = slice_get_read lists (length lists) i x refl c.loop-version-test.true c.version-item.is in
+    let at = slice_get_read lists (length lists) i x refl c.loop-version-test.true
+    c.version-item.is in
     let P : List (List Numbered) → Type 0 = Each (IsHeld c.args.letters.now) in (
       λ e. absurd (cc),
       λ all.

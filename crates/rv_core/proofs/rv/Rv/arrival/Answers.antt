@@ -1,15 +1,14 @@
 use Rattle.std.proofs.Common.{◌≡◌, ◌∙◌, ◌+◌, ◌<◌, ◌∷◌, [], ℕ, length, List, slice_get, Some, sym, subst, ap, arith, length-append}
 use Rattle.std.proofs.lemmas.List.{length-map}
-use Rattle.std.proofs.lemmas.Option.{slice_get_within}
 use Rattle.fin_monitor.specs.Machines.{Machine}
 use Rattle.trace_trie.specs.Numbered.{Numbered}
 use Rattle.rv_core.specs.declared.arrival.Outcome.{Outcome}
-use Rattle.rv_core.specs.Arrivals.{IsPassed, IsNext, IsOutcome, AreNext}
+use Rattle.rv_core.specs.Arrivals.{IsPassed, IsNext, IsOutcome}
 use Rattle.rv_core.specs.Keeping.{kept_at}
 use Rattle.rv_core.specs.Seen.{watched, watched_by, held}
 use Rattle.rv_core.proofs.Below.{machine-some, next-below}
 use Rattle.rv_core.proofs.Bounding.{bounds-more, bounds-all}
-use Rattle.rv_core.proofs.Outcomes.{all-known}
+use Rattle.rv_core.proofs.Outcomes.{all-known, all-made}
 use Rattle.rv_core.proofs.Seeing.{more-there, next-more}
 use Rattle.rv_core.proofs.rv.Rv.arrival.Goals as goal
 
@@ -116,38 +115,21 @@ returns-in_err-push-in-Passes-clause-bounded g c bounds are =
 pub returns-clause-arrival : goal.returns-clause-arrival
 returns-clause-arrival g c =
     let rv = c.args.self.now in
-    let ms = watched_by rv.watches in
-    let long = length-map rv.watches watched in
-    let end : c.loop-i.i ≡ length ms = omega (arith, long) in
-    record {
-      long = c.loop-i.invariant.long ∙ end;
-      passed = λ s m at.
-          let within = slice_get_within ms s m at in
-          c.loop-i.invariant.passed s m (omega arith) at;
-      right = λ s m at.
-          let within = slice_get_within ms s m at in
-          c.loop-i.invariant.right s m (omega arith) at;
-    }
+    let before = c.loop-i.invariant in
+    all-made rv.rule rv.drop_dominated (watched_by rv.watches) rv.traces c.args.trace.now rv.kept
+    c.loop-i.next c.loop-i.i (omega (arith, length-map rv.watches watched)) before.long
+    before.passed before.right
 
 pub returns-clause-below : goal.returns-clause-below
 returns-clause-below g c =
     let rv = c.args.self.now in
+    let t = c.args.trace.now in
     let ms = watched_by rv.watches in
-    let long = length-map rv.watches watched in
-    let end : c.loop-i.i ≡ length ms = omega (arith, long) in
-    let next : AreNext rv.rule rv.drop_dominated ms rv.traces c.args.trace.now rv.kept c.loop-i.next =
-    record {
-      long = c.loop-i.invariant.long ∙ end;
-      passed = λ s m at.
-          let within = slice_get_within ms s m at in
-          c.loop-i.invariant.passed s m (omega arith) at;
-      right = λ s m at.
-          let within = slice_get_within ms s m at in
-          c.loop-i.invariant.right s m (omega arith) at;
-    } in (
-      c.loop-i.invariant.long ∙ end ∙ long,
-      next-below rv.rule rv.drop_dominated ms rv.traces c.args.trace.now rv.kept c.loop-i.next next
-          rv.below.1,
+    let before = c.loop-i.invariant in
+    let next = all-made rv.rule rv.drop_dominated ms rv.traces t rv.kept c.loop-i.next c.loop-i.i
+    (omega (arith, length-map rv.watches watched)) before.long before.passed before.right in (
+      next.long ∙ length-map rv.watches watched,
+      next-below rv.rule rv.drop_dominated ms rv.traces t rv.kept c.loop-i.next next rv.below.1,
     )
 
 pub returns-clause-counted : goal.returns-clause-counted

@@ -15,7 +15,8 @@ differ e = cc
 pub loop-other-init : goal.loop-other-init
 loop-other-init c =
     let m = watched c.args.self.now in
-    let P : List Numbered → Type 0 = IsSifted c.args.rule true m c.args.trace.now c.args.kept.now 0 in
+    let P : List Numbered → Type 0 =
+    IsSifted c.args.rule true m c.args.trace.now c.args.kept.now 0 in
     let Q : List Numbered → Type 0 = Each (λ (p : Numbered). p.0 < c.args.number) in
     record {
       sifted = subst P (sym c.in_ok-left.ensures)
@@ -51,22 +52,24 @@ loop-other-smaller c =
 
 pub loop-other-preserved : goal.loop-other-preserved
 loop-other-preserved c =
+    let rule = c.args.rule in
     let m = watched c.args.self.now in
+    let t = c.args.trace.now in
     let kept = c.args.kept.now in
     let from = c.loop-other.from in
     let p : Numbered = (c.in-Some.other, c.in-Some.held.now) in
     let (more, e) = c.in-Some.ensures.some in
     let ascending = c.numbers_ascend.ensures.ascending in
-    let not_over : ¬ IsOver c.args.rule true m c.args.trace.now p =
+    let not_over : ¬ IsOver rule true m t p =
     λ is. differ (sym c.if-branch.false ∙ c.in_ok-is_over.ensures.1 is) in
     let P : List Numbered → Type 0 =
-    IsSifted c.args.rule true m c.args.trace.now kept (c.in-Some.other + 1) in
+    IsSifted rule true m t kept (c.in-Some.other + 1) in
     let Q : List Numbered → Type 0 = Each (λ (p : Numbered). p.0 < c.args.number) in
     elim c.if-branch-2.branch [
       | then-branch-2+in_ok-left-2 w ↦
           let same = w.left-is ∙ w.in_ok-left-2.ensures in
           record {
-            sifted = subst P (sym same) (sifted-dropped c.args.rule true m c.args.trace.now kept from
+            sifted = subst P (sym same) (sifted-dropped rule true m t kept from
                 c.loop-other.left p more c.loop-other.invariant.sifted ascending e not_over
                 (c.in_ok-is_over-2.ensures.0 w.if-branch-2.true));
             below = subst Q (sym same)
@@ -74,10 +77,10 @@ loop-other-preserved c =
                 c.loop-other.invariant.below);
           }
       | else-branch-2 w ↦
-          let not_under : ¬ IsUnder c.args.rule true m c.args.trace.now p =
+          let not_under : ¬ IsUnder rule true m t p =
           λ is. differ (sym w.if-branch-2.false ∙ c.in_ok-is_over-2.ensures.1 is) in
           record {
-            sifted = subst P (sym w.left-is) (sifted-stays c.args.rule true m c.args.trace.now kept from
+            sifted = subst P (sym w.left-is) (sifted-stays rule true m t kept from
                 c.loop-other.left p more c.loop-other.invariant.sifted ascending e not_over
                 not_under);
             below = subst Q (sym w.left-is) c.loop-other.invariant.below;

@@ -6,5 +6,6 @@ pub invariant_of-result : goal.invariant_of-result
 invariant_of-result c = record {
   some = c.requires;
   exact = λ rule same. (c.in_ok-symmetric.ensures rule).1 same;
-  turns = λ is. turns-of (machine_of c.args.monitor) (λ rule. (c.in_ok-symmetric.ensures rule).0 is);
+  turns = λ is.
+      turns-of (machine_of c.args.monitor) (λ rule. (c.in_ok-symmetric.ensures rule).0 is);
 }
