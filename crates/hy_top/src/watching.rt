@@ -146,7 +146,8 @@ fn clean_answer(alloc: Global, rv: &Rv, specs: u32) -> Answer
     }
 }
 
-/// How many traces are kept for each of `specs` formulas.
+/// How many traces are kept for each of `specs` formulas: all that arrived, or, where dominated
+/// ones are dropped, their leaders. In time linear in what is kept, times the logarithm of it.
 fn kept_of(alloc: Global, rv: &Rv, specs: u32) -> M<NumList>
     requires { specs ≡ length (specs_of (held rv.now)) }
     ensures { IfOk result (λ kept. (h : History) → StandsFor (held rv.now) h

@@ -21,8 +21,7 @@ use hy_finite::{Lengths, Trace};
 use std::alloc::Global;
 use std::sync::ledger::Ledger;
 use trace_trie::Version;
-use tuple_walk::{find, find_first};
-use tuple_walk::Tuple;
+use tuple_walk::{Tuple, find, find_first};
 
 /// The monitor of a spec's body.
 #[derive(Drop)]

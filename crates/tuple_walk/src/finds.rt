@@ -10,6 +10,7 @@ ghost use Rattle.tuple_walk.specs.Places.{IsOpen};
 ghost use Rattle.tuple_walk.specs.JointPrefixes.{Row, IsJointPrefix, IsFirstPrefix};
 
 use crate::place::{Place, Places, Spot};
+use crate::tuple::Tuple;
 use crate::walk::Walk;
 use fin_monitor::Monitor;
 use hy_base::Steps;
@@ -18,7 +19,6 @@ use hy_finite::Lengths;
 use std::alloc::Global;
 use std::sync::ledger::Ledger;
 use trace_trie::Version;
-use crate::tuple::Tuple;
 
 /// The numbers of a tuple of traces of the version, with the given one at some place, that violates
 /// the formula; `None` exactly where each such tuple satisfies it. Takes no memory.

@@ -17,12 +17,12 @@ ghost use Rattle.tuple_walk.specs.Searches.{IsSearch, IsSearchBy, IsTupleOf, Can
 ghost use Rattle.tuple_walk.specs.Walks.{machine_in, places_in, rests_in, wholes_in};
 
 use crate::place::{Place, Places, Spot};
+use crate::tuple::Tuple;
 use fin_monitor::Monitor;
 use hy_base::Steps;
 use hy_finite::Lengths;
 use std::alloc::Global;
 use std::sync::ledger::Ledger;
-use crate::tuple::Tuple;
 
 /// Most variables of a formula.
 pub(crate) const MOST_PLACES: usize = 4;
