@@ -140,47 +140,38 @@ fn all<L: Ledger, R: AllocGlobal + Abort>(rt: &R, blank: Blank) -> Result<(), Fa
     play(rt, saves, false, &answers, &mut steps)?;
     // The second spec alone is violated.
     play(rt, b"{o}\n{i}", false, &[0, 211], &mut steps)?;
-    Ok(())
+    leaders(rt, &mut steps)?;
+    equals(rt, &mut steps)
 }
 
 /// Of equal traces the first is kept, and each trace of other inputs, or of more letters. The
 /// second spec keeps one trace, but that is not asked for.
-fn leaders<L: Ledger, R: AllocGlobal + Abort>(rt: &R, blank: Blank) -> Result<(), Fail>
-    requires name { blank.name ≡ L.name }
-    requires parts { blank.parts ≡ L.parts }
-    requires some { 0 < blank.parts }
-{
-    let mut steps = Steps::<L>::new(blank);
+fn leaders<L: Ledger, R: AllocGlobal + Abort>(rt: &R, steps: &mut Steps<L>) -> Result<(), Fail> {
     let equal = b"{o}\n{o};{i}\n{o}\n{o}";
     let answers = [0, 1, 2, 3];
-    assert_eq!(rt; play(rt, equal, true, &answers, &mut steps)?, 2);
-    assert_eq!(rt; play(rt, equal, false, &answers, &mut steps)?, 4);
+    assert_eq!(rt; play(rt, equal, true, &answers, steps)?, 2);
+    assert_eq!(rt; play(rt, equal, false, &answers, steps)?, 4);
     // A back brings what was kept.
     let saves = b"{o}\n!save\n{o};{i}\n{o}\n!back\n{o}";
     let answers = [0, 100, 1, 2, 100, 1];
-    assert_eq!(rt; play(rt, saves, true, &answers, &mut steps)?, 1);
+    assert_eq!(rt; play(rt, saves, true, &answers, steps)?, 1);
     // The violation is found though one of its traces was dropped.
-    play(rt, b"{o}\n{o}\n{}", true, &[0, 1, 202], &mut steps)?;
+    play(rt, b"{o}\n{o}\n{}", true, &[0, 1, 202], steps)?;
     Ok(())
 }
 
 /// Equal traces arrive each with its number and count, and the first of them is named.
-fn equals<L: Ledger, R: AllocGlobal + Abort>(rt: &R, blank: Blank) -> Result<(), Fail>
-    requires name { blank.name ≡ L.name }
-    requires parts { blank.parts ≡ L.parts }
-    requires some { 0 < blank.parts }
-{
-    let mut steps = Steps::<L>::new(blank);
+fn equals<L: Ledger, R: AllocGlobal + Abort>(rt: &R, steps: &mut Steps<L>) -> Result<(), Fail> {
     // A trace of a session equals one that came whole; a prefix of one does not.
     let sessions = b"{o};{}\n@1 {o}\n{o};{}\n@1 {}\n@1 end\n{o}\n{o}";
     let answers = [0, 100, 1, 100, 2, 3, 4];
-    assert_eq!(rt; play(rt, sessions, false, &answers, &mut steps)?, 5);
+    assert_eq!(rt; play(rt, sessions, false, &answers, steps)?, 5);
     // A back brings the count of its save, and what arrived since is new again.
     let saves = b"{o}\n{o}\n!save\n{o};{}\n{o};{}\n!back\n{o};{}\n{o}";
     let answers = [0, 1, 100, 2, 3, 100, 2, 3];
-    assert_eq!(rt; play(rt, saves, false, &answers, &mut steps)?, 4);
+    assert_eq!(rt; play(rt, saves, false, &answers, steps)?, 4);
     for drop_dominated in [false, true] {
-        match violated_by(rt, b"{o}\n{o}\n{o}\n{}", drop_dominated, &mut steps)? {
+        match violated_by(rt, b"{o}\n{o}\n{o}\n{}", drop_dominated, steps)? {
             Some(tuple) => assert_eq!(rt; tuple.as_slice(), [3, 0].as_slice()),
             None => assert!(rt; false),
         }
@@ -191,16 +182,6 @@ fn equals<L: Ledger, R: AllocGlobal + Abort>(rt: &R, blank: Blank) -> Result<(),
 #[test]
 fn runs(rt: HostRuntime) -> Result<(), Fail> {
     all::<Brand, HostRuntime>(&rt, Blank::new(1))
-}
-
-#[test]
-fn drops(rt: HostRuntime) -> Result<(), Fail> {
-    leaders::<Brand, HostRuntime>(&rt, Blank::new(1))
-}
-
-#[test]
-fn repeats(rt: HostRuntime) -> Result<(), Fail> {
-    equals::<Brand, HostRuntime>(&rt, Blank::new(1))
 }
 
 /// The first formula that is not universal is named.
