@@ -136,10 +136,6 @@ module _ (m : Held) (e : Event) (t : Trace) (os : Open) (brings : Brings m e t o
       λ q. Answers m (changed m m.kept (m.arrived + 1) os false) e (Ok q) in
       subst P (sym r) (answered-violated k tuple first)
 
-pub same-before : (m : Held) → IsAsBefore m m
-same-before m =
-    record { arrived = refl; sessions = refl; saves = refl; clean = refl; stands = λ h s. s }
-
 pub memory-answer : (m : Held) (e : Event) → takes_memory e ≡ true
     → Answers m m e (Err error.Memory)
 memory-answer m e takes = record { rule = refl; specs = refl; right = λ h s. spent takes s }
@@ -205,7 +201,3 @@ none-left saves e = ap reverse (by saves (eqb-true (length saves) 0 e))
     by : (xs : List Saved) → length xs ≡ 0 → xs ≡ []
     by [] f = refl
     by (x ∷ xs) f = absurd (omega arith)
-
-pub by-none : (some none : Bool) → some ≡ not none → not some ≡ none
-by-none some true e = ap not e
-by-none some false e = ap not e

@@ -59,9 +59,3 @@ next-below rule drop ms n t old new next below =
     subst P (kept-there new s list at)
     (one-below rule drop m t n (kept_at old s) (kept_at new s) (next.right s m there)
     (below-at n old s below)))
-
--- numbers below one that grows
-pub all-below : (specs n : ℕ) (kept : List (List Numbered)) → AreBelow specs n kept
-    → AreBelow specs (n + 1) kept
-all-below specs n kept (long, below) =
-    (long, each-more (Below n) (Below (n + 1)) kept (below-more n) below)
