@@ -13,7 +13,7 @@ use hy_text::{LineError, split_line};
 use std::alloc::Global;
 
 /// Whether the bytes are a file of events, and if not, why. Takes no memory, and time linear in the
-/// bytes.
+/// bytes. A line that is the same as the last good one is good, and is not read.
 ///
 /// Syntax with the first line that is no text; Limit where all lines are, and one is a trace of more
 /// than 1,024 letters. Memory is no answer.
@@ -25,12 +25,15 @@ pub fn check_events(alloc: Global, bytes: &[u8]) -> Result<(), LineError>
     let mut left = Some(bytes);
     let mut line = 1;
     let mut is_long = false;
+    let mut good: &[u8] = b"";
     while let Some(text) = left {
         let (first, rest) = split_line(text);
-        match check_line(first, &names) {
-            LineCheck::Good => {}
-            LineCheck::TooLong => is_long = true,
-            LineCheck::Fault => return Err(LineError::Syntax { line }),
+        if first != good {
+            match check_line(first, &names) {
+                LineCheck::Good => good = first,
+                LineCheck::TooLong => is_long = true,
+                LineCheck::Fault => return Err(LineError::Syntax { line }),
+            }
         }
         left = rest;
         line += 1;

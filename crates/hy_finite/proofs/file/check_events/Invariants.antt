@@ -1,6 +1,7 @@
 use Rattle.std.proofs.Common.{◌+◌, ◌<◌, ◌^◌}
 use Rattle.std.specs.Option.{option_copied}
 use Rattle.hy_finite.specs.EventFiles.{lines_of}
+use Rattle.hy_finite.specs.EventLines.{IsGood}
 use Rattle.hy_finite.specs.LinesLeft.{left_lines, left_len}
 use Rattle.hy_finite.proofs.Collecting.{Checked}
 use Rattle.hy_finite.proofs.file.check_events.Given as goal
@@ -8,6 +9,7 @@ use Rattle.hy_finite.proofs.file.check_events.Given as goal
 abbrev pub invariant-loop-left : goal.invariant-loop-left
 invariant-loop-left l = record {
   checked : Checked (lines_of l.bytes) l.line (left_lines (option_copied l.left)) l.is_long;
+  known : IsGood l.good;
   countable : l.line + left_len (option_copied l.left) < 2 ^ 32;
 }
 
