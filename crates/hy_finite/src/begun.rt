@@ -22,6 +22,7 @@ pub enum Begun<'a> {
 }
 
 /// What the line is. `None` where no line begins so. In time linear in its blanks and digits.
+#[inline(always)]
 pub fn begin(line: &[u8]) -> Option<Begun<'_>>
     ensures { IsBegun line.now result }
 {
@@ -36,6 +37,7 @@ pub fn begin(line: &[u8]) -> Option<Begun<'_>>
 }
 
 /// What the text is, which has this first byte.
+#[inline(always)]
 fn begin_text(first: u8, text: &[u8]) -> Option<Begun<'_>>
     requires { (rest : List ℕ) × (text.now ≡ first ∷ rest) }
     ensures { IsBegunHere text.now result }

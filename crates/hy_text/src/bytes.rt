@@ -6,6 +6,17 @@ ghost use Rattle.hy_text.specs.Bytes.{is_blank, is_line_blank, is_letter, is_dig
 
 use crate::class::Class;
 
+/// Each letter, digit and underscore stands at its own place, and a comma at every other place.
+static WORD_BYTES: [u8; 256] = *b"\
+    ,,,,,,,,,,,,,,,,,,,,,,,,,,,,,,,,\
+    ,,,,,,,,,,,,,,,,0123456789,,,,,,\
+    ,ABCDEFGHIJKLMNOPQRSTUVWXYZ,,,,_\
+    ,abcdefghijklmnopqrstuvwxyz,,,,,\
+    ,,,,,,,,,,,,,,,,,,,,,,,,,,,,,,,,\
+    ,,,,,,,,,,,,,,,,,,,,,,,,,,,,,,,,\
+    ,,,,,,,,,,,,,,,,,,,,,,,,,,,,,,,,\
+    ,,,,,,,,,,,,,,,,,,,,,,,,,,,,,,,,";
+
 /// Space, tab, line feed and carriage return.
 pub fn is_blank(b: u8) -> bool
     ensures { result ≡ is_blank b }
@@ -45,7 +56,7 @@ pub fn is_letter_or_digit(b: u8) -> bool
 pub fn is_word_byte(b: u8) -> bool
     ensures { result ≡ is_word_byte b }
 {
-    is_letter_or_digit(b) || b == b'_'
+    WORD_BYTES[b as usize] != b','
 }
 
 /// What may stand between quotes: all but the quote and the line feed.
@@ -56,6 +67,7 @@ pub fn is_quotable(b: u8) -> bool
 }
 
 /// Whether the first byte is a letter.
+#[inline(always)]
 pub fn begins_with_letter(word: &[u8]) -> bool
     ensures { result ≡ begins_with_letter word.now }
 {
@@ -99,8 +111,20 @@ fn are_letters_and_digits(word: &[u8]) -> bool
     word.iter().all(|b| is_letter_or_digit(*b))
 }
 
-/// The text behind the blanks at its front.
+/// The text behind the blanks at its front. Mostly there is none, which one look tells.
+#[inline(always)]
 pub fn past_blanks(text: &[u8]) -> &[u8]
+    ensures behind { result.now ≡ past_blanks text.now }
+    ensures within { length result.now ≤ length text.now }
+{
+    match text {
+        [first, ..] if is_line_blank(*first) => past_all_blanks(text),
+        _ => text,
+    }
+}
+
+/// As `past_blanks`.
+fn past_all_blanks(text: &[u8]) -> &[u8]
     ensures behind { result.now ≡ past_blanks text.now }
     ensures within { length result.now ≤ length text.now }
 {
@@ -109,6 +133,7 @@ pub fn past_blanks(text: &[u8]) -> &[u8]
 }
 
 /// The text behind its first byte, where that is `byte`.
+#[inline(always)]
 pub fn past_byte(text: &[u8], byte: u8) -> Option<&[u8]>
     ensures found { MatchOption result ((rest : List ℕ) → text.now ≢ byte ∷ rest)
         (λ rest. text.now ≡ byte ∷ rest.now) }

@@ -11,6 +11,7 @@ use hy_base::{M, Text};
 
 /// The name at the front, without its quotes, and what stands behind it, in time linear in the
 /// name.
+#[inline(always)]
 pub fn read_name(text: &[u8]) -> Option<(&[u8], &[u8])>
     ensures found { option_map plain_pair result ≡ name_at text.now }
     ensures within { IfSome result (λ p. length p.1.now < length text.now) }
@@ -23,6 +24,7 @@ pub fn read_name(text: &[u8]) -> Option<(&[u8], &[u8])>
 }
 
 /// The name at the front that is not quoted, and what stands behind it.
+#[inline(always)]
 fn read_plain_name(text: &[u8]) -> Option<(&[u8], &[u8])>
     ensures found { option_map plain_pair result ≡ plain_name_at text.now }
     ensures within { IfSome result (λ p. length p.1.now < length text.now) }

@@ -21,6 +21,7 @@ pub struct SetRead<'a> {
 
 /// The set at the front and what stands behind it, in time linear in the set. Names that the table
 /// lacks are passed over. `None` where no set stands there.
+#[inline(always)]
 pub fn read_set<'a>(text: &'a [u8], names: &NameTable) -> Option<SetRead<'a>>
     ensures found { IsSetFound names.now text.now result }
     ensures within { IfSome result (λ p. length p.rest.now < length text.now) }
@@ -37,6 +38,7 @@ pub fn read_set<'a>(text: &'a [u8], names: &NameTable) -> Option<SetRead<'a>>
 }
 
 /// The names at the front that end with a closing brace, as `read_set`.
+#[inline(always)]
 fn read_members<'a>(text: &'a [u8], names: &NameTable) -> Option<SetRead<'a>>
     ensures found { IsMembersFound names.now text.now result }
     ensures within { IfSome result (λ p. length p.rest.now < length text.now) }
@@ -63,6 +65,9 @@ fn read_members<'a>(text: &'a [u8], names: &NameTable) -> Option<SetRead<'a>>
 fn with_member(letter: LetterMask, name: &[u8], names: &NameTable) -> LetterMask
     ensures { result ≡ with_member names.now letter name.now }
 {
+    if names.len() == 0 {
+        return letter;
+    }
     match names.find(name) {
         Some(number) => letter.with(number as usize),
         None => letter,
