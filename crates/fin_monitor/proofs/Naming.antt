@@ -17,12 +17,12 @@ use Rattle.fin_monitor.proofs.Sets.{both-true}
 
 -- ---- one name more
 
-pub bits-more : (names : List NameBit) (n : NameBit) (letter : NameSet) → bits_of (names ++ n ∷ []) letter ≡ bits_of names letter + cond (contains letter n.name) n.bit 0
+pub bits-more : (names : List NameBit) (n : NameBit) (letter : NameSet) → bits_of (names ++ n ∷ []) letter ≡ bits_of names letter + cond (contains letter n.name) (2 ^ n.place) 0
 bits-more [] n letter = omega arith
 bits-more (x ∷ names) n letter = omega (arith, bits-more names n letter)
 
 pub bits-at : (names : List NameBit) (i : ℕ) (n : NameBit) (letter : NameSet) → i < length names → n ≡ get_or names i n
-    → bits_of (take (i + 1) names) letter ≡ bits_of (take i names) letter + cond (contains letter n.name) n.bit 0
+    → bits_of (take (i + 1) names) letter ≡ bits_of (take i names) letter + cond (contains letter n.name) (2 ^ n.place) 0
 bits-at names i n letter lt is =
     ap (λ l. bits_of l letter) (take_more names i n lt ∙ ap (λ x. take i names ++ x ∷ []) (sym is)) ∙ bits-more (take i names) n letter
 
@@ -52,12 +52,12 @@ code-next p (x ∷ xs) (suc i) a lt is =
     let power : 2 ^ suc i ≡ 2 * 2 ^ i = rw pow-succ' (omega arith) in
     omega (arith, code-next p xs i a (omega arith) is, twice-cond (p a.name a.var) (2 ^ i) (2 ^ suc i) power)
 
-pub name-added : (names more : List NameBit) (n : NameBit) (a : Atom) (variable i : ℕ) → more ≡ names ++ n ∷ [] → n.name ≡ a.name → n.bit ≡ 2 ^ i → a.var ≡ variable
+pub name-added : (names more : List NameBit) (n : NameBit) (a : Atom) (variable i : ℕ) → more ≡ names ++ n ∷ [] → n.name ≡ a.name → n.place ≡ i → a.var ≡ variable
     → (letter : NameSet) → bits_of more letter ≡ bits_of names letter + cond (nat_eq a.var variable && contains letter a.name) (2 ^ i) 0
-name-added names more n a variable i added name bit own letter =
+name-added names more n a variable i added name place own letter =
     ap (λ l. bits_of l letter) added ∙ bits-more names n letter
-    ∙ ap (λ b. bits_of names letter + cond b n.bit 0) (ap (contains letter) name ∙ sym (ap (λ b. b && contains letter a.name) (eq-eqb a.var variable own)))
-    ∙ ap (λ k. bits_of names letter + cond (nat_eq a.var variable && contains letter a.name) k 0) bit
+    ∙ ap (λ b. bits_of names letter + cond b (2 ^ n.place) 0) (ap (contains letter) name ∙ sym (ap (λ b. b && contains letter a.name) (eq-eqb a.var variable own)))
+    ∙ ap (λ k. bits_of names letter + cond (nat_eq a.var variable && contains letter a.name) (2 ^ k) 0) place
 
 -- the names of the atoms so far, and one more
 pub names-more : (atoms : List Atom) (i variable : ℕ) (a : Atom) (names more : List NameBit) → i < length atoms → a ≡ get_or atoms i a

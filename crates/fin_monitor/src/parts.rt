@@ -52,7 +52,7 @@ fn add_name(names: &mut NameBits, a: Atom, i: usize, var: u8) -> M<()>
     }
     names.push(NameBit {
         name: a.name,
-        bit: 1 << i,
+        place: i as u8,
     })?;
     Ok(())
 }
@@ -69,14 +69,10 @@ pub fn bits_in(names: &[NameBit], letter: LetterMask) -> u32
     bits
 }
 
-/// The bits, and that of a name besides, if the letter has it.
+/// The bits, and that of a name besides, if the letter has it. No branch depends on the letter.
 fn with_name(bits: u32, letter: LetterMask, n: &NameBit) -> u32
-    requires { bits + cond (contains letter n.now.name) n.now.bit 0 < 65536 }
-    ensures { result ≡ bits + cond (contains letter n.now.name) n.now.bit 0 }
+    requires { bits + cond (contains letter n.now.name) (2 ^ n.now.place) 0 < 65536 }
+    ensures { result ≡ bits + cond (contains letter n.now.name) (2 ^ n.now.place) 0 }
 {
-    if letter.has(n.name as usize) {
-        bits + n.bit
-    } else {
-        bits
-    }
+    bits + (u32::from(letter.has(n.name as usize)) << n.place)
 }

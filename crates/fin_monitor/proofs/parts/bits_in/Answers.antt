@@ -1,4 +1,4 @@
-use Rattle.std.proofs.Common.{◌+◌, sym, ap, ◌∙◌, cond, arith}
+use Rattle.std.proofs.Common.{◌+◌, ◌^◌, sym, ap, ◌∙◌, cond, arith}
 use Rattle.std.specs.FinSet.{contains}
 use Rattle.std.proofs.lemmas.List.{take_all}
 use Rattle.fin_monitor.specs.Parts.{bits_of}
@@ -11,7 +11,7 @@ with_name-bits-requires c =
 
 pub loop-n-preserved : goal.loop-n-preserved
 loop-n-preserved c =
-    c.with_name-bits.ensures ∙ ap (λ k. k + cond (contains c.args.letter c.n-item.result.name) c.n-item.result.bit 0) c.loop-n.invariant
+    c.with_name-bits.ensures ∙ ap (λ k. k + cond (contains c.args.letter c.n-item.result.name) (2 ^ c.n-item.result.place) 0) c.loop-n.invariant
     ∙ sym (bits-at c.args.names.now c.loop-n.n-index c.n-item.result c.args.letter c.loop-n-test.true c.n-item.is)
 
 pub returns : goal.returns
