@@ -21,6 +21,7 @@ pub mod JobClosure
 pub mod Refusals
 pub mod Making
 pub mod Places
+pub mod Naming
 pub mod KeptLefts
 pub mod Outdoing
 pub mod Firsts

@@ -1,4 +1,5 @@
 pub mod Codes
+pub mod Parts
 pub mod Duties
 pub mod Lefts
 pub mod Limits

@@ -13,6 +13,8 @@ mod lefts_by_code;
 mod members;
 mod monitor;
 mod monitor_error;
+mod name_bit;
+mod parts;
 mod reducing;
 mod repeats;
 mod settling;

@@ -1,15 +1,16 @@
 //! The monitor of a body.
 
-ghost use Rattle.std.specs.Prelude.{map, nat_eq, IsTrue, ◌≡◌, ◌<◌, ◌+◌, ◌*◌, ◌&&◌};
-ghost use Rattle.std.specs.FinSet.{contains};
+ghost use Rattle.std.specs.Prelude.{map, nat_eq, IsTrue, ◌≡◌, ◌<◌, ◌+◌, ◌*◌};
 ghost use Rattle.hy_formula.specs.Trees.{tree_of};
 ghost use Rattle.fin_monitor.specs.Codes.{plain_atom, joint_letter, one_if};
 ghost use Rattle.fin_monitor.specs.Machines.{IsMonitor};
+ghost use Rattle.fin_monitor.specs.Parts.{AreNames};
 
 use crate::atoms::{AtomList, atoms_in};
 use crate::automaton::Automaton;
 use crate::building::{automaton_of, closure_of, root_of};
 use crate::monitor_error::MonitorError;
+use crate::parts::{NameBits, bits_in, names_by_variable};
 use crate::settling::settle;
 use hy_base::{List, NumList, Steps};
 use hy_bits::LetterMask;
@@ -24,6 +25,8 @@ pub struct Monitor {
     body: Body,
     vars: u8,
     atoms: AtomList,
+    /// For each variable the names of its atoms.
+    names: List<NameBits>,
     /// For each state and each code of a joint letter, code by code, the state that follows.
     table: NumList,
     accepting: List<bool>,
@@ -34,6 +37,7 @@ pub struct Monitor {
       table = table;
       accepting = accepting;
     }) },
+    ghost by_variable: { AreNames names (map plain_atom atoms) vars },
 }
 
 impl Monitor {
@@ -67,12 +71,20 @@ impl Monitor {
         let atoms = atoms_in(alloc, body)?;
         let found = automaton_of(alloc, &closure, &atoms, root_of(&closure))?;
         let automaton = settle(alloc, &found, atoms.len())?;
-        Ok(Monitor::made(body.copy(alloc)?, vars, atoms, automaton))
+        let names = names_by_variable(alloc, atoms.as_slice(), vars)?;
+        Ok(Monitor::made(body.copy(alloc)?, vars, atoms, names, automaton))
     }
 
     /// The monitor of these parts.
-    fn made(body: Body, vars: u8, atoms: AtomList, automaton: Automaton) -> Monitor
-        requires { IsMonitor (record {
+    fn made(
+        body: Body,
+        vars: u8,
+        atoms: AtomList,
+        names: List<NameBits>,
+        automaton: Automaton,
+    ) -> Monitor
+        requires names { AreNames names (map plain_atom atoms) vars }
+        requires right { IsMonitor (record {
           body = tree_of body;
           variables = vars;
           atoms = map plain_atom atoms;
@@ -92,6 +104,7 @@ impl Monitor {
             body,
             vars,
             atoms,
+            names,
             table,
             accepting,
         }
@@ -115,19 +128,15 @@ impl Monitor {
     }
 
     /// The part of the code of a joint letter that comes from the letter of one variable. The code is
-    /// the bitwise or of the parts of all variables. In time linear in the atoms.
+    /// the bitwise or of the parts of all variables. In time linear in the atoms of the variable.
     pub fn part(&self, var: u8, letter: LetterMask) -> u32
         ensures part { result ≡ part_of (machine_of self.now).atoms var letter }
         ensures within { result < codes (machine_of self.now) }
     {
-        let mut code = 0;
-        let mut i = self.atoms.len();
-        while i > 0 {
-            i -= 1;
-            let a = *self.atoms.at(i);
-            code = with_bit(code, has_own(letter, var, a));
+        if var >= self.vars {
+            return 0;
         }
-        code
+        bits_in(self.names.at(var as usize).as_slice(), letter)
     }
 
     /// The state before all letters.
@@ -203,17 +212,6 @@ fn has_name(letters: &[LetterMask], a: Atom) -> bool
     match letters.get(a.var as usize) {
         Some(letter) => letter.has(a.name as usize),
         None => false,
-    }
-}
-
-/// Whether the atom is one of the variable, and the letter has its name.
-fn has_own(letter: LetterMask, var: u8, a: Atom) -> bool
-    ensures { result ≡ (nat_eq a.var var && contains letter a.name) }
-{
-    if a.var == var {
-        letter.has(a.name as usize)
-    } else {
-        false
     }
 }
 

@@ -1,8 +1,11 @@
-use Rattle.std.proofs.Common.{◌≡◌, ◌^◌, ℕ, List, sym, ap, ◌∙◌, subst, slice_index}
+use Rattle.std.proofs.Common.{◌≡◌, ◌^◌, ℕ, List, map, sym, ap, ◌∙◌, subst, slice_index}
 use Rattle.hy_formula.specs.Trees.{tree_of}
+use Rattle.hy_formula.specs.declared.atom.Atom.{Atom}
+use Rattle.fin_monitor.specs.Codes.{plain_atom}
 use Rattle.fin_monitor.specs.Duties.{body_root}
 use Rattle.fin_monitor.specs.Limits.{IsRefusal}
 use Rattle.fin_monitor.specs.Machines.{Machine}
+use Rattle.fin_monitor.specs.Parts.{AreNames}
 use Rattle.fin_monitor.specs.Tables.{IsTableOf, IsSettling}
 use Rattle.fin_monitor.proofs.AtomLists.{err-on}
 use Rattle.fin_monitor.proofs.Making.{table-on, table-is, is-taken, made-monitor}
@@ -33,8 +36,13 @@ settle-requires-clause-table c =
     let P : ℕ → Type 0 = λ n. IsTableOf c.in_ok-found.found (2 ^ n) in
     subst P (sym c.len.ensures) (table-is body c.in_ok-closure.closure.nodes c.root_of.result c.in_ok-atoms.atoms c.in_ok-closure.ensures.nodes root c.in_ok-atoms.ensures.atoms c.in_ok-atoms.ensures.few c.in_ok-found.found c.in_ok-found.ensures.automaton)
 
-pub made-requires : goal.made-requires
-made-requires c =
+pub made-requires-clause-names : goal.made-requires-clause-names
+made-requires-clause-names c =
+    let P : List Atom → Type 0 = λ l. AreNames c.in_ok-names.names (map plain_atom l) c.args.vars in
+    subst P c.as_slice.ensures c.in_ok-names.ensures
+
+pub made-requires-clause-right : goal.made-requires-clause-right
+made-requires-clause-right c =
     let body = tree_of c.args.body.now in
     let root : c.root_of.result ≡ body_root body = c.root_of.ensures.root ∙ ap (λ (l : List ℕ). slice_index l 0) c.in_ok-closure.ensures.roots in
     let P : ℕ → Type 0 = λ n. IsSettling c.in_ok-found.found (2 ^ n) c.in_ok-automaton.automaton in

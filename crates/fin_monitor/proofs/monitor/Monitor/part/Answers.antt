@@ -1,31 +1,28 @@
-use Rattle.std.proofs.Common.{◌≡◌, ◌-◌, ◌&&◌, nat_eq, arith}
+use Rattle.std.proofs.Common.{◌≡◌, ◌<◌, ◌^◌, ◌&&◌, ℕ, nat_eq, length, map, sym, ◌∙◌, subst, arith}
 use Rattle.std.specs.FinSet.{contains}
-use Rattle.fin_monitor.proofs.Places.{code-none, code-more, code-small, code-all, code-within}
+use Rattle.fin_monitor.specs.Codes.{plain_atom, part_of}
+use Rattle.fin_monitor.specs.Parts.{bits_of}
+use Rattle.fin_monitor.specs.Seen.{machine_of}
+use Rattle.fin_monitor.proofs.CodeBits.{code-lt, small-code}
+use Rattle.fin_monitor.proofs.Naming.{past-none, part-is}
 use Rattle.fin_monitor.proofs.monitor.Monitor.part.Goals as goal
 
-pub loop-i-init : goal.loop-i-init
-loop-i-init c =
-    record {
-      inside = omega (arith, c.len-i.ensures);
-      code = code-none (λ n v. nat_eq v c.args.var && contains c.args.letter n) c.args.self.now.atoms c.len-i.result c.len-i.ensures;
-    }
+pub returns-then-var-self : goal.returns-then-var-self
+returns-then-var-self c =
+    let none = past-none (machine_of c.args.self.now) c.args.self.now.right c.args.var (omega arith) c.args.letter in
+    let P : ℕ → Type 0 = λ n. n < 2 ^ length (map plain_atom c.args.self.now.atoms) in
+    record { part = none; within = subst P (sym none) (code-lt (λ n v. nat_eq v c.args.var && contains c.args.letter n) (map plain_atom c.args.self.now.atoms)) }
 
-pub with_bit-code-requires : goal.with_bit-code-requires
-with_bit-code-requires c = code-small (λ n v. nat_eq v c.args.var && contains c.args.letter n) c.args.self.now.atoms c.loop-i.i c.loop-i.code c.args.self.now.right.few_atoms c.loop-i.invariant.code
-
-pub loop-i-preserved : goal.loop-i-preserved
-loop-i-preserved c =
-    record {
-      inside = omega (arith, c.loop-i.invariant.inside);
-      code =
-          code-more (λ n v. nat_eq v c.args.var && contains c.args.letter n) c.args.self.now.atoms c.loop-i.i (c.loop-i.i - 1) c.at-a.result.now c.has_own.result c.loop-i.code c.with_bit-code.result
-          c.at-a.ensures (omega (arith, c.loop-i-test.true)) c.has_own.ensures c.loop-i.invariant.code c.with_bit-code.ensures;
-    }
+pub bits_in-requires : goal.bits_in-requires
+bits_in-requires c =
+    let is : bits_of c.as_slice.result.now c.args.letter ≡ part_of (map plain_atom c.args.self.now.atoms) c.args.var c.args.letter =
+    part-is c.args.self.now.names (map plain_atom c.args.self.now.atoms) c.args.self.now.vars c.args.self.now.by_variable c.args.var (omega arith) c.at.result.now c.as_slice.result.now c.at.ensures c.as_slice.ensures c.args.letter in
+    omega (arith, is, small-code (λ n v. nat_eq v c.args.var && contains c.args.letter n) (map plain_atom c.args.self.now.atoms) 0 c.args.self.now.right.few_atoms)
 
 pub returns : goal.returns
 returns c =
-    let none : c.loop-i.i ≡ 0 = omega (arith, c.loop-i-test.false) in
-    record {
-      part = code-all (λ n v. nat_eq v c.args.var && contains c.args.letter n) c.args.self.now.atoms c.loop-i.i c.loop-i.code none c.loop-i.invariant.code;
-      within = code-within (λ n v. nat_eq v c.args.var && contains c.args.letter n) c.args.self.now.atoms c.loop-i.i c.loop-i.code none c.loop-i.invariant.code;
-    }
+    let is : bits_of c.as_slice.result.now c.args.letter ≡ part_of (map plain_atom c.args.self.now.atoms) c.args.var c.args.letter =
+    part-is c.args.self.now.names (map plain_atom c.args.self.now.atoms) c.args.self.now.vars c.args.self.now.by_variable c.args.var (omega arith) c.at.result.now c.as_slice.result.now c.at.ensures c.as_slice.ensures c.args.letter in
+    let P : ℕ → Type 0 = λ n. n < 2 ^ length (map plain_atom c.args.self.now.atoms) in
+    let made : c.bits_in.result ≡ part_of (map plain_atom c.args.self.now.atoms) c.args.var c.args.letter = c.bits_in.ensures ∙ is in
+    record { part = made; within = subst P (sym made) (code-lt (λ n v. nat_eq v c.args.var && contains c.args.letter n) (map plain_atom c.args.self.now.atoms)) }
