@@ -53,6 +53,19 @@ fn only_child<'a, R: Abort>(rt: &R, cursor: Cursor<'a>) -> (LetterMask, Cursor<'
     (cursor.letter(0), cursor.child(0))
 }
 
+/// Tries that one trace alone passes, and what is left of it.
+fn is_alone<'a, R: Abort>(
+    rt: &R,
+    cursor: Option<Cursor<'a>>,
+    number: u32,
+    letters: &[LetterMask],
+) -> Result<(), Fail> {
+    let (found, rest) = cursor.ok_or("no child")?.alone().ok_or("not alone")?;
+    assert_eq!(rt; found, number);
+    assert_eq!(rt; rest, letters);
+    Ok(())
+}
+
 /// A version stays as it was beside one with a trace less.
 #[test]
 fn versions(rt: HostRuntime) -> Result<(), Fail> {
@@ -91,5 +104,27 @@ fn cursors(rt: HostRuntime) -> Result<(), Fail> {
     assert!(rt; last == b);
     assert_eq!(rt; end.first(), Some(1));
     assert_eq!(rt; end.below(), Some(1));
+    Ok(())
+}
+
+/// Two traces with one front, each kept as it ends; and one of them again without the other.
+#[test]
+fn tails(rt: HostRuntime) -> Result<(), Fail> {
+    let alloc = rt.alloc();
+    let (a, b) = (of(0), of(1));
+    let both = of_two(alloc, &[a, b, a, b], &[a, b, b])?;
+    assert!(rt; both.holds(&[a, b, a, b]));
+    assert!(rt; both.holds(&[a, b, b]));
+    assert!(rt; !both.holds(&[a, b, a]));
+    assert!(rt; !both.holds(&[a, b, b, a]));
+    assert!(rt; both.root().alone().is_none());
+    let (_, second) = only_child(&rt, both.root());
+    let (_, fork) = only_child(&rt, second);
+    assert_eq!(rt; fork.len(), 2);
+    is_alone(&rt, fork.child_of(a), 0, &[b])?;
+    is_alone(&rt, fork.child_of(b), 1, &[])?;
+    let first = both.without(1)?;
+    is_alone(&rt, Some(first.root()), 0, &[a, b, a, b])?;
+    is_alone(&rt, Some(Cursor::of_one(7, &[a])), 7, &[a])?;
     Ok(())
 }

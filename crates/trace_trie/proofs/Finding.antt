@@ -1,13 +1,14 @@
 -- What a cursor finds.
-use Rattle.std.proofs.Common.{◌≡◌, ◌≢◌, ℕ, zero, suc, ◌<◌, cond, List, [], ◌∷◌, ◌++◌, length, append-nil, slice_get, Some, None, sym, ap, ◌∙◌, subst, inl, inr, arith}
+use Rattle.std.proofs.Common.{◌≡◌, ◌≢◌, ℕ, zero, suc, ◌<◌, cond, List, [], ◌∷◌, ◌++◌, length, append-nil, drop, slice_get, Some, None, refl, sym, ap, ◌∙◌, subst, inl, inr, arith}
 use Rattle.std.specs.Option.{IfSome, IfNone}
 use Rattle.std.specs.List.{Contains}
 use Rattle.hy_bits.specs.Letter.{Letter}
 use Rattle.hy_formula.specs.Quantifiers.{Each}
 use Rattle.trace_trie.specs.Numbered.{Numbered, same_letter, led_by, ended, under, in_order, first_number}
 use Rattle.trace_trie.specs.Kids.{Kid, AreKids, behind, kid_letters, spread}
-use Rattle.trace_trie.specs.Forests.{passing}
+use Rattle.trace_trie.specs.Forests.{passing, ends_alone, kids_alone}
 use Rattle.trace_trie.specs.Cursors.{AreLetters}
+use Rattle.trace_trie.proofs.Alone.{alone-rests, alone-kids}
 use Rattle.trace_trie.proofs.Each.{each-like}
 use Rattle.trace_trie.proofs.Holding.{contains-here, contains-later, contains-cases, contains-none, contains-left, contains-right}
 use Rattle.trace_trie.proofs.Lettering.{letter-itself, same-false}
@@ -117,3 +118,25 @@ any-passing ends kids n (t, c) = (t, contains-in-order (n, t) (passing ends kids
 pub none-passing : (ends : List Numbered) (kids : List Kid) → first_number ends ≡ None → kids ≡ [] → in_order (passing ends kids) ≡ []
 none-passing [] kids e f = ap (λ (k : List Kid). in_order (passing [] k)) f
 none-passing (p ∷ ps) kids e f = absurd (cc)
+
+-- ---- where one trace alone passes
+
+module _ (n : ℕ) (t : List Letter) where
+  pub alone-letters : AreLetters (kid_letters (kids_alone n t)) (in_order (passing (ends_alone n t) (kids_alone n t)))
+  alone-letters = letters-right (ends_alone n t) (kids_alone n t) (alone-kids n t)
+
+  pub alone-below : (u : List Letter) × Contains (in_order (passing (ends_alone n t) (kids_alone n t))) (n, u)
+  alone-below =
+      let P : List Numbered → Type 0 = λ q. Contains q (n, t) in
+      (t, subst P (sym (alone-rests n t)) (contains-here (n, t) []))
+
+  pub alone-child : (i : ℕ) (a : Letter) → slice_get (kid_letters (kids_alone n t)) i ≡ Some a
+      → (n, drop 1 t) ∷ [] ≡ under a (in_order (passing (ends_alone n t) (kids_alone n t)))
+  alone-child i a e = by t i e
+    where
+      by : (t : List Letter) (i : ℕ) → slice_get (kid_letters (kids_alone n t)) i ≡ Some a
+          → (n, drop 1 t) ∷ [] ≡ under a (in_order (passing (ends_alone n t) (kids_alone n t)))
+      by [] i e = absurd (cc)
+      by (b ∷ u) zero e =
+          child-right [] (kids_alone n (b ∷ u)) 0 a (b, (n, u) ∷ []) (alone-kids n (b ∷ u)) refl e
+      by (b ∷ u) (suc i) e = absurd (cc)

@@ -1,3 +1,4 @@
+pub mod Alone
 pub mod Ascending
 pub mod Each
 pub mod Finding

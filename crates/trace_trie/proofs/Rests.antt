@@ -67,6 +67,9 @@ more-spread {a} {n} {t} {held} {old} {new} ends s m =
         ∙ sym (append_assoc (ended ends) (spread s.before ++ led_by a l) (spread s.after))
         ∙ ap (λ q. q ++ spread s.after) (sym (append_assoc (ended ends) (spread s.before) (led_by a l)))
 
+pub more-none : (p : Numbered) → IsMore p [] (p ∷ [])
+more-none p = record { before = []; after = []; old_is = refl; new_is = refl }
+
 pub more-ended : (n : ℕ) (t : List Letter) (ends : List Numbered) (kids : List Kid) → IsMore (n, []) (passing ends kids) (passing (ends ++ (n, t) ∷ []) kids)
 more-ended n t ends kids = record {
   before = ended ends;

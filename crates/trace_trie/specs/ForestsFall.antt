@@ -3,7 +3,7 @@ use Rattle.std.specs.Prelude.{◌≡◌, ◌+◌, ◌<◌, ◌≤◌, max, List,
 use Rattle.std.proofs.Common.{arith}
 use Rattle.hy_bits.specs.Letter.{Letter}
 use Rattle.trace_trie.specs.declared.forest.Branch.{Branch}
-use Rattle.trace_trie.specs.declared.forest.Branch.TheVariants.{Bare, Child, Fork}
+use Rattle.trace_trie.specs.declared.forest.Branch.TheVariants.{Bare, Child, Tail, Fork}
 use Rattle.trace_trie.specs.declared.forest.Forest.TheDeep.{deep-Branch}
 use Rattle.trace_trie.specs.Numbered.{Numbered, letters_in, led_by, ended}
 use Rattle.trace_trie.specs.Kids.{Kid, spread, AreKids}
@@ -61,6 +61,7 @@ depth_le-letters (Child a ends children) h =
       letters-append (ended ends) (spread children.value),
       letters-ended ends,
     )
+depth_le-letters (Tail n t at) h = omega arith
 depth_le-letters (Fork name count l r) h =
     omega (
       arith,

@@ -1,6 +1,7 @@
 pub mod Cursors
 pub mod Forests
 pub mod ForestsFall
+pub mod Grown
 pub mod Kids
 pub mod Numbered
 pub mod NumberTrees

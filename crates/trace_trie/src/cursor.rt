@@ -1,45 +1,102 @@
 //! Nodes of a version, one after another down a trace.
 
-ghost use Rattle.std.specs.Prelude.{◌≡◌, ℕ, ◌<◌, List, [], length, slice_get, Option, Some, None, IfSome, IfNone};
+ghost use Rattle.std.specs.Prelude.{◌≡◌, ℕ, ◌<◌, List, [], ◌∷◌, length, slice_get, Option, Some, None, IfSome, IfNone, is_some, true};
 ghost use Rattle.std.specs.List.{Contains};
 ghost use Rattle.hy_bits.specs.Letter.{Letter};
 ghost use Rattle.hy_formula.specs.Quantifiers.{Each};
-ghost use Rattle.trace_trie.specs.Numbered.{Numbered, under};
-ghost use Rattle.trace_trie.specs.Cursors.{letters_of, rests_at, AreLetters};
+ghost use Rattle.trace_trie.specs.Numbered.{Numbered, under, in_order};
+ghost use Rattle.trace_trie.specs.Forests.{passing};
+ghost use Rattle.trace_trie.specs.Grown.{left_in};
+ghost use Rattle.trace_trie.specs.Cursors.{letters_of, rests_at, is_alone, AreLetters};
 
-use crate::forest::Forest;
+use crate::forest::{Forest, same};
+use crate::grown::{Grown, left};
 use crate::numbers::Numbers;
 use hy_bits::LetterMask;
 
-/// A node of a version. Contracts see the list of what is left of the traces that pass it, with
-/// their numbers, which ascend; and the letters of its children in their order.
+/// Where a walk down a version stands. Contracts see the list of what is left of the traces that
+/// pass, with their numbers, which ascend; and the letters of the children in their order.
 #[derive(Clone, Copy)]
 pub struct Cursor<'a> {
-    ends: &'a Numbers,
-    children: &'a Forest,
+    point: Point<'a>,
+}
+
+/// A point of a trie.
+#[derive(Clone, Copy)]
+enum Point<'a> {
+    /// A node: the numbers of the traces that end there, and its children.
+    Node(&'a Numbers, &'a Forest),
+    /// What is left of the trace with this number, which passes alone.
+    Alone(u32, &'a [LetterMask]),
 }
 
 impl<'a> Cursor<'a> {
     /// The node of these.
     pub(crate) fn of(ends: &'a Numbers, children: &'a Forest) -> Cursor<'a>
-        ensures ends { result.ends.now ≡ ends.now }
-        ensures children { result.children.now ≡ children.now }
+        ensures { rests_at result ≡ in_order (passing ends.now children.now) }
     {
-        Cursor { ends, children }
+        match Forest::alone(ends, children) {
+            Some((number, trace, at)) => Cursor::of_one(number, left(trace, at)),
+            None => Cursor {
+                point: Point::Node(ends, children),
+            },
+        }
+    }
+
+    /// What stands behind a letter.
+    fn behind(grown: Grown<'a>) -> Cursor<'a>
+        ensures { rests_at result ≡ in_order (left_in grown.entry) }
+    {
+        match grown {
+            Grown::Node(ends, children) => Cursor {
+                point: Point::Node(ends, children),
+            },
+            Grown::Tail(number, trace, at) => Cursor::of_one(number, left(trace, at)),
+        }
+    }
+
+    /// The place that one trace alone passes, with its number and what is left of it. Takes no
+    /// memory, and constant time.
+    pub fn of_one(number: u32, rest: &'a [LetterMask]) -> Cursor<'a>
+        ensures rests { rests_at result ≡ (number, rest.now) ∷ [] }
+        ensures alone { is_alone result ≡ true }
+    {
+        Cursor {
+            point: Point::Alone(number, rest),
+        }
+    }
+
+    /// The only trace that passes, and what is left of it. `Some` at the root and behind each
+    /// letter wherever one trace alone passes, and at what `of_one` gave. Takes no memory, and
+    /// constant time.
+    pub fn alone(&self) -> Option<(u32, &'a [LetterMask])>
+        ensures only { IfSome result (λ p. rests_at self.now ≡ (p.0, p.1.now) ∷ []) }
+        ensures kept { is_some result ≡ is_alone self.now }
+    {
+        match &self.point {
+            Point::Node(_, _) => None,
+            Point::Alone(number, rest) => Some((*number, *rest)),
+        }
     }
 
     /// How many children there are. Takes no memory.
     pub fn len(&self) -> usize
         ensures { result ≡ length (letters_of self.now) }
     {
-        self.children.len()
+        match &self.point {
+            Point::Node(_, children) => children.len(),
+            Point::Alone(_, rest) => { if rest.is_empty() { 0 } else { 1 } }
+        }
     }
 
     /// The letters of the children differ, and are the first letters of the rests that go on.
     pub fn letters_differ(&self)
         ensures { AreLetters (letters_of self.now) (rests_at self.now) }
     {
-        self.children.kids_differ();
+        match &self.point {
+            Point::Node(_, children) => children.kids_differ(),
+            Point::Alone(_, _) => {}
+        }
     }
 
     /// The letter of child `i`, counted from 0. Takes no memory, and at most 64 steps.
@@ -47,7 +104,10 @@ impl<'a> Cursor<'a> {
         requires { i < length (letters_of self.now) }
         ensures { slice_get (letters_of self.now) i ≡ Some result }
     {
-        self.children.at(i).letter
+        match &self.point {
+            Point::Node(_, children) => children.at(i).0,
+            Point::Alone(_, rest) => rest[0],
+        }
     }
 
     /// Child `i`, counted from 0: what is left behind its letter of the traces that pass it. Takes
@@ -57,11 +117,12 @@ impl<'a> Cursor<'a> {
         ensures { (a : Letter) → slice_get (letters_of self.now) i ≡ Some a
             → rests_at result ≡ under a (rests_at self.now) }
     {
-        self.children.kids_differ();
-        let grown = self.children.at(i);
-        Cursor {
-            ends: grown.ends,
-            children: grown.children,
+        match &self.point {
+            Point::Node(_, children) => {
+                children.kids_differ();
+                Cursor::behind(children.at(i).1)
+            }
+            Point::Alone(number, rest) => Cursor::of_one(*number, &rest[1..]),
         }
     }
 
@@ -72,10 +133,21 @@ impl<'a> Cursor<'a> {
             rests_at child ≡ under letter (rests_at self.now)) }
         ensures none { IfNone result (under letter (rests_at self.now) ≡ []) }
     {
-        self.children.kids_differ();
-        match self.children.get(letter) {
-            Some(grown) => Some(Cursor::of(grown.ends, grown.children)),
-            None => None,
+        match &self.point {
+            Point::Node(_, children) => {
+                children.kids_differ();
+                match children.get(letter) {
+                    Some(grown) => Some(Cursor::behind(grown)),
+                    None => None,
+                }
+            }
+            Point::Alone(number, rest) => {
+                if !rest.is_empty() && same(letter, rest[0]) {
+                    Some(Cursor::of_one(*number, &rest[1..]))
+                } else {
+                    None
+                }
+            }
         }
     }
 
@@ -84,7 +156,10 @@ impl<'a> Cursor<'a> {
         ensures some { IfSome result (λ n. Contains (rests_at self.now) (n, [])) }
         ensures none { IfNone result (Each (λ (p : Numbered). 0 < length p.1) (rests_at self.now)) }
     {
-        self.ends.first()
+        match &self.point {
+            Point::Node(ends, _) => ends.first(),
+            Point::Alone(number, rest) => { if rest.is_empty() { Some(*number) } else { None } }
+        }
     }
 
     /// A trace that passes here, where there is one. Takes no memory, and time linear in the most
@@ -94,9 +169,12 @@ impl<'a> Cursor<'a> {
             × Contains (rests_at self.now) (n, t)) }
         ensures none { IfNone result (rests_at self.now ≡ []) }
     {
-        match self.ends.first() {
-            Some(number) => Some(number),
-            None => self.children.any(),
+        match &self.point {
+            Point::Node(ends, children) => match ends.first() {
+                Some(number) => Some(number),
+                None => children.any(),
+            },
+            Point::Alone(number, _) => Some(*number),
         }
     }
 }

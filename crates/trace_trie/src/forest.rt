@@ -1,17 +1,20 @@
 //! The children of a node of a trie by their letters, in versions that share their nodes.
 
-ghost use Rattle.std.specs.Prelude.{◌≡◌, ℕ, ◌<◌, ◌≤◌, List, [], ◌∷◌, ◌++◌, length, slice_get, IfOk, IfSome, IfNone, Some, None, true, false, not, if◌then◌else◌};
+ghost use Rattle.std.specs.Prelude.{◌≡◌, ℕ, ◌<◌, ◌≤◌, List, [], ◌∷◌, ◌++◌, length, drop, slice_get, IfOk, IfSome, IfNone, Some, None, true, false, not, if◌then◌else◌};
 ghost use Rattle.std.specs.FinSet.{contains};
 ghost use Rattle.hy_formula.specs.Quantifiers.{Each};
-ghost use Rattle.trace_trie.specs.Numbered.{same_letter};
+ghost use Rattle.trace_trie.specs.Numbered.{same_letter, without_number};
 ghost use Rattle.std.specs.List.{Contains};
 ghost use Rattle.hy_bits.specs.Letter.{Letter};
 ghost use Rattle.trace_trie.specs.Kids.{Kid, AreKids, IsSwapped, behind, spread};
-ghost use Rattle.trace_trie.specs.Forests.{passing};
+ghost use Rattle.trace_trie.specs.Forests.{passing, kids_alone, IsAlone};
+ghost use Rattle.trace_trie.specs.Grown.{left_in};
 
+use crate::grown::Grown;
 use crate::numbers::Numbers;
 use hy_base::{M, Memory};
 use hy_bits::LetterMask;
+use hy_finite::Trace;
 use std::alloc::Global;
 use std::marker::Model;
 use std::rc::Rc;
@@ -31,6 +34,8 @@ pub(crate) struct Forest {
 enum Branch {
     Bare,
     Child(LetterMask, Numbers, Rc<Forest>),
+    /// The child that the trace with this number alone passes, by its letter at this place.
+    Tail(u32, Rc<Trace>, usize),
     Fork(usize, usize, Rc<Forest>, Rc<Forest>),
 }
 
@@ -60,14 +65,6 @@ impl Model for Forest {
     ghost size_decreases = { λ a h. depth_le-letters a.tree h };
 }
 
-/// A child: its letter, the numbers of the traces that end there, and its own children.
-#[derive(Clone, Copy)]
-pub(crate) struct Grown<'a> {
-    pub(crate) letter: LetterMask,
-    pub(crate) ends: &'a Numbers,
-    pub(crate) children: &'a Forest,
-}
-
 impl Forest {
     /// No child.
     pub(crate) fn new() -> Forest
@@ -85,6 +82,7 @@ impl Forest {
             Branch::Child(letter, ends, children) => {
                 Branch::Child(*letter, ends.share()?, children.clone()?)
             }
+            Branch::Tail(number, trace, at) => Branch::Tail(*number, trace.clone()?, *at),
             Branch::Fork(name, count, first, second) => {
                 Branch::Fork(*name, *count, first.clone()?, second.clone()?)
             }
@@ -99,6 +97,7 @@ impl Forest {
         match &self.tree {
             Branch::Bare => 0,
             Branch::Child(_, _, _) => 1,
+            Branch::Tail(_, _, _) => 1,
             Branch::Fork(_, count, _, _) => *count,
         }
     }
@@ -110,20 +109,19 @@ impl Forest {
         let _tree = &self.tree;
     }
 
-    /// Child `i`, counted from 0. Takes no memory, and time logarithmic in the number of children
-    /// mostly, at most 64 steps.
-    pub(crate) fn at(&self, i: usize) -> Grown<'_>
+    /// Child `i`, counted from 0: its letter, and what stands behind it. Takes no memory, and time
+    /// logarithmic in the number of children mostly, at most 64 steps.
+    pub(crate) fn at(&self, i: usize) -> (LetterMask, Grown<'_>)
         requires { i < length self.now }
-        ensures { slice_get self.now i
-            ≡ Some (result.letter, passing result.ends.now result.children.now) }
+        ensures { slice_get self.now i ≡ Some (result.0, left_in result.1) }
     {
         match &self.tree {
             Branch::Bare => unreachable!(),
-            Branch::Child(letter, ends, children) => Grown {
-                letter: *letter,
-                ends,
-                children,
-            },
+            Branch::Child(letter, ends, children) => (*letter, Grown::Node(ends, children)),
+            Branch::Tail(number, trace, at) => {
+                trace.len();
+                (trace.at(*at), Grown::Tail(*number, trace, *at + 1))
+            }
             Branch::Fork(_, _, first, second) => {
                 let before = first.len();
                 if i < before {
@@ -147,25 +145,29 @@ impl Forest {
                 Some(number) => Some(number),
                 None => children.any(),
             },
+            Branch::Tail(number, _, _) => Some(*number),
             Branch::Fork(_, _, first, _) => first.any(),
         }
     }
 
     /// The child of a letter, where there is one. Takes no memory, and at most 64 steps.
     pub(crate) fn get(&self, letter: LetterMask) -> Option<Grown<'_>>
-        ensures some { IfSome result (λ grown. behind letter self.now
-            ≡ passing grown.ends.now grown.children.now) }
+        ensures some { IfSome result (λ grown. behind letter self.now ≡ left_in grown) }
         ensures none { IfNone result (behind letter self.now ≡ []) }
     {
         match &self.tree {
             Branch::Bare => None,
             Branch::Child(held, ends, children) => {
                 if same(letter, *held) {
-                    Some(Grown {
-                        letter: *held,
-                        ends,
-                        children,
-                    })
+                    Some(Grown::Node(ends, children))
+                } else {
+                    None
+                }
+            }
+            Branch::Tail(number, trace, at) => {
+                trace.len();
+                if same(letter, trace.at(*at)) {
+                    Some(Grown::Tail(*number, trace, *at + 1))
                 } else {
                     None
                 }
@@ -180,24 +182,15 @@ impl Forest {
         }
     }
 
-    /// The child of a letter; where there is none, nothing: no number, and no children. As `get`.
-    pub(crate) fn grown<'a>(
-        &'a self,
-        letter: LetterMask,
-        none: &'a Numbers,
-        bare: &'a Forest,
-    ) -> Grown<'a>
-        requires none { none.now ≡ [] }
-        requires bare { bare.now ≡ [] }
-        ensures { passing result.ends.now result.children.now ≡ behind letter self.now }
+    /// The child of a letter, where more passes it than a tail of the trace with the number. As
+    /// `get`.
+    pub(crate) fn get_other(&self, letter: LetterMask, number: u32) -> Option<Grown<'_>>
+        ensures some { IfSome result (λ grown. behind letter self.now ≡ left_in grown) }
+        ensures none { IfNone result (without_number number (behind letter self.now) ≡ []) }
     {
         match self.get(letter) {
-            Some(grown) => grown,
-            None => Grown {
-                letter,
-                ends: none,
-                children: bare,
-            },
+            Some(Grown::Tail(held, _, _)) if held == number => None,
+            found => found,
         }
     }
 
@@ -216,58 +209,58 @@ impl Forest {
             return self.without(alloc, letter);
         }
         children.kids_differ();
-        let children = Rc::new(alloc, children)?;
-        self.put(alloc, letter, ends, children)
+        let one = Forest::one(alloc, letter, ends, children)?;
+        self.put(alloc, letter, one)
     }
 
-    /// The child of this letter is the given one, and the others are as they were. Some trace
-    /// passes it. In time and memory as `get`.
-    fn put(
-        &self,
-        alloc: Global,
-        letter: LetterMask,
-        ends: Numbers,
-        children: Rc<Forest>,
-    ) -> M<Forest>
-        requires { 0 < length (passing ends children.value) }
-        ensures { IfOk result (λ made.
-            IsSwapped letter (passing ends children.value) self.now made) }
+    /// The child of this letter is the given one, and the others are as they were. In time and
+    /// memory as `get`.
+    pub(crate) fn put(&self, alloc: Global, letter: LetterMask, one: Forest) -> M<Forest>
+        requires { one ≡ (letter, behind letter one) ∷ [] }
+        ensures { IfOk result (λ made. IsSwapped letter (behind letter one) self.now made) }
     {
         match &self.tree {
-            Branch::Bare => Ok(Forest::one(letter, ends, children)),
-            Branch::Child(held, _, _) => match differing(letter, *held) {
-                None => Ok(Forest::one(letter, ends, children)),
-                Some(name) => {
-                    let one = Forest::one(letter, ends, children);
-                    Forest::forked(alloc, name, letter.has(name), self.share()?, one)
-                }
-            },
+            Branch::Bare => {
+                one.kids_differ();
+                Ok(one)
+            }
+            Branch::Child(held, _, _) => self.beside(alloc, *held, letter, one),
+            Branch::Tail(_, trace, at) => self.beside(alloc, trace.at(*at), letter, one),
             Branch::Fork(name, _, first, second) => {
                 if letter.has(*name) {
-                    let more = second.put(alloc, letter, ends, children)?;
+                    let more = second.put(alloc, letter, one)?;
                     Forest::with_second(alloc, *name, first, more)
                 } else {
-                    let more = first.put(alloc, letter, ends, children)?;
+                    let more = first.put(alloc, letter, one)?;
                     Forest::with_first(alloc, *name, more, second)
                 }
             }
         }
     }
 
+    /// As `put`, where the only child has the letter `held`.
+    fn beside(&self, alloc: Global, held: LetterMask, letter: LetterMask, one: Forest) -> M<Forest>
+        requires only { self.now ≡ (held, behind held self.now) ∷ [] }
+        requires one { one ≡ (letter, behind letter one) ∷ [] }
+        ensures { IfOk result (λ made. IsSwapped letter (behind letter one) self.now made) }
+    {
+        self.kids_differ();
+        one.kids_differ();
+        match differing(letter, held) {
+            None => Ok(one),
+            Some(name) => Forest::forked(alloc, name, letter.has(name), self.share()?, one),
+        }
+    }
+
     /// There is no child of this letter, and the others are as they were. In time and memory as
     /// `get`.
-    fn without(&self, alloc: Global, letter: LetterMask) -> M<Forest>
+    pub(crate) fn without(&self, alloc: Global, letter: LetterMask) -> M<Forest>
         ensures { IfOk result (λ made. IsSwapped letter [] self.now made) }
     {
         match &self.tree {
             Branch::Bare => Ok(Forest::new()),
-            Branch::Child(held, _, _) => {
-                if same(letter, *held) {
-                    Ok(Forest::new())
-                } else {
-                    self.share()
-                }
-            }
+            Branch::Child(held, _, _) => self.rest(*held, letter),
+            Branch::Tail(_, trace, at) => self.rest(trace.at(*at), letter),
             Branch::Fork(name, _, first, second) => {
                 if letter.has(*name) {
                     let rest = second.without(alloc, letter)?;
@@ -280,13 +273,86 @@ impl Forest {
         }
     }
 
-    /// One child.
-    fn one(letter: LetterMask, ends: Numbers, children: Rc<Forest>) -> Forest
-        requires { 0 < length (passing ends children.value) }
-        ensures { result ≡ (letter, passing ends children.value) ∷ [] }
+    /// As `without`, where the only child has the letter `held`.
+    fn rest(&self, held: LetterMask, letter: LetterMask) -> M<Forest>
+        requires { self.now ≡ (held, behind held self.now) ∷ [] }
+        ensures { IfOk result (λ made. IsSwapped letter [] self.now made) }
+    {
+        self.kids_differ();
+        if same(letter, held) {
+            Ok(Forest::new())
+        } else {
+            self.share()
+        }
+    }
+
+    /// One child: what is left of a trace from a place on, with its letter there.
+    pub(crate) fn tail(number: u32, trace: Rc<Trace>, at: usize) -> Forest
+        requires { at < length trace.value }
+        ensures { result ≡ kids_alone number (drop at trace.value) }
     {
         Forest {
-            tree: Branch::Child(letter, ends, children),
+            tree: Branch::Tail(number, trace, at),
+        }
+    }
+
+    /// One child, which some trace passes. Where one trace alone does, and has the letter there, it
+    /// is kept as a tail.
+    fn one(alloc: Global, letter: LetterMask, ends: Numbers, children: Forest) -> M<Forest>
+        requires { 0 < length (passing ends children) }
+        ensures { IfOk result (λ made. made ≡ (letter, passing ends children) ∷ []) }
+    {
+        match Forest::longer(letter, &ends, &children)? {
+            Some(tail) => Ok(tail),
+            None => {
+                let children = Rc::new(alloc, children)?;
+                Ok(Forest {
+                    tree: Branch::Child(letter, ends, children),
+                })
+            }
+        }
+    }
+
+    /// As `one`, where that is a tail.
+    fn longer(letter: LetterMask, ends: &Numbers, children: &Forest) -> M<Option<Forest>>
+        ensures { IfOk result (λ found. IfSome found (λ made.
+            made ≡ (letter, passing ends.now children.now) ∷ [])) }
+    {
+        match Forest::alone(ends, children) {
+            None => Ok(None),
+            Some((number, trace, at)) => {
+                if at > 0 && same(letter, trace.at(at - 1)) {
+                    let trace = trace.clone()?;
+                    Ok(Some(Forest::tail(number, trace, at - 1)))
+                } else {
+                    Ok(None)
+                }
+            }
+        }
+    }
+
+    /// The only trace that passes a node, with the place from which on it is left, where it ends
+    /// there or goes on to a tail. Takes no memory, and constant time.
+    pub(crate) fn alone<'a>(
+        ends: &'a Numbers,
+        children: &'a Forest,
+    ) -> Option<(u32, &'a Rc<Trace>, usize)>
+        ensures { IfSome result (λ p. IsAlone p.0 p.1.now.value p.2
+            (passing ends.now children.now)) }
+    {
+        match &children.tree {
+            Branch::Bare => match ends.only() {
+                Some((number, trace)) => Some((number, trace, trace.len())),
+                None => None,
+            },
+            Branch::Tail(number, trace, at) => {
+                if ends.is_empty() {
+                    Some((*number, trace, *at))
+                } else {
+                    None
+                }
+            }
+            _ => None,
         }
     }
 
@@ -358,7 +424,7 @@ impl Forest {
 }
 
 /// Whether both are the same letter.
-fn same(a: LetterMask, b: LetterMask) -> bool
+pub(crate) fn same(a: LetterMask, b: LetterMask) -> bool
     ensures { result ≡ same_letter a b }
 {
     a.is_subset(&b) && b.is_subset(&a)

@@ -5,8 +5,10 @@ ghost use Rattle.hy_formula.specs.Quantifiers.{Each};
 ghost use Rattle.trace_trie.specs.Numbered.{Numbered, without_number};
 ghost use Rattle.trace_trie.specs.Kids.{IsMore};
 ghost use Rattle.trace_trie.specs.Forests.{passing};
+ghost use Rattle.trace_trie.specs.Grown.{left_in};
 
 use crate::forest::Forest;
+use crate::grown::Grown;
 use crate::numbers::Numbers;
 use hy_base::M;
 use hy_finite::Trace;
@@ -20,63 +22,97 @@ pub(crate) struct Node {
     pub(crate) children: Forest,
 }
 
+impl Node {
+    /// A node as it stands behind a letter. Takes no memory, and constant time.
+    pub(crate) fn behind(grown: Grown<'_>) -> M<Node>
+        ensures { IfOk result (λ node. passing node.ends node.children ≡ left_in grown.entry) }
+    {
+        match grown {
+            Grown::Node(ends, children) => Ok(Node {
+                ends: ends.share()?,
+                children: children.share()?,
+            }),
+            Grown::Tail(number, trace, at) => Node::alone(number, trace.clone()?, at),
+        }
+    }
+
+    /// A node that one trace alone passes, from a place on.
+    fn alone(number: u32, trace: Rc<Trace>, at: usize) -> M<Node>
+        ensures { IfOk result (λ node. passing node.ends node.children
+            ≡ (number, drop at trace.value) ∷ []) }
+    {
+        if at < trace.len() {
+            Ok(Node {
+                ends: Numbers::new(),
+                children: Forest::tail(number, trace, at),
+            })
+        } else {
+            Ok(Node {
+                ends: Numbers::one(number, trace),
+                children: Forest::new(),
+            })
+        }
+    }
+}
+
 /// A node with one trace more: what is left of it from place `at` on. Its number is above all. In
-/// time and memory linear in what is left; the other nodes are shared.
+/// time and memory linear in how much of it another trace has too; the other nodes are shared.
 pub(crate) fn planted(
     alloc: Global,
-    ends: &Numbers,
-    children: &Forest,
+    node: Node,
     number: u32,
     trace: &Rc<Trace>,
     at: usize,
 ) -> M<Node>
     requires within { at ≤ length trace.now.value }
-    requires above { Each (λ (p : Numbered). p.0 < number) (passing ends.now children.now) }
-    ensures { IfOk result (λ node. IsMore (number, drop at trace.now.value)
-        (passing ends.now children.now) (passing node.ends node.children)) }
+    requires above { Each (λ (p : Numbered). p.0 < number) (passing node.ends node.children) }
+    ensures { IfOk result (λ made. IsMore (number, drop at trace.now.value)
+        (passing node.ends node.children) (passing made.ends made.children)) }
 {
+    let Node { ends, children } = node;
     if at == trace.len() {
         let ends = ends.push(alloc, number, trace.clone()?)?;
-        let children = children.share()?;
         return Ok(Node { ends, children });
     }
     let letter = trace.at(at);
-    let none = Numbers::new();
-    let bare = Forest::new();
-    let grown = children.grown(letter, &none, &bare);
-    let below = planted(alloc, grown.ends, grown.children, number, trace, at + 1)?;
-    let children = children.swap(alloc, letter, below.ends, below.children)?;
-    let ends = ends.share()?;
-    Ok(Node { ends, children })
+    match children.get(letter) {
+        None => {
+            let tail = Forest::tail(number, trace.clone()?, at);
+            let children = children.put(alloc, letter, tail)?;
+            Ok(Node { ends, children })
+        }
+        Some(grown) => {
+            let below = planted(alloc, Node::behind(grown)?, number, trace, at + 1)?;
+            let children = children.swap(alloc, letter, below.ends, below.children)?;
+            Ok(Node { ends, children })
+        }
+    }
 }
 
-/// A node with one trace less, of which this is left from place `at` on. In time and memory linear
-/// in what is left; the other nodes are shared.
-pub(crate) fn uprooted(
-    alloc: Global,
-    ends: &Numbers,
-    children: &Forest,
-    number: u32,
-    trace: &Trace,
-    at: usize,
-) -> M<Node>
+/// A node with one trace less, of which this is left from place `at` on. In time and memory as
+/// `planted`; the other nodes are shared.
+pub(crate) fn uprooted(alloc: Global, node: Node, number: u32, trace: &Trace, at: usize) -> M<Node>
     requires within { at ≤ length trace.now }
     requires only { Each (λ (p : Numbered). p.0 ≡ number → p.1 ≡ drop at trace.now)
-        (passing ends.now children.now) }
-    ensures { IfOk result (λ node. passing node.ends node.children
-        ≡ without_number number (passing ends.now children.now)) }
+        (passing node.ends node.children) }
+    ensures { IfOk result (λ made. passing made.ends made.children
+        ≡ without_number number (passing node.ends node.children)) }
 {
+    let Node { ends, children } = node;
     if at == trace.len() {
         let ends = ends.without(alloc, number)?;
-        let children = children.share()?;
         return Ok(Node { ends, children });
     }
     let letter = trace.at(at);
-    let none = Numbers::new();
-    let bare = Forest::new();
-    let grown = children.grown(letter, &none, &bare);
-    let below = uprooted(alloc, grown.ends, grown.children, number, trace, at + 1)?;
-    let children = children.swap(alloc, letter, below.ends, below.children)?;
-    let ends = ends.share()?;
-    Ok(Node { ends, children })
+    match children.get_other(letter, number) {
+        None => {
+            let children = children.without(alloc, letter)?;
+            Ok(Node { ends, children })
+        }
+        Some(grown) => {
+            let below = uprooted(alloc, Node::behind(grown)?, number, trace, at + 1)?;
+            let children = children.swap(alloc, letter, below.ends, below.children)?;
+            Ok(Node { ends, children })
+        }
+    }
 }

@@ -1,6 +1,6 @@
 //! Traces by number, in versions that share their nodes.
 
-ghost use Rattle.std.specs.Prelude.{◌≡◌, ℕ, ◌<◌, ◌≤◌, List, [], ◌∷◌, ◌++◌, length, IfOk, IfSome, IfNone, Some, None, nat_eq};
+ghost use Rattle.std.specs.Prelude.{◌≡◌, ◌≢◌, ℕ, ◌<◌, ◌≤◌, List, [], ◌∷◌, ◌++◌, length, IfOk, IfSome, IfNone, Some, None, nat_eq};
 ghost use Rattle.hy_formula.specs.Quantifiers.{Each};
 ghost use Rattle.trace_trie.specs.Numbered.{Numbered, first_number, rest_from, with_number, without_number};
 
@@ -73,6 +73,28 @@ impl Numbers {
             }
         };
         Ok(Numbers { tree })
+    }
+
+    /// One trace.
+    pub(crate) fn one(number: u32, trace: Rc<Trace>) -> Numbers
+        ensures { result ≡ (number, trace.value) ∷ [] }
+    {
+        Numbers {
+            tree: NumberTree::One(number, trace),
+        }
+    }
+
+    /// The trace with its number, where there is one and no other. Takes no memory, and constant
+    /// time.
+    pub(crate) fn only(&self) -> Option<(u32, &Rc<Trace>)>
+        ensures some { IfSome result (λ p. self.now ≡ (p.0, p.1.now.value) ∷ []) }
+        ensures none { IfNone result (length self.now ≢ 1) }
+    {
+        match &self.tree {
+            NumberTree::Nothing => None,
+            NumberTree::One(number, trace) => Some((*number, trace)),
+            NumberTree::Two(_, _, _, _) => None,
+        }
     }
 
     /// The least number. Takes no memory.
@@ -188,18 +210,14 @@ impl Numbers {
         ensures { IfOk result (λ made. made ≡ self.now ++ (number, trace.value) ∷ []) }
     {
         match &self.tree {
-            NumberTree::Nothing => Ok(Numbers {
-                tree: NumberTree::One(number, trace),
-            }),
+            NumberTree::Nothing => Ok(Numbers::one(number, trace)),
             NumberTree::Two(split, _, first, second) if second.count() < first.count() => {
                 let more = second.push(alloc, number, trace)?;
                 Numbers::with_second(alloc, *split, first, more)
             }
             _ => {
                 let all = Rc::new(alloc, self.share()?)?;
-                let last = Numbers {
-                    tree: NumberTree::One(number, trace),
-                };
+                let last = Numbers::one(number, trace);
                 Numbers::with_second(alloc, number, &all, last)
             }
         }

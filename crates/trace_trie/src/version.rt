@@ -2,12 +2,13 @@
 
 ghost use Rattle.std.specs.Prelude.{◌≡◌, ◌↔◌, ℕ, ◌<◌, List, [], ◌∷◌, ◌++◌, Some, None, IfOk, IfSome, IfNone, IsSome, IsTrue, is_some, option_map};
 ghost use Rattle.hy_formula.specs.Quantifiers.{Each};
-ghost use Rattle.trace_trie.specs.Numbered.{Numbered, IsAscending, AreTraces, IsHeld, rest_from, with_number, without_number};
+ghost use Rattle.trace_trie.specs.Numbered.{Numbered, IsAscending, AreTraces, IsHeld, in_order, rest_from, with_number, without_number};
+ghost use Rattle.trace_trie.specs.Forests.{passing};
 ghost use Rattle.trace_trie.specs.Cursors.{rests_at};
 
 use crate::cursor::Cursor;
 use crate::forest::Forest;
-use crate::node::{planted, uprooted};
+use crate::node::{Node, planted, uprooted};
 use crate::numbers::Numbers;
 use hy_base::{M, Remake};
 use hy_bits::LetterMask;
@@ -72,13 +73,12 @@ impl Version {
         ensures { IfOk result (λ made. made ≡ self.now) }
     {
         let all = self.all.share()?;
-        let ends = self.ends.share()?;
-        let children = self.children.share()?;
+        let node = self.top()?;
         Ok(Version {
             alloc: self.alloc,
             all,
-            ends,
-            children,
+            ends: node.ends,
+            children: node.children,
         })
     }
 
@@ -99,7 +99,7 @@ impl Version {
     {
         trace.len();
         let trace = Rc::new(self.alloc, trace.remake(self.alloc)?)?;
-        let node = planted(self.alloc, &self.ends, &self.children, number, &trace, 0)?;
+        let node = planted(self.alloc, self.top()?, number, &trace, 0)?;
         let all = self.all.push(self.alloc, number, trace)?;
         Ok(Version {
             alloc: self.alloc,
@@ -116,7 +116,7 @@ impl Version {
         match self.all.get(number) {
             None => self.share(),
             Some(trace) => {
-                let node = uprooted(self.alloc, &self.ends, &self.children, number, trace, 0)?;
+                let node = uprooted(self.alloc, self.top()?, number, trace, 0)?;
                 let all = self.all.without(self.alloc, number)?;
                 Ok(Version {
                     alloc: self.alloc,
@@ -169,6 +169,15 @@ impl Version {
             None => Ok(None),
             Some(trace) => Ok(Some(trace.remake(self.alloc)?)),
         }
+    }
+
+    /// The node that all traces pass, in constant time.
+    fn top(&self) -> M<Node>
+        ensures { IfOk result (λ node. in_order (passing node.ends node.children) ≡ self.now) }
+    {
+        let ends = self.ends.share()?;
+        let children = self.children.share()?;
+        Ok(Node { ends, children })
     }
 
     /// The node that all traces pass. Takes no memory.

@@ -1,19 +1,22 @@
-use Rattle.std.proofs.Common.{◌∙◌}
-use Rattle.trace_trie.specs.Numbered.{in_order}
+use Rattle.std.proofs.Common.{◌≡◌, [], sym, ◌∙◌, subst}
+use Rattle.trace_trie.specs.Numbered.{under, in_order}
 use Rattle.trace_trie.specs.Forests.{passing}
+use Rattle.trace_trie.specs.Grown.{left_in}
+use Rattle.trace_trie.specs.Cursors.{ends_at, kids_at, rests_at}
+use Rattle.trace_trie.specs.declared.cursor.Point.{Point}
 use Rattle.trace_trie.proofs.Walking.{child-some, child-none}
 use Rattle.trace_trie.proofs.cursor.Cursor.child_of.Goals as goal
 
 pub returns-in-Some-clause-some : goal.returns-in-Some-clause-some
 returns-in-Some-clause-some c =
-    let node = c.args.self.now in
-    let grown = c.in-Some.grown in
-    (λ i. in_order (passing (c.of.ensures.ends i) (c.of.ensures.children i)))
-    ∙ child-some c.args.letter node.ends.now node.children.now c.kids_differ.ensures
-    (passing grown.ends.now grown.children.now) c.in-Some.ensures.some
+    let P : Point → Type 0 =
+    λ q. rests_at c.behind.result ≡ under c.args.letter (in_order (passing (ends_at q) (kids_at q))) in
+    subst P (sym c.in-Node.is) (c.behind.ensures
+    ∙ child-some c.args.letter c.in-Node.field-0.now c.in-Node.children.now c.kids_differ.ensures (left_in c.in-Some.grown) c.in-Some.ensures.some)
 
 pub returns-in-None-clause-none : goal.returns-in-None-clause-none
 returns-in-None-clause-none c =
-    let node = c.args.self.now in
-    child-none c.args.letter node.ends.now node.children.now c.kids_differ.ensures
-    c.in-None.ensures.none
+    let P : Point → Type 0 =
+    λ q. under c.args.letter (in_order (passing (ends_at q) (kids_at q))) ≡ [] in
+    subst P (sym c.in-Node.is)
+    (child-none c.args.letter c.in-Node.field-0.now c.in-Node.children.now c.kids_differ.ensures c.in-None.ensures.none)

@@ -1,19 +1,34 @@
-use Rattle.std.proofs.Common.{◌≡◌, ◌++◌, [], List, true, false, sym, ◌∙◌, subst}
+use Rattle.std.proofs.Common.{◌≡◌, ◌++◌, [], List, true, false, slice_get, Some, sym, ap, ◌∙◌, subst}
 use Rattle.std.proofs.lemmas.Result.{IfOk-weaker}
 use Rattle.std.specs.FinSet.{contains}
 use Rattle.hy_bits.specs.Letter.{Letter}
 use Rattle.hy_formula.specs.Quantifiers.{Each}
 use Rattle.trace_trie.specs.Kids.{Kid, IsSwapped}
-use Rattle.trace_trie.proofs.Kids.{each-swapped, swapped-gone, swapped-other}
+use Rattle.trace_trie.proofs.Kids.{each-swapped}
+use Rattle.trace_trie.proofs.Alone.{child-itself, at_tail, tail_child}
 use Rattle.trace_trie.proofs.Forked.{at_fork, at_child, swapped-have, swapped-lack}
 use Rattle.trace_trie.proofs.forest.Forest.+without.Goals as goal
+
+pub rest-requires : goal.rest-requires
+rest-requires t c = child-itself (at_child c.self.view_is c.self.invariant c.in-Child.is)
+
+pub rest-requires-in-Tail : goal.rest-requires-in-Tail
+rest-requires-in-Tail t c =
+    let e : slice_get c.in-Tail.trace.value c.in-Tail.at ≡ Some c.at.result =
+    ap (λ (q : List Letter). slice_get q c.in-Tail.at) (sym c.deref.ensures) ∙ c.at.ensures in
+    child-itself (tail_child (at_tail c.self.view_is c.self.invariant c.in-Tail.is) e)
+
+pub with_second-requires-clause-lack : goal.with_second-requires-clause-lack
+with_second-requires-clause-lack t c =
+    let at = at_fork c.self.view_is c.self.invariant c.in-Fork.is in
+    at.lack
 
 pub with_second-requires-clause-have : goal.with_second-requires-clause-have
 with_second-requires-clause-have t c =
     let at = at_fork c.self.view_is c.self.invariant c.in-Fork.is in
     let P : List Kid → Type 0 = Each (λ (k : Kid). contains k.0 c.in-Fork.name ≡ true) in
     each-swapped (λ (a : Letter). contains a c.in-Fork.name ≡ true) c.in_ok-rest-in-Fork.ensures
-    (sym c.has.ensures ∙ c.if-has.true) (subst P (sym c.deref.ensures) at.have)
+    (sym c.has.ensures ∙ c.if-has.true) (subst P (sym c.deref-then-has.ensures) at.have)
 
 pub with_first-requires-clause-lack : goal.with_first-requires-clause-lack
 with_first-requires-clause-lack t c =
@@ -27,28 +42,13 @@ with_first-requires-clause-have t c =
     let at = at_fork c.self.view_is c.self.invariant c.in-Fork.is in
     at.have
 
-pub returns-then-same : goal.returns-then-same
-returns-then-same t c =
-    let at = at_child c.self.view_is c.self.invariant c.in-Child.is in
-    let P : List Kid → Type 0 = λ (q : List Kid). IsSwapped c.args.letter [] q [] in
-    let Q : List Kid → Type 0 = λ (q : List Kid). IsSwapped c.args.letter [] c.args.self.now q in
-    subst Q (sym c.new-then-same.ensures) (subst P (sym at.is) (swapped-gone c.args.letter c.in-Child.held _ (sym c.same.ensures ∙ c.if-same.true) at.some))
-
-pub returns-else-same : goal.returns-else-same
-returns-else-same t c =
-    let at = at_child c.self.view_is c.self.invariant c.in-Child.is in
-    let P : List Kid → Type 0 = λ (q : List Kid). IsSwapped c.args.letter [] q q in
-    let Q : List Kid → Type 0 = λ (q : List Kid). IsSwapped c.args.letter [] c.args.self.now q in
-    let s : Q c.args.self.now = subst P (sym at.is) (swapped-other c.args.letter c.in-Child.held _ (sym c.same.ensures ∙ c.if-same.false)) in
-    IfOk-weaker c.share.result (λ (q : List Kid). q ≡ c.args.self.now) Q (λ q e. subst Q (sym e) s) c.share.ensures
-
 pub returns-in_ok-rest-in-Fork : goal.returns-in_ok-rest-in-Fork
 returns-in_ok-rest-in-Fork t c =
     let at = at_fork c.self.view_is c.self.invariant c.in-Fork.is in
     let P : List Kid → Type 0 = λ (q : List Kid). IsSwapped c.args.letter [] q c.in_ok-rest-in-Fork.rest in
     let Q : List Kid → Type 0 = λ (q : List Kid). IsSwapped c.args.letter [] c.args.self.now q in
     let s : Q (c.in-Fork.first.value ++ c.in_ok-rest-in-Fork.rest) =
-    swapped-have c.args.letter at (sym c.has.ensures ∙ c.if-has.true) (subst P c.deref.ensures c.in_ok-rest-in-Fork.ensures) in
+    swapped-have c.args.letter at (sym c.has.ensures ∙ c.if-has.true) (subst P c.deref-then-has.ensures c.in_ok-rest-in-Fork.ensures) in
     IfOk-weaker c.with_second.result (λ (q : List Kid). q ≡ c.in-Fork.first.value ++ c.in_ok-rest-in-Fork.rest) Q (λ q e. subst Q (sym e) s) c.with_second.ensures
 
 pub returns-in_ok-rest-in-Fork-2 : goal.returns-in_ok-rest-in-Fork-2

@@ -17,7 +17,7 @@ pub uprooted-requires-clause-only : goal.uprooted-requires-clause-only
 uprooted-requires-clause-only c =
     let P : List Numbered → Type 0 = Each (λ (p : Numbered). p.0 ≡ c.args.number → p.1 ≡ c.in-Some.trace.now) in
     each-unorder (λ (p : Numbered). p.0 ≡ c.args.number → p.1 ≡ c.in-Some.trace.now) _
-    (subst P (sym c.self.invariant.rests) (only-number c.args.number c.in-Some.trace.now c.self.inside.all c.self.invariant.ascending c.in-Some.ensures.some))
+    (subst P (sym (c.in_ok-top-in-Some.ensures ∙ sym c.self.view_is)) (only-number c.args.number c.in-Some.trace.now c.self.inside.all c.self.invariant.ascending c.in-Some.ensures.some))
 
 pub invariant_of-result : goal.invariant_of-result
 invariant_of-result c =
@@ -27,6 +27,6 @@ invariant_of-result c =
       ascending = subst IsAscending (sym whole) (ascending-filter (λ (p : Numbered). not (eqb p.0 c.args.number)) all c.self.invariant.ascending);
       traces = subst AreTraces (sym whole) (each-filter (λ (p : Numbered). (1 ≤ length p.1) × (length p.1 ≤ 1024)) (λ (p : Numbered). not (eqb p.0 c.args.number)) all c.self.invariant.traces);
       rests =
-          ap in_order c.in_ok-node-in-Some.ensures ∙ in-order-filter (λ (p : Numbered). not (eqb p.0 c.args.number)) (passing c.self.inside.ends c.self.inside.children)
-          ∙ ap (without_number c.args.number) c.self.invariant.rests ∙ sym whole;
+          ap in_order c.in_ok-node-in-Some.ensures ∙ in-order-filter (λ (p : Numbered). not (eqb p.0 c.args.number)) (passing c.in_ok-top-in-Some.field-0.ends c.in_ok-top-in-Some.field-0.children)
+          ∙ ap (without_number c.args.number) (c.in_ok-top-in-Some.ensures ∙ sym c.self.view_is) ∙ sym whole;
     }
