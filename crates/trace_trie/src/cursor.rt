@@ -1,6 +1,6 @@
 //! Nodes of a version, one after another down a trace.
 
-ghost use Rattle.std.specs.Prelude.{◌≡◌, ℕ, ◌<◌, List, [], length, slice_get, Option, Some, None, IfSome, IfNone};
+ghost use Rattle.std.specs.Prelude.{◌≡◌, ℕ, ◌<◌, List, [], ◌∷◌, length, slice_get, Option, Some, None, IfSome, IfNone};
 ghost use Rattle.std.specs.List.{Contains};
 ghost use Rattle.hy_bits.specs.Letter.{Letter};
 ghost use Rattle.hy_formula.specs.Quantifiers.{Each};
@@ -85,6 +85,14 @@ impl<'a> Cursor<'a> {
         ensures none { IfNone result (Each (λ (p : Numbered). 0 < length p.1) (rests_at self.now)) }
     {
         self.ends.first()
+    }
+
+    /// Where one trace alone passes here: its number, and what is left of it. In constant time, and
+    /// takes no memory. `None` says nothing.
+    pub fn alone(&self) -> Option<(u32, &'a [LetterMask])>
+        ensures { IfSome result (λ p. rests_at self.now ≡ (p.0, p.1.now) ∷ []) }
+    {
+        None
     }
 
     /// A trace that passes here, where there is one. Takes no memory, and time linear in the most
