@@ -1,5 +1,6 @@
 pub mod Choosing
 pub mod Ending
+pub mod Following
 pub mod Lists
 pub mod Longest
 pub mod Nexts

@@ -1,5 +1,5 @@
 -- Members of lists, and lists of different members.
-use Rattle.std.proofs.Common.{◌≡◌, ℕ, zero, suc, ◌≤◌, List, [], ◌∷◌, ◌++◌, length, map, take, set, slice_get, Some, inl, inr, refl, sym, ap, ◌∙◌, subst, arith}
+use Rattle.std.proofs.Common.{◌≡◌, ℕ, zero, suc, ◌<◌, ◌≤◌, List, [], ◌∷◌, ◌++◌, length, map, take, set, slice_get, Some, inl, inr, refl, sym, ap, ◌∙◌, subst, arith}
 use Rattle.std.specs.List.{Contains}
 use Rattle.std.proofs.lemmas.List.Elements.{Contains-append_cases}
 use Rattle.hy_formula.specs.Quantifiers.{Each}
@@ -43,6 +43,17 @@ map-set f [] i x = refl
 map-set f (y ∷ ys) zero x = refl
 map-set f (y ∷ ys) (suc i) x = ap (λ zs. f y ∷ zs) (map-set f ys i x)
 
+pub map-more : {A B : Type 0} (f : A → B) (xs : List A) (x : A)
+    → map f (xs ++ x ∷ []) ≡ map f xs ++ f x ∷ []
+map-more f [] x = refl
+map-more f (y ∷ ys) x = ap (λ zs. f y ∷ zs) (map-more f ys x)
+
+pub take-more : {A : Type 0} (xs : List A) (i : ℕ) (x : A) → slice_get xs i ≡ Some x
+    → take (suc i) xs ≡ take i xs ++ x ∷ []
+take-more [] i x e = absurd (cc)
+take-more (y ∷ ys) zero x e = let same : y ≡ x = cc in ap (λ z. z ∷ []) same
+take-more (y ∷ ys) (suc i) x e = ap (λ zs. y ∷ zs) (take-more ys i x e)
+
 pub get-contains : {A : Type 0} (xs : List A) (i : ℕ) (x : A) → slice_get xs i ≡ Some x
     → Contains xs x
 get-contains [] i x e = absurd (cc)
@@ -60,6 +71,23 @@ each-at P (y ∷ ys) x h c =
       | inl e ↦ subst P e h.0
       | inr later ↦ each-at P ys x h.1 later
     ]
+
+pub each-get : {A : Type 0} (P : A → Type 0) (n i : ℕ) (xs : List A) (x : A) → i < n
+    → slice_get xs i ≡ Some x → Each P (take n xs) → P x
+each-get P zero i xs x lt e h = absurd (omega arith)
+each-get P (suc n) i [] x lt e h = absurd (cc)
+each-get P (suc n) zero (y ∷ ys) x lt e h = let same : y ≡ x = cc in subst P same h.0
+each-get P (suc n) (suc i) (y ∷ ys) x lt e h = each-get P n i ys x (omega arith) e h.1
+
+pub each-more : {A : Type 0} (P : A → Type 0) (n i : ℕ) (xs : List A) (x : A) → i < n
+    → slice_get xs i ≡ Some x → P x → Each P (take i (take n xs))
+    → Each P (take (suc i) (take n xs))
+each-more P zero i xs x lt e p h = absurd (omega arith)
+each-more P (suc n) i [] x lt e p h = absurd (cc)
+each-more P (suc n) zero (y ∷ ys) x lt e p h =
+    let same : y ≡ x = cc in (subst P (sym same) p, tt)
+each-more P (suc n) (suc i) (y ∷ ys) x lt e p h =
+    (h.0, each-more P n i ys x (omega arith) e p h.1)
 
 pub each-map : {A B : Type 0} (P : B → Type 0) (f : A → B) (xs : List A)
     → Each (λ x. P (f x)) xs → Each P (map f xs)

@@ -17,7 +17,6 @@ use Rattle.fin_monitor.specs.Machines.{Machine, is_accepting}
 use Rattle.fin_monitor.proofs.CodeBits.{code-or}
 use Rattle.trace_trie.specs.Numbered.{Numbered}
 use Rattle.tuple_walk.specs.declared.place.Place.{Place}
-use Rattle.tuple_walk.specs.Finds.{numbers_of}
 use Rattle.tuple_walk.specs.Places.{HasEnded, letter_or, letter_taken, taken_of}
 use Rattle.tuple_walk.specs.Searches.{IsTupleOf, CanStop, AreEnded}
 use Rattle.tuple_walk.proofs.Ending.{goes-on}
@@ -70,11 +69,6 @@ ended-more (suc n) zero (q ∷ ps) p (y ∷ xs) x lt e h c f = absurd h
 ended-more (suc n) (suc i) (q ∷ ps) p [] x lt e h c f = absurd h
 ended-more (suc n) (suc i) (q ∷ ps) p (y ∷ xs) x lt e h c f =
     (h.0, h.1, ended-more n i ps p xs x (omega arith) e h.2 c f)
-
-pub numbers-more : (xs : List Numbered) (x : Numbered)
-    → numbers_of (xs ++ x ∷ []) ≡ numbers_of xs ++ x.0 ∷ []
-numbers-more [] x = refl
-numbers-more (y ∷ xs) x = ap (λ l. y.0 ∷ l) (numbers-more xs x)
 
 pub rejects-accepts : (m : Machine) (lengths : Lengths) (q : ℕ) (ls : List (List Numbered))
     (b : Bool) → 0 < length ls → OnFalse b (¬ CanStop lengths ls)

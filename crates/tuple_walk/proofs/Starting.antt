@@ -154,7 +154,7 @@ words-later [] v i = refl
 words-later (t ∷ ts) zero i = tail-later t i
 words-later (t ∷ ts) (suc v) i = words-later ts v i
 
-over-next : (m : Machine) (q i : ℕ) (ts : List Trace)
+pub over-next : (m : Machine) (q i : ℕ) (ts : List Trace)
     → state_over m q ts (suc i) ≡ next_state m (state_over m q ts i) (code_at m (trace_words ts) i)
 over-next m q zero ts = refl
 over-next m q (suc i) ts =

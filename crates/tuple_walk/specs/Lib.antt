@@ -1,3 +1,4 @@
+pub mod Alone
 pub mod Finds
 pub mod Four
 pub mod JointPrefixes

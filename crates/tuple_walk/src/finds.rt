@@ -104,5 +104,5 @@ fn start<'a>(version: &'a Version, place: usize, number: u32, trace: &'a [Letter
     ensures open { Each IsOpen (four result) }
 {
     let alone = Place::at(&Spot::Alone(number, trace));
-    Places::all(&Spot::Node(version.root())).with(place, &alone)
+    Places::all(&Spot::of(version.root())).with(place, &alone)
 }

@@ -2,6 +2,7 @@
 //! so that a joint prefix of many tuples is stepped once.
 #![tactic(auto)]
 
+mod alone;
 mod finds;
 mod place;
 mod tuple;

@@ -1,12 +1,14 @@
 //! Where a walk stands at one place of its tuples.
 
 ghost use Rattle.std.specs.Prelude.{◌≡◌, ◌<◌, ℕ, [], ◌∷◌, length, map, replicate, set, slice_get, Some, None, IfSome, IfNone};
+ghost use Rattle.std.specs.Bool.{OnTrue};
 ghost use Rattle.std.specs.List.{Contains};
 ghost use Rattle.hy_bits.specs.Letter.{Letter as NameSet};
 ghost use Rattle.hy_finite.specs.declared.lengths.Lengths.{Lengths};
 ghost use Rattle.hy_finite.specs.declared.lengths.Lengths.TheVariants.{Pad};
 ghost use Rattle.hy_finite.specs.Traces.{Trace};
-ghost use Rattle.trace_trie.specs.Cursors.{AreLetters};
+ghost use Rattle.trace_trie.specs.Cursors.{rests_at, AreLetters};
+ghost use Rattle.tuple_walk.specs.Alone.{IsAloneAt};
 ghost use Rattle.tuple_walk.specs.Places.{rests_of, letters_at, whole_of, open_at, letter_taken, has_taken, HasEnded, IsMoved, IsWay};
 ghost use Rattle.tuple_walk.specs.Four.{four};
 ghost use Rattle.tuple_walk.specs.declared.place.Taken.TheVariants.{Nothing};
@@ -42,6 +44,37 @@ pub(crate) struct Place<'a> {
 }
 
 impl<'a> Spot<'a> {
+    /// The spot at a node.
+    pub(crate) fn of(node: Cursor<'a>) -> Spot<'a>
+        ensures { rests_of result ≡ rests_at node.entry }
+    {
+        match node.alone() {
+            Some((number, rest)) => Spot::Alone(number, rest),
+            None => Spot::Node(node),
+        }
+    }
+
+    /// Whether one trace alone is left, by its letters.
+    pub(crate) fn is_alone(&self) -> bool
+        ensures { OnTrue result (IsAloneAt self.now) }
+    {
+        match self {
+            Spot::Alone(_, _) => true,
+            Spot::Node(_) => false,
+        }
+    }
+
+    /// What is left of the trace that is alone.
+    pub(crate) fn rest(&self) -> &'a [LetterMask]
+        requires { IsAloneAt self.now }
+        ensures { (n : ℕ) × (rests_of self.now ≡ (n, result.now) ∷ []) }
+    {
+        match self {
+            Spot::Alone(_, rest) => rest,
+            Spot::Node(_) => unreachable!(),
+        }
+    }
+
     /// The number of a trace that ends here.
     pub(crate) fn ended(&self) -> Option<u32>
         ensures some { IfSome result (λ n. Contains (rests_of self.now) (n, [])) }
@@ -104,7 +137,7 @@ impl<'a> Spot<'a> {
                 cursor.letters_differ();
                 Place {
                     taken: Taken::Letter(cursor.letter(i)),
-                    spot: Spot::Node(cursor.child(i)),
+                    spot: Spot::of(cursor.child(i)),
                 }
             }
         }

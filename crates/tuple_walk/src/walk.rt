@@ -57,6 +57,9 @@ impl<'a> Walk<'a> {
         if self.monitor.is_settled(q) {
             return None;
         }
+        if self.are_alone(places) {
+            return self.follow(places, q, steps);
+        }
         if self.rejects(places, q) {
             return self.tuple_of(places);
         }
@@ -291,7 +294,7 @@ impl<'a> Walk<'a> {
     }
 
     /// The numbers of a tuple from the places, with traces that have ended where there are some.
-    fn tuple_of(&self, places: &Places<'a>) -> Option<Tuple>
+    pub(crate) fn tuple_of(&self, places: &Places<'a>) -> Option<Tuple>
         ensures some { IfSome result (λ numbers. (pairs : List Numbered)
             × AreEnded (rests_in self.now places.now) pairs
             × (numbers_of pairs ≡ numbers)) }

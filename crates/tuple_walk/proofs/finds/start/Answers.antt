@@ -7,9 +7,10 @@ use Rattle.tuple_walk.proofs.finds.start.Goals as goal
 
 pub returns-clause-rests : goal.returns-clause-rests
 returns-clause-rests c n =
+    let e = c.of.ensures ∙ c.root.ensures in
     start-rests n (four c.with.result) (four c.all.result) c.args.place c.at-alone.result
     (c.args.version.now ∷ c.args.version.now ∷ c.args.version.now ∷ c.args.version.now ∷ [])
     ((c.args.number, c.args.trace.now) ∷ []) c.with.ensures
     (ap (map left_at) c.all.ensures
-    ∙ (λ i. c.root.ensures i ∷ c.root.ensures i ∷ c.root.ensures i ∷ c.root.ensures i ∷ []))
+    ∙ (λ i. e i ∷ e i ∷ e i ∷ e i ∷ []))
     (ap rests_of c.at-alone.ensures.spot)

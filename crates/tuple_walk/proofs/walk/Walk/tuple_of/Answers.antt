@@ -6,9 +6,9 @@ use Rattle.tuple_walk.specs.Four.{four}
 use Rattle.tuple_walk.specs.Places.{AreSome}
 use Rattle.tuple_walk.specs.Searches.{AreEnded}
 use Rattle.tuple_walk.specs.Walks.{machine_in, rests_in}
-use Rattle.tuple_walk.proofs.Lists.{each-at}
+use Rattle.tuple_walk.proofs.Lists.{map-more, each-at}
 use Rattle.tuple_walk.proofs.Nexts.{long-places, take-whole}
-use Rattle.tuple_walk.proofs.Scanning.{at-member, ended-more, numbers-more}
+use Rattle.tuple_walk.proofs.Scanning.{at-member, ended-more}
 use Rattle.tuple_walk.proofs.Stepping.{left_at}
 use Rattle.tuple_walk.proofs.walk.Walk.tuple_of.Goals as goal
 
@@ -47,7 +47,7 @@ loop-i-preserved c =
     let (e, f) = subst P one (
       ended-more n i (four c.args.places.now) c.at.result ps (number, t)
           (omega (arith, c.vars-count.ensures.vars)) c.at.ensures ended here done,
-      numbers-more ps (number, t)
+      map-more (λ (p : Numbered). p.0) ps (number, t)
           ∙ ap (λ l. l ++ number ∷ []) same
           ∙ sym (take-suc-set c.loop-i.numbers i number lt),
     ) in

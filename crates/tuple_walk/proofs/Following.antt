@@ -1,0 +1,241 @@
+-- One tuple alone, position by position.
+use Rattle.std.proofs.Common.{◌≡◌, ◌⊎◌, ℕ, zero, suc, ◌<◌, ◌≤◌, List, [], ◌∷◌, ◌++◌, length, map, take, slice_get, get_or, Option, Some, None, IfSome, IfNone, inl, inr, refl, sym, ap, ◌∙◌, subst, arith}
+use Rattle.std.specs.List.{Contains}
+use Rattle.std.proofs.lemmas.Bool.{cases_eq}
+use Rattle.std.specs.Borrow.{Bor}
+use Rattle.std.specs.FinSet.{empty, contains}
+use Rattle.hy_bits.specs.Letter.{Letter}
+use Rattle.hy_formula.specs.Quantifiers.{Each}
+use Rattle.hy_formula.proofs.Tuples.{contains-here, contains-cases, contains-none}
+use Rattle.hy_finite.specs.declared.lengths.Lengths.{Lengths}
+use Rattle.hy_finite.specs.declared.lengths.Lengths.TheVariants.{Min, Pad}
+use Rattle.hy_finite.specs.Traces.{Trace, of_two, judged, trace_words}
+use Rattle.fin_monitor.specs.Codes.{code_of, joint_letter}
+use Rattle.fin_monitor.specs.Machines.{Machine, IsMonitor, next_state, settled_state, code_at}
+use Rattle.fin_monitor.proofs.CodeBits.{code-lt}
+use Rattle.trace_trie.specs.Numbered.{Numbered, tail}
+use Rattle.tuple_walk.specs.Alone.{left_of}
+use Rattle.tuple_walk.specs.Finds.{numbers_of, traces_of}
+use Rattle.tuple_walk.specs.JointPrefixes.{Row, rows_of}
+use Rattle.tuple_walk.specs.Places.{AreSome}
+use Rattle.tuple_walk.specs.Searches.{state_over, AreFrom, IsTupleOf, IsAccepted, IsRejected, AreAccepted, IsSearch, AreEnded, AreApart, IsPrefixIn, AreSteps}
+use Rattle.tuple_walk.proofs.Ending.{ended-from}
+use Rattle.tuple_walk.proofs.Nexts.{take-whole}
+use Rattle.tuple_walk.proofs.Starting.{over-next}
+use Rattle.tuple_walk.proofs.Stepping.{pairs-tuple, tuple-pairs}
+use Rattle.tuple_walk.proofs.Ways.{contains-one}
+
+-- ---- lists of one member each
+
+abbrev pub ones : List Numbered → List (List Numbered)
+ones [] = []
+ones (p ∷ ps) = (p ∷ []) ∷ ones ps
+
+from-ones : (ps : List Numbered) → AreFrom (ones ps) ps
+from-ones [] = tt
+from-ones (p ∷ ps) = (contains-here p [], from-ones ps)
+
+only-pairs : (ps qs : List Numbered) → AreFrom (ones ps) qs → qs ≡ ps
+only-pairs [] [] h = refl
+only-pairs [] (q ∷ qs) h = absurd h
+only-pairs (p ∷ ps) [] h = absurd h
+only-pairs (p ∷ ps) (q ∷ qs) h =
+    let e = sym (contains-one p q h.0) in
+    let es = only-pairs ps qs h.1 in
+    λ i. e i ∷ es i
+
+only-tuple : (ps : List Numbered) (ts : List Trace) → IsTupleOf (ones ps) ts → ts ≡ traces_of ps
+only-tuple ps ts h =
+    let (qs, c, e) = tuple-pairs (ones ps) ts h in
+    sym e ∙ ap traces_of (only-pairs ps qs c)
+
+pub ones-more : (ps : List Numbered) (p : Numbered) → ones (ps ++ p ∷ []) ≡ ones ps ++ (p ∷ []) ∷ []
+ones-more [] p = refl
+ones-more (q ∷ ps) p = ap (λ ls. (q ∷ []) ∷ ls) (ones-more ps p)
+
+-- where all lists have been looked at
+pub all-ones : (ls : List (List Numbered)) (rests : List (Bor Trace)) (ps : List Numbered)
+    (i k : ℕ) → length ls ≤ i → k ≡ i → take i ls ≡ ones ps → traces_of ps ≡ left_of (take i rests)
+    → (ls ≡ ones ps) × (left_of (take k rests) ≡ traces_of ps)
+all-ones ls rests ps i k le same is traces = (
+  sym (take-whole i ls le) ∙ is,
+  ap (λ j. left_of (take j rests)) same ∙ sym traces,
+)
+
+-- ---- where the tuple is judged
+
+module _ (m : Machine) (lengths : Lengths) (q : ℕ) (ps : List Numbered)
+    (ls : List (List Numbered)) (is : ls ≡ ones ps) where
+  pub ones-accepted : IsAccepted m lengths q (traces_of ps) → AreAccepted m lengths q 0 ls
+  ones-accepted e = λ ts h le.
+      let P : List (List Numbered) → Type 0 = λ l. IsTupleOf l ts in
+      let Q : List Trace → Type 0 = IsAccepted m lengths q in
+      subst Q (sym (only-tuple ps ts (subst P is h))) e
+
+  pub ones-rejected : IsRejected m lengths q (traces_of ps) → (r : Option (List ℕ))
+      → IfSome r (λ numbers. (qs : List Numbered) × AreEnded ls qs × (numbers_of qs ≡ numbers))
+      → IfNone r (¬ AreSome ls) → AreSome ls → IsSearch m lengths q 0 ls r
+  ones-rejected e None some none are = absurd (none are)
+  ones-rejected e (Some numbers) (qs, ended, same) none are =
+      let from = ended-from ls qs ended in
+      let P : List (List Numbered) → Type 0 = λ l. AreFrom l qs in
+      let Q : List Numbered → Type 0 = λ l. IsRejected m lengths q (traces_of l) in
+      record {
+        pairs = qs;
+        members = from;
+        same = same;
+        rejected = subst Q (sym (only-pairs ps qs (subst P is from))) e;
+      }
+
+-- ---- steps
+
+-- the prefixes of up to k rows
+abbrev prefixes : List Trace → ℕ → List (List Row)
+prefixes ts zero = []
+prefixes ts (suc k) = rows_of ts (suc k) ∷ prefixes ts k
+
+many-prefixes : (ts : List Trace) (k : ℕ) → length (prefixes ts k) ≡ k
+many-prefixes ts zero = refl
+many-prefixes ts (suc k) = ap suc (many-prefixes ts k)
+
+many-rows : (ts : List Trace) (k : ℕ) → length (rows_of ts k) ≡ k
+many-rows ts zero = refl
+many-rows ts (suc k) = ap suc (many-rows (map tail ts) k)
+
+short-prefixes : (ts : List Trace) (k : ℕ) (rows : List Row) → Contains (prefixes ts k) rows
+    → length rows ≤ k
+short-prefixes ts zero rows c = absurd (contains-none rows c)
+short-prefixes ts (suc k) rows c =
+    elim (contains-cases (rows_of ts (suc k)) rows (prefixes ts k) c) [
+      | inl e ↦ omega (arith, ap (λ (l : List Row). length l) e, many-rows ts (suc k))
+      | inr later ↦ omega (arith, short-prefixes ts k rows later)
+    ]
+
+apart-prefixes : (ts : List Trace) (k : ℕ) → AreApart (prefixes ts k)
+apart-prefixes ts zero = tt
+apart-prefixes ts (suc k) = (
+  λ c. omega (arith, short-prefixes ts k (rows_of ts (suc k)) c, many-rows ts (suc k)),
+  apart-prefixes ts k,
+)
+
+module _ (lengths : Lengths) (ps : List Numbered) (ls : List (List Numbered))
+    (is : ls ≡ ones ps) where
+  among : IsTupleOf ls (traces_of ps)
+  among =
+      let P : List (List Numbered) → Type 0 = λ l. IsTupleOf l (traces_of ps) in
+      subst P (sym is) (pairs-tuple (ones ps) ps (from-ones ps))
+
+  each-prefix : (k : ℕ) → k ≤ judged lengths (traces_of ps)
+      → Each (IsPrefixIn lengths ls) (prefixes (traces_of ps) k)
+  each-prefix zero le = tt
+  each-prefix (suc k) le = (
+    (
+      traces_of ps,
+      among,
+      record { count = suc k; some = omega arith; inside = le; same = refl },
+    ),
+    each-prefix k (omega arith),
+  )
+
+  -- a step for each of the first positions
+  pub ones-steps : (made : ℕ) → made ≤ judged lengths (traces_of ps) → AreSteps lengths ls made
+  ones-steps made le = record {
+    visited = prefixes (traces_of ps) made;
+    apart = apart-prefixes (traces_of ps) made;
+    inside = each-prefix made le;
+    many = omega (arith, many-prefixes (traces_of ps) made);
+  }
+
+-- ---- the length on which a tuple is judged
+
+two-of_two : (lengths : Lengths) (a b c : ℕ)
+    → of_two lengths a (of_two lengths b c) ≡ of_two lengths (of_two lengths a b) c
+two-of_two Min a b c = omega arith
+two-of_two Pad a b c = omega arith
+
+pub judged-more : (lengths : Lengths) (ts : List Trace) (i : ℕ) (t : Trace) → 0 < i
+    → slice_get ts i ≡ Some t
+    → judged lengths (take (suc i) ts) ≡ of_two lengths (judged lengths (take i ts)) (length t)
+judged-more lengths ts zero t lt e = absurd (omega arith)
+judged-more lengths [] (suc i) t lt e = absurd (cc)
+judged-more lengths (u ∷ []) (suc i) t lt e = absurd (cc)
+judged-more lengths (u ∷ v ∷ ts) (suc zero) t lt e =
+    let is : v ≡ t = cc in
+    ap (λ (x : Trace). of_two lengths (length u) (length x)) is
+judged-more lengths (u ∷ v ∷ ts) (suc (suc i)) t lt e =
+    ap (of_two lengths (length u)) (judged-more lengths (v ∷ ts) (suc i) t (omega arith) e)
+    ∙ two-of_two lengths (length u) (judged lengths (take (suc i) (v ∷ ts))) (length t)
+
+-- ---- what is left of traces
+
+pub left-there : (rests : List (Bor Trace)) (i : ℕ) (r : Bor Trace) → i < length rests
+    → r ≡ get_or rests i r → slice_get (left_of rests) i ≡ Some r.now
+left-there rests i r lt is =
+    at rests i lt ∙ ap (λ (q : Bor Trace). Some q.now) (sym is)
+  where
+    at : (rests : List (Bor Trace)) (i : ℕ) → i < length rests
+        → slice_get (left_of rests) i ≡ Some (get_or rests i r).now
+    at [] i lt = absurd (omega arith)
+    at (q ∷ rests) zero lt = refl
+    at (q ∷ rests) (suc i) lt = at rests i (omega arith)
+
+pub judged-first : (lengths : Lengths) (rests : List (Bor Trace)) (d : Bor Trace)
+    → 0 < length rests → length (get_or rests 0 d).now ≡ judged lengths (take 1 (left_of rests))
+judged-first lengths [] d lt = absurd (omega arith)
+judged-first lengths (r ∷ rests) d lt = refl
+
+-- ---- states
+
+-- from the settled state on it stays
+pub settled-later : (m : Machine) → IsMonitor m → (q i : ℕ) (ts : List Trace)
+    → state_over m q ts i ≡ settled_state m → (j : ℕ) → i ≤ j
+    → state_over m q ts j ≡ settled_state m
+settled-later m is q i ts e zero le =
+    let same : 0 ≡ i = omega arith in
+    ap (state_over m q ts) same ∙ e
+settled-later m is q i ts e (suc j) le = at (before i j le) (settled-later m is q i ts e j)
+  where
+    before : (i j : ℕ) → i ≤ suc j → (i ≤ j) ⊎ (suc j ≡ i)
+    before i j le = elim (cases_eq (suc j) i) [
+      | inl same ↦ inr same
+      | inr other ↦ inl (omega (arith, other))
+    ]
+
+    at : (i ≤ j) ⊎ (suc j ≡ i) → (i ≤ j → state_over m q ts j ≡ settled_state m)
+        → state_over m q ts (suc j) ≡ settled_state m
+    at (inr same) earlier = ap (state_over m q ts) same ∙ e
+    at (inl less) earlier =
+        let code = code_at m (trace_words ts) j in
+        over-next m q j ts
+        ∙ ap (λ x. next_state m x code) (earlier less)
+        ∙ is.stays code (code-lt (λ name variable. trace_words ts name variable j) m.atoms)
+
+-- ---- letters
+
+-- the letters at a position
+abbrev pub letters_at_position : ℕ → List Trace → List Letter
+letters_at_position i ts = map (λ (t : Trace). get_or t i empty) ts
+
+pub long-letters : (position : ℕ) (rests : List (Bor Trace))
+    → length (letters_at_position position (left_of rests)) ≡ length rests
+long-letters position [] = refl
+long-letters position (r ∷ rests) = ap suc (long-letters position rests)
+
+pub letter-there : (position : ℕ) (ts : List Trace) (i : ℕ) (t : Trace)
+    → slice_get ts i ≡ Some t
+    → slice_get (letters_at_position position ts) i ≡ Some (get_or t position empty)
+letter-there position [] i t e = absurd (cc)
+letter-there position (u ∷ ts) zero t e =
+    let same : u ≡ t = cc in
+    ap (λ (x : Trace). Some (get_or x position empty)) same
+letter-there position (u ∷ ts) (suc i) t e = letter-there position ts i t e
+
+position-word : (i : ℕ) (ts : List Trace) (v : ℕ)
+    → get_or (letters_at_position i ts) v empty ≡ get_or (get_or ts v []) i empty
+position-word i [] v = refl
+position-word i (t ∷ ts) zero = refl
+position-word i (t ∷ ts) (suc v) = position-word i ts v
+
+pub position-code : (m : Machine) (i : ℕ) (ts : List Trace)
+    → code_of (joint_letter (letters_at_position i ts)) m.atoms ≡ code_at m (trace_words ts) i
+position-code m i ts = λ j. code_of (λ name v. contains (position-word i ts v j) name) m.atoms

@@ -1,0 +1,137 @@
+//! The walk where one trace alone is left at each place: one tuple, letter by letter.
+
+ghost use Rattle.std.specs.Prelude.{◌≡◌, ◌-◌, ◌<◌, ◌≤◌, length, slice_index_or};
+ghost use Rattle.std.specs.Bool.{OnTrue, OnFalse};
+ghost use Rattle.std.specs.FinSet.{empty};
+ghost use Rattle.hy_formula.specs.Quantifiers.{Each};
+ghost use Rattle.hy_finite.specs.Traces.{judged, of_two, trace_words};
+ghost use Rattle.fin_monitor.specs.Machines.{codes, code_at, states_of};
+ghost use Rattle.tuple_walk.specs.Alone.{IsAlone, left_of};
+ghost use Rattle.tuple_walk.specs.Places.{AreSome};
+ghost use Rattle.tuple_walk.specs.Searches.{IsSearch, IsAccepted, IsRejected, AreSteps};
+ghost use Rattle.tuple_walk.specs.Walks.{machine_in, places_in, rests_in};
+
+use crate::place::Places;
+use crate::tuple::Tuple;
+use crate::walk::{MOST_PLACES, Walk};
+use hy_base::Steps;
+use hy_bits::LetterMask;
+use hy_finite::Lengths;
+use std::sync::ledger::Ledger;
+
+impl<'a> Walk<'a> {
+    /// Whether one trace alone is left at each place.
+    pub(crate) fn are_alone(&self, places: &Places<'a>) -> bool
+        ensures { OnTrue result (Each IsAlone (places_in self.now places.now)) }
+    {
+        for i in 0..self.monitor.vars() as usize {
+            if !places.at(i).spot.is_alone() {
+                return false;
+            }
+        }
+        true
+    }
+
+    /// As `search`, where one trace alone is left at each place. The stack stays flat.
+    pub(crate) fn follow<L: Ledger>(
+        &self,
+        places: &Places<'a>,
+        q: u32,
+        steps: &mut Steps<L>,
+    ) -> Option<Tuple>
+        requires some { 1 ≤ (machine_in self.now).variables }
+        requires state { q < states_of (machine_in self.now) }
+        requires alone { Each IsAlone (places_in self.now places.now) }
+        requires members { AreSome (rests_in self.now places.now) }
+        ensures searched { IsSearch (machine_in self.now) self.now.lengths q 0
+            (rests_in self.now places.now) result }
+        ensures steps { steps.old ≤ steps.new }
+        ensures counted { AreSteps self.now.lengths (rests_in self.now places.now)
+            (steps.new - steps.old) }
+    {
+        let mut rests: [&[LetterMask]; MOST_PLACES] = [&[]; MOST_PLACES];
+        let count = self.monitor.vars() as usize;
+        for i in 0..count {
+            rests[i] = places.at(i).spot.rest();
+        }
+        if self.rejects_rests(&rests[..count], q, steps) {
+            self.tuple_of(places)
+        } else {
+            None
+        }
+    }
+
+    /// Whether the tuple of these rests is rejected from state `q` on. It is stepped once for each
+    /// position on which it is judged, until nothing is rejected any more.
+    fn rejects_rests<L: Ledger>(
+        &self,
+        rests: &[&[LetterMask]],
+        q: u32,
+        steps: &mut Steps<L>,
+    ) -> bool
+        requires some { 1 ≤ (machine_in self.now).variables }
+        requires state { q < states_of (machine_in self.now) }
+        requires each { length rests.now ≡ (machine_in self.now).variables }
+        ensures rejected { OnTrue result (IsRejected (machine_in self.now) self.now.lengths q
+            (left_of rests.now)) }
+        ensures accepted { OnFalse result (IsAccepted (machine_in self.now) self.now.lengths q
+            (left_of rests.now)) }
+        ensures steps { steps.old ≤ steps.new }
+        ensures counted { steps.new - steps.old ≤ judged self.now.lengths (left_of rests.now) }
+    {
+        let mut state = q;
+        for i in 0..self.judged(rests) {
+            if self.monitor.is_settled(state) {
+                return false;
+            }
+            state = self.monitor.step(state, self.joint_at(rests, i), steps);
+        }
+        !self.monitor.accepts(state)
+    }
+
+    /// On how many positions the tuple of these rests is judged.
+    fn judged(&self, rests: &[&[LetterMask]]) -> usize
+        requires { 1 ≤ length rests.now }
+        ensures { result ≡ judged self.now.lengths (left_of rests.now) }
+    {
+        let mut length = rests[0].len();
+        for i in 1..rests.len() {
+            length = of_two(self.lengths, length, rests[i].len());
+        }
+        length
+    }
+
+    /// The code of the letters at position `i`, empty ones past the end of a rest.
+    fn joint_at(&self, rests: &[&[LetterMask]], i: usize) -> u32
+        requires { length rests.now ≡ (machine_in self.now).variables }
+        ensures code { result ≡ code_at (machine_in self.now) (trace_words (left_of rests.now)) i }
+        ensures within { result < codes (machine_in self.now) }
+    {
+        let mut code = 0;
+        for var in 0..self.monitor.vars() {
+            code |= self.monitor.part(var, letter_at(rests[var as usize], i));
+        }
+        code
+    }
+}
+
+/// The least of two lengths or the greatest, by the rule.
+fn of_two(lengths: Lengths, a: usize, b: usize) -> usize
+    ensures { result ≡ of_two lengths a b }
+{
+    match lengths {
+        Lengths::Min => a.min(b),
+        Lengths::Pad => a.max(b),
+    }
+}
+
+/// Letter `i` of a rest, empty past its end.
+fn letter_at(rest: &[LetterMask], i: usize) -> LetterMask
+    ensures { result ≡ slice_index_or rest.now i empty }
+{
+    if i < rest.len() {
+        rest[i]
+    } else {
+        LetterMask::empty()
+    }
+}
