@@ -1,4 +1,4 @@
-//! Nodes of a version, one after another down a trace.
+//! Points of a version, one after another down a trace.
 
 ghost use Rattle.std.specs.Prelude.{◌≡◌, ℕ, ◌<◌, List, [], ◌∷◌, length, slice_get, Option, Some, None, IfSome, IfNone, is_some, true};
 ghost use Rattle.std.specs.List.{Contains};

@@ -32,25 +32,24 @@ impl Node {
                 ends: ends.share()?,
                 children: children.share()?,
             }),
-            Grown::Tail(number, trace, at) => Node::alone(number, trace.clone()?, at),
+            Grown::Tail(number, trace, at) => Ok(Node::alone(number, trace.clone()?, at)),
         }
     }
 
     /// A node that one trace alone passes, from a place on.
-    fn alone(number: u32, trace: Rc<Trace>, at: usize) -> M<Node>
-        ensures { IfOk result (λ node. passing node.ends node.children
-            ≡ (number, drop at trace.value) ∷ []) }
+    fn alone(number: u32, trace: Rc<Trace>, at: usize) -> Node
+        ensures { passing result.ends result.children ≡ (number, drop at trace.value) ∷ [] }
     {
         if at < trace.len() {
-            Ok(Node {
+            Node {
                 ends: Numbers::new(),
                 children: Forest::tail(number, trace, at),
-            })
+            }
         } else {
-            Ok(Node {
+            Node {
                 ends: Numbers::one(number, trace),
                 children: Forest::new(),
-            })
+            }
         }
     }
 }

@@ -90,9 +90,10 @@ impl Version {
         let _all = &self.all;
     }
 
-    /// This version with one trace more, whose number is above all. In time and memory linear in
-    /// its letters, at most 64 times as much, and logarithmic in the number of traces; the other
-    /// nodes are shared.
+    /// This version with one trace more, whose number is above all. Its letters are copied once.
+    /// Nodes are built only for the front that it has in common with another trace, in time and
+    /// memory at most 64 times as much, and logarithmic in the number of traces; the others are
+    /// shared.
     pub fn insert(&self, number: u32, trace: &Trace) -> M<Version>
         requires { Each (λ (p : Numbered). p.0 < number) self.now }
         ensures { IfOk result (λ made. made ≡ self.now ++ (number, trace.now) ∷ []) }
@@ -109,7 +110,8 @@ impl Version {
         })
     }
 
-    /// This version without the trace of a number. In time and memory as `insert`.
+    /// This version without the trace of a number. In time and memory as `insert`, where nothing is
+    /// copied.
     pub fn without(&self, number: u32) -> M<Version>
         ensures { IfOk result (λ made. made ≡ without_number number self.now) }
     {

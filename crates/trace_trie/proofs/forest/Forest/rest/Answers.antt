@@ -1,7 +1,7 @@
-use Rattle.std.proofs.Common.{[], ◌∷◌, List, sym, ◌∙◌, subst}
-use Rattle.trace_trie.specs.Kids.{Kid, IsSwapped, behind}
+use Rattle.std.proofs.Common.{[], List, sym, ◌∙◌, subst}
+use Rattle.trace_trie.specs.Kids.{Kid, IsSwapped}
 use Rattle.trace_trie.proofs.Alone.{only-child}
-use Rattle.trace_trie.proofs.Kids.{swapped-gone, swapped-other}
+use Rattle.trace_trie.proofs.Kids.{swapped-gone}
 use Rattle.trace_trie.proofs.forest.Forest.rest.Goals as goal
 
 pub returns-then-same : goal.returns-then-same

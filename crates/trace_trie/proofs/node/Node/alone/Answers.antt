@@ -1,4 +1,4 @@
-use Rattle.std.proofs.Common.{◌≡◌, ◌<◌, List, ◌∷◌, [], length, length-drop, drop, ap, ◌∙◌, arith}
+use Rattle.std.proofs.Common.{◌≡◌, ◌<◌, List, [], length, length-drop, drop, ap, ◌∙◌, arith}
 use Rattle.trace_trie.specs.Numbered.{Numbered}
 use Rattle.trace_trie.specs.Kids.{Kid}
 use Rattle.trace_trie.specs.Forests.{passing}
