@@ -1,16 +1,17 @@
 -- One tuple alone, position by position.
-use Rattle.std.proofs.Common.{◌≡◌, ◌⊎◌, ℕ, zero, suc, ◌<◌, ◌≤◌, List, [], ◌∷◌, ◌++◌, length, map, take, slice_get, get_or, Option, Some, None, IfSome, IfNone, inl, inr, refl, sym, ap, ◌∙◌, subst, arith}
+use Rattle.std.proofs.Common.{◌≡◌, ◌⊎◌, ℕ, zero, suc, ◌<◌, ◌≤◌, List, [], ◌∷◌, ◌++◌, length, map, take, slice_get, get_or, bit_or, Option, Some, None, IfSome, IfNone, inl, inr, refl, sym, ap, ◌∙◌, subst, arith}
 use Rattle.std.specs.List.{Contains}
 use Rattle.std.proofs.lemmas.Bool.{cases_eq}
 use Rattle.std.specs.Borrow.{Bor}
 use Rattle.std.specs.FinSet.{empty, contains}
+use Rattle.std.specs.Int.Bits.{or_zero_l}
 use Rattle.hy_bits.specs.Letter.{Letter}
 use Rattle.hy_formula.specs.Quantifiers.{Each}
 use Rattle.hy_formula.proofs.Tuples.{contains-here, contains-cases, contains-none}
 use Rattle.hy_finite.specs.declared.lengths.Lengths.{Lengths}
 use Rattle.hy_finite.specs.declared.lengths.Lengths.TheVariants.{Min, Pad}
 use Rattle.hy_finite.specs.Traces.{Trace, of_two, judged, trace_words}
-use Rattle.fin_monitor.specs.Codes.{code_of, joint_letter}
+use Rattle.fin_monitor.specs.Codes.{code_of, part_of, joint_letter}
 use Rattle.fin_monitor.specs.Machines.{Machine, IsMonitor, next_state, settled_state, code_at}
 use Rattle.fin_monitor.proofs.CodeBits.{code-lt}
 use Rattle.trace_trie.specs.Numbered.{Numbered, tail}
@@ -21,6 +22,7 @@ use Rattle.tuple_walk.specs.Places.{AreSome}
 use Rattle.tuple_walk.specs.Searches.{state_over, AreFrom, IsTupleOf, IsAccepted, IsRejected, AreAccepted, IsSearch, AreEnded, AreApart, IsPrefixIn, AreSteps}
 use Rattle.tuple_walk.proofs.Ending.{ended-from}
 use Rattle.tuple_walk.proofs.Nexts.{take-whole}
+use Rattle.tuple_walk.proofs.Scanning.{code-more, code-none}
 use Rattle.tuple_walk.proofs.Starting.{over-next}
 use Rattle.tuple_walk.proofs.Stepping.{pairs-tuple, tuple-pairs}
 use Rattle.tuple_walk.proofs.Ways.{contains-one}
@@ -239,3 +241,18 @@ position-word i (t ∷ ts) (suc v) = position-word i ts v
 pub position-code : (m : Machine) (i : ℕ) (ts : List Trace)
     → code_of (joint_letter (letters_at_position i ts)) m.atoms ≡ code_at m (trace_words ts) i
 position-code m i ts = λ j. code_of (λ name v. contains (position-word i ts v j) name) m.atoms
+
+-- the parts of two letters
+pub two-code : (m : Machine) (i : ℕ) (t u : Trace)
+    → bit_or (part_of m.atoms 0 (get_or t i empty)) (part_of m.atoms 1 (get_or u i empty))
+    ≡ code_at m (trace_words (t ∷ u ∷ [])) i
+two-code m i t u =
+    let letters = letters_at_position i (t ∷ u ∷ []) in
+    let first = part_of m.atoms 0 (get_or t i empty) in
+    let second = part_of m.atoms 1 (get_or u i empty) in
+    ap (λ k. bit_or k second)
+    (sym (or_zero_l first)
+    ∙ ap (λ k. bit_or k first) (sym (code-none m.atoms))
+    ∙ code-more letters 0 (get_or t i empty) m.atoms refl)
+    ∙ code-more letters 1 (get_or u i empty) m.atoms refl
+    ∙ position-code m i (t ∷ u ∷ [])

@@ -1,6 +1,6 @@
 //! The walk where one trace alone is left at each place: one tuple, letter by letter.
 
-ghost use Rattle.std.specs.Prelude.{◌≡◌, ◌-◌, ◌<◌, ◌≤◌, length, slice_index_or};
+ghost use Rattle.std.specs.Prelude.{◌≡◌, ◌-◌, ◌<◌, ◌≤◌, length, slice_index_or, ◌∷◌, []};
 ghost use Rattle.std.specs.Bool.{OnTrue, OnFalse};
 ghost use Rattle.std.specs.FinSet.{empty};
 ghost use Rattle.hy_formula.specs.Quantifiers.{Each};
@@ -107,11 +107,23 @@ impl<'a> Walk<'a> {
         ensures code { result ≡ code_at (machine_in self.now) (trace_words (left_of rests.now)) i }
         ensures within { result < codes (machine_in self.now) }
     {
+        if rests.len() == 2 {
+            return self.joint_of_two(rests[0], rests[1], i);
+        }
         let mut code = 0;
         for var in 0..self.monitor.vars() {
             code |= self.monitor.part(var, letter_at(rests[var as usize], i));
         }
         code
+    }
+
+    /// As `joint_at`, for two rests: most formulas have two variables.
+    fn joint_of_two(&self, first: &[LetterMask], second: &[LetterMask], i: usize) -> u32
+        ensures code { result ≡ code_at (machine_in self.now)
+            (trace_words (first.now ∷ second.now ∷ [])) i }
+        ensures within { result < codes (machine_in self.now) }
+    {
+        self.monitor.part(0, letter_at(first, i)) | self.monitor.part(1, letter_at(second, i))
     }
 }
 

@@ -25,7 +25,9 @@ use trace_trie::Version;
 ///
 /// Traces that begin alike are walked together: for each place of the given trace, each joint
 /// prefix of such tuples is stepped at most once, and none from a state on from which nothing is
-/// rejected. The stack is as deep as the longest trace has letters.
+/// rejected. For `n` variables a letter takes at most 2n + 3 frames of the stack, as long as more
+/// than one trace may still come at some place; from there on a tuple is walked in a loop, with a
+/// flat stack.
 pub fn find<'a, L: Ledger>(
     alloc: Global,
     version: &'a Version,

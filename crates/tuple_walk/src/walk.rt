@@ -91,7 +91,10 @@ impl<'a> Walk<'a> {
             (steps.new - steps.old) }
     {
         if i == self.monitor.vars() as usize {
-            return self.advance(places, q, steps);
+            if self.some_letter(places) {
+                return self.advance(places, q, steps);
+            }
+            return None;
         }
         match self.choose_letter(places, i, q, steps) {
             Some(tuple) => return Some(tuple),
@@ -140,12 +143,13 @@ impl<'a> Walk<'a> {
         None
     }
 
-    /// As `choose`, where all is chosen.
+    /// As `choose`, where all is chosen, and a letter somewhere.
     #[cycle(walk)]
     fn advance<L: Ledger>(&self, places: &Places<'a>, q: u32, steps: &mut Steps<L>) -> Option<Tuple>
         requires some { 1 ≤ (machine_in self.now).variables }
         requires state { q < states_of (machine_in self.now) }
         requires moved { Each (IsMoved self.now.lengths) (places_in self.now places.now) }
+        requires letter { list_any is_letter (map taken_of (places_in self.now places.now)) ≡ true }
         requires members { AreSome (wholes_in self.now places.now) }
         ensures searched { IsSearch (machine_in self.now) self.now.lengths q 1
             (wholes_in self.now places.now) result }
@@ -153,9 +157,6 @@ impl<'a> Walk<'a> {
         ensures counted { AreSteps self.now.lengths (wholes_in self.now places.now)
             (steps.new - steps.old) }
     {
-        if !self.some_letter(places) {
-            return None;
-        }
         let q = self.monitor.step(q, self.joint(places), steps);
         self.search(&places.opened(), q, steps)
     }

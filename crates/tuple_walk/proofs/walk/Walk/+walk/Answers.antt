@@ -1,5 +1,4 @@
-use Rattle.std.proofs.Common.{◌≡◌, ◌+◌, ◌-◌, ◌<◌, ◌≤◌, true, ℕ, List, [], length, map, take, slice_get, Some, None, refl, sym, ap, ◌∙◌, subst, arith}
-use Rattle.std.specs.List.{list_any}
+use Rattle.std.proofs.Common.{◌≡◌, ◌+◌, ◌-◌, ◌<◌, ◌≤◌, ℕ, List, [], length, map, take, slice_get, Some, None, refl, sym, ap, ◌∙◌, subst, arith}
 use Rattle.std.proofs.lemmas.Bool.{eqb-true, OnTrue_at, OnFalse_at}
 use Rattle.hy_bits.specs.Letter.{Letter}
 use Rattle.hy_formula.specs.Quantifiers.{Each}
@@ -8,7 +7,7 @@ use Rattle.fin_monitor.specs.Machines.{settled_state}
 use Rattle.trace_trie.specs.Cursors.{AreLetters}
 use Rattle.trace_trie.specs.Numbered.{Numbered}
 use Rattle.tuple_walk.specs.Four.{four, first_places, letters_in}
-use Rattle.tuple_walk.specs.Places.{whole_of, letters_at, letter_or, taken_of, is_letter, IsOpen, IsMoved, AreSome}
+use Rattle.tuple_walk.specs.Places.{whole_of, letters_at, letter_or, IsOpen, IsMoved, AreSome}
 use Rattle.tuple_walk.specs.Searches.{AreSteps, AreStepsBy, AreAcceptedBy}
 use Rattle.tuple_walk.specs.Walks.{machine_in, places_in, rests_in, wholes_in}
 use Rattle.tuple_walk.proofs.Choosing.{no-steps_by, steps-letters}
@@ -22,22 +21,13 @@ use Rattle.tuple_walk.proofs.walk.Walk.+walk.Goals as goal
 
 -- ---- advance
 
-pub advance-returns-then-not-some_letter-clause-searched :
-    goal.advance-returns-then-not-some_letter-clause-searched
-advance-returns-then-not-some_letter-clause-searched g t c =
-    let w = c.args.self.now in
-    no-letter (machine_in w) w.lengths c.args.q (places_in w c.args.places.now) c.requires.moved
-    (sym c.some_letter.ensures ∙ c.if-not-some_letter.true)
-
 pub advance-search-requires : goal.advance-search-requires
 advance-search-requires g t c κs within =
     let w = c.args.self.now in
     let n = (machine_in w).variables in
     let ps = four c.args.places.now in
-    let letter : list_any is_letter (map taken_of (take n ps)) ≡ true =
-    sym c.some_letter.ensures ∙ c.if-not-some_letter.false in
     let left = opened-left n ps (four c.opened.result) c.opened.ensures in
-    let fewer = longest-step w.lengths (take n ps) c.requires.moved c.requires.members letter in
+    let fewer = longest-step w.lengths (take n ps) c.requires.moved c.requires.members c.requires.letter in
     let same = ap longest left in (
       omega (arith, c.decreases, fewer, same),
       (
@@ -61,7 +51,7 @@ advance-returns-clause-searched g t c =
     let n = (machine_in w).variables in
     let ps = four c.args.places.now in
     step-search (machine_in w) w.lengths c.args.q c.joint.result c.step-q.result (take n ps)
-    c.requires.moved (sym c.some_letter.ensures ∙ c.if-not-some_letter.false)
+    c.requires.moved c.requires.letter
     c.step-q.ensures.next c.joint.ensures.code (rests_in w c.opened.result)
     (opened-left n ps (four c.opened.result) c.opened.ensures) c.search.result
     c.search.ensures.searched
@@ -77,7 +67,7 @@ advance-returns-clause-counted g t c =
     let sum : behind + 1 ≡ c.search.new.steps - c.args.steps.now =
     omega (arith, c.step-q.ensures.counted, c.search.ensures.steps) in
     subst Q sum (step-steps (machine_in w) w.lengths c.args.q c.joint.result c.step-q.result
-    (take n ps) c.requires.moved (sym c.some_letter.ensures ∙ c.if-not-some_letter.false)
+    (take n ps) c.requires.moved c.requires.letter
     c.step-q.ensures.next
     (λ ts f. c.joint.ensures.code ∙ taken-code (machine_in w) _ ts (ap (map letter_or) f))
     behind c.requires.members
@@ -90,13 +80,26 @@ choose-advance-requires g t c κs within =
     let w = c.args.self.now in
     let all : c.args.i ≡ (machine_in w).variables = omega (arith, c.vars.ensures.vars) in
     let few : (machine_in w).variables ≤ 4 = w.monitor.now.right.few in
+    let letter = sym c.some_letter.ensures ∙ c.if-some_letter.true in
     let P : ℕ → Type 0 = λ k. Each (IsMoved w.lengths) (first_places k c.args.places.now) in (
       omega (arith, c.decreases, few),
       (
         within,
-        (c.requires.some, (c.requires.state, (subst P all c.requires.moved, c.requires.members))),
+        (
+          c.requires.some,
+          (c.requires.state, (subst P all c.requires.moved, (letter, c.requires.members))),
+        ),
       ),
     )
+
+pub choose-returns-then-i-vars-clause-searched :
+    goal.choose-returns-then-i-vars-clause-searched
+choose-returns-then-i-vars-clause-searched g t c =
+    let w = c.args.self.now in
+    let all : c.args.i ≡ (machine_in w).variables = omega (arith, c.vars.ensures.vars) in
+    let P : ℕ → Type 0 = λ k. Each (IsMoved w.lengths) (first_places k c.args.places.now) in
+    no-letter (machine_in w) w.lengths c.args.q (places_in w c.args.places.now)
+    (subst P all c.requires.moved) (sym c.some_letter.ensures ∙ c.if-some_letter.false)
 
 pub choose-choose_letter-requires : goal.choose-choose_letter-requires
 choose-choose_letter-requires g t c κs within =
@@ -414,7 +417,13 @@ search-advance-requires g t c κs within =
           c.requires.some,
           (
             c.requires.state,
-            (c.in-Some.ensures.moved, only-some w.lengths rests wholes c.in-Some.ensures.only),
+            (
+              c.in-Some.ensures.moved,
+              (
+                c.in-Some.ensures.letter,
+                only-some w.lengths rests wholes c.in-Some.ensures.only,
+              ),
+            ),
           ),
         ),
       ),
