@@ -5,6 +5,7 @@ pub mod Ascending
 pub mod Replacements
 pub mod Reaching
 pub mod Standing
+pub mod KeptEnds
 pub mod Searching
 pub mod Asking
 pub mod Meaning

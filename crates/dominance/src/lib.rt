@@ -5,6 +5,7 @@
 mod column;
 mod compare;
 pub mod laws;
+mod lone_ends;
 mod others;
 mod pairing;
 mod reached;

@@ -5,9 +5,11 @@ ghost use Rattle.std.specs.Bool.{OnTrue, OnFalse};
 ghost use Rattle.fin_monitor.specs.Machines.{states_of, codes};
 ghost use Rattle.fin_monitor.specs.Seen.{machine_of};
 ghost use Rattle.dominance.specs.Runs.{AreCodesOf, IsPairing, IsInside, IsFound, Stands, Differ, moved, next_node, longest, first_told, state_on, EndsIn};
+ghost use Rattle.dominance.specs.LoneEnds.{AreLoneEnds, IsLoneEnd};
 ghost use Rattle.dominance.specs.Seen.{pairing_of};
 ghost use Rattle.dominance.specs.Trails.{node_at, AreLinked, AreReached, Grows, LeadsOn};
 
+use crate::lone_ends::LoneEnds;
 use crate::reached::{Node, Reached};
 use fin_monitor::Monitor;
 use hy_base::{List, M, Memory, Steps};
@@ -27,12 +29,20 @@ pub(crate) struct Pairing<'a> {
     pub lower_codes: &'a [u32],
 }
 
+/// What the upper and the lower run come to that go on alone, as far as it is kept.
+#[derive(Drop)]
+pub(crate) struct Ends {
+    upper: LoneEnds,
+    lower: LoneEnds,
+}
+
 impl Pairing<'_> {
     /// Choices, of any number, by which the upper run ends in a state that accepts and the lower
     /// one in a state that does not; none where there are no such choices.
     ///
     /// Each pair of states is followed once at each position of the longer column: in time at most
-    /// the positions, times the pairs that are reached, times the choices.
+    /// the positions, times the pairs that are reached, times the choices. What a column leads to
+    /// alone is found once for each state at a position.
     pub(crate) fn search<L: Ledger>(
         &self,
         alloc: Global,
@@ -47,16 +57,46 @@ impl Pairing<'_> {
             lower: self.monitor.start(),
         };
         let mut reached = Reached::new(alloc, start)?;
+        let mut ends = self.ends(alloc)?;
         for k in 0..usize::MAX {
             let Some(node) = reached.node(k) else {
                 return Ok(None);
             };
-            if self.differ(node, steps) {
+            if self.differ(node, &mut ends, steps) {
                 return Ok(Some(reached.path(alloc, k)?));
             }
             self.follow(&mut reached, k, node, steps)?;
         }
         Err(Memory)
+    }
+
+    /// What the runs alone come to, with a place for each state where this is asked more than once:
+    /// on the greatest length beside the shorter column.
+    fn ends(&self, alloc: Global) -> M<Ends>
+        ensures upper { IfOk result (λ made. AreLoneEnds (machine_of self.now.monitor.now)
+            self.now.upper.now made.upper.ends) }
+        ensures lower { IfOk result (λ made. AreLoneEnds (machine_of self.now.monitor.now)
+            self.now.lower.now made.lower.ends) }
+    {
+        let upper = LoneEnds::new(alloc, self.kept(self.upper, self.lower), self.upper.len())?;
+        let lower = LoneEnds::new(alloc, self.kept(self.lower, self.upper), self.lower.len())?;
+        Ok(Ends { upper, lower })
+    }
+
+    /// For how many states it is kept what a column alone leads to, beside the other one.
+    fn kept(&self, column: &[u32], other: &[u32]) -> u32
+        ensures { result ≤ states_of (machine_of self.now.monitor.now) }
+    {
+        match self.lengths {
+            Lengths::Min => 0,
+            Lengths::Pad => {
+                if column.len() > other.len() {
+                    self.monitor.states()
+                } else {
+                    0
+                }
+            }
+        }
     }
 
     /// Adds the nodes that follow node `k`.
@@ -150,9 +190,17 @@ impl Pairing<'_> {
 
     /// Whether from here, if the other places end, the upper run accepts and the lower one does
     /// not.
-    fn differ<L: Ledger>(&self, node: Node, steps: &mut Steps<L>) -> bool
+    fn differ<L: Ledger>(&self, node: Node, ends: &mut Ends, steps: &mut Steps<L>) -> bool
         requires pairing { IsPairing (pairing_of self.now) }
         requires node { IsInside (pairing_of self.now) node }
+        requires upper { AreLoneEnds (machine_of self.now.monitor.now) self.now.upper.now
+            ends.old.upper.ends }
+        requires lower { AreLoneEnds (machine_of self.now.monitor.now) self.now.lower.now
+            ends.old.lower.ends }
+        ensures upper { AreLoneEnds (machine_of self.now.monitor.now) self.now.upper.now
+            ends.new.upper.ends }
+        ensures lower { AreLoneEnds (machine_of self.now.monitor.now) self.now.lower.now
+            ends.new.lower.ends }
         ensures differ { OnTrue result ((choice : ℕ → ℕ) (n : ℕ)
             → Stands (pairing_of self.now) choice n node
             → (first_told (pairing_of self.now) ≤ n) × Differ (pairing_of self.now) choice n) }
@@ -163,8 +211,8 @@ impl Pairing<'_> {
         if !self.is_told(node.at) {
             return false;
         }
-        let upper = self.at_end(self.upper, node.at, node.upper, steps);
-        let lower = self.at_end(self.lower, node.at, node.lower, steps);
+        let upper = self.at_end(self.upper, node.at, node.upper, &mut ends.upper, steps);
+        let lower = self.at_end(self.lower, node.at, node.lower, &mut ends.lower, steps);
         self.monitor.accepts(upper) && !self.monitor.accepts(lower)
     }
 
@@ -181,9 +229,18 @@ impl Pairing<'_> {
 
     /// The state at the end of the tuple, if the other places end at position `at`: under the rule
     /// pad the column goes on alone.
-    fn at_end<L: Ledger>(&self, column: &[u32], at: usize, q: u32, steps: &mut Steps<L>) -> u32
+    fn at_end<L: Ledger>(
+        &self,
+        column: &[u32],
+        at: usize,
+        q: u32,
+        ends: &mut LoneEnds,
+        steps: &mut Steps<L>,
+    ) -> u32
         requires column { AreCodesOf (machine_of self.now.monitor.now) column.now }
         requires state { q < states_of (machine_of self.now.monitor.now) }
+        requires ends { AreLoneEnds (machine_of self.now.monitor.now) column.now ends.old.ends }
+        ensures ends { AreLoneEnds (machine_of self.now.monitor.now) column.now ends.new.ends }
         ensures state { (code : ℕ → ℕ) (n most : ℕ) → length column.now ≤ most
             → EndsIn (machine_of self.now.monitor.now) self.now.lengths column.now code n most at q
             result }
@@ -191,20 +248,38 @@ impl Pairing<'_> {
     {
         match self.lengths {
             Lengths::Min => q,
-            Lengths::Pad => self.alone(column, at, q, steps),
+            Lengths::Pad => self.lone_end(column, at, q, ends, steps),
         }
+    }
+
+    /// As `alone`, where what is found is kept.
+    fn lone_end<L: Ledger>(
+        &self,
+        column: &[u32],
+        at: usize,
+        q: u32,
+        ends: &mut LoneEnds,
+        steps: &mut Steps<L>,
+    ) -> u32
+        requires column { AreCodesOf (machine_of self.now.monitor.now) column.now }
+        requires state { q < states_of (machine_of self.now.monitor.now) }
+        requires ends { AreLoneEnds (machine_of self.now.monitor.now) column.now ends.old.ends }
+        ensures end { IsLoneEnd (machine_of self.now.monitor.now) column.now at q result }
+        ensures ends { AreLoneEnds (machine_of self.now.monitor.now) column.now ends.new.ends }
+    {
+        if let Some(end) = ends.known(at, q) {
+            return end;
+        }
+        let end = self.alone(column, at, q, steps);
+        ends.keep(at, q, end);
+        end
     }
 
     /// The state after the codes of the column from position `at` on.
     fn alone<L: Ledger>(&self, column: &[u32], at: usize, q: u32, steps: &mut Steps<L>) -> u32
         requires column { AreCodesOf (machine_of self.now.monitor.now) column.now }
         requires state { q < states_of (machine_of self.now.monitor.now) }
-        ensures past { length column.now ≤ at → result ≡ q }
-        ensures state { (code : ℕ → ℕ) → at ≤ length column.now
-            → q ≡ state_on (machine_of self.now.monitor.now) code at
-            → ((i : ℕ) → at ≤ i → i < length column.now → code i ≡ slice_index column.now i)
-            → result ≡ state_on (machine_of self.now.monitor.now) code (length column.now) }
-        ensures within { result < states_of (machine_of self.now.monitor.now) }
+        ensures { IsLoneEnd (machine_of self.now.monitor.now) column.now at q result }
     {
         let mut q = q;
         for i in at..column.len() {

@@ -18,7 +18,7 @@ pub returns-in-Pad-clause-state : goal.returns-in-Pad-clause-state
 returns-in-Pad-clause-state g c = λ code n most short.
     let P : Lengths → Type 0 = λ rule. EndsIn
     (machine_of c.args.self.now.monitor.now) rule c.args.column.now code n most c.args.at
-    c.args.q c.alone.result in
+    c.args.q c.lone_end.result in
     subst P (sym c.in-Pad.is)
     (ends-pad (machine_of c.args.self.now.monitor.now) c.args.column.now code n most c.args.at
-    c.args.q short c.alone.result c.alone.ensures.past c.alone.ensures.state)
+    c.args.q short c.lone_end.result c.lone_end.ensures.end.past c.lone_end.ensures.end.state)

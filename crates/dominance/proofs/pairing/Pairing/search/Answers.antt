@@ -16,6 +16,8 @@ loop-k-init g c =
             upper = c.start.ensures.within;
             lower = c.start-2.ensures.within;
           });
+      upper = c.in_ok-ends.ensures.upper;
+      lower = c.in_ok-ends.ensures.lower;
       done = λ j lt. absurd (omega arith);
     }
 
@@ -46,6 +48,8 @@ loop-k-preserved g c =
     record {
       linked = e.linked;
       reached = e.reached;
+      upper = c.if-differ.ensures.upper;
+      lower = c.if-differ.ensures.lower;
       done = done-more s c.loop-k.reached.nodes.keys c.follow.new.reached.nodes.keys e.grown
           c.loop-k.k inv.done c.in-Some.ensures.there e.followed
           (subst P c.in-Some.ensures.node c.if-differ.ensures.same);

@@ -1,4 +1,6 @@
 use Rattle.std.proofs.Common.{ℕ, ◌<◌}
+use Rattle.fin_monitor.specs.Seen.{machine_of}
+use Rattle.dominance.specs.LoneEnds.{AreLoneEnds}
 use Rattle.dominance.specs.Seen.{pairing_of}
 use Rattle.dominance.specs.Trails.{AreLinked, AreReached}
 use Rattle.dominance.proofs.Searching.{IsDone}
@@ -8,5 +10,7 @@ abbrev pub invariant-loop-k : goal.invariant-loop-k
 invariant-loop-k g l = record {
   linked : AreLinked l.reached.nodes.keys l.reached.links;
   reached : AreReached (pairing_of l.self) l.reached.nodes.keys l.reached.links;
+  upper : AreLoneEnds (machine_of l.self.monitor.now) l.self.upper.now l.ends.upper.ends;
+  lower : AreLoneEnds (machine_of l.self.monitor.now) l.self.lower.now l.ends.lower.ends;
   done : (j : ℕ) → j < l.k → IsDone (pairing_of l.self) l.reached.nodes.keys j;
 }
