@@ -122,10 +122,12 @@ none-passing (p ∷ ps) kids e f = absurd (cc)
 -- ---- where one trace alone passes
 
 module _ (n : ℕ) (t : List Letter) where
-  pub alone-letters : AreLetters (kid_letters (kids_alone n t)) (in_order (passing (ends_alone n t) (kids_alone n t)))
+  pub alone-letters : AreLetters (kid_letters (kids_alone n t))
+      (in_order (passing (ends_alone n t) (kids_alone n t)))
   alone-letters = letters-right (ends_alone n t) (kids_alone n t) (alone-kids n t)
 
-  pub alone-below : (u : List Letter) × Contains (in_order (passing (ends_alone n t) (kids_alone n t))) (n, u)
+  pub alone-below : (u : List Letter)
+      × Contains (in_order (passing (ends_alone n t) (kids_alone n t))) (n, u)
   alone-below =
       let P : List Numbered → Type 0 = λ q. Contains q (n, t) in
       (t, subst P (sym (alone-rests n t)) (contains-here (n, t) []))

@@ -18,7 +18,8 @@ pub returns-in-Some-clause-some : goal.returns-in-Some-clause-some
 returns-in-Some-clause-some c =
     let ends = c.in-Node.ends.now in
     let kids = c.in-Node.children.now in
-    let P : Option ℕ → Type 0 = λ q. IfSome q (λ n. Contains (in_order (passing ends kids)) (n, [])) in
+    let P : Option ℕ → Type 0 =
+    λ q. IfSome q (λ n. Contains (in_order (passing ends kids)) (n, [])) in
     subst (Passes c.in-Some.number) (sym c.in-Node.is)
     ([], subst P (sym c.first.ensures ∙ c.in-Some.is) (first-some ends kids))
 
@@ -26,9 +27,11 @@ pub returns-in-None-clause-some : goal.returns-in-None-clause-some
 returns-in-None-clause-some c =
     let ends = c.in-Node.ends.now in
     let kids = c.in-Node.children.now in
-    IfSome_then c.any.result {P = λ (n : ℕ). (t : List Letter) × Contains (spread kids) (n, t)} {Q = λ (n : ℕ). Passes n c.args.self.now.point} c.any.ensures.some
+    IfSome_then c.any.result {P = λ (n : ℕ). (t : List Letter) × Contains (spread kids) (n, t)}
+    {Q = λ (n : ℕ). Passes n c.args.self.now.point} c.any.ensures.some
     (λ n h. subst (Passes n) (sym c.in-Node.is) (any-passing ends kids n h))
 
 pub returns-in-Alone-clause-some : goal.returns-in-Alone-clause-some
 returns-in-Alone-clause-some c =
-    subst (Passes c.in-Alone.number) (sym c.in-Alone.is) (alone-below c.in-Alone.number c.in-Alone.field-1.now)
+    subst (Passes c.in-Alone.number) (sym c.in-Alone.is)
+    (alone-below c.in-Alone.number c.in-Alone.field-1.now)

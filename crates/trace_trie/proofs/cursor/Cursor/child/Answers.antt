@@ -11,10 +11,12 @@ use Rattle.trace_trie.proofs.cursor.Cursor.child.Goals as goal
 
 pub returns-in-Node : goal.returns-in-Node
 returns-in-Node c =
-    let P : Point → Type 0 = λ q. (a : Letter) → slice_get (kid_letters (kids_at q)) c.args.i ≡ Some a
+    let P : Point → Type 0 =
+    λ q. (a : Letter) → slice_get (kid_letters (kids_at q)) c.args.i ≡ Some a
     → rests_at c.behind.result ≡ under a (in_order (passing (ends_at q) (kids_at q))) in
     subst P (sym c.in-Node.is) (λ a e. c.behind.ensures
-    ∙ child-right c.in-Node.field-0.now c.in-Node.children.now c.args.i a _ c.kids_differ.ensures c.at.ensures e)
+    ∙ child-right c.in-Node.field-0.now c.in-Node.children.now c.args.i a _ c.kids_differ.ensures
+    c.at.ensures e)
 
 pub returns-in-Alone : goal.returns-in-Alone
 returns-in-Alone c =
@@ -22,7 +24,8 @@ returns-in-Alone c =
     let n = c.in-Alone.number in
     let rest : take (length t - 1) (drop 1 t) ≡ drop 1 t =
     ap (λ k. take k (drop 1 t)) (sym (length-drop 1 t)) ∙ take-length (drop 1 t) in
-    let P : Point → Type 0 = λ q. (a : Letter) → slice_get (kid_letters (kids_at q)) c.args.i ≡ Some a
+    let P : Point → Type 0 =
+    λ q. (a : Letter) → slice_get (kid_letters (kids_at q)) c.args.i ≡ Some a
     → rests_at c.of_one.result ≡ under a (in_order (passing (ends_at q) (kids_at q))) in
     subst P (sym c.in-Alone.is) (λ a e. c.of_one.ensures.rests
     ∙ ap (λ (q : List Letter). (n, q) ∷ []) rest ∙ alone-child n t c.args.i a e)

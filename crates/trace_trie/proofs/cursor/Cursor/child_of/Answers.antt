@@ -10,13 +10,16 @@ use Rattle.trace_trie.proofs.cursor.Cursor.child_of.Goals as goal
 pub returns-in-Some-clause-some : goal.returns-in-Some-clause-some
 returns-in-Some-clause-some c =
     let P : Point → Type 0 =
-    λ q. rests_at c.behind.result ≡ under c.args.letter (in_order (passing (ends_at q) (kids_at q))) in
+    λ q. rests_at c.behind.result ≡ under c.args.letter
+    (in_order (passing (ends_at q) (kids_at q))) in
     subst P (sym c.in-Node.is) (c.behind.ensures
-    ∙ child-some c.args.letter c.in-Node.field-0.now c.in-Node.children.now c.kids_differ.ensures (left_in c.in-Some.grown) c.in-Some.ensures.some)
+    ∙ child-some c.args.letter c.in-Node.field-0.now c.in-Node.children.now c.kids_differ.ensures
+    (left_in c.in-Some.grown) c.in-Some.ensures.some)
 
 pub returns-in-None-clause-none : goal.returns-in-None-clause-none
 returns-in-None-clause-none c =
     let P : Point → Type 0 =
     λ q. under c.args.letter (in_order (passing (ends_at q) (kids_at q))) ≡ [] in
     subst P (sym c.in-Node.is)
-    (child-none c.args.letter c.in-Node.field-0.now c.in-Node.children.now c.kids_differ.ensures c.in-None.ensures.none)
+    (child-none c.args.letter c.in-Node.field-0.now c.in-Node.children.now c.kids_differ.ensures
+    c.in-None.ensures.none)

@@ -12,11 +12,15 @@ use Rattle.trace_trie.proofs.cursor.Cursor.first.Goals as goal
 pub returns-in-Node-clause-some : goal.returns-in-Node-clause-some
 returns-in-Node-clause-some c =
     let P : Point → Type 0 =
-    λ q. IfSome c.first.result (λ n. Contains (in_order (passing (ends_at q) (kids_at q))) (n, [])) in
-    subst P (sym c.in-Node.is) (rw c.first.ensures (first-some c.in-Node.ends.now c.in-Node.field-1.now))
+    λ q. IfSome c.first.result
+    (λ n. Contains (in_order (passing (ends_at q) (kids_at q))) (n, [])) in
+    subst P (sym c.in-Node.is)
+    (rw c.first.ensures (first-some c.in-Node.ends.now c.in-Node.field-1.now))
 
 pub returns-in-Node-clause-none : goal.returns-in-Node-clause-none
 returns-in-Node-clause-none c =
     let P : Point → Type 0 =
-    λ q. IfNone c.first.result (Each (λ (p : Numbered). 0 < length p.1) (in_order (passing (ends_at q) (kids_at q)))) in
-    subst P (sym c.in-Node.is) (rw c.first.ensures (first-none c.in-Node.ends.now c.in-Node.field-1.now))
+    λ q. IfNone c.first.result
+    (Each (λ (p : Numbered). 0 < length p.1) (in_order (passing (ends_at q) (kids_at q)))) in
+    subst P (sym c.in-Node.is)
+    (rw c.first.ensures (first-none c.in-Node.ends.now c.in-Node.field-1.now))

@@ -11,7 +11,10 @@ abbrev Seen : Point → Type 0
 Seen q = AreLetters (kid_letters (kids_at q)) (in_order (passing (ends_at q) (kids_at q)))
 
 pub returns-in-Node : goal.returns-in-Node
-returns-in-Node c = subst Seen (sym c.in-Node.is) (letters-right c.in-Node.field-0.now c.in-Node.children.now c.kids_differ.ensures)
+returns-in-Node c =
+    subst Seen (sym c.in-Node.is)
+    (letters-right c.in-Node.field-0.now c.in-Node.children.now c.kids_differ.ensures)
 
 pub returns-in-Alone : goal.returns-in-Alone
-returns-in-Alone c = subst Seen (sym c.in-Alone.is) (alone-letters c.in-Alone.field-0 c.in-Alone.field-1.now)
+returns-in-Alone c =
+    subst Seen (sym c.in-Alone.is) (alone-letters c.in-Alone.field-0 c.in-Alone.field-1.now)

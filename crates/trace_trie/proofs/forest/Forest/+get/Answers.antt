@@ -28,12 +28,14 @@ pub returns-then-same-2-clause-some : goal.returns-then-same-2-clause-some
 returns-then-same-2-clause-some t c =
     let tail = at_tail c.self.view_is c.self.invariant c.in-Tail.is in
     let e : slice_get c.in-Tail.trace.value c.in-Tail.at ≡ Some c.at.result =
-    ap (λ (q : List Letter). slice_get q c.in-Tail.at) (sym c.deref-in-Tail-2.ensures) ∙ c.at.ensures in
+    ap (λ (q : List Letter). slice_get q c.in-Tail.at) (sym c.deref-in-Tail-2.ensures)
+    ∙ c.at.ensures in
     child-here (tail_child tail e) c.args.letter (sym c.same-in-Tail.ensures ∙ c.if-same-2.true)
 
 pub returns-else-same-2-clause-none : goal.returns-else-same-2-clause-none
 returns-else-same-2-clause-none t c =
     let tail = at_tail c.self.view_is c.self.invariant c.in-Tail.is in
     let e : slice_get c.in-Tail.trace.value c.in-Tail.at ≡ Some c.at.result =
-    ap (λ (q : List Letter). slice_get q c.in-Tail.at) (sym c.deref-in-Tail-2.ensures) ∙ c.at.ensures in
+    ap (λ (q : List Letter). slice_get q c.in-Tail.at) (sym c.deref-in-Tail-2.ensures)
+    ∙ c.at.ensures in
     child-other (tail_child tail e) c.args.letter (sym c.same-in-Tail.ensures ∙ c.if-same-2.false)

@@ -12,7 +12,8 @@ use Rattle.trace_trie.proofs.Forked.{at_fork, at_child, swapped-have, swapped-la
 use Rattle.trace_trie.proofs.forest.Forest.+put.Goals as goal
 
 pub beside-requires-clause-only : goal.beside-requires-clause-only
-beside-requires-clause-only t c = child-itself (at_child c.self.view_is c.self.invariant c.in-Child.is)
+beside-requires-clause-only t c =
+    child-itself (at_child c.self.view_is c.self.invariant c.in-Child.is)
 
 pub beside-requires-in-Tail-clause-only : goal.beside-requires-in-Tail-clause-only
 beside-requires-in-Tail-clause-only t c =
@@ -56,17 +57,29 @@ returns-in-Bare t c =
 pub returns-in_ok-more-in-Fork : goal.returns-in_ok-more-in-Fork
 returns-in_ok-more-in-Fork t c =
     let at = at_fork c.self.view_is c.self.invariant c.in-Fork.is in
-    let P : List Kid → Type 0 = λ (q : List Kid). IsSwapped c.args.letter (behind c.args.letter c.args.one) q c.in_ok-more-in-Fork.more in
-    let Q : List Kid → Type 0 = λ (q : List Kid). IsSwapped c.args.letter (behind c.args.letter c.args.one) c.args.self.now q in
+    let P : List Kid → Type 0 =
+    λ (q : List Kid). IsSwapped c.args.letter (behind c.args.letter c.args.one) q
+    c.in_ok-more-in-Fork.more in
+    let Q : List Kid → Type 0 =
+    λ (q : List Kid). IsSwapped c.args.letter (behind c.args.letter c.args.one) c.args.self.now q in
     let s : Q (c.in-Fork.first.value ++ c.in_ok-more-in-Fork.more) =
-    swapped-have c.args.letter at (sym c.has.ensures ∙ c.if-has.true) (subst P c.deref-then-has.ensures c.in_ok-more-in-Fork.ensures) in
-    IfOk-weaker c.with_second.result (λ (q : List Kid). q ≡ c.in-Fork.first.value ++ c.in_ok-more-in-Fork.more) Q (λ q e. subst Q (sym e) s) c.with_second.ensures
+    swapped-have c.args.letter at (sym c.has.ensures ∙ c.if-has.true)
+    (subst P c.deref-then-has.ensures c.in_ok-more-in-Fork.ensures) in
+    IfOk-weaker c.with_second.result
+    (λ (q : List Kid). q ≡ c.in-Fork.first.value ++ c.in_ok-more-in-Fork.more) Q
+    (λ q e. subst Q (sym e) s) c.with_second.ensures
 
 pub returns-in_ok-more-in-Fork-2 : goal.returns-in_ok-more-in-Fork-2
 returns-in_ok-more-in-Fork-2 t c =
     let at = at_fork c.self.view_is c.self.invariant c.in-Fork.is in
-    let P : List Kid → Type 0 = λ (q : List Kid). IsSwapped c.args.letter (behind c.args.letter c.args.one) q c.in_ok-more-in-Fork-2.more in
-    let Q : List Kid → Type 0 = λ (q : List Kid). IsSwapped c.args.letter (behind c.args.letter c.args.one) c.args.self.now q in
+    let P : List Kid → Type 0 =
+    λ (q : List Kid). IsSwapped c.args.letter (behind c.args.letter c.args.one) q
+    c.in_ok-more-in-Fork-2.more in
+    let Q : List Kid → Type 0 =
+    λ (q : List Kid). IsSwapped c.args.letter (behind c.args.letter c.args.one) c.args.self.now q in
     let s : Q (c.in_ok-more-in-Fork-2.more ++ c.in-Fork.second.value) =
-    swapped-lack c.args.letter at (sym c.has.ensures ∙ c.if-has.false) (subst P c.deref-else-has.ensures c.in_ok-more-in-Fork-2.ensures) in
-    IfOk-weaker c.with_first.result (λ (q : List Kid). q ≡ c.in_ok-more-in-Fork-2.more ++ c.in-Fork.second.value) Q (λ q e. subst Q (sym e) s) c.with_first.ensures
+    swapped-lack c.args.letter at (sym c.has.ensures ∙ c.if-has.false)
+    (subst P c.deref-else-has.ensures c.in_ok-more-in-Fork-2.ensures) in
+    IfOk-weaker c.with_first.result
+    (λ (q : List Kid). q ≡ c.in_ok-more-in-Fork-2.more ++ c.in-Fork.second.value) Q
+    (λ q e. subst Q (sym e) s) c.with_first.ensures

@@ -45,17 +45,25 @@ with_first-requires-clause-have t c =
 pub returns-in_ok-rest-in-Fork : goal.returns-in_ok-rest-in-Fork
 returns-in_ok-rest-in-Fork t c =
     let at = at_fork c.self.view_is c.self.invariant c.in-Fork.is in
-    let P : List Kid → Type 0 = λ (q : List Kid). IsSwapped c.args.letter [] q c.in_ok-rest-in-Fork.rest in
+    let P : List Kid → Type 0 =
+    λ (q : List Kid). IsSwapped c.args.letter [] q c.in_ok-rest-in-Fork.rest in
     let Q : List Kid → Type 0 = λ (q : List Kid). IsSwapped c.args.letter [] c.args.self.now q in
     let s : Q (c.in-Fork.first.value ++ c.in_ok-rest-in-Fork.rest) =
-    swapped-have c.args.letter at (sym c.has.ensures ∙ c.if-has.true) (subst P c.deref-then-has.ensures c.in_ok-rest-in-Fork.ensures) in
-    IfOk-weaker c.with_second.result (λ (q : List Kid). q ≡ c.in-Fork.first.value ++ c.in_ok-rest-in-Fork.rest) Q (λ q e. subst Q (sym e) s) c.with_second.ensures
+    swapped-have c.args.letter at (sym c.has.ensures ∙ c.if-has.true)
+    (subst P c.deref-then-has.ensures c.in_ok-rest-in-Fork.ensures) in
+    IfOk-weaker c.with_second.result
+    (λ (q : List Kid). q ≡ c.in-Fork.first.value ++ c.in_ok-rest-in-Fork.rest) Q
+    (λ q e. subst Q (sym e) s) c.with_second.ensures
 
 pub returns-in_ok-rest-in-Fork-2 : goal.returns-in_ok-rest-in-Fork-2
 returns-in_ok-rest-in-Fork-2 t c =
     let at = at_fork c.self.view_is c.self.invariant c.in-Fork.is in
-    let P : List Kid → Type 0 = λ (q : List Kid). IsSwapped c.args.letter [] q c.in_ok-rest-in-Fork-2.rest in
+    let P : List Kid → Type 0 =
+    λ (q : List Kid). IsSwapped c.args.letter [] q c.in_ok-rest-in-Fork-2.rest in
     let Q : List Kid → Type 0 = λ (q : List Kid). IsSwapped c.args.letter [] c.args.self.now q in
     let s : Q (c.in_ok-rest-in-Fork-2.rest ++ c.in-Fork.second.value) =
-    swapped-lack c.args.letter at (sym c.has.ensures ∙ c.if-has.false) (subst P c.deref-else-has.ensures c.in_ok-rest-in-Fork-2.ensures) in
-    IfOk-weaker c.with_first.result (λ (q : List Kid). q ≡ c.in_ok-rest-in-Fork-2.rest ++ c.in-Fork.second.value) Q (λ q e. subst Q (sym e) s) c.with_first.ensures
+    swapped-lack c.args.letter at (sym c.has.ensures ∙ c.if-has.false)
+    (subst P c.deref-else-has.ensures c.in_ok-rest-in-Fork-2.ensures) in
+    IfOk-weaker c.with_first.result
+    (λ (q : List Kid). q ≡ c.in_ok-rest-in-Fork-2.rest ++ c.in-Fork.second.value) Q
+    (λ q e. subst Q (sym e) s) c.with_first.ensures

@@ -11,7 +11,8 @@ pub returns-then-is_empty : goal.returns-then-is_empty
 returns-then-is_empty c =
     let tail = at_tail c.children.view_is c.children.invariant c.in-Tail.is in
     let none : c.args.ends.now ≡ [] =
-    none-left c.args.ends.now (eqb-true (length c.args.ends.now) 0 (sym c.is_empty.ensures ∙ c.if-is_empty.true)) in
+    none-left c.args.ends.now
+    (eqb-true (length c.args.ends.now) 0 (sym c.is_empty.ensures ∙ c.if-is_empty.true)) in
     let within : c.in-Tail.at ≤ length c.in-Tail.trace.value = omega (arith, tail.within) in (
       within,
       ap (λ (q : List Numbered). passing q c.args.children.now) none

@@ -24,9 +24,15 @@ returns-in_ok-share-in-Some c =
     let one : List Kid = (c.args.letter, held) ∷ [] in
     let others : List Kid = c.in_ok-share-in-Some.field-0 in
     let R : List Kid → Type 0 = λ q. IsSwapped c.args.letter held c.args.self.now q in
-    let F : List Kid → Type 0 = λ q. IsSwapped c.args.letter held q (cond c.has.result (q ++ one) (one ++ q)) in
+    let F : List Kid → Type 0 =
+    λ q. IsSwapped c.args.letter held q (cond c.has.result (q ++ one) (one ++ q)) in
     let G : List Kid → Type 0 = λ q. R (cond c.has.result (q ++ one) (one ++ q)) in
     let H : List Kid → Type 0 = λ q. R (cond c.has.result (others ++ q) (q ++ others)) in
-    let s = swapped-beside c.args.letter c.args.held held _ c.in-Some.name c.has.result (sym c.has.ensures) c.in-Some.ensures.some.1 new.some in
-    let whole : H c.args.one = subst H (sym new.is) (subst G (sym c.in_ok-share-in-Some.ensures) (subst F (sym at.is) s)) in
-    IfOk-weaker c.forked.result (λ q. q ≡ cond c.has.result (others ++ c.args.one) (c.args.one ++ others)) R (λ q e. subst R (sym e) whole) c.forked.ensures
+    let s =
+    swapped-beside c.args.letter c.args.held held _ c.in-Some.name c.has.result (sym c.has.ensures)
+    c.in-Some.ensures.some.1 new.some in
+    let whole : H c.args.one =
+    subst H (sym new.is) (subst G (sym c.in_ok-share-in-Some.ensures) (subst F (sym at.is) s)) in
+    IfOk-weaker c.forked.result
+    (λ q. q ≡ cond c.has.result (others ++ c.args.one) (c.args.one ++ others)) R
+    (λ q e. subst R (sym e) whole) c.forked.ensures

@@ -14,8 +14,10 @@ returns-in_ok-trace-in-Some c =
     ap (λ (q : List Letter). slice_get q (at - 1)) (sym c.deref.ensures) ∙ c.at.ensures in
     let whole : drop (at - 1) trace ≡ c.at.result ∷ drop at trace =
     drop-at trace (at - 1) c.at.result e ∙ ap (λ k. c.at.result ∷ drop k trace) before in
-    let same : c.args.letter ≡ c.at.result = equal-letter c.args.letter c.at.result (sym c.same.ensures ∙ c.if-same.true) in
-    c.tail.ensures ∙ ap (λ (q : List Letter). kids_alone c.in-Some.number (drop (at - 1) q)) c.in_ok-trace-in-Some.ensures.cases
+    let same : c.args.letter ≡ c.at.result =
+    equal-letter c.args.letter c.at.result (sym c.same.ensures ∙ c.if-same.true) in
+    c.tail.ensures ∙ ap (λ (q : List Letter). kids_alone c.in-Some.number (drop (at - 1) q))
+    c.in_ok-trace-in-Some.ensures.cases
     ∙ ap (kids_alone c.in-Some.number) whole
     ∙ ap (λ (q : List Numbered). (c.at.result, q) ∷ []) (sym c.in-Some.ensures.1)
     ∙ ap (λ (q : Letter). (q, passing c.args.ends.now c.args.children.now) ∷ []) (sym same)

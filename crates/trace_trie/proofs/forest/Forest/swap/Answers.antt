@@ -18,6 +18,8 @@ returns c =
     let held : List Numbered = passing c.args.ends c.args.children in
     let is : behind c.args.letter c.in_ok-one.one ≡ held =
     ap (behind c.args.letter) c.in_ok-one.ensures ∙ behind-one c.args.letter held [] in
-    let P : List Kid → List Numbered → Type 0 = λ made q. IsSwapped c.args.letter q c.args.self.now made in
-    IfOk-weaker c.put.result (λ made. P made (behind c.args.letter c.in_ok-one.one)) (λ made. P made held)
+    let P : List Kid → List Numbered → Type 0 =
+    λ made q. IsSwapped c.args.letter q c.args.self.now made in
+    IfOk-weaker c.put.result (λ made. P made (behind c.args.letter c.in_ok-one.one))
+    (λ made. P made held)
     (λ made s. subst (P made) is s) c.put.ensures

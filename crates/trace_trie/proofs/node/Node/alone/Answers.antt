@@ -7,7 +7,8 @@ use Rattle.trace_trie.proofs.node.Node.alone.Goals as goal
 
 pub returns-then-at-len : goal.returns-then-at-len
 returns-then-at-len c =
-    let len : c.len.result ≡ length c.args.trace.value = c.len.ensures.len ∙ ap length c.deref.ensures in
+    let len : c.len.result ≡ length c.args.trace.value =
+    c.len.ensures.len ∙ ap length c.deref.ensures in
     let lt : 0 < length (drop c.args.at c.args.trace.value) =
     omega (arith, len, c.if-at-len.true, length-drop c.args.at c.args.trace.value) in
     ap (λ (q : List Numbered). passing q c.tail.result) c.new.ensures
