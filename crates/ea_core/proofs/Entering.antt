@@ -4,7 +4,7 @@ use Rattle.std.specs.List.{All}
 use Rattle.std.proofs.Math.Seq.{get_or-append_seam}
 use Rattle.std.proofs.lemmas.Bool.{cases_lt}
 use Rattle.std.proofs.lemmas.List.{map-append, take_more, length-map, length-take-le, get_or_append_left}
-use Rattle.std.proofs.lemmas.List.Elements.{All-push, All-nil, All-more, All-weaker}
+use Rattle.std.proofs.lemmas.List.Elements.{All-push, All-nil, All-more, All-weaker, All-get_or}
 use Rattle.std.proofs.lemmas.Option.{slice_get_within, get_or_from_slice_get}
 use Rattle.rank_check.specs.declared.ranks.Ranks.{Ranks}
 use Rattle.rank_check.specs.Ranking.{rank_of}
@@ -56,3 +56,10 @@ ranks-more entries i count new e lt at below le here =
 
 pub ranks-all : (entries : List ProofBranch) (i count : ℕ) → length entries ≤ i → All (λ b. b.rank < count) (take i entries) → All (λ b. b.rank < count) entries
 ranks-all entries i count le below = let R : List ProofBranch → Type 0 = All (λ b. b.rank < count) in subst R (take-whole entries i le) below
+
+-- a number that all ranks are below is above each of them
+pub rank-below : (entries : List ProofBranch) (i n : ℕ) (e : ProofBranch) → i < length entries → e ≡ get_or entries i e
+    → All (λ b. b.rank < n) entries → e.rank < n
+rank-below entries i n e lt at all =
+    let Q : ProofBranch → Type 0 = λ b. b.rank < n in
+    subst Q (sym at) (All-get_or Q entries i e lt all)

@@ -141,6 +141,7 @@ module _ (plan : PlainPlan) (list : List Branch) (graph : Shape) (tableau : IsTa
       record {
         right = right;
         ranks = shows.below;
+        least = shows.least;
         untils = λ r k e. elim (cases_lt r (length proof.reasons)) [
           | inl lt ↦ until-right nodes (reason_of ranks r) k (sym (shows.reasons r lt) ∙ e)
           | inr past ↦ let none : None ≡ Some k = sym (get_or_past proof.reasons r None past) ∙ e in absurd (cc)

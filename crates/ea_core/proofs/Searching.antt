@@ -46,7 +46,7 @@ module _ (prefix : List Quant) (body : Tree) (bound : IsTrue (vars_below (length
 
   pub formula-decided : (d : Decision) → Solves (reduction prefix body) d → Decides prefix body d
   formula-decided (Sat list) (f, s) =
-      (reduced-model prefix body bound list f, record { normal = s.normal; names = λ name v i h. one-body name (s.names name v i h) })
+      (reduced-model prefix body bound list f, f.count, record { normal = s.normal; names = λ name v i h. one-body name (s.names name v i h) })
   formula-decided (Unsat proof) (n, p) = (λ s. n (satisfiable-reduced prefix body bound taken s), p)
 
 -- ---- two formulas
@@ -86,6 +86,7 @@ module _ (first : List Quant) (body : Tree) (second : List Quant) (other : Tree)
   implication-decided (Sat list) (f, s) =
       record {
         separates = separated-model first body second other bound below list f;
+        count = f.count;
         short = record { normal = s.normal; names = λ name v i h. two-bodies name (s.names name v i h) };
       }
   implication-decided (Unsat proof) (n, p) = (nothing-implied n, p)

@@ -36,9 +36,10 @@ pub record IsShort (Named : ℕ → Type 0) (list : List (Lasso Letter)) : Type 
   pub normal : (v : ℕ) → v < length list → IsNormal (slice_index_or list v no_lasso)
   pub names : (name v i : ℕ) → IsTrue (lasso_words list name v i) → Named name
 
--- What a decision says of a formula.
+-- What a decision says of a formula. As many lassos satisfy it as its plan has variables.
 abbrev pub Decides : List Quant → Tree → Decision → Type 0
-Decides prefix body (Sat list) = IsModel prefix body list × IsShort (Mentions body) list
+Decides prefix body (Sat list) =
+    IsModel prefix body list × (length list ≡ (reduction prefix body).vars) × IsShort (Mentions body) list
 Decides prefix body (Unsat proof) = (¬ IsSatisfiable prefix body) × IsProofOf (reduction prefix body) proof
 
 -- Each list of lassos that satisfies the first formula satisfies the second.
@@ -46,9 +47,10 @@ abbrev pub Implies : List Quant → Tree → List Quant → Tree → Type 0
 Implies first body second other =
     (list : List (Lasso Letter)) → 0 < length list → AreLassos list → Satisfies list first body → Satisfies list second other
 
--- The list satisfies the first formula and not the second, in short.
+-- The list satisfies the first formula and not the second, in short, with as many lassos as the plan has variables.
 pub record TellsApart (first : List Quant) (body : Tree) (second : List Quant) (other : Tree) (list : List (Lasso Letter)) : Type 0 where
   pub separates : Separates first body second other list
+  pub count : length list ≡ (implication first body second other).vars
   pub short : IsShort (λ name. Mentions body name ⊎ Mentions other name) list
 
 -- What a decision says of an implication.

@@ -1,5 +1,5 @@
 -- Rank proofs that a plan cannot be fulfilled, as they are kept.
-use Rattle.std.specs.Prelude.{◌≡◌, ◌↔◌, ℕ, ◌<◌, List, map, length, Some, None, All, slice_index_or}
+use Rattle.std.specs.Prelude.{◌≡◌, ◌↔◌, ℕ, ◌<◌, ◌≤◌, List, map, length, Some, None, All, slice_index_or}
 use Rattle.std.specs.List.{Contains}
 use Rattle.std.specs.List.Sorted.{IsStrictlyIncreasing}
 use Rattle.ltl_closure.specs.Nodes.{Node, node_at, until}
@@ -40,10 +40,11 @@ IsUntilNode nodes k = (g h : ℕ) × (node_at nodes k ≡ until g h)
 abbrev pub IsAscending : ProofBranch → Type 0
 IsAscending b = IsStrictlyIncreasing b.now × IsStrictlyIncreasing b.next
 
--- A rank proof of the plan, whose branches are the reachable ones, each once.
+-- A rank proof of the plan, whose branches are the reachable ones, each once. It has no more ranks than these take.
 pub record IsProofOf (plan : PlainPlan) (proof : RankProof) : Type 0 where
   pub right : IsRankProof (plan_nodes plan) (plan_roots plan) (plain_proof proof)
   pub ranks : All (λ b. b.rank < length proof.reasons) proof.branches
+  pub least : (n : ℕ) → All (λ b. b.rank < n) proof.branches → length proof.reasons ≤ n
   pub untils : (r k : ℕ) → slice_index_or proof.reasons r None ≡ Some k → IsUntilNode (plan_nodes plan) k
   pub distinct : AreDistinct (branches_of proof)
   pub reachable : (b : Branch) → Contains (branches_of proof) b ↔ IsReachable (plan_nodes plan) (plan_roots plan) b

@@ -1,5 +1,5 @@
 -- The letters of branches, and proofs by the ranks of branches.
-use Rattle.std.specs.Prelude.{◌≡◌, ℕ, ◌<◌, List, map, length, Option, Some, None, All, slice_index_or}
+use Rattle.std.specs.Prelude.{◌≡◌, ℕ, ◌<◌, ◌≤◌, List, map, length, Option, Some, None, All, slice_index_or}
 use Rattle.std.specs.List.{range_with_len}
 use Rattle.hy_bits.specs.Letter.{Letter}
 use Rattle.rank_check.specs.declared.ranks.Ranks.{Ranks}
@@ -34,9 +34,10 @@ pub record AreEntries (list : List Branch) (ranks : Ranks) (entries : List Proof
   pub ranked : (v : ℕ) (d : ProofBranch) → v < length list → rank_of ranks v ≡ Some (slice_index_or entries v d).rank
   pub ascending : All IsAscending entries
 
--- The proof has these entries, and reasons for all their ranks.
+-- The proof has these entries, and reasons for all their ranks and no more.
 pub record Shows (nodes : List Node) (list : List Branch) (ranks : Ranks) (proof : RankProof) : Type 0 where
   pub entries : AreEntries list ranks proof.branches
   pub below : All (λ b. b.rank < length proof.reasons) proof.branches
+  pub least : (n : ℕ) → All (λ b. b.rank < n) proof.branches → length proof.reasons ≤ n
   pub reasons : (r : ℕ) → r < length proof.reasons
       → slice_index_or proof.reasons r None ≡ until_reason nodes (reason_of ranks r)

@@ -87,6 +87,7 @@ fn members<const W: usize>(alloc: Global, set: &Obl<W>) -> M<NumList>
 /// How many ranks there are, from 0 to the greatest.
 fn rank_count(entries: &[ProofBranch]) -> usize
     ensures below { All (λ b. b.rank < result) entries.now }
+    ensures least { (n : ℕ) → All (λ b. b.rank < n) entries.now → result ≤ n }
     ensures few { result ≤ 2 ^ 32 }
 {
     let mut count = 0;
