@@ -10,13 +10,26 @@ use std::num::NonZeroU32;
 /// How many bytes a sink has room for where its case does not say.
 const ROOM: u32 = 65_536;
 
-/// A command, the files that it finds, the calls that fail, and what is expected of it.
+/// A command, what it finds outside, and what is expected of it.
 #[derive(Drop)]
 pub struct Case {
     pub name: String,
+    pub command: Command,
+    pub outside: Outside,
+    pub wanted: Wanted,
+}
+
+/// The words of a tool.
+#[derive(Drop)]
+pub struct Command {
     /// `None` until the line that names the tool.
     pub tool: Option<Tool>,
     pub words: Vec<String>,
+}
+
+/// The files that a command finds, and the calls that fail.
+#[derive(Drop)]
+pub struct Outside {
     pub files: Vec<File>,
     pub fail_shelf: NumList,
     pub fail_out: NumList,
@@ -25,6 +38,11 @@ pub struct Case {
     pub room: u32,
     /// How many bytes one put takes at most.
     pub most: NonZeroU32,
+}
+
+/// What is expected of a command.
+#[derive(Drop)]
+pub struct Wanted {
     /// `None` until the line that says it.
     pub status: Option<u8>,
     pub out: Text,
@@ -52,19 +70,25 @@ impl Case {
         ensure!(!text.is_empty(), "a case has a name");
         Ok(Case {
             name: String::from_str(alloc, text)?,
-            tool: None,
-            words: Vec::new(alloc),
-            files: Vec::new(alloc),
-            fail_shelf: NumList::new(alloc),
-            fail_out: NumList::new(alloc),
-            fail_err: NumList::new(alloc),
-            room: ROOM,
-            most: NonZeroU32::MAX,
-            status: None,
-            out: Text::new(alloc),
-            others: Vec::new(alloc),
-            lassos: None,
-            err: Text::new(alloc),
+            command: Command {
+                tool: None,
+                words: Vec::new(alloc),
+            },
+            outside: Outside {
+                files: Vec::new(alloc),
+                fail_shelf: NumList::new(alloc),
+                fail_out: NumList::new(alloc),
+                fail_err: NumList::new(alloc),
+                room: ROOM,
+                most: NonZeroU32::MAX,
+            },
+            wanted: Wanted {
+                status: None,
+                out: Text::new(alloc),
+                others: Vec::new(alloc),
+                lassos: None,
+                err: Text::new(alloc),
+            },
         })
     }
 
@@ -72,29 +96,29 @@ impl Case {
     pub fn take(&mut self, alloc: Global, directive: &str, text: &str) -> Result<()> {
         match directive {
             "tool" => self.set_tool(text)?,
-            "word" => self.words.push(word_of(alloc, text)?)?,
-            "file" => self.files.push(file_of(alloc, text)?)?,
+            "word" => self.command.words.push(word_of(alloc, text)?)?,
+            "file" => self.outside.files.push(file_of(alloc, text)?)?,
             "repeat" => self.repeat(alloc, text)?,
-            "fail-shelf" => add_numbers(&mut self.fail_shelf, text)?,
-            "fail-out" => add_numbers(&mut self.fail_out, text)?,
-            "fail-err" => add_numbers(&mut self.fail_err, text)?,
-            "room" => self.room = text.parse::<u32>().context("no number")?,
-            "most" => self.most = text.parse::<NonZeroU32>().context("no number from 1")?,
-            "status" => self.status = Some(text.parse::<u8>().context("no status")?),
-            "out" => self.out = text_of(alloc, text)?,
-            "or" => self.others.push(text_of(alloc, text)?)?,
+            "fail-shelf" => add_numbers(&mut self.outside.fail_shelf, text)?,
+            "fail-out" => add_numbers(&mut self.outside.fail_out, text)?,
+            "fail-err" => add_numbers(&mut self.outside.fail_err, text)?,
+            "room" => self.outside.room = text.parse::<u32>().context("no number")?,
+            "most" => self.outside.most = text.parse::<NonZeroU32>().context("no number from 1")?,
+            "status" => self.wanted.status = Some(text.parse::<u8>().context("no status")?),
+            "out" => self.wanted.out = text_of(alloc, text)?,
+            "or" => self.wanted.others.push(text_of(alloc, text)?)?,
             "lassos" => self.count_lassos(text)?,
             "satisfy" => self.expected()?.satisfy = Some(text_of(alloc, text)?),
             "violate" => self.expected()?.violate = Some(text_of(alloc, text)?),
-            "err" => self.err = text_of(alloc, text)?,
+            "err" => self.wanted.err = text_of(alloc, text)?,
             _ => bail!("no line of a case begins with {directive:?}"),
         }
         Ok(())
     }
 
     fn set_tool(&mut self, text: &str) -> Result<()> {
-        ensure!(self.tool.is_none(), "a case names one tool");
-        self.tool = match text {
+        ensure!(self.command.tool.is_none(), "a case names one tool");
+        self.command.tool = match text {
             "eahyper" => Some(Tool::EaHyper),
             "rvhyper" => Some(Tool::RvHyper),
             "mchyper" => Some(Tool::McHyper),
@@ -105,7 +129,7 @@ impl Case {
 
     /// Expects that many lassos behind the text of the output.
     fn count_lassos(&mut self, text: &str) -> Result<()> {
-        self.lassos = Some(Lassos {
+        self.wanted.lassos = Some(Lassos {
             count: text.parse::<u32>().context("no number")?,
             satisfy: None,
             violate: None,
@@ -115,7 +139,10 @@ impl Case {
 
     /// What is expected of the lassos, whose count stands before.
     fn expected(&mut self) -> Result<&mut Lassos> {
-        self.lassos.as_mut().context("no lassos are expected")
+        self.wanted
+            .lassos
+            .as_mut()
+            .context("no lassos are expected")
     }
 
     /// Adds a text many times to the last file.
@@ -123,7 +150,11 @@ impl Case {
         let (count, text) = text.split_once(' ').context("no number and text")?;
         let count = count.parse::<u32>().context("no number")?;
         let piece = text_of(alloc, text)?;
-        let file = self.files.last_mut().context("no file is there to add to")?;
+        let file = self
+            .outside
+            .files
+            .last_mut()
+            .context("no file is there to add to")?;
         for _ in 0..count {
             file.bytes.extend(piece.as_slice())?;
         }

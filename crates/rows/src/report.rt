@@ -1,6 +1,6 @@
 //! What a case gave, beside what was expected of it.
 
-use crate::case::{Case, shelf_files};
+use crate::case::{Case, Wanted, shelf_files};
 use crate::escape::escaped;
 use crate::lassos::are_wanted;
 use crate::running::status_of;
@@ -34,36 +34,46 @@ impl fmt::Display for Tally {
 /// Runs a case, counts it, and prints what differs: each part that is not as expected, and then as it is.
 pub fn report(rt: &HostRuntime, tally: &mut Tally, case: Case) -> Result<()> {
     let alloc = rt.alloc();
-    let name = case.name;
-    let (Some(tool), Some(status)) = (case.tool, case.status) else {
+    let Case {
+        name,
+        command,
+        outside,
+        wanted,
+    } = case;
+    let (Some(tool), Some(status)) = (command.tool, wanted.status) else {
         bail!("the case {name:?} lacks its tool or its status");
     };
-    let mut shelf = MemShelf::new(shelf_files(alloc, case.files)?, case.fail_shelf);
-    let mut out = MemSink::new(alloc, case.room, case.most.get(), case.fail_out)?;
-    let mut err = MemSink::new(alloc, case.room, case.most.get(), case.fail_err)?;
+    let (room, most) = (outside.room, outside.most.get());
+    let mut shelf = MemShelf::new(shelf_files(alloc, outside.files)?, outside.fail_shelf);
+    let mut out = MemSink::new(alloc, room, most, outside.fail_out)?;
+    let mut err = MemSink::new(alloc, room, most, outside.fail_err)?;
     let given = status_of(
         alloc,
         tool,
-        case.words.as_slice(),
+        command.words.as_slice(),
         &mut shelf,
         &mut out,
         &mut err,
     );
-    let wanted = case.out.as_slice();
-    let same = status == given
-        && case.err.as_slice() == err.bytes()
-        && match &case.lassos {
-            None => wanted == out.bytes() || is_among(&case.others, out.bytes()),
-            Some(lassos) => are_wanted(rt, wanted, lassos, out.bytes())?,
-        };
     tally.cases = tally.cases.saturating_add(1);
-    if same {
+    if status == given && is_wanted(rt, &wanted, out.bytes(), err.bytes())? {
         return Ok(());
     }
     tally.differ = tally.differ.saturating_add(1);
     println!(rt; "{name}: status {given} for {status}")?;
-    print_part(rt, "out", case.out.as_slice(), out.bytes())?;
-    print_part(rt, "err", case.err.as_slice(), err.bytes())
+    print_part(rt, "out", wanted.out.as_slice(), out.bytes())?;
+    print_part(rt, "err", wanted.err.as_slice(), err.bytes())
+}
+
+/// Whether both texts are as expected.
+fn is_wanted(rt: &HostRuntime, wanted: &Wanted, out: &[u8], err: &[u8]) -> Result<bool> {
+    if wanted.err.as_slice() != err {
+        return Ok(false);
+    }
+    match &wanted.lassos {
+        None => Ok(wanted.out.as_slice() == out || is_among(&wanted.others, out)),
+        Some(lassos) => are_wanted(rt, wanted.out.as_slice(), lassos, out),
+    }
 }
 
 /// Whether the text is one of these.
