@@ -25,3 +25,5 @@ pub mod Naming
 pub mod KeptLefts
 pub mod Outdoing
 pub mod Firsts
+pub mod LowParts
+pub mod Idling

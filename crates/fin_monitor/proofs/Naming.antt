@@ -1,18 +1,17 @@
 -- The bits of the names of a variable's atoms add up to its part of a code.
-use Rattle.std.proofs.Common.{◌≡◌, ◌+◌, ◌*◌, ◌^◌, ◌<◌, ◌≤◌, ℕ, zero, suc, Bool, true, false, ◌&&◌, cond, nat_eq, List, [], ◌∷◌, ◌++◌, length, take, map, get_or, slice_get, Some, inl, inr, refl, sym, ap, ◌∙◌, subst, arith, add-one, eq-eqb}
+use Rattle.std.proofs.Common.{◌≡◌, ◌+◌, ◌*◌, ◌^◌, ◌<◌, ◌≤◌, ℕ, zero, suc, Bool, true, false, ◌&&◌, cond, nat_eq, List, [], ◌∷◌, ◌++◌, length, take, map, get_or, refl, sym, ap, ◌∙◌, arith, add-one, eq-eqb}
 use Rattle.std.specs.FinSet.{contains}
 use Rattle.std.specs.List.{list_any}
 use Rattle.std.proofs.Math.Nat.{pow-succ'}
-use Rattle.std.proofs.lemmas.Bool.{eqb-true, ltb-true, cases_eq}
-use Rattle.std.proofs.lemmas.List.{take_more, get_or_append_left}
+use Rattle.std.proofs.lemmas.Bool.{eqb-true, ltb-true}
+use Rattle.std.proofs.lemmas.List.{take_more}
 use Rattle.hy_bits.specs.Letter.{Letter as NameSet}
 use Rattle.hy_formula.specs.declared.atom.Atom.{Atom}
 use Rattle.hy_formula.specs.Trees.{Tree, always, never, atom, not, next, finally, globally, and, or, implies, iff, until, release, weak, vars_below}
 use Rattle.fin_monitor.specs.declared.name_bit.NameBit.{NameBit}
 use Rattle.fin_monitor.specs.Codes.{IndexedAtom, plain_atom, is_atom, one_if, code_of, part_of, with_atoms}
 use Rattle.fin_monitor.specs.Machines.{Machine, IsMonitor}
-use Rattle.fin_monitor.specs.Parts.{bits_of, AreNamesOf, AreNames}
-use Rattle.fin_monitor.proofs.Masks.{get-some, last-of}
+use Rattle.fin_monitor.specs.Parts.{bits_of, AreNamesOf}
 use Rattle.fin_monitor.proofs.Sets.{both-true}
 
 -- ---- one name more
@@ -68,23 +67,6 @@ names-more atoms i variable a names more lt is was added letter =
     added letter ∙ ap (λ n. n + cond (nat_eq a.var variable && contains letter a.name) (2 ^ i) 0) (was letter)
     ∙ sym (code-next (λ n v. nat_eq v variable && contains letter n) atoms i a lt is)
     ∙ ap (λ k. part_of (map plain_atom (take k atoms)) variable letter) (sym (add-one i))
-
--- a list for one variable more
-pub lists-more : (lists : List (List NameBit)) (names : List NameBit) (atoms : List IndexedAtom) (n : ℕ) → length lists ≡ n
-    → ((v : ℕ) → v < n → AreNamesOf (get_or lists v []) atoms v) → AreNamesOf names atoms n
-    → (v : ℕ) → v < n + 1 → AreNamesOf (get_or (lists ++ names ∷ []) v []) atoms v
-lists-more lists names atoms n long each here v lt =
-    let P : List NameBit → Type 0 = λ l. AreNamesOf l atoms v in
-    let Q : ℕ → Type 0 = λ k. AreNamesOf names atoms k in
-    elim (cases_eq v n) [
-      | inl e ↦ subst P (sym (ap (λ k. get_or (lists ++ names ∷ []) k []) (e ∙ sym long) ∙ last-of lists names [])) (subst Q (sym e) here)
-      | inr apart ↦ subst P (sym (get_or_append_left lists (names ∷ []) [] v (omega arith))) (each v (omega arith))
-    ]
-
--- the names of a variable say its part
-pub part-is : (lists : List (List NameBit)) (atoms : List IndexedAtom) (variables : ℕ) → AreNames lists atoms variables → (variable : ℕ) → variable < variables
-    → (row names : List NameBit) → slice_get lists variable ≡ Some row → names ≡ row → (letter : NameSet) → bits_of names letter ≡ part_of atoms variable letter
-part-is lists atoms variables are variable lt row names at e letter = ap (λ l. bits_of l letter) (e ∙ sym (get-some [] lists variable row at)) ∙ are.each variable lt letter
 
 -- ---- a variable without atoms
 

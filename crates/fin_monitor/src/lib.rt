@@ -10,6 +10,7 @@ mod families;
 pub mod laws;
 mod lefts;
 mod lefts_by_code;
+mod letters;
 mod members;
 mod monitor;
 mod monitor_error;
@@ -18,6 +19,7 @@ mod parts;
 mod reducing;
 mod repeats;
 mod settling;
+mod variable_parts;
 
 pub use monitor::Monitor;
 pub use monitor_error::MonitorError;

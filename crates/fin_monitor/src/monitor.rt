@@ -4,14 +4,15 @@ ghost use Rattle.std.specs.Prelude.{map, nat_eq, IsTrue, ◌≡◌, ◌<◌, ◌
 ghost use Rattle.hy_formula.specs.Trees.{tree_of};
 ghost use Rattle.fin_monitor.specs.Codes.{plain_atom, joint_letter, one_if};
 ghost use Rattle.fin_monitor.specs.Machines.{IsMonitor};
-ghost use Rattle.fin_monitor.specs.Parts.{AreNames};
+ghost use Rattle.fin_monitor.specs.Parts.{AreParts};
 
 use crate::atoms::{AtomList, atoms_in};
 use crate::automaton::Automaton;
 use crate::building::{automaton_of, closure_of, root_of};
 use crate::monitor_error::MonitorError;
-use crate::parts::{NameBits, bits_in, names_by_variable};
+use crate::parts::parts_by_variable;
 use crate::settling::settle;
+use crate::variable_parts::VariableParts;
 use hy_base::{List, NumList, Steps};
 use hy_bits::LetterMask;
 use hy_formula::{Atom, Body};
@@ -25,8 +26,8 @@ pub struct Monitor {
     body: Body,
     vars: u8,
     atoms: AtomList,
-    /// For each variable the names of its atoms.
-    names: List<NameBits>,
+    /// For each variable the parts of codes that its letters give.
+    parts: List<VariableParts>,
     /// For each state and each code of a joint letter, code by code, the state that follows.
     table: NumList,
     accepting: List<bool>,
@@ -37,7 +38,7 @@ pub struct Monitor {
       table = table;
       accepting = accepting;
     }) },
-    ghost by_variable: { AreNames names (map plain_atom atoms) vars },
+    ghost by_variable: { AreParts parts (map plain_atom atoms) vars },
 }
 
 impl Monitor {
@@ -47,7 +48,7 @@ impl Monitor {
     ghost use Rattle.hy_finite.specs.Traces.{Trace, judged, trace_words, Meets};
     ghost use Rattle.fin_monitor.specs.Codes.{code_of, part_of};
     ghost use Rattle.fin_monitor.specs.Limits.{IsTaken, IsRefusal};
-    ghost use Rattle.fin_monitor.specs.Machines.{codes, states_of, next_state, is_accepting, state_after, settled_state};
+    ghost use Rattle.fin_monitor.specs.Machines.{codes, states_of, next_state, is_accepting, state_after, settled_state, IsIdle};
     ghost use Rattle.fin_monitor.specs.Seen.{machine_of};
 
     /// The monitor of a body, for traces of `vars` variables.
@@ -71,8 +72,8 @@ impl Monitor {
         let atoms = atoms_in(alloc, body)?;
         let found = automaton_of(alloc, &closure, &atoms, root_of(&closure))?;
         let automaton = settle(alloc, &found, atoms.len())?;
-        let names = names_by_variable(alloc, atoms.as_slice(), vars)?;
-        Ok(Monitor::made(body.copy(alloc)?, vars, atoms, names, automaton))
+        let parts = parts_by_variable(alloc, atoms.as_slice(), vars)?;
+        Ok(Monitor::made(body.copy(alloc)?, vars, atoms, parts, automaton))
     }
 
     /// The monitor of these parts.
@@ -80,10 +81,10 @@ impl Monitor {
         body: Body,
         vars: u8,
         atoms: AtomList,
-        names: List<NameBits>,
+        parts: List<VariableParts>,
         automaton: Automaton,
     ) -> Monitor
-        requires names { AreNames names (map plain_atom atoms) vars }
+        requires parts { AreParts parts (map plain_atom atoms) vars }
         requires right { IsMonitor (record {
           body = tree_of body;
           variables = vars;
@@ -104,7 +105,7 @@ impl Monitor {
             body,
             vars,
             atoms,
-            names,
+            parts,
             table,
             accepting,
         }
@@ -128,7 +129,9 @@ impl Monitor {
     }
 
     /// The part of the code of a joint letter that comes from the letter of one variable. The code is
-    /// the bitwise or of the parts of all variables. In time linear in the atoms of the variable.
+    /// the bitwise or of the parts of all variables. In constant time for the eight lowest names, and
+    /// linear in the variable's atoms of others.
+    #[inline(always)]
     pub fn part(&self, var: u8, letter: LetterMask) -> u32
         ensures part { result ≡ part_of (machine_of self.now).atoms var letter }
         ensures within { result < codes (machine_of self.now) }
@@ -136,7 +139,7 @@ impl Monitor {
         if var >= self.vars {
             return 0;
         }
-        bits_in(self.names.at(var as usize).as_slice(), letter)
+        self.parts.at(var as usize).of(letter)
     }
 
     /// The state before all letters.
@@ -148,6 +151,7 @@ impl Monitor {
     }
 
     /// The state that follows state `q` after the joint letter of a code. In constant time.
+    #[inline(always)]
     pub fn step<L: Ledger>(&self, q: u32, joint: u32, steps: &mut Steps<L>) -> u32
         requires state { q < states_of (machine_of self.now) }
         requires code { joint < codes (machine_of self.now) }
@@ -174,10 +178,27 @@ impl Monitor {
     }
 
     /// Whether the state is the one from which nothing is rejected.
+    #[inline(always)]
     pub fn is_settled(&self, q: u32) -> bool
         ensures { result ≡ nat_eq q (settled_state (machine_of self.now)) }
     {
         q as usize == self.accepting.len() - 1
+    }
+
+    /// Whether each first joint letter leads to that state: then nothing is ever rejected. In time
+    /// linear in the joint letters.
+    pub fn is_idle(&self) -> bool
+        ensures idle { IsTrue result ↔ IsIdle (machine_of self.now) }
+        ensures meets { IsTrue result → (rule : Lengths) (tuple : Sequence Trace)
+            → 0 < judged rule tuple → Meets rule (machine_of self.now).body tuple }
+    {
+        let settled = self.states() - 1;
+        for code in 0..1usize << self.atoms.len() {
+            if *self.table.at(code) != settled {
+                return false;
+            }
+        }
+        true
     }
 
     /// The number of variables that `build` was given: at most 4.

@@ -1,32 +1,82 @@
-//! The names of the atoms of each variable, by which the part of a code that one letter gives is
-//! found without a look at the atoms of other variables.
+//! The names of the atoms of each variable, and what they say of letters: so the part of a code that
+//! one letter gives is found without a look at the atoms of other variables.
 
-ghost use Rattle.std.specs.Prelude.{◌≡◌, ◌≤◌, ◌<◌, ◌+◌, ◌^◌, ◌&&◌, cond, nat_eq, length, map, IfOk, OnOk};
+ghost use Rattle.std.specs.Prelude.{◌≡◌, ◌≤◌, ◌<◌, ◌+◌, ◌*◌, ◌^◌, ◌&&◌, ◌++◌, cond, nat_eq, length, map, IfOk, OnOk};
 ghost use Rattle.std.specs.FinSet.{contains};
+ghost use Rattle.hy_formula.specs.Quantifiers.{Each};
 ghost use Rattle.hy_bits.specs.Letter.{Letter as NameSet};
 ghost use Rattle.fin_monitor.specs.Codes.{plain_atom};
-ghost use Rattle.fin_monitor.specs.Parts.{bits_of, AreNamesOf, AreNames};
+ghost use Rattle.fin_monitor.specs.Parts.{bits_of, bits_below, AreNamesOf, AreLowParts, ArePartsOf, AreParts};
 
+use crate::letters::bits_in;
 use crate::name_bit::NameBit;
-use hy_base::{List, M};
+use crate::variable_parts::{LOW_NAMES, NameBits, VariableParts};
+use hy_base::{List, M, NumList};
 use hy_bits::LetterMask;
 use hy_formula::Atom;
 use std::alloc::Global;
 
-/// The names of the atoms of one variable.
-pub type NameBits = List<NameBit>;
-
-/// For each variable below `vars` the names of its atoms.
-pub fn names_by_variable(alloc: Global, atoms: &[Atom], vars: u8) -> M<List<NameBits>>
+/// For each variable below `vars` the parts that its letters give.
+pub fn parts_by_variable(alloc: Global, atoms: &[Atom], vars: u8) -> M<List<VariableParts>>
     requires { length atoms.now ≤ 16 }
-    ensures { IfOk result (λ made. AreNames made (map plain_atom atoms.now) vars) }
+    ensures { IfOk result (λ made. AreParts made (map plain_atom atoms.now) vars) }
 {
     let mut made = List::new(alloc);
     for v in 0..vars {
-        let names = names_of(alloc, atoms, v)?;
-        made.push(names)?;
+        made.push(parts_of(alloc, atoms, v)?)?;
     }
     Ok(made)
+}
+
+/// The parts that the letters of a variable give.
+fn parts_of(alloc: Global, atoms: &[Atom], var: u8) -> M<VariableParts>
+    requires { length atoms.now ≤ 16 }
+    ensures { IfOk result (λ made. ArePartsOf made (map plain_atom atoms.now) var) }
+{
+    let names = names_of(alloc, atoms, var)?;
+    let low = low_parts(alloc, names.as_slice())?;
+    let high = high_names(alloc, names.as_slice())?;
+    Ok(VariableParts { low, high })
+}
+
+/// For each set of names below `LOW_NAMES`, by number, the sum of their bits.
+fn low_parts(alloc: Global, names: &[NameBit]) -> M<NumList>
+    requires { (letter : NameSet) → bits_of names.now letter < 65536 }
+    ensures { IfOk result (λ made. AreLowParts made names.now 8) }
+{
+    let mut parts = List::new(alloc);
+    parts.push(0)?;
+    for k in 0..LOW_NAMES {
+        let bits = bits_in(names, LetterMask::empty().with(k as usize));
+        push_with(&mut parts, bits)?;
+    }
+    Ok(parts)
+}
+
+/// Each of the parts once more, with these bits besides.
+fn push_with(parts: &mut NumList, bits: u32) -> M<()>
+    requires { Each (λ part. part + bits < 2 ^ 32) parts.old }
+    ensures { OnOk result (parts.new ≡ parts.old ++ map (λ part. part + bits) parts.old) }
+{
+    for i in 0..parts.len() {
+        let part = *parts.at(i);
+        parts.push(part + bits)?;
+    }
+    Ok(())
+}
+
+/// The names from `LOW_NAMES` on.
+fn high_names(alloc: Global, names: &[NameBit]) -> M<NameBits>
+    ensures { IfOk result (λ made. (letter : NameSet)
+        → bits_below 8 names.now letter + bits_of made letter ≡ bits_of names.now letter) }
+{
+    let mut high = List::new(alloc);
+    for n in names {
+        if n.name >= LOW_NAMES {
+            high.push(*n)?;
+        }
+    }
+    Ok(high)
 }
 
 /// The names of the atoms of a variable.
@@ -55,24 +105,4 @@ fn add_name(names: &mut NameBits, a: Atom, i: usize, var: u8) -> M<()>
         place: i as u8,
     })?;
     Ok(())
-}
-
-/// The sum of the bits of the names that a letter has. In time linear in the names.
-pub fn bits_in(names: &[NameBit], letter: LetterMask) -> u32
-    requires { bits_of names.now letter < 65536 }
-    ensures { result ≡ bits_of names.now letter }
-{
-    let mut bits = 0;
-    for n in names {
-        bits = with_name(bits, letter, n);
-    }
-    bits
-}
-
-/// The bits, and that of a name besides, if the letter has it. No branch depends on the letter.
-fn with_name(bits: u32, letter: LetterMask, n: &NameBit) -> u32
-    requires { bits + cond (contains letter n.now.name) (2 ^ n.now.place) 0 < 65536 }
-    ensures { result ≡ bits + cond (contains letter n.now.name) (2 ^ n.now.place) 0 }
-{
-    bits + (u32::from(letter.has(n.name as usize)) << n.place)
 }

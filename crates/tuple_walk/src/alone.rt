@@ -102,6 +102,7 @@ impl<'a> Walk<'a> {
     }
 
     /// The code of the letters at position `i`, empty ones past the end of a rest.
+    #[inline(always)]
     fn joint_at(&self, rests: &[&[LetterMask]], i: usize) -> u32
         requires { length rests.now ≡ (machine_in self.now).variables }
         ensures code { result ≡ code_at (machine_in self.now) (trace_words (left_of rests.now)) i }
@@ -118,6 +119,7 @@ impl<'a> Walk<'a> {
     }
 
     /// As `joint_at`, for two rests: most formulas have two variables.
+    #[inline(always)]
     fn joint_of_two(&self, first: &[LetterMask], second: &[LetterMask], i: usize) -> u32
         ensures code { result ≡ code_at (machine_in self.now)
             (trace_words (first.now ∷ second.now ∷ [])) i }
@@ -138,6 +140,7 @@ fn of_two(lengths: Lengths, a: usize, b: usize) -> usize
 }
 
 /// Letter `i` of a rest, empty past its end.
+#[inline(always)]
 fn letter_at(rest: &[LetterMask], i: usize) -> LetterMask
     ensures { result ≡ slice_index_or rest.now i empty }
 {

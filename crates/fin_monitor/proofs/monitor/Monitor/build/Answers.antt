@@ -5,7 +5,7 @@ use Rattle.fin_monitor.specs.Codes.{plain_atom}
 use Rattle.fin_monitor.specs.Duties.{body_root}
 use Rattle.fin_monitor.specs.Limits.{IsRefusal}
 use Rattle.fin_monitor.specs.Machines.{Machine}
-use Rattle.fin_monitor.specs.Parts.{AreNames}
+use Rattle.fin_monitor.specs.Parts.{AreParts}
 use Rattle.fin_monitor.specs.Tables.{IsTableOf, IsSettling}
 use Rattle.fin_monitor.proofs.AtomLists.{err-on}
 use Rattle.fin_monitor.proofs.Making.{table-on, table-is, is-taken, made-monitor}
@@ -36,10 +36,10 @@ settle-requires-clause-table c =
     let P : ℕ → Type 0 = λ n. IsTableOf c.in_ok-found.found (2 ^ n) in
     subst P (sym c.len.ensures) (table-is body c.in_ok-closure.closure.nodes c.root_of.result c.in_ok-atoms.atoms c.in_ok-closure.ensures.nodes root c.in_ok-atoms.ensures.atoms c.in_ok-atoms.ensures.few c.in_ok-found.found c.in_ok-found.ensures.automaton)
 
-pub made-requires-clause-names : goal.made-requires-clause-names
-made-requires-clause-names c =
-    let P : List Atom → Type 0 = λ l. AreNames c.in_ok-names.names (map plain_atom l) c.args.vars in
-    subst P c.as_slice.ensures c.in_ok-names.ensures
+pub made-requires-clause-parts : goal.made-requires-clause-parts
+made-requires-clause-parts c =
+    let P : List Atom → Type 0 = λ l. AreParts c.in_ok-parts.parts (map plain_atom l) c.args.vars in
+    subst P c.as_slice.ensures c.in_ok-parts.ensures
 
 pub made-requires-clause-right : goal.made-requires-clause-right
 made-requires-clause-right c =

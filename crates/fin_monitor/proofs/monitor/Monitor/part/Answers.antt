@@ -1,10 +1,9 @@
-use Rattle.std.proofs.Common.{◌≡◌, ◌<◌, ◌^◌, ◌&&◌, ℕ, nat_eq, length, map, sym, ◌∙◌, subst, arith}
+use Rattle.std.proofs.Common.{◌<◌, ◌^◌, ◌&&◌, ℕ, nat_eq, length, map, sym, ◌∙◌, subst, arith}
 use Rattle.std.specs.FinSet.{contains}
-use Rattle.fin_monitor.specs.Codes.{plain_atom, part_of}
-use Rattle.fin_monitor.specs.Parts.{bits_of}
+use Rattle.fin_monitor.specs.Codes.{plain_atom}
 use Rattle.fin_monitor.specs.Seen.{machine_of}
 use Rattle.fin_monitor.proofs.CodeBits.{code-lt, small-code}
-use Rattle.fin_monitor.proofs.Naming.{past-none, part-is}
+use Rattle.fin_monitor.proofs.Naming.{past-none}
 use Rattle.fin_monitor.proofs.monitor.Monitor.part.Goals as goal
 
 pub returns-then-var-self : goal.returns-then-var-self
@@ -13,16 +12,13 @@ returns-then-var-self c =
     let P : ℕ → Type 0 = λ n. n < 2 ^ length (map plain_atom c.args.self.now.atoms) in
     record { part = none; within = subst P (sym none) (code-lt (λ n v. nat_eq v c.args.var && contains c.args.letter n) (map plain_atom c.args.self.now.atoms)) }
 
-pub bits_in-requires : goal.bits_in-requires
-bits_in-requires c =
-    let is : bits_of c.as_slice.result.now c.args.letter ≡ part_of (map plain_atom c.args.self.now.atoms) c.args.var c.args.letter =
-    part-is c.args.self.now.names (map plain_atom c.args.self.now.atoms) c.args.self.now.vars c.args.self.now.by_variable c.args.var (omega arith) c.at.result.now c.as_slice.result.now c.at.ensures c.as_slice.ensures c.args.letter in
+pub of-requires : goal.of-requires
+of-requires c =
+    let is = c.args.self.now.by_variable.each c.args.var c.at.result.now c.at.ensures c.args.letter in
     omega (arith, is, small-code (λ n v. nat_eq v c.args.var && contains c.args.letter n) (map plain_atom c.args.self.now.atoms) 0 c.args.self.now.right.few_atoms)
 
 pub returns : goal.returns
 returns c =
-    let is : bits_of c.as_slice.result.now c.args.letter ≡ part_of (map plain_atom c.args.self.now.atoms) c.args.var c.args.letter =
-    part-is c.args.self.now.names (map plain_atom c.args.self.now.atoms) c.args.self.now.vars c.args.self.now.by_variable c.args.var (omega arith) c.at.result.now c.as_slice.result.now c.at.ensures c.as_slice.ensures c.args.letter in
+    let made = c.of.ensures ∙ c.args.self.now.by_variable.each c.args.var c.at.result.now c.at.ensures c.args.letter in
     let P : ℕ → Type 0 = λ n. n < 2 ^ length (map plain_atom c.args.self.now.atoms) in
-    let made : c.bits_in.result ≡ part_of (map plain_atom c.args.self.now.atoms) c.args.var c.args.letter = c.bits_in.ensures ∙ is in
     record { part = made; within = subst P (sym made) (code-lt (λ n v. nat_eq v c.args.var && contains c.args.letter n) (map plain_atom c.args.self.now.atoms)) }

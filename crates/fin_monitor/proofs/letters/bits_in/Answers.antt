@@ -3,7 +3,7 @@ use Rattle.std.specs.FinSet.{contains}
 use Rattle.std.proofs.lemmas.List.{take_all}
 use Rattle.fin_monitor.specs.Parts.{bits_of}
 use Rattle.fin_monitor.proofs.Naming.{bits-at, bits-up-to}
-use Rattle.fin_monitor.proofs.parts.bits_in.Goals as goal
+use Rattle.fin_monitor.proofs.letters.bits_in.Goals as goal
 
 pub with_name-bits-requires : goal.with_name-bits-requires
 with_name-bits-requires c =
