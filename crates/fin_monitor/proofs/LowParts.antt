@@ -118,11 +118,6 @@ each-map : (P Q : ℕ → Type 0) (f : ℕ → ℕ) → ((n : ℕ) → P n → Q
 each-map P Q f go [] e = tt
 each-map P Q f go (n ∷ list) (here, e) = (go n here, each-map P Q f go list e)
 
-pub each-get : (P : ℕ → Type 0) (list : List ℕ) (i : ℕ) → i < length list → Each P list → P (get_or list i 0)
-each-get P [] i lt e = absurd (omega arith)
-each-get P (n ∷ list) zero lt (here, e) = here
-each-get P (n ∷ list) (suc i) lt (here, e) = each-get P list i (omega arith) e
-
 pub bound-more : (parts more : List ℕ) (k bits : ℕ) → bits < 65536 → more ≡ parts ++ map (λ part. part + bits) parts
     → Each (λ part. part ≤ k * 65536) parts → Each (λ part. part ≤ suc k * 65536) more
 bound-more parts more k bits small is e =

@@ -1,5 +1,5 @@
 -- The answer to each event is right for each history that the monitor stands for.
-use Rattle.std.proofs.Common.{◌≡◌, ℕ, ◌+◌, ◌<◌, ◌≤◌, Bool, true, false, List, [], ◌∷◌, ◌++◌, length, reverse, Some, None, Ok, Err, not, nat_eq, refl, sym, ap, ◌∙◌, subst, arith}
+use Rattle.std.proofs.Common.{◌≡◌, ℕ, ◌+◌, ◌<◌, ◌≤◌, true, false, List, [], ◌∷◌, ◌++◌, length, reverse, Some, None, Ok, Err, nat_eq, refl, sym, ap, ◌∙◌, subst, arith}
 use Rattle.std.proofs.lemmas.Bool.{eqb-true}
 use Rattle.std.proofs.lemmas.List.{reverse-append}
 use Rattle.hy_base.specs.declared.limit.Kind.TheVariants as kind
@@ -20,7 +20,7 @@ use Rattle.rv_core.specs.Histories.{Session, History, too_long, too_many_session
 use Rattle.rv_core.specs.Opened.{Open, letters_in, Extends, longer, opened, IsNotTaken, Closes}
 use Rattle.rv_core.specs.Held.{Held, specs_of, AreSessions, StandsFor}
 use Rattle.rv_core.specs.Arrivals.{AreNext, FirstFound, IsArrival, after_arrival}
-use Rattle.rv_core.specs.Replies.{takes_memory, IsAnswer, quiet, arrived, violated, refused_by, spent, Answers, IsAsBefore, IsReplyTo}
+use Rattle.rv_core.specs.Replies.{takes_memory, IsAnswer, quiet, arrived, violated, refused_by, spent, Answers, IsReplyTo}
 use Rattle.rv_core.proofs.SessionLists.{sessions-extended, sessions-closed}
 use Rattle.rv_core.proofs.Stepping.{goes-longer, goes-opened, refused-long, refused-many, goes-end, refused-end, goes-save, refused-save}
 use Rattle.rv_core.proofs.Standing.{changed, with_saves, saved_of, back_to, arrival-stands, arrival-found, letter-stands, save-stands, back-stands, none-saved, saves-long}
@@ -136,10 +136,6 @@ module _ (m : Held) (e : Event) (t : Trace) (os : Open) (brings : Brings m e t o
       λ q. Answers m (changed m m.kept (m.arrived + 1) os false) e (Ok q) in
       subst P (sym r) (answered-violated k tuple first)
 
-pub same-before : (m : Held) → IsAsBefore m m
-same-before m =
-    record { arrived = refl; sessions = refl; saves = refl; clean = refl; stands = λ h s. s }
-
 pub memory-answer : (m : Held) (e : Event) → takes_memory e ≡ true
     → Answers m m e (Err error.Memory)
 memory-answer m e takes = record { rule = refl; specs = refl; right = λ h s. spent takes s }
@@ -205,7 +201,3 @@ none-left saves e = ap reverse (by saves (eqb-true (length saves) 0 e))
     by : (xs : List Saved) → length xs ≡ 0 → xs ≡ []
     by [] f = refl
     by (x ∷ xs) f = absurd (omega arith)
-
-pub by-none : (some none : Bool) → some ≡ not none → not some ≡ none
-by-none some true e = ap not e
-by-none some false e = ap not e

@@ -8,7 +8,7 @@ use Rattle.fin_monitor.specs.Machines.{Machine}
 use Rattle.trace_trie.specs.Numbered.{Numbered}
 use Rattle.dominance.proofs.Elements.{each-append}
 use Rattle.rv_core.specs.Arrivals.{AreNext, IsNext, over, last, idle}
-use Rattle.rv_core.specs.Keeping.{AreBelow, kept_at}
+use Rattle.rv_core.specs.Keeping.{kept_at}
 use Rattle.rv_core.proofs.Places.{each-more, each-from}
 use Rattle.rv_core.proofs.Seeing.{kept-there}
 use Rattle.rv_core.proofs.Sifting.{left-each}
@@ -61,9 +61,3 @@ next-below rule drop ms n t old new next below =
     subst P (kept-there new s list at)
     (one-below rule drop m t n (kept_at old s) (kept_at new s) (next.right s m there)
     (below-at n old s below)))
-
--- numbers below one that grows
-pub all-below : (specs n : ℕ) (kept : List (List Numbered)) → AreBelow specs n kept
-    → AreBelow specs (n + 1) kept
-all-below specs n kept (long, below) =
-    (long, each-more (Below n) (Below (n + 1)) kept (below-more n) below)

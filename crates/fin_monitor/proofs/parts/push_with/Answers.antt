@@ -1,6 +1,6 @@
 use Rattle.std.proofs.Common.{◌≡◌, ◌+◌, ◌∷◌, ◌++◌, [], ◌<◌, ℕ, length, take, map, get_or, sym, ap, ◌∙◌, arith, append_assoc, append-nil, length-append}
 use Rattle.std.proofs.lemmas.List.{take_all, map_more, get_or_append_left}
-use Rattle.fin_monitor.proofs.LowParts.{each-get}
+use Rattle.fin_monitor.proofs.KeptLefts.{each-item}
 use Rattle.fin_monitor.proofs.Masks.{get-some}
 use Rattle.fin_monitor.proofs.parts.push_with.Goals as goal
 
@@ -17,7 +17,7 @@ overflow_add-part c =
     let at : get_or c.loop-i.parts c.loop-i.i 0 ≡ c.at-part.result.now = get-some 0 c.loop-i.parts c.loop-i.i c.at-part.result.now c.at-part.ensures in
     let old : get_or c.loop-i.parts c.loop-i.i 0 ≡ get_or c.args.parts.now c.loop-i.i 0 =
     ap (λ l. get_or l c.loop-i.i 0) c.loop-i.invariant ∙ get_or_append_left c.args.parts.now (map (λ part. part + c.args.bits) (take c.loop-i.i c.args.parts.now)) 0 c.loop-i.i lt in
-    omega (arith, at, old, each-get (λ part. part + c.args.bits < 4294967296) c.args.parts.now c.loop-i.i lt c.requires)
+    omega (arith, at, old, each-item (λ part. part + c.args.bits < 4294967296) c.args.parts.now c.loop-i.i 0 c.requires lt)
 
 pub loop-i-preserved : goal.loop-i-preserved
 loop-i-preserved c =
