@@ -1,9 +1,9 @@
 -- What letters give by their lowest names, looked up by number.
-use Rattle.std.proofs.Common.{◌≡◌, ◌≢◌, ◌⊎◌, ◌+◌, ◌*◌, ◌^◌, ◌<◌, ◌≤◌, ℕ, zero, suc, Bool, true, false, ◌&&◌, cond, nat_lt, nat_cmp, List, [], ◌∷◌, ◌++◌, length, take, map, get_or, slice_get, Some, inl, inr, refl, sym, ap, ◌∙◌, subst, arith, length-append}
+use Rattle.std.proofs.Common.{◌≡◌, ◌≢◌, ◌⊎◌, ◌+◌, ◌*◌, ◌^◌, ◌<◌, ◌≤◌, ℕ, zero, suc, Bool, true, false, ◌&&◌, cond, nat_eq, nat_lt, nat_cmp, List, [], ◌∷◌, ◌++◌, length, take, map, get_or, slice_get, Some, inl, inr, refl, sym, ap, ◌∙◌, subst, arith, length-append}
 use Rattle.std.specs.FinSet.{contains, empty, insert, contains-empty}
 use Rattle.std.proofs.Math.Nat.{pow-succ'}
 use Rattle.std.proofs.Math.Pow.{pow_mono}
-use Rattle.std.proofs.lemmas.Bool.{cases_eq, cases_lt, lt-ltb, le-ltb}
+use Rattle.std.proofs.lemmas.Bool.{cases_eq, cases_lt, eqb-true, lt-ltb, le-ltb}
 use Rattle.std.proofs.lemmas.List.{take_more, length-map, get_or_append_left, get_or-append-add, get_or-map}
 use Rattle.hy_bits.specs.BinaryLaws.{contains-insert_same, contains-insert_other}
 use Rattle.hy_bits.specs.Letter.{Letter as NameSet}
@@ -11,8 +11,9 @@ use Rattle.hy_formula.specs.Quantifiers.{Each}
 use Rattle.fin_monitor.specs.declared.name_bit.NameBit.{NameBit}
 use Rattle.fin_monitor.specs.declared.variable_parts.VariableParts.{VariableParts}
 use Rattle.fin_monitor.specs.Codes.{IndexedAtom}
-use Rattle.fin_monitor.specs.Parts.{bits_of, bits_below, low_number, AreNamesOf, AreLowParts, ArePartsOf, AreParts}
+use Rattle.fin_monitor.specs.Parts.{bits_of, bits_below, low_number, part_in, AreNamesOf, AreLowParts, ArePartsOf, AreParts}
 use Rattle.fin_monitor.proofs.Lists.{each-append}
+use Rattle.fin_monitor.proofs.Masks.{get-some}
 
 -- ---- numbers of lowest names
 
@@ -151,6 +152,16 @@ get-last [] x zero y e = inr (refl, cc)
 get-last [] x (suc v) y e = absurd (cc)
 get-last (z ∷ zs) x zero y e = inl e
 get-last (z ∷ zs) x (suc v) y e = elim (get-last zs x v y e) [ inl f ↦ inl f | inr (at, same) ↦ inr (ap suc at, same) ]
+
+-- what is looked up for the lowest names, and the bits of the others
+pub looked-up : (parts : VariableParts) (letter : NameSet) (number low : ℕ) → number ≡ low_number 8 letter → slice_get parts.low number ≡ Some low
+    → low + bits_of parts.high letter ≡ part_in parts letter
+looked-up parts letter number low e at =
+    ap (λ n. n + bits_of parts.high letter) (sym (get-some 0 parts.low number low at) ∙ ap (λ i. get_or parts.low i 0) e)
+
+pub none-high : (names : List NameBit) (letter : NameSet) → nat_eq (length names) 0 ≡ true → bits_of names letter ≡ 0
+none-high [] letter e = refl
+none-high (n ∷ names) letter e = let none : length (n ∷ names) ≡ 0 = eqb-true (length (n ∷ names)) 0 e in absurd (omega (arith, none))
 
 pub no-parts : (atoms : List IndexedAtom) → AreParts [] atoms 0
 no-parts atoms = record { long = refl; each = λ v parts at. absurd (cc) }

@@ -15,7 +15,11 @@ impl VariableParts {
         requires { part_in self.now letter < 65536 }
         ensures { result ≡ part_in self.now letter }
     {
-        *self.low.at(low_number(letter) as usize) + bits_in(self.high.as_slice(), letter)
+        let low = *self.low.at(low_number(letter) as usize);
+        if self.high.is_empty() {
+            return low;
+        }
+        low + bits_in(self.high.as_slice(), letter)
     }
 }
 
@@ -32,8 +36,9 @@ fn low_number(letter: LetterMask) -> u32
     number
 }
 
-/// The sum of the bits of the names that a letter has. In time linear in the names.
-#[inline(always)]
+/// The sum of the bits of the names that a letter has. In time linear in the names. It stays out of
+/// the loops over letters, which seldom need it.
+#[inline(never)]
 pub fn bits_in(names: &[NameBit], letter: LetterMask) -> u32
     requires { bits_of names.now letter < 65536 }
     ensures { result ≡ bits_of names.now letter }
