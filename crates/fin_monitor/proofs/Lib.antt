@@ -26,4 +26,3 @@ pub mod KeptLefts
 pub mod Outdoing
 pub mod Firsts
 pub mod LowParts
-pub mod Idling

@@ -11,7 +11,7 @@ use Rattle.hy_formula.specs.Quantifiers.{Each}
 use Rattle.fin_monitor.specs.declared.name_bit.NameBit.{NameBit}
 use Rattle.fin_monitor.specs.declared.variable_parts.VariableParts.{VariableParts}
 use Rattle.fin_monitor.specs.Codes.{IndexedAtom}
-use Rattle.fin_monitor.specs.Parts.{bits_of, bits_below, low_number, part_in, AreNamesOf, AreLowParts, ArePartsOf, AreParts}
+use Rattle.fin_monitor.specs.Parts.{bits_of, bits_below, low_number, part_in, AreLowParts, ArePartsOf, AreParts}
 use Rattle.fin_monitor.proofs.Lists.{each-append}
 use Rattle.fin_monitor.proofs.Masks.{get-some}
 
@@ -140,12 +140,6 @@ below-at names i n k letter lt is =
     ap (λ l. bits_below k l letter) (take_more names i n lt ∙ ap (λ x. take i names ++ x ∷ []) (sym is)) ∙ below-more (take i names) n k letter
 
 -- ---- all parts of a variable
-
-pub parts-are : (low : List ℕ) (names high : List NameBit) (atoms : List IndexedAtom) (variable : ℕ) (made : VariableParts) → made.low ≡ low → made.high ≡ high
-    → AreLowParts low names 8 → ((letter : NameSet) → bits_below 8 names letter + bits_of high letter ≡ bits_of names letter) → AreNamesOf names atoms variable → ArePartsOf made atoms variable
-parts-are low names high atoms variable made is_low is_high are rest of letter =
-    (λ i. get_or (is_low i) (low_number 8 letter) 0 + bits_of (is_high i) letter)
-    ∙ ap (λ n. n + bits_of high letter) (are.right letter) ∙ rest letter ∙ of letter
 
 get-last : {A : Type 0} (xs : List A) (x : A) (v : ℕ) (y : A) → slice_get (xs ++ x ∷ []) v ≡ Some y → (slice_get xs v ≡ Some y) ⊎ ((v ≡ length xs) × (x ≡ y))
 get-last [] x zero y e = inr (refl, cc)

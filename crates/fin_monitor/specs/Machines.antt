@@ -40,10 +40,6 @@ state_after m words (suc i) = next_state m (state_after m words i) (code_at m wo
 abbrev pub settled_state : Machine → ℕ
 settled_state m = states_of m - 1
 
--- Each first joint letter leads to the state from which nothing is rejected.
-abbrev pub IsIdle : Machine → Type 0
-IsIdle m = (code : ℕ) → code < codes m → next_state m 0 code ≡ settled_state m
-
 -- The machine accepts as the residuals of its body do.
 pub record IsMonitor (m : Machine) : Type 0 where
   pub bound : IsTrue (vars_below m.variables m.body)

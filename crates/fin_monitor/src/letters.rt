@@ -52,7 +52,7 @@ pub fn bits_in(names: &[NameBit], letter: LetterMask) -> u32
 
 /// The bits, and that of a name besides, if the letter has it. No branch depends on the letter.
 #[inline(always)]
-pub fn with_name(bits: u32, letter: LetterMask, n: &NameBit) -> u32
+fn with_name(bits: u32, letter: LetterMask, n: &NameBit) -> u32
     requires { bits + cond (contains letter n.now.name) (2 ^ n.now.place) 0 < 65536 }
     ensures { result ≡ bits + cond (contains letter n.now.name) (2 ^ n.now.place) 0 }
 {

@@ -48,7 +48,7 @@ impl Monitor {
     ghost use Rattle.hy_finite.specs.Traces.{Trace, judged, trace_words, Meets};
     ghost use Rattle.fin_monitor.specs.Codes.{code_of, part_of};
     ghost use Rattle.fin_monitor.specs.Limits.{IsTaken, IsRefusal};
-    ghost use Rattle.fin_monitor.specs.Machines.{codes, states_of, next_state, is_accepting, state_after, settled_state, IsIdle};
+    ghost use Rattle.fin_monitor.specs.Machines.{codes, states_of, next_state, is_accepting, state_after, settled_state};
     ghost use Rattle.fin_monitor.specs.Seen.{machine_of};
 
     /// The monitor of a body, for traces of `vars` variables.
@@ -183,22 +183,6 @@ impl Monitor {
         ensures { result ≡ nat_eq q (settled_state (machine_of self.now)) }
     {
         q as usize == self.accepting.len() - 1
-    }
-
-    /// Whether each first joint letter leads to that state: then nothing is ever rejected. In time
-    /// linear in the joint letters.
-    pub fn is_idle(&self) -> bool
-        ensures idle { IsTrue result ↔ IsIdle (machine_of self.now) }
-        ensures meets { IsTrue result → (rule : Lengths) (tuple : Sequence Trace)
-            → 0 < judged rule tuple → Meets rule (machine_of self.now).body tuple }
-    {
-        let settled = self.states() - 1;
-        for code in 0..1usize << self.atoms.len() {
-            if *self.table.at(code) != settled {
-                return false;
-            }
-        }
-        true
     }
 
     /// The number of variables that `build` was given: at most 4.

@@ -11,14 +11,13 @@ use Rattle.hy_finite.proofs.Violating.{arriving}
 use Rattle.fin_monitor.specs.Machines.{Machine}
 use Rattle.trace_trie.specs.Numbered.{Numbered}
 use Rattle.dominance.specs.Dominance.{IsTrace, Dominates}
-use Rattle.dominance.specs.Leaders.{IsAt, AreLeaders}
-use Rattle.dominance.proofs.Elements.{at-push_old, at-push_new, each-append, each-at}
+use Rattle.dominance.specs.Leaders.{IsAt}
+use Rattle.dominance.proofs.Elements.{at-push_old, at-push_new, each-append}
 use Rattle.dominance.proofs.Replacements.{Covers, over-itself, violates-kept}
-use Rattle.tuple_walk.specs.Finds.{AreViolating, AllMeet, numbers_of, traces_of}
+use Rattle.tuple_walk.specs.Finds.{AreViolating, numbers_of, traces_of}
 use Rattle.rv_core.specs.Arrivals.{IsPassed}
 use Rattle.rv_core.specs.Held.{spec_of}
-use Rattle.rv_core.specs.Keeping.{IsNeverViolated, IsKept, are_leaders, are_any, members_of}
-use Rattle.rv_core.specs.Keeping as keeping
+use Rattle.rv_core.specs.Keeping.{IsKept}
 use Rattle.rv_core.specs.Replies.{IsViolatedBy}
 use Rattle.rv_core.proofs.Keepings.{kept-at, kept-among, kept-covers}
 
@@ -52,16 +51,6 @@ each-of : (P Q : Numbered → Type 0) (pairs : List Numbered) → ((p : Numbered
     → Each P pairs → Each Q pairs
 each-of P Q [] f e = tt
 each-of P Q (p ∷ ps) f (here, e) = (f p here, each-of P Q ps f e)
-
--- what no tuple violates no list violates
-never-violates : (rule : Lengths) (m : Machine) (list : List Trace) → Each IsTrace list
-    → IsNeverViolated rule (spec_of m) → ¬ Violates rule m.variables m.body list
-never-violates rule m list some never (tuple, (is, fails)) =
-    fails (never tuple (each-of-traces tuple is.members) is.count)
-  where
-    each-of-traces : (us : List Trace) → Each (Contains list) us → Each IsTrace us
-    each-of-traces [] e = tt
-    each-of-traces (u ∷ us) (here, e) = (each-at IsTrace list u some here, each-of-traces us e)
 
 module _ (rule : Lengths) (drop : Bool) (m : Machine) (list : List Trace) (t : Trace)
     (kept : List Numbered) (is : IsKept rule drop (spec_of m) list kept) where
@@ -116,9 +105,6 @@ module _ (rule : Lengths) (drop : Bool) (m : Machine) (list : List Trace) (t : T
         )
 
     module _ (some : Each IsTrace list) (more : IsTrace t) where
-      all-some : Each IsTrace (list ++ t ∷ [])
-      all-some = each-append IsTrace list (t ∷ []) some (more, tt)
-
       more-among : Each (Contains (list ++ t ∷ [])) (traces_of kept ++ t ∷ [])
       more-among =
           by (traces_of kept) (kept-among rule drop (spec_of m) list kept is)
@@ -128,42 +114,33 @@ module _ (rule : Lengths) (drop : Bool) (m : Machine) (list : List Trace) (t : T
           by [] e = (Contains-push list t, tt)
           by (u ∷ us) (here, e) = (Contains-append_left list (t ∷ []) u here, by us e)
 
-      module _ (are : AreLeaders (keeping.Covers rule drop (spec_of m)) list (members_of kept)) where
-        more-covers : Covers rule m.variables m.body (traces_of kept ++ t ∷ []) (list ++ t ∷ [])
-        more-covers u c =
-            elim (Contains-push_cases list t u c) [
-              | inl old ↦
-                  let (x, x_in, over) = kept-covers rule drop (spec_of m) list kept are u old in
-                  (x, Contains-append_left (traces_of kept) (t ∷ []) x x_in, over)
-              | inr e ↦
-                  let P : Trace → Type 0 = Dominates rule m.variables m.body t in (
-                    t,
-                    Contains-push (traces_of kept) t,
-                    subst P e (over-itself rule m.variables m.body t),
-                  )
-            ]
+      more-covers : Covers rule m.variables m.body (traces_of kept ++ t ∷ []) (list ++ t ∷ [])
+      more-covers u c =
+          elim (Contains-push_cases list t u c) [
+            | inl old ↦
+                let (x, x_in, over) = kept-covers rule drop (spec_of m) list kept is u old in
+                (x, Contains-append_left (traces_of kept) (t ∷ []) x x_in, over)
+            | inr e ↦
+                let P : Trace → Type 0 = Dominates rule m.variables m.body t in (
+                  t,
+                  Contains-push (traces_of kept) t,
+                  subst P e (over-itself rule m.variables m.body t),
+                )
+          ]
 
-        kept-clean : ¬ Violates rule m.variables m.body (traces_of kept)
-        kept-clean v =
-            clean ((violates-kept rule m.variables m.body (traces_of kept) list some
-            (kept-among rule drop (spec_of m) list kept is)
-            (kept-covers rule drop (spec_of m) list kept are)).1 v)
-
-        meet-clean : AllMeet m rule (traces_of kept ++ t ∷ []) t
-            → ¬ Violates rule m.variables m.body (list ++ t ∷ [])
-        meet-clean meet v =
-            let (tuple, by) =
-            (violates-kept rule m.variables m.body (traces_of kept ++ t ∷ []) (list ++ t ∷ [])
-            all-some more-among more-covers).0 v in
-            let has = arriving rule m.variables m.body (traces_of kept) t kept-clean tuple by in
-            by.1 (meet tuple by.0 has)
+      kept-clean : ¬ Violates rule m.variables m.body (traces_of kept)
+      kept-clean v =
+          clean ((violates-kept rule m.variables m.body (traces_of kept) list some
+          (kept-among rule drop (spec_of m) list kept is)
+          (kept-covers rule drop (spec_of m) list kept is)).1 v)
 
       pub stays-clean : IsPassed rule m t kept → ¬ Violates rule m.variables m.body (list ++ t ∷ [])
       stays-clean (inl (n, c)) v =
           let (lt, at) = kept-at rule drop (spec_of m) list kept is (n, t) c in again (n, lt, at) v
-      stays-clean (inr (inl never)) v = never-violates rule m (list ++ t ∷ []) all-some never v
-      stays-clean (inr (inr meet)) v = by is
-        where
-          by : IsKept rule drop (spec_of m) list kept → ⊥
-          by (are_leaders are) = meet-clean are meet v
-          by (are_any off never are) = never-violates rule m (list ++ t ∷ []) all-some never v
+      stays-clean (inr meet) v =
+          let all = each-append IsTrace list (t ∷ []) some (more, tt) in
+          let (tuple, by) =
+          (violates-kept rule m.variables m.body (traces_of kept ++ t ∷ []) (list ++ t ∷ []) all
+          more-among more-covers).0 v in
+          let has = arriving rule m.variables m.body (traces_of kept) t kept-clean tuple by in
+          by.1 (meet tuple by.0 has)

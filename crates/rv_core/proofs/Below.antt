@@ -7,7 +7,7 @@ use Rattle.hy_finite.specs.Traces.{Trace}
 use Rattle.fin_monitor.specs.Machines.{Machine}
 use Rattle.trace_trie.specs.Numbered.{Numbered}
 use Rattle.dominance.proofs.Elements.{each-append}
-use Rattle.rv_core.specs.Arrivals.{AreNext, IsNext, over, last, idle}
+use Rattle.rv_core.specs.Arrivals.{AreNext, IsNext, over, last}
 use Rattle.rv_core.specs.Keeping.{kept_at}
 use Rattle.rv_core.proofs.Places.{each-more, each-from}
 use Rattle.rv_core.proofs.Seeing.{kept-there}
@@ -36,8 +36,6 @@ below-at n (list ∷ lists) (suc s) e = below-at n lists s e.1
 one-below : (rule : Lengths) (drop : Bool) (m : Machine) (t : Trace) (n : ℕ)
     (old new : List Numbered) → IsNext rule drop m t n old new → Below n old → Below (n + 1) new
 one-below rule drop m t n old new (over p c o e) below =
-    let P : List Numbered → Type 0 = Below (n + 1) in subst P (sym e) (below-more n old below)
-one-below rule drop m t n old new (idle off never e) below =
     let P : List Numbered → Type 0 = Below (n + 1) in subst P (sym e) (below-more n old below)
 one-below rule drop m t n old new (last left no_over are e) below =
     let P : List Numbered → Type 0 = Below (n + 1) in

@@ -19,7 +19,7 @@ use Rattle.rv_core.specs.Histories.{empty_history}
 use Rattle.rv_core.specs.declared.saved.Saved.{Saved}
 use Rattle.rv_core.specs.Opened.{Open}
 use Rattle.rv_core.specs.Held.{Held, spec_of, StandsFor}
-use Rattle.rv_core.specs.Keeping.{Covers, IsKept, are_leaders, AreKept, AreBelow, kept_at}
+use Rattle.rv_core.specs.Keeping.{Covers, IsKept, AreKept, AreBelow, kept_at}
 use Rattle.rv_core.specs.Built.{spec_of_formula, SomeBody, EachBody, IsCause, earlier, IsFresh, AreFresh}
 use Rattle.rv_core.proofs.Keepings.{covers-itself, covers-through}
 use Rattle.rv_core.proofs.Places.{each-push, each-more}
@@ -129,7 +129,7 @@ none-at (suc n) (suc s) = none-at n s
 
 none-is_kept : (rule : Lengths) (drop : Bool) (spec : Spec) → IsKept rule drop spec [] []
 none-is_kept rule drop spec =
-    are_leaders (none-kept (Covers rule drop spec) (covers-itself rule drop spec) (covers-through rule drop spec))
+    none-kept (Covers rule drop spec) (covers-itself rule drop spec) (covers-through rule drop spec)
 
 none-are_kept : (rule : Lengths) (drop : Bool) (ms : List Machine)
     → AreKept rule drop (map spec_of ms) [] (replicate (length ms) [])

@@ -1,5 +1,5 @@
 -- What is kept of a list is of it, and covers it.
-use Rattle.std.proofs.Common.{◌≡◌, ℕ, ◌<◌, Bool, true, false, List, [], ◌∷◌, ◌++◌, length, if◌then◌else◌, ◌⊎◌, inl, inr, refl, sym, ap, ◌∙◌, subst}
+use Rattle.std.proofs.Common.{◌≡◌, ℕ, ◌<◌, Bool, true, false, List, [], ◌∷◌, ◌++◌, length, if◌then◌else◌, inl, inr, refl, sym, ap, ◌∙◌, subst}
 use Rattle.std.specs.List.{Contains}
 use Rattle.std.proofs.lemmas.List.{length-map}
 use Rattle.hy_formula.specs.Quantifiers.{Each}
@@ -9,7 +9,7 @@ use Rattle.trace_trie.specs.Numbered.{Numbered}
 use Rattle.dominance.specs.Dominance.{Dominates}
 use Rattle.dominance.specs.Leaders.{IsAt, AreLeaders, numbered, items}
 use Rattle.dominance.specs.Leaders as leaders
-use Rattle.dominance.proofs.Elements.{contains-here, contains-later, contains-cases, contains-none, each-from, each-at}
+use Rattle.dominance.proofs.Elements.{contains-here, contains-later, contains-cases, contains-none, each-from}
 use Rattle.dominance.proofs.Leaderships.{kept-apart}
 use Rattle.dominance.proofs.Replacements.{over-itself, over-through}
 use Rattle.dominance.proofs.Replacements as replaced
@@ -17,7 +17,7 @@ use Rattle.tuple_walk.specs.Finds.{traces_of}
 use Rattle.rv_core.specs.Endings.{Spec, spec_at}
 use Rattle.rv_core.specs.Held.{Held, specs_of, StandsFor, kept_count}
 use Rattle.rv_core.specs.Histories.{History}
-use Rattle.rv_core.specs.Keeping.{Covers, IsNeverViolated, members_of, IsKept, are_leaders, are_any, IsKeptCount, kept_at}
+use Rattle.rv_core.specs.Keeping.{Covers, members_of, IsKept, IsKeptCount, kept_at}
 
 -- ---- pairs and their traces
 
@@ -96,28 +96,16 @@ module _ (rule : Lengths) where
 
 -- ---- what is kept is of the list, and covers it
 
-module _ (rule : Lengths) (drop : Bool) (spec : Spec) (list : List Trace)
-    (kept : List Numbered) where
-  pub kept-each : IsKept rule drop spec list kept
-      → Each (λ (p : Numbered). IsAt list p.0 p.1) kept
-  kept-each (are_leaders is) =
-      each-from (λ (p : Numbered). IsAt list p.0 p.1) kept
-      (λ p c. ((is.exact p.0 p.1).0 (member-of kept p c)).there)
-  kept-each (are_any e never are) = are
-
 module _ (rule : Lengths) (drop : Bool) (spec : Spec) (list : List Trace) (kept : List Numbered)
     (is : IsKept rule drop spec list kept) where
   pub kept-at : (p : Numbered) → Contains kept p → IsAt list p.0 p.1
-  kept-at p c =
-      each-at (λ (p : Numbered). IsAt list p.0 p.1) kept p (kept-each rule drop spec list kept is) c
+  kept-at p c = ((is.exact p.0 p.1).0 (member-of kept p c)).there
 
   pub kept-among : Each (Contains list) (traces_of kept)
   kept-among =
       each-from (Contains list) (traces_of kept) (λ t c.
       let (n, d) = traces-from kept t c in let (lt, at) = kept-at (n, t) d in (n, lt, at))
 
-module _ (rule : Lengths) (drop : Bool) (spec : Spec) (list : List Trace) (kept : List Numbered)
-    (is : AreLeaders (Covers rule drop spec) list (members_of kept)) where
   covered : (t : Trace) → Contains list t
       → (u : Trace) × Contains (traces_of kept) u × Covers rule drop spec u t
   covered t (k, lt, e) =
@@ -141,41 +129,26 @@ module _ (m : Held) (h : History) (s : ℕ) (stands : StandsFor m h)
           → IsKeptCount m.rule b (spec_at (specs_of m) s) h.present.arrived
           (if b then length (kept_at m.kept s) else m.arrived)
       by false is = stands.count
-      by true (are_leaders is) = (
+      by true is = (
         members_of (kept_at m.kept s),
         is,
         sym (length-map (kept_at m.kept s) (λ (p : Numbered). numbered p.0 p.1)),
       )
-      by true (are_any e never are) = absurd (cc)
 
-  abbrev spec : Spec
-  spec = spec_at (specs_of m) s
-
-  abbrev kept : List Numbered
-  kept = kept_at m.kept s
-
-  pub keeps-apart : (p q : Numbered) → Contains kept p → Contains kept q
-      → Covers m.rule m.drop spec p.1 q.1
-      → (p ≡ q) ⊎ ((m.drop ≡ false) × IsNeverViolated m.rule spec)
-  keeps-apart p q in_p in_q over = by (stands.kept.right s lt)
-    where
-      by : IsKept m.rule m.drop spec h.present.arrived kept
-          → (p ≡ q) ⊎ ((m.drop ≡ false) × IsNeverViolated m.rule spec)
-      by (are_leaders is) =
-          inl (ap (λ (x : leaders.Numbered Trace). (x.number, x.item))
-          (kept-apart (Covers m.rule m.drop spec) (covers-itself m.rule m.drop spec)
-          (covers-through m.rule m.drop spec) h.present.arrived (members_of kept) is
-          (numbered p.0 p.1) (numbered q.0 q.1) (member-of kept p in_p) (member-of kept q in_q)
-          over))
-      by (are_any e never are) = inr (e, never)
+  pub keeps-apart : (p q : Numbered) → Contains (kept_at m.kept s) p → Contains (kept_at m.kept s) q
+      → Covers m.rule m.drop (spec_at (specs_of m) s) p.1 q.1 → p ≡ q
+  keeps-apart p q in_p in_q over =
+      let spec = spec_at (specs_of m) s in
+      let kept = kept_at m.kept s in
+      ap (λ (x : leaders.Numbered Trace). (x.number, x.item))
+      (kept-apart (Covers m.rule m.drop spec) (covers-itself m.rule m.drop spec)
+      (covers-through m.rule m.drop spec) h.present.arrived (members_of kept)
+      (stands.kept.right s lt) (numbered p.0 p.1) (numbered q.0 q.1) (member-of kept p in_p)
+      (member-of kept q in_q) over)
 
   pub keeps-covers : (t : Trace) → Contains h.present.arrived t
-      → ((u : Trace) × Contains (traces_of kept) u × Covers m.rule m.drop spec u t)
-      ⊎ ((m.drop ≡ false) × IsNeverViolated m.rule spec)
-  keeps-covers t c = by (stands.kept.right s lt)
-    where
-      by : IsKept m.rule m.drop spec h.present.arrived kept
-          → ((u : Trace) × Contains (traces_of kept) u × Covers m.rule m.drop spec u t)
-          ⊎ ((m.drop ≡ false) × IsNeverViolated m.rule spec)
-      by (are_leaders is) = inl (covered m.rule m.drop spec h.present.arrived kept is t c)
-      by (are_any e never are) = inr (e, never)
+      → (u : Trace) × Contains (traces_of (kept_at m.kept s)) u
+      × Covers m.rule m.drop (spec_at (specs_of m) s) u t
+  keeps-covers =
+      covered m.rule m.drop (spec_at (specs_of m) s) h.present.arrived (kept_at m.kept s)
+      (stands.kept.right s lt)

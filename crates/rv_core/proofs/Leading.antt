@@ -9,14 +9,12 @@ use Rattle.fin_monitor.specs.Machines.{Machine}
 use Rattle.trace_trie.specs.Numbered.{Numbered}
 use Rattle.dominance.specs.Leaders.{IsAt, AreLeaders, TestKept, numbered, kept_by}
 use Rattle.dominance.specs.Leaders as leaders
-use Rattle.dominance.proofs.Elements.{contains-here, contains-later, contains-cases, contains-none, at-one, at-push_old, at-push_new, each-at, each-append, any-from, any-of, false-or-true}
+use Rattle.dominance.proofs.Elements.{contains-here, contains-later, contains-cases, contains-none, at-one, each-at, any-from, any-of, false-or-true}
 use Rattle.dominance.proofs.Leaderships.{refused-new, kept-step}
-use Rattle.rv_core.specs.Arrivals.{IsOver, IsUnder, AreLeft, none, dropped, stays, IsNext, over, last, idle}
+use Rattle.rv_core.specs.Arrivals.{IsOver, IsUnder, AreLeft, none, dropped, stays, IsNext, over, last}
 use Rattle.rv_core.specs.Held.{spec_of}
-use Rattle.rv_core.specs.Keeping.{Covers, IsKept, are_leaders, are_any, members_of}
-use Rattle.rv_core.proofs.Keepings.{covers-itself, covers-through, kept-at, kept-each, member-of, member-from}
-use Rattle.rv_core.proofs.Places.{each-more}
-use Rattle.rv_core.proofs.Sifting.{left-each}
+use Rattle.rv_core.specs.Keeping.{Covers, IsKept, members_of}
+use Rattle.rv_core.proofs.Keepings.{covers-itself, covers-through, kept-at, member-of, member-from}
 
 pub members-push : (kept : List Numbered) (p : Numbered)
     → members_of (kept ++ p ∷ []) ≡ members_of kept ++ numbered p.0 p.1 ∷ []
@@ -81,8 +79,7 @@ module _ (rule : Lengths) (drop : Bool) (m : Machine) (t : Trace) where
       (λ p c. is_under p (contains-later q p ps c)) (λ p c. is_left p (contains-later q p ps c)))
 
   module _ (list : List Trace) (kept left : List Numbered)
-      (is : AreLeaders (Covers rule drop (spec_of m)) list (members_of kept))
-      (are : AreLeft rule drop m t kept left) where
+      (is : IsKept rule drop (spec_of m) list kept) (are : AreLeft rule drop m t kept left) where
     -- a kept one is covered where its number is not left
     abbrev number_left : ℕ → Bool
     number_left n = list_any (λ (q : Numbered). nat_eq q.0 n) left
@@ -103,9 +100,9 @@ module _ (rule : Lengths) (drop : Bool) (m : Machine) (t : Trace) where
         let (was, not_under) = left-was kept left are q in_left in
         let number : q.0 ≡ p.0 = eqb-true q.0 p.0 same in
         let P : ℕ → Type 0 = λ k. IsAt list k q.1 in
-        let at = subst P number (kept-at rule drop (spec_of m) list kept (are_leaders is) q was) in
+        let at = subst P number (kept-at rule drop (spec_of m) list kept is q was) in
         let item : p.1 ≡ q.1 =
-        at-one list p.0 p.1 q.1 (kept-at rule drop (spec_of m) list kept (are_leaders is) p c) at in
+        at-one list p.0 p.1 q.1 (kept-at rule drop (spec_of m) list kept is p c) at in
         let Q : Trace → Type 0 = Covers rule drop (spec_of m) t in
         not_under (subst Q item under)
 
@@ -151,8 +148,7 @@ module _ (rule : Lengths) (drop : Bool) (m : Machine) (t : Trace) where
     none-above (x ∷ xs) = none-above xs
 
     taken : Each (λ (p : Numbered). ¬ IsOver rule drop m t p) kept
-        → AreLeaders (Covers rule drop (spec_of m)) (list ++ t ∷ [])
-        (members_of (left ++ (length list, t) ∷ []))
+        → IsKept rule drop (spec_of m) (list ++ t ∷ []) (left ++ (length list, t) ∷ [])
     taken no_over =
         let Over = Covers rule drop (spec_of m) in
         let x = numbered (length list) t in
@@ -166,36 +162,14 @@ module _ (rule : Lengths) (drop : Bool) (m : Machine) (t : Trace) where
         subst P (ap (λ xs. xs ++ x ∷ []) same ∙ sym (members-push left (length list, t)))
         (subst Q (none-above (members_of kept)) step)
 
-  -- those that arrived before stand at their numbers still
-  each-later : (list : List Trace) (kept : List Numbered)
-      → Each (λ (p : Numbered). IsAt list p.0 p.1) kept
-      → Each (λ (p : Numbered). IsAt (list ++ t ∷ []) p.0 p.1) kept
-  each-later list kept are =
-      each-more (λ (p : Numbered). IsAt list p.0 p.1)
-      (λ (p : Numbered). IsAt (list ++ t ∷ []) p.0 p.1) kept
-      (λ p at. at-push_old list t p.0 p.1 at) are
-
   pub next-kept : (list : List Trace) (kept new : List Numbered)
       → IsKept rule drop (spec_of m) list kept → IsNext rule drop m t (length list) kept new
       → IsKept rule drop (spec_of m) (list ++ t ∷ []) new
-  next-kept list kept new (are_leaders is) (over p c o e) =
+  next-kept list kept new is (over p c o e) =
       let P : List Numbered → Type 0 = IsKept rule drop (spec_of m) (list ++ t ∷ []) in
-      subst P (sym e) (are_leaders (refused-new (Covers rule drop (spec_of m))
+      subst P (sym e) (refused-new (Covers rule drop (spec_of m))
       (covers-itself rule drop (spec_of m)) (covers-through rule drop (spec_of m)) list t
-      (members_of kept) is (numbered p.0 p.1) (member-of kept p c) o))
-  next-kept list kept new (are_leaders is) (last left no_over are e) =
+      (members_of kept) is (numbered p.0 p.1) (member-of kept p c) o)
+  next-kept list kept new is (last left no_over are e) =
       let P : List Numbered → Type 0 = IsKept rule drop (spec_of m) (list ++ t ∷ []) in
-      subst P (sym e) (are_leaders (taken list kept left is are no_over))
-  next-kept list kept new is (idle off never e) =
-      let P : List Numbered → Type 0 = IsKept rule drop (spec_of m) (list ++ t ∷ []) in
-      subst P (sym e) (are_any off never (each-later list kept
-      (kept-each rule drop (spec_of m) list kept is)))
-  next-kept list kept new (are_any off never at) (over p c o e) =
-      let P : List Numbered → Type 0 = IsKept rule drop (spec_of m) (list ++ t ∷ []) in
-      subst P (sym e) (are_any off never (each-later list kept at))
-  next-kept list kept new (are_any off never at) (last left no_over are e) =
-      let P : List Numbered → Type 0 = IsKept rule drop (spec_of m) (list ++ t ∷ []) in
-      let Q : Numbered → Type 0 = λ p. IsAt (list ++ t ∷ []) p.0 p.1 in
-      subst P (sym e) (are_any off never (each-append Q left ((length list, t) ∷ [])
-      (left-each rule drop m t Q kept left are (each-later list kept at))
-      (at-push_new list t, tt)))
+      subst P (sym e) (taken list kept left is are no_over)

@@ -1,8 +1,6 @@
 -- What comes of a trace for one spec.
-use Rattle.std.proofs.Common.{◌≡◌, ◌≤◌, ◌<◌, ◌+◌, ℕ, Bool, true, false, List, [], ◌∷◌, ◌++◌, length, slice_get, Some, inl, inr, refl, sym, ◌∙◌, subst, arith}
-use Rattle.std.specs.Bool.{OnTrue, OnFalse}
+use Rattle.std.proofs.Common.{◌≡◌, ◌↔◌, ◌≤◌, ◌<◌, ◌+◌, ℕ, zero, suc, Bool, true, false, IsTrue, List, [], ◌∷◌, ◌++◌, length, slice_get, Some, inl, inr, refl, sym, ◌∙◌, subst, arith}
 use Rattle.std.specs.List.{Contains}
-use Rattle.std.proofs.lemmas.Bool.{OnTrue_at, OnFalse_at}
 use Rattle.std.proofs.lemmas.Option.{slice_get_within, same_Some}
 use Rattle.hy_formula.specs.Quantifiers.{Each}
 use Rattle.hy_finite.specs.declared.lengths.Lengths.{Lengths}
@@ -14,7 +12,7 @@ use Rattle.tuple_walk.specs.Finds.{AllMeet, traces_of}
 use Rattle.rv_core.specs.declared.arrival.Outcome.{Outcome}
 use Rattle.rv_core.specs.declared.arrival.Outcome.TheVariants.{Passes}
 use Rattle.rv_core.specs.declared.watch.Watch.{Watch}
-use Rattle.rv_core.specs.Arrivals.{IsKnown, IsPassed, IsOver, AreLeft, none, stays, IsNext, over, last, idle, IsOutcome, AreNext}
+use Rattle.rv_core.specs.Arrivals.{IsPassed, IsOver, AreLeft, none, stays, IsNext, over, last, IsOutcome, AreNext}
 use Rattle.rv_core.specs.Held.{spec_of}
 use Rattle.rv_core.specs.Keeping.{kept_at}
 use Rattle.rv_core.specs.Seen.{watched, watched_by}
@@ -23,17 +21,16 @@ use Rattle.rv_core.proofs.Keepings.{covers-itself, traces-from, traces-push}
 use Rattle.rv_core.proofs.Seeing.{seen-at, kept-there}
 
 module _ (rule : Lengths) (m : Machine) (n : ℕ) (t : Trace) (old : List Numbered) where
-  -- the trace changes nothing
-  pub known-passes : (drop : Bool) (new : List Numbered) → IsKnown rule drop m t old → new ≡ old
+  -- an equal one is kept
+  pub held-passes : (drop : Bool) (new : List Numbered) → IsHeld t old → new ≡ old
       → IsOutcome rule drop m t n old (Passes new)
-  known-passes drop new (inl (k, c)) same =
+  held-passes drop new (k, c) same =
       (inl (k, c), over (k, t) c (covers-itself rule drop (spec_of m) t) same)
-  known-passes drop new (inr (off, never)) same = (inr (inl never), idle off never same)
 
   meets : AllMeet m rule (traces_of (old ++ (n, t) ∷ [])) t → IsPassed rule m t old
   meets all =
       let P : List Trace → Type 0 = λ us. AllMeet m rule us t in
-      inr (inr (subst P (traces-push old (n, t)) all))
+      inr (subst P (traces-push old (n, t)) all)
 
   -- dominated ones are dropped
   pub leaders-pass : (all new : List Numbered) → AllMeet m rule (traces_of all) t
@@ -78,17 +75,12 @@ module _ (rule : Lengths) (m : Machine) (n : ℕ) (t : Trace) (old : List Number
         let Q : List Numbered → Type 0 = λ ps. IsBound rule m (traces_of ps) t bound in
         steps bound (subst P (sym same) (subst Q (sym added) (walk-bound bound b)))
 
-pub not-held : (b : Bool) (u t : Trace) (old : List Numbered) → OnFalse b (¬ IsHeld u old) → u ≡ t
+pub not-held : (b : Bool) (u t : Trace) (old : List Numbered) → IsTrue b ↔ IsHeld u old → u ≡ t
     → b ≡ false → ¬ IsHeld t old
-not-held b u t old new same is_false =
-    let P : Trace → Type 0 = λ v. ¬ IsHeld v old in subst P same (OnFalse_at is_false new)
-
-pub is-known : (b : Bool) (rule : Lengths) (drop : Bool) (m : Machine) (u t : Trace)
-    (old : List Numbered) → OnTrue b ((r : Lengths) → IsKnown r drop m u old) → u ≡ t → b ≡ true
-    → IsKnown rule drop m t old
-is-known b rule drop m u t old known same is_true =
-    let P : Trace → Type 0 = λ v. IsKnown rule drop m v old in
-    subst P same (OnTrue_at is_true known rule)
+not-held b u t old holds same is_false held =
+    let P : Trace → Type 0 = λ v. IsHeld v old in
+    let yes : b ≡ true = holds.1 (subst P (sym same) held) in
+    absurd (cc)
 
 -- ---- the spec with a number
 
@@ -131,20 +123,26 @@ all-made rule drop ms n t old made i end long passed right = record {
       let within = slice_get_within ms s m at in right s m (omega arith) at;
 }
 
--- the trace changes nothing for each
+-- an equal one is kept for each
 pub all-known : (rule : Lengths) (drop : Bool) (ms : List Machine) (n : ℕ) (t u : Trace)
-    (kept : List (List Numbered)) → u ≡ t → length kept ≡ length ms
-    → ((s : ℕ) (m : Machine) → slice_get ms s ≡ Some m → IsKnown rule drop m u (kept_at kept s))
+    (kept : List (List Numbered)) → u ≡ t → length kept ≡ length ms → Each (IsHeld u) kept
     → AreNext rule drop ms n t kept kept
-all-known rule drop ms n t u kept same long known = record {
+all-known rule drop ms n t u kept same long holds = record {
   long = long;
   passed = λ s m there. (passes s m there).0;
   right = λ s m there. (passes s m there).1;
 }
   where
+    each-kept : (lists : List (List Numbered)) (s : ℕ) → s < length lists → Each (IsHeld u) lists
+        → IsHeld u (kept_at lists s)
+    each-kept [] s lt h = absurd (omega arith)
+    each-kept (list ∷ lists) zero lt h = h.0
+    each-kept (list ∷ lists) (suc s) lt h = each-kept lists s (omega arith) h.1
+
     passes : (s : ℕ) (m : Machine) → slice_get ms s ≡ Some m
         → IsOutcome rule drop m t n (kept_at kept s) (Passes (kept_at kept s))
     passes s m there =
-        let P : Trace → Type 0 = λ v. IsKnown rule drop m v (kept_at kept s) in
-        known-passes rule m n t (kept_at kept s) drop (kept_at kept s)
-        (subst P same (known s m there)) refl
+        let P : Trace → Type 0 = λ v. IsHeld v (kept_at kept s) in
+        let lt : s < length kept = omega (arith, slice_get_within ms s m there, long) in
+        held-passes rule m n t (kept_at kept s) drop (kept_at kept s)
+        (subst P same (each-kept kept s lt holds)) refl

@@ -12,22 +12,14 @@ use Rattle.rv_core.specs.declared.arrival.Outcome.TheVariants.{Passes, Violates}
 use Rattle.rv_core.specs.declared.arrival.Arrival.{Arrival}
 use Rattle.rv_core.specs.declared.arrival.Arrival.TheVariants.{Known, Clean, Violation}
 use Rattle.rv_core.specs.Held.{Held, spec_of}
-use Rattle.rv_core.specs.Keeping.{Covers, IsNeverViolated, AreBelow, kept_at}
+use Rattle.rv_core.specs.Keeping.{Covers, AreBelow, kept_at}
 
 -- ---- one spec
 
--- Nothing is violated with the trace that was not before: an equal one is kept, or the spec is
--- never violated, or all tuples with it of those that are kept meet the body.
+-- Nothing is violated with the trace that was not before: an equal one is kept, or all tuples with
+-- it of those that are kept meet the body.
 abbrev pub IsPassed : Lengths → Machine → Trace → List Numbered → Type 0
-IsPassed rule m t kept =
-    IsHeld t kept
-    ⊎ (IsNeverViolated rule (spec_of m) ⊎ AllMeet m rule (traces_of kept ++ t ∷ []) t)
-
--- The trace changes nothing: an equal one is kept; or the spec is never violated, and dominated
--- ones are not dropped.
-abbrev pub IsKnown : Lengths → Bool → Machine → Trace → List Numbered → Type 0
-IsKnown rule drop m t kept =
-    IsHeld t kept ⊎ ((drop ≡ false) × IsNeverViolated rule (spec_of m))
+IsPassed rule m t kept = IsHeld t kept ⊎ AllMeet m rule (traces_of kept ++ t ∷ []) t
 
 module _ (rule : Lengths) (drop : Bool) (m : Machine) (t : Trace) where
   -- The kept one covers the trace.
@@ -46,14 +38,12 @@ module _ (rule : Lengths) (drop : Bool) (m : Machine) (t : Trace) where
     stays : (p : Numbered) (kept left : List Numbered) → (¬ IsUnder p) → AreLeft kept left
         → AreLeft (p ∷ kept) (p ∷ left)
 
-  -- What is kept with the trace: what was kept, where one of these covers it, or where dominated
-  -- ones are not dropped and the spec is never violated; else what it does not cover of these, and
-  -- the trace last.
+  -- What is kept with the trace: what was kept, where one of these covers it; else what it does not
+  -- cover of these, and the trace last.
   pub data IsNext (n : ℕ) (old new : List Numbered) : Type 0 where
     over : (p : Numbered) → Contains old p → IsOver p → new ≡ old → IsNext n old new
     last : (left : List Numbered) → Each (λ (p : Numbered). ¬ IsOver p) old → AreLeft old left
         → new ≡ left ++ (n, t) ∷ [] → IsNext n old new
-    idle : drop ≡ false → IsNeverViolated rule (spec_of m) → new ≡ old → IsNext n old new
 
   -- What comes of it: what is kept then, or a tuple that violates the body.
   abbrev pub IsOutcome : ℕ → List Numbered → Outcome → Type 0
@@ -106,7 +96,7 @@ with_kept m kept clean =
       clean = clean;
     }
 
--- What was kept stays where the trace changes nothing, and after a violation.
+-- What was kept stays where an equal one is, and after a violation.
 abbrev pub after_arrival : Held → Arrival → Held
 after_arrival m Known = with_kept m m.kept m.clean
 after_arrival m (Clean kept) = with_kept m kept m.clean

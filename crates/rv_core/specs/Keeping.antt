@@ -1,13 +1,13 @@
 -- What is kept of the traces that arrived, for a spec: those that no other one covers, of equal
--- ones the first; and of those for a spec that no traces violate any.
+-- ones the first.
 use Rattle.std.specs.Prelude.{◌≡◌, ℕ, ◌<◌, Bool, true, false, List, [], ◌∷◌, length, map, slice_index_or}
 use Rattle.std.specs.Coded.{×_prop, Unit-prop, le_prop, Coded-set, coded_ℕ}
 use Rattle.hy_formula.specs.Quantifiers.{Each}
 use Rattle.hy_finite.specs.declared.lengths.Lengths.{Lengths}
-use Rattle.hy_finite.specs.Traces.{Trace, Meets}
+use Rattle.hy_finite.specs.Traces.{Trace}
 use Rattle.trace_trie.specs.Numbered.{Numbered}
-use Rattle.dominance.specs.Dominance.{IsTrace, Dominates}
-use Rattle.dominance.specs.Leaders.{IsAt, AreLeaders, numbered}
+use Rattle.dominance.specs.Dominance.{Dominates}
+use Rattle.dominance.specs.Leaders.{AreLeaders, numbered}
 use Rattle.dominance.specs.Leaders as leaders
 use Rattle.rv_core.specs.Endings.{Spec, spec_at}
 
@@ -21,20 +21,9 @@ Covers rule true spec t u = Dominates rule spec.variables spec.body t u
 abbrev pub members_of : List Numbered → List (leaders.Numbered Trace)
 members_of kept = map (λ (p : Numbered). numbered p.0 p.1) kept
 
--- No tuple of traces violates the spec.
-abbrev pub IsNeverViolated : Lengths → Spec → Type 0
-IsNeverViolated rule spec =
-    (tuple : List Trace) → Each IsTrace tuple → length tuple ≡ spec.variables
-    → Meets rule spec.body tuple
-
--- What is kept are the leaders; or, where dominated ones are not dropped and the spec is never
--- violated, any of those that arrived.
-pub data IsKept (rule : Lengths) (drop : Bool) (spec : Spec) (list : List Trace)
-    (kept : List Numbered) : Type 0 where
-  are_leaders : AreLeaders (Covers rule drop spec) list (members_of kept)
-      → IsKept rule drop spec list kept
-  are_any : drop ≡ false → IsNeverViolated rule spec
-      → Each (λ (p : Numbered). IsAt list p.0 p.1) kept → IsKept rule drop spec list kept
+-- What is kept are the leaders.
+abbrev pub IsKept : Lengths → Bool → Spec → List Trace → List Numbered → Type 0
+IsKept rule drop spec list kept = AreLeaders (Covers rule drop spec) list (members_of kept)
 
 -- It is said that so many traces are kept for a spec: where dominated ones are dropped, as there
 -- are leaders; else all that arrived, equal ones too.

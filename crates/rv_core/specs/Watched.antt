@@ -4,7 +4,7 @@ use Rattle.std.specs.Prelude.{◌≡◌, Bool, true, IsTrue, [], ◌∷◌}
 use Rattle.std.specs.Coded.{×_prop, Π_prop, →_prop, Coded-set, coded_ℕ, coded_bool}
 use Rattle.hy_finite.specs.declared.lengths.Lengths.{Lengths}
 use Rattle.hy_finite.specs.Traces.{Trace, Meets}
-use Rattle.fin_monitor.specs.Machines.{Machine, IsIdle, next_state, settled_state}
+use Rattle.fin_monitor.specs.Machines.{Machine}
 use Rattle.dominance.specs.Dominance.{IsTrace, IsSymmetric}
 
 -- Exchanging two traces that violate the body leaves them violating.
@@ -13,11 +13,6 @@ MayTurn m =
     (m.variables ≡ 2)
     × ((rule : Lengths) (t u : Trace) → IsTrace t → IsTrace u
     → ¬ Meets rule m.body (t ∷ u ∷ []) → ¬ Meets rule m.body (u ∷ t ∷ []))
-
--- Each first joint letter leads to the state from which nothing is rejected.
-pub IsIdle-prop : (m : Machine) → IsProp (IsIdle m)
-IsIdle-prop m =
-    Π_prop (λ code. →_prop (Coded-set coded_ℕ (next_state m 0 code) (settled_state m)))
 
 -- Where the order of two traces does not matter, it is said.
 abbrev pub IsExact : Bool → Machine → Type 0

@@ -1,20 +1,18 @@
 //! What comes of a trace that arrives.
 
 ghost use Rattle.std.specs.Prelude.{◌≡◌, ◌+◌, ◌<◌, ◌≤◌, ◌^◌, ℕ, List, length, sum, slice_get, Some, IfOk};
-ghost use Rattle.std.specs.Bool.{OnTrue};
 ghost use Rattle.fin_monitor.specs.Machines.{Machine};
 ghost use Rattle.tuple_walk.specs.Finds.{traces_of};
-ghost use Rattle.rv_core.specs.Arrivals.{IsKnown, IsOutcome, IsArrival, FitsIn, after_arrival};
+ghost use Rattle.rv_core.specs.Arrivals.{IsOutcome, IsArrival, FitsIn, after_arrival};
 ghost use Rattle.rv_core.specs.Keeping.{kept_at};
 ghost use Rattle.rv_core.specs.Replies.{IsReplyTo};
 ghost use Rattle.rv_core.specs.Seen.{watched_by};
 ghost use Rattle.rv_core.specs.StepBounds.{IsSpecBound, AreBounds};
 
-use crate::kept::Kept;
+use crate::kept::{Kept, all_hold};
 use crate::reply::Reply;
 use crate::rv::Rv;
 use hy_base::{List, M, Steps};
-use hy_bits::LetterMask;
 use hy_finite::Trace;
 use std::alloc::Global;
 use std::sync::ledger::Ledger;
@@ -33,7 +31,7 @@ pub(crate) enum Outcome {
 /// What comes of a trace for all specs.
 #[derive(Drop)]
 pub(crate) enum Arrival {
-    /// Nothing changes for any spec.
+    /// For each spec an equal trace is kept, and nothing changes.
     Known,
     /// No spec is violated, and this is kept.
     Clean(Kept),
@@ -44,8 +42,8 @@ pub(crate) enum Arrival {
 impl Rv {
     ghost use Rattle.rv_core.specs.Seen.{held};
 
-    /// What would come of the trace. It takes all memory that its arrival takes: none, where the
-    /// trace changes nothing for any spec.
+    /// What would come of the trace. It takes all memory that its arrival takes: none, where an
+    /// equal one is kept for each spec.
     pub(crate) fn arrival<L: Ledger>(
         &self,
         alloc: Global,
@@ -60,7 +58,7 @@ impl Rv {
         ensures bounded { (bounds : List ℕ) → AreBounds (held self.now) trace.now bounds
             → steps.new ≤ steps.old + sum bounds }
     {
-        if self.knows(trace.as_slice()) {
+        if all_hold(&self.kept, trace.as_slice()) {
             return Ok(Arrival::Known);
         }
         let mut next = List::new(alloc);
@@ -76,27 +74,11 @@ impl Rv {
         Ok(Arrival::Clean(next))
     }
 
-    /// Whether a trace with these letters changes nothing for any spec. Takes no memory.
-    fn knows(&self, letters: &[LetterMask]) -> bool
-        ensures { OnTrue result ((s : ℕ) (m : Machine)
-            → slice_get (watched_by self.now.watches) s ≡ Some m
-            → IsKnown self.now.rule self.now.drop_dominated m letters.now
-            (kept_at self.now.kept s)) }
-    {
-        for i in 0..self.watches.len() {
-            let watch = self.watches.at(i);
-            if !watch.knows(self.drop_dominated, self.kept.at(i), letters) {
-                return false;
-            }
-        }
-        true
-    }
-
     /// What would come of the trace for the spec with this number.
     ///
-    /// Where an equal one is kept there are no new tuples, and none is walked; nor where the spec
-    /// is never violated. Else the trace is put with those that are kept and its tuples are walked;
-    /// and where dominated ones are dropped, it is compared with those.
+    /// Where an equal one is kept there are no new tuples, and none is walked. Else the trace is
+    /// put with those that are kept and its tuples are walked; and where dominated ones are
+    /// dropped, it is compared with those.
     fn outcome<L: Ledger>(
         &self,
         alloc: Global,
@@ -119,7 +101,7 @@ impl Rv {
         let kept = self.kept.at(spec);
         let number = self.traces;
         let letters = trace.as_slice();
-        if watch.knows(self.drop_dominated, kept, letters) {
+        if kept.holds(letters) {
             return Ok(Outcome::Passes(kept.share()?));
         }
         let all = kept.insert(number, trace)?;

@@ -31,9 +31,8 @@ impl Rv {
     /// session, and its letters are a trace that arrives. A save puts aside the traces that have
     /// arrived and the open sessions, and a back brings those that were put aside last. A trace
     /// that arrives is judged for each spec up to the first that is violated: where an equal one is
-    /// kept nothing comes of it, nor where the spec is seen to be never violated; else its tuples
-    /// with what is kept are walked, and it is kept too or, where dominated traces are dropped,
-    /// compared with what is kept.
+    /// kept nothing comes of it; else its tuples with what is kept are walked, and it is kept too
+    /// or, where dominated traces are dropped, compared with what is kept.
     ///
     /// `NoLetter` where the session that ends is not open, `NoSave` where there is nothing put
     /// aside; `Limit` where a session has 1,024 letters already, 1,024 sessions are open, or 64

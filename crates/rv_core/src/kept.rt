@@ -1,8 +1,11 @@
 //! What is kept of the traces that arrived, for each spec.
 
-ghost use Rattle.std.specs.Prelude.{◌≡◌, [], replicate, IfOk};
+ghost use Rattle.std.specs.Prelude.{◌≡◌, ◌↔◌, [], replicate, IfOk, IsTrue};
+ghost use Rattle.hy_formula.specs.Quantifiers.{Each};
+ghost use Rattle.trace_trie.specs.Numbered.{IsHeld};
 
 use hy_base::{List, M};
+use hy_bits::LetterMask;
 use std::alloc::Global;
 use trace_trie::Version;
 
@@ -29,4 +32,17 @@ pub(crate) fn share_kept(alloc: Global, kept: &Kept) -> M<Kept>
         made.push(version.share()?)?;
     }
     Ok(made)
+}
+
+/// Whether these letters are those of some trace for each spec. Takes no memory, and time as
+/// `Version::holds` for each spec.
+pub(crate) fn all_hold(kept: &Kept, letters: &[LetterMask]) -> bool
+    ensures { IsTrue result ↔ Each (IsHeld letters.now) kept.now }
+{
+    for version in kept.as_slice() {
+        if !version.holds(letters) {
+            return false;
+        }
+    }
+    true
 }

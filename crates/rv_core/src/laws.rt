@@ -1,6 +1,6 @@
 //! Laws of runs of events.
 
-ghost use Rattle.std.specs.Prelude.{◌≡◌, ◌↔◌, ◌⊎◌, ◌+◌, ◌<◌, ◌++◌, ◌∷◌, [], ℕ, true, false, List, length};
+ghost use Rattle.std.specs.Prelude.{◌≡◌, ◌↔◌, ◌⊎◌, ◌+◌, ◌<◌, ◌++◌, ◌∷◌, [], ℕ, true, List, length};
 ghost use Rattle.std.specs.List.{Contains};
 ghost use Rattle.hy_finite.specs.declared.event.Event.{Event};
 ghost use Rattle.hy_finite.specs.declared.event.Event.TheVariants as event;
@@ -12,7 +12,7 @@ ghost use Rattle.rv_core.specs.Histories.{History, step, goes, arrives};
 ghost use Rattle.rv_core.specs.Endings.{Spec, spec_at, IsClean, IsQuiet, Ending, clean, Ends, Matched};
 ghost use Rattle.rv_core.specs.declared.rv_error.RvError.TheVariants as errors;
 ghost use Rattle.rv_core.specs.Held.{Held, specs_of, StandsFor, kept_count};
-ghost use Rattle.rv_core.specs.Keeping.{Covers, IsNeverViolated, kept_at, IsKeptCount};
+ghost use Rattle.rv_core.specs.Keeping.{Covers, kept_at, IsKeptCount};
 ghost use Rattle.rv_core.specs.Replies.{Stop, error_at, Runs, EndsAs};
 
 /// A run of events ends, and in one way.
@@ -63,18 +63,15 @@ pub fn runs()
 
 /// For each spec it is said that as many traces are kept as have arrived; or, where dominated ones
 /// are dropped, as there are leaders. Of those that are kept none covers another, and one covers
-/// each that arrived: it dominates it where dominated ones are dropped, and else equals it. Where
-/// none are dropped, any may be kept for a spec that is never violated.
+/// each that arrived: it dominates it where dominated ones are dropped, and else equals it.
 pub fn keeping()
     ensures counts { (m : Held) (h : History) (s : ℕ) → StandsFor m h → s < length (specs_of m)
         → IsKeptCount m.rule m.drop (spec_at (specs_of m) s) h.present.arrived (kept_count m s) }
     ensures apart { (m : Held) (h : History) (s : ℕ) (p q : Numbered) → StandsFor m h
         → s < length (specs_of m) → Contains (kept_at m.kept s) p → Contains (kept_at m.kept s) q
-        → Covers m.rule m.drop (spec_at (specs_of m) s) p.1 q.1
-        → (p ≡ q) ⊎ ((m.drop ≡ false) × IsNeverViolated m.rule (spec_at (specs_of m) s)) }
+        → Covers m.rule m.drop (spec_at (specs_of m) s) p.1 q.1 → p ≡ q }
     ensures covers { (m : Held) (h : History) (s : ℕ) (t : Trace) → StandsFor m h
         → s < length (specs_of m) → Contains h.present.arrived t
-        → ((u : Trace) × Contains (traces_of (kept_at m.kept s)) u
-        × Covers m.rule m.drop (spec_at (specs_of m) s) u t)
-        ⊎ ((m.drop ≡ false) × IsNeverViolated m.rule (spec_at (specs_of m) s)) }
+        → (u : Trace) × Contains (traces_of (kept_at m.kept s)) u
+        × Covers m.rule m.drop (spec_at (specs_of m) s) u t }
 {}

@@ -3,16 +3,14 @@
 ghost use Rattle.std.specs.Prelude.{◌≡◌, ◌↔◌, ◌+◌, ◌<◌, ◌≤◌, ℕ, true, IfOk, IfSome, IfNone, IsTrue};
 ghost use Rattle.std.specs.Coded.{→_prop};
 ghost use Rattle.hy_formula.specs.Quantifiers.{Each};
-ghost use Rattle.std.specs.Bool.{OnTrue, OnFalse};
-ghost use Rattle.fin_monitor.specs.Machines.{IsIdle};
-ghost use Rattle.trace_trie.specs.Numbered.{Numbered, IsHeld};
+ghost use Rattle.trace_trie.specs.Numbered.{Numbered};
 ghost use Rattle.std.specs.List.{Contains};
 ghost use Rattle.hy_finite.specs.declared.lengths.Lengths.{Lengths as Rule};
 ghost use Rattle.fin_monitor.specs.Seen.{machine_of};
 ghost use Rattle.dominance.specs.Dominance.{Dominates};
 ghost use Rattle.tuple_walk.specs.Finds.{AreViolating, AllMeet, traces_of};
-ghost use Rattle.rv_core.specs.Watched.{MayTurn, MayTurn-prop, IsExact, IsExact-prop, IsIdle-prop};
-ghost use Rattle.rv_core.specs.Arrivals.{IsKnown, IsNext};
+ghost use Rattle.rv_core.specs.Watched.{MayTurn, MayTurn-prop, IsExact, IsExact-prop};
+ghost use Rattle.rv_core.specs.Arrivals.{IsNext};
 ghost use Rattle.rv_core.specs.StepBounds.{IsBound};
 
 use dominance::{Compare, dominates, symmetric};
@@ -31,12 +29,9 @@ pub(crate) struct Watch {
     pub(crate) monitor: Monitor,
     /// Exchanging two traces never changes the verdict.
     symmetric: bool,
-    /// No tuple of traces violates the body, as its monitor is idle.
-    idle: bool,
     ghost some: { 1 ≤ (machine_of monitor).variables },
     ghost turns: { IsTrue symmetric → MayTurn (machine_of monitor) } by { →_prop (MayTurn-prop (machine_of monitor)) },
     ghost exact: { IsExact symmetric (machine_of monitor) } by { IsExact-prop symmetric (machine_of monitor) },
-    ghost idles: { IsTrue idle → IsIdle (machine_of monitor) } by { →_prop (IsIdle-prop (machine_of monitor)) },
 }
 
 impl Watch {
@@ -48,26 +43,7 @@ impl Watch {
         ensures { IfOk result (λ made. watched made ≡ machine_of monitor) }
     {
         let symmetric = symmetric(alloc, &monitor)?;
-        let idle = monitor.is_idle();
-        Ok(Watch {
-            monitor,
-            symmetric,
-            idle,
-        })
-    }
-
-    /// Whether a trace with these letters changes nothing: an equal one is kept; or the body is
-    /// never violated, and dominated ones are not dropped. Takes no memory, and time linear in the
-    /// letters.
-    pub(crate) fn knows(&self, drop_dominated: bool, kept: &Version, letters: &[LetterMask]) -> bool
-        ensures known { OnTrue result ((rule : Rule)
-            → IsKnown rule drop_dominated (watched self.now) letters.now kept.now) }
-        ensures new { OnFalse result (¬ IsHeld letters.now kept.now) }
-    {
-        if self.idle && !drop_dominated {
-            return true;
-        }
-        kept.holds(letters)
+        Ok(Watch { monitor, symmetric })
     }
 
     /// A tuple of traces of the version that violates the body, where the trace with this number is

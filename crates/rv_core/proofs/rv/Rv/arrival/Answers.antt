@@ -1,5 +1,4 @@
 use Rattle.std.proofs.Common.{◌≡◌, ◌∙◌, ◌+◌, ◌<◌, ◌∷◌, [], ℕ, length, List, slice_get, Some, sym, subst, ap, arith, length-append}
-use Rattle.std.proofs.lemmas.Bool.{OnTrue_at}
 use Rattle.std.proofs.lemmas.List.{length-map}
 use Rattle.fin_monitor.specs.Machines.{Machine}
 use Rattle.trace_trie.specs.Numbered.{Numbered}
@@ -13,12 +12,12 @@ use Rattle.rv_core.proofs.Outcomes.{all-known, all-made}
 use Rattle.rv_core.proofs.Seeing.{more-there, next-more}
 use Rattle.rv_core.proofs.rv.Rv.arrival.Goals as goal
 
-pub returns-then-knows-clause-arrival : goal.returns-then-knows-clause-arrival
-returns-then-knows-clause-arrival g c =
+pub returns-then-all_hold-clause-arrival : goal.returns-then-all_hold-clause-arrival
+returns-then-all_hold-clause-arrival g c =
     let rv = c.args.self.now in
     all-known rv.rule rv.drop_dominated (watched_by rv.watches) rv.traces c.args.trace.now
     c.as_slice.result.now rv.kept c.as_slice.ensures
-    (rv.below.0 ∙ sym (length-map rv.watches watched)) (OnTrue_at c.if-knows.true c.knows.ensures)
+    (rv.below.0 ∙ sym (length-map rv.watches watched)) (c.all_hold.ensures.0 c.if-all_hold.true)
 
 pub loop-i-init : goal.loop-i-init
 loop-i-init g c =

@@ -3,13 +3,13 @@ use Rattle.std.specs.List.{Contains}
 use Rattle.std.proofs.lemmas.List.Elements.{Contains-push}
 use Rattle.hy_formula.specs.Quantifiers.{Each}
 use Rattle.hy_finite.specs.Traces.{Trace}
-use Rattle.trace_trie.specs.Numbered.{Numbered}
+use Rattle.trace_trie.specs.Numbered.{Numbered, IsHeld}
 use Rattle.tuple_walk.specs.Finds.{AreViolating, AllMeet, traces_of}
 use Rattle.rv_core.specs.declared.arrival.Outcome.TheVariants.{Passes, Violates}
 use Rattle.rv_core.specs.Arrivals.{IsOutcome}
 use Rattle.rv_core.specs.Seen.{watched}
 use Rattle.rv_core.proofs.Places.{each-at}
-use Rattle.rv_core.proofs.Outcomes.{known-passes, is-known, leaders-pass, all-pass, walk-steps, not-held, outcome-at, bound-at}
+use Rattle.rv_core.proofs.Outcomes.{held-passes, leaders-pass, all-pass, walk-steps, not-held, outcome-at, bound-at}
 use Rattle.rv_core.proofs.rv.Rv.outcome.Goals as goal
 
 pub insert-requires : goal.insert-requires
@@ -32,17 +32,17 @@ find-requires g c =
     subst P (sym c.as_slice-letters.ensures)
     (subst Q (sym c.in_ok-all.ensures) (Contains-push c.at-kept.result.now (n, c.args.trace.now)))
 
-pub returns-then-knows-clause-outcome : goal.returns-then-knows-clause-outcome
-returns-then-knows-clause-outcome g c m there =
+pub returns-then-holds-clause-outcome : goal.returns-then-holds-clause-outcome
+returns-then-holds-clause-outcome g c m there =
     let rv = c.args.self.now in
     let t = c.args.trace.now in
     let w = c.at-watch.result.now in
     let old = c.at-kept.result.now in
+    let P : Trace → Type 0 = λ u. IsHeld u old in
     outcome-at rv.rule rv.watches rv.kept t c.args.spec w old c.at-watch.ensures c.at-kept.ensures
     m there rv.drop_dominated rv.traces (Passes c.in_ok-share.field-0)
-    (known-passes rv.rule (watched w) rv.traces t old rv.drop_dominated c.in_ok-share.field-0
-    (is-known c.knows.result rv.rule rv.drop_dominated (watched w) c.as_slice-letters.result.now t
-    old c.knows.ensures.known c.as_slice-letters.ensures c.if-knows.true)
+    (held-passes rv.rule (watched w) rv.traces t old rv.drop_dominated c.in_ok-share.field-0
+    (subst P c.as_slice-letters.ensures (c.holds.ensures.0 c.if-holds.true))
     c.in_ok-share.ensures)
 
 pub returns-in-Some-clause-outcome : goal.returns-in-Some-clause-outcome
@@ -81,8 +81,8 @@ returns-in-None-2-clause-outcome g c m there =
     let made = c.in_ok-all.all in
     let P : Trace → Type 0 = AllMeet (watched w) rv.rule (traces_of made) in
     let Q : Bool → Type 0 = λ b. IsOutcome rv.rule b (watched w) t rv.traces old (Passes made) in
-    let absent = not-held c.knows.result c.as_slice-letters.result.now t old c.knows.ensures.new
-    c.as_slice-letters.ensures c.if-knows.false in
+    let absent = not-held c.holds.result c.as_slice-letters.result.now t old c.holds.ensures
+    c.as_slice-letters.ensures c.if-holds.false in
     outcome-at rv.rule rv.watches rv.kept t c.args.spec w old c.at-watch.ensures c.at-kept.ensures
     m there rv.drop_dominated rv.traces (Passes made)
     (subst Q (sym c.if-self.false)
@@ -96,8 +96,8 @@ returns-in-Some-clause-bounded g c m bound there b =
     let u = c.as_slice-letters.result.now in
     let w = c.at-watch.result.now in
     let old = c.at-kept.result.now in
-    let absent = not-held c.knows.result u t old c.knows.ensures.new c.as_slice-letters.ensures
-    c.if-knows.false in
+    let absent = not-held c.holds.result u t old c.holds.ensures c.as_slice-letters.ensures
+    c.if-holds.false in
     walk-steps rv.rule (watched w) rv.traces t old absent c.in_ok-all.all u c.args.steps.now
     c.find.new.steps c.in_ok-all.ensures c.as_slice-letters.ensures c.find.ensures.bounded bound
     (bound-at rv.rule rv.watches rv.kept t c.args.spec w old c.at-watch.ensures
@@ -110,8 +110,8 @@ returns-in_err-left-in-None-clause-bounded g c m bound there b =
     let u = c.as_slice-letters.result.now in
     let w = c.at-watch.result.now in
     let old = c.at-kept.result.now in
-    let absent = not-held c.knows.result u t old c.knows.ensures.new c.as_slice-letters.ensures
-    c.if-knows.false in
+    let absent = not-held c.holds.result u t old c.holds.ensures c.as_slice-letters.ensures
+    c.if-holds.false in
     walk-steps rv.rule (watched w) rv.traces t old absent c.in_ok-all.all u c.args.steps.now
     c.find.new.steps c.in_ok-all.ensures c.as_slice-letters.ensures c.find.ensures.bounded bound
     (bound-at rv.rule rv.watches rv.kept t c.args.spec w old c.at-watch.ensures
@@ -124,8 +124,8 @@ returns-in_ok-left-in-None-clause-bounded g c m bound there b =
     let u = c.as_slice-letters.result.now in
     let w = c.at-watch.result.now in
     let old = c.at-kept.result.now in
-    let absent = not-held c.knows.result u t old c.knows.ensures.new c.as_slice-letters.ensures
-    c.if-knows.false in
+    let absent = not-held c.holds.result u t old c.holds.ensures c.as_slice-letters.ensures
+    c.if-holds.false in
     walk-steps rv.rule (watched w) rv.traces t old absent c.in_ok-all.all u c.args.steps.now
     c.find.new.steps c.in_ok-all.ensures c.as_slice-letters.ensures c.find.ensures.bounded bound
     (bound-at rv.rule rv.watches rv.kept t c.args.spec w old c.at-watch.ensures
@@ -138,8 +138,8 @@ returns-in-None-2-clause-bounded g c m bound there b =
     let u = c.as_slice-letters.result.now in
     let w = c.at-watch.result.now in
     let old = c.at-kept.result.now in
-    let absent = not-held c.knows.result u t old c.knows.ensures.new c.as_slice-letters.ensures
-    c.if-knows.false in
+    let absent = not-held c.holds.result u t old c.holds.ensures c.as_slice-letters.ensures
+    c.if-holds.false in
     walk-steps rv.rule (watched w) rv.traces t old absent c.in_ok-all.all u c.args.steps.now
     c.find.new.steps c.in_ok-all.ensures c.as_slice-letters.ensures c.find.ensures.bounded bound
     (bound-at rv.rule rv.watches rv.kept t c.args.spec w old c.at-watch.ensures

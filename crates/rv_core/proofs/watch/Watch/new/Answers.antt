@@ -8,5 +8,4 @@ invariant_of-result c = record {
   exact = λ rule same. (c.in_ok-symmetric.ensures rule).1 same;
   turns = λ is.
       turns-of (machine_of c.args.monitor) (λ rule. (c.in_ok-symmetric.ensures rule).0 is);
-  idles = c.is_idle-idle.ensures.idle.0;
 }
