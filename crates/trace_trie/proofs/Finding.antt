@@ -1,5 +1,5 @@
 -- What a cursor finds.
-use Rattle.std.proofs.Common.{◌≡◌, ◌≢◌, ℕ, zero, suc, ◌<◌, cond, List, [], ◌∷◌, ◌++◌, length, append-nil, drop, slice_get, Some, None, refl, sym, ap, ◌∙◌, subst, inl, inr, arith}
+use Rattle.std.proofs.Common.{◌≡◌, ◌≢◌, ℕ, zero, suc, ◌<◌, cond, List, [], ◌∷◌, ◌++◌, length, append-nil, drop, slice_get, Some, refl, sym, ap, ◌∙◌, subst, inl, inr, arith}
 use Rattle.std.specs.Option.{IfSome, IfNone}
 use Rattle.std.specs.List.{Contains}
 use Rattle.hy_bits.specs.Letter.{Letter}
@@ -114,10 +114,6 @@ any-left l r n (t, c) =
 
 pub any-passing : (ends : List Numbered) (kids : List Kid) (n : ℕ) → ((t : List Letter) × Contains (spread kids) (n, t)) → (t : List Letter) × Contains (in_order (passing ends kids)) (n, t)
 any-passing ends kids n (t, c) = (t, contains-in-order (n, t) (passing ends kids) (contains-right (n, t) (ended ends) (spread kids) c))
-
-pub none-passing : (ends : List Numbered) (kids : List Kid) → first_number ends ≡ None → kids ≡ [] → in_order (passing ends kids) ≡ []
-none-passing [] kids e f = ap (λ (k : List Kid). in_order (passing [] k)) f
-none-passing (p ∷ ps) kids e f = absurd (cc)
 
 -- ---- where one trace alone passes
 

@@ -56,8 +56,5 @@ module _ {list l r : List Numbered} {split : ℕ} (n : ℕ) (at : AtTwo list spl
       let P : List Numbered → Type 0 = Each (λ (p : Numbered). p.0 < n) in
       each-right (λ (p : Numbered). p.0 < n) l r (subst P at.is h)
 
-  pub shorter-first : length l < length list
-  shorter-first = omega (arith, ap length at.is, length-append l r, at.second)
-
   pub shorter-second : length r < length list
   shorter-second = omega (arith, ap length at.is, length-append l r, at.first)

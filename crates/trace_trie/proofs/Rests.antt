@@ -70,16 +70,6 @@ more-spread {a} {n} {t} {held} {old} {new} ends s m =
 pub more-none : (p : Numbered) → IsMore p [] (p ∷ [])
 more-none p = record { before = []; after = []; old_is = refl; new_is = refl }
 
-pub more-ended : (n : ℕ) (t : List Letter) (ends : List Numbered) (kids : List Kid) → IsMore (n, []) (passing ends kids) (passing (ends ++ (n, t) ∷ []) kids)
-more-ended n t ends kids = record {
-  before = ended ends;
-  after = spread kids;
-  old_is = refl;
-  new_is =
-      ap (λ l. l ++ spread kids) (map-append (λ (p : Numbered). (p.0, [])) ends ((n, t) ∷ []))
-      ∙ append_assoc (ended ends) ((n, []) ∷ []) (spread kids);
-}
-
 -- ---- what holds behind a letter
 
 pub each-behind : (P : Numbered → Type 0) (a : Letter) (kids : List Kid) → Each P (spread kids) → Each (λ (p : Numbered). P (p.0, a ∷ p.1)) (behind a kids)

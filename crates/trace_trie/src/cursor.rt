@@ -9,8 +9,9 @@ ghost use Rattle.trace_trie.specs.Forests.{passing};
 ghost use Rattle.trace_trie.specs.Grown.{left_in};
 ghost use Rattle.trace_trie.specs.Cursors.{letters_of, rests_at, is_alone, AreLetters};
 
-use crate::forest::{Forest, same};
+use crate::forest::Forest;
 use crate::grown::{Grown, left};
+use crate::letters::same;
 use crate::numbers::Numbers;
 use hy_bits::LetterMask;
 

@@ -1,21 +1,19 @@
 //! The children of a node of a trie by their letters, in versions that share their nodes.
 
-ghost use Rattle.std.specs.Prelude.{◌≡◌, ℕ, ◌<◌, ◌≤◌, List, [], ◌∷◌, ◌++◌, length, drop, slice_get, IfOk, IfSome, IfNone, Some, None, true, false, not, if◌then◌else◌};
-ghost use Rattle.std.specs.FinSet.{contains};
-ghost use Rattle.hy_formula.specs.Quantifiers.{Each};
-ghost use Rattle.trace_trie.specs.Numbered.{same_letter, without_number};
+ghost use Rattle.std.specs.Prelude.{◌≡◌, ℕ, ◌<◌, List, [], length, slice_get, IfOk, IfSome, IfNone, Some, None};
+ghost use Rattle.trace_trie.specs.Numbered.{without_number};
 ghost use Rattle.std.specs.List.{Contains};
 ghost use Rattle.hy_bits.specs.Letter.{Letter};
-ghost use Rattle.trace_trie.specs.Kids.{Kid, AreKids, IsSwapped, behind, spread};
-ghost use Rattle.trace_trie.specs.Forests.{passing, kids_alone, IsAlone};
+ghost use Rattle.trace_trie.specs.Kids.{AreKids, behind, spread};
+ghost use Rattle.trace_trie.specs.Forests.{passing, IsAlone};
 ghost use Rattle.trace_trie.specs.Grown.{left_in};
 
 use crate::grown::Grown;
+use crate::letters::same;
 use crate::numbers::Numbers;
-use hy_base::{M, Memory};
+use hy_base::M;
 use hy_bits::LetterMask;
 use hy_finite::Trace;
-use std::alloc::Global;
 use std::marker::Model;
 use std::rc::Rc;
 
@@ -24,14 +22,14 @@ use std::rc::Rc;
 #[cycle(forest)]
 #[derive(Drop)]
 pub(crate) struct Forest {
-    tree: Branch,
+    pub(crate) tree: Branch,
 }
 
 /// Children by letter. A fork has the name that the letters of its first part lack and those of its
 /// second part have, and the count of its children: so none has more than 64 forks above it.
 #[cycle(forest)]
 #[derive(Drop)]
-enum Branch {
+pub(crate) enum Branch {
     Bare,
     Child(LetterMask, Numbers, Rc<Forest>),
     /// The child that the trace with this number alone passes, by its letter at this place.
@@ -194,143 +192,6 @@ impl Forest {
         }
     }
 
-    /// The child of this letter is the given one, where some trace passes it, and there is none
-    /// otherwise. The others are as they were. In time and memory as `get`.
-    pub(crate) fn swap(
-        &self,
-        alloc: Global,
-        letter: LetterMask,
-        ends: Numbers,
-        children: Forest,
-    ) -> M<Forest>
-        ensures { IfOk result (λ made. IsSwapped letter (passing ends children) self.now made) }
-    {
-        if ends.is_empty() && children.len() == 0 {
-            return self.without(alloc, letter);
-        }
-        children.kids_differ();
-        let one = Forest::one(alloc, letter, ends, children)?;
-        self.put(alloc, letter, one)
-    }
-
-    /// The child of this letter is the given one, and the others are as they were. In time and
-    /// memory as `get`.
-    pub(crate) fn put(&self, alloc: Global, letter: LetterMask, one: Forest) -> M<Forest>
-        requires { one ≡ (letter, behind letter one) ∷ [] }
-        ensures { IfOk result (λ made. IsSwapped letter (behind letter one) self.now made) }
-    {
-        match &self.tree {
-            Branch::Bare => {
-                one.kids_differ();
-                Ok(one)
-            }
-            Branch::Child(held, _, _) => self.beside(alloc, *held, letter, one),
-            Branch::Tail(_, trace, at) => self.beside(alloc, trace.at(*at), letter, one),
-            Branch::Fork(name, _, first, second) => {
-                if letter.has(*name) {
-                    let more = second.put(alloc, letter, one)?;
-                    Forest::with_second(alloc, *name, first, more)
-                } else {
-                    let more = first.put(alloc, letter, one)?;
-                    Forest::with_first(alloc, *name, more, second)
-                }
-            }
-        }
-    }
-
-    /// As `put`, where the only child has the letter `held`.
-    fn beside(&self, alloc: Global, held: LetterMask, letter: LetterMask, one: Forest) -> M<Forest>
-        requires only { self.now ≡ (held, behind held self.now) ∷ [] }
-        requires one { one ≡ (letter, behind letter one) ∷ [] }
-        ensures { IfOk result (λ made. IsSwapped letter (behind letter one) self.now made) }
-    {
-        self.kids_differ();
-        one.kids_differ();
-        match differing(letter, held) {
-            None => Ok(one),
-            Some(name) => Forest::forked(alloc, name, letter.has(name), self.share()?, one),
-        }
-    }
-
-    /// There is no child of this letter, and the others are as they were. In time and memory as
-    /// `get`.
-    pub(crate) fn without(&self, alloc: Global, letter: LetterMask) -> M<Forest>
-        ensures { IfOk result (λ made. IsSwapped letter [] self.now made) }
-    {
-        match &self.tree {
-            Branch::Bare => Ok(Forest::new()),
-            Branch::Child(held, _, _) => self.rest(*held, letter),
-            Branch::Tail(_, trace, at) => self.rest(trace.at(*at), letter),
-            Branch::Fork(name, _, first, second) => {
-                if letter.has(*name) {
-                    let rest = second.without(alloc, letter)?;
-                    Forest::with_second(alloc, *name, first, rest)
-                } else {
-                    let rest = first.without(alloc, letter)?;
-                    Forest::with_first(alloc, *name, rest, second)
-                }
-            }
-        }
-    }
-
-    /// As `without`, where the only child has the letter `held`.
-    fn rest(&self, held: LetterMask, letter: LetterMask) -> M<Forest>
-        requires { self.now ≡ (held, behind held self.now) ∷ [] }
-        ensures { IfOk result (λ made. IsSwapped letter [] self.now made) }
-    {
-        self.kids_differ();
-        if same(letter, held) {
-            Ok(Forest::new())
-        } else {
-            self.share()
-        }
-    }
-
-    /// One child: what is left of a trace from a place on, with its letter there.
-    pub(crate) fn tail(number: u32, trace: Rc<Trace>, at: usize) -> Forest
-        requires { at < length trace.value }
-        ensures { result ≡ kids_alone number (drop at trace.value) }
-    {
-        Forest {
-            tree: Branch::Tail(number, trace, at),
-        }
-    }
-
-    /// One child, which some trace passes. Where one trace alone does, and has the letter there, it
-    /// is kept as a tail.
-    fn one(alloc: Global, letter: LetterMask, ends: Numbers, children: Forest) -> M<Forest>
-        requires { 0 < length (passing ends children) }
-        ensures { IfOk result (λ made. made ≡ (letter, passing ends children) ∷ []) }
-    {
-        match Forest::longer(letter, &ends, &children)? {
-            Some(tail) => Ok(tail),
-            None => {
-                let children = Rc::new(alloc, children)?;
-                Ok(Forest {
-                    tree: Branch::Child(letter, ends, children),
-                })
-            }
-        }
-    }
-
-    /// As `one`, where that is a tail.
-    fn longer(letter: LetterMask, ends: &Numbers, children: &Forest) -> M<Option<Forest>>
-        ensures { IfOk result (λ found. IfSome found (λ made.
-            made ≡ (letter, passing ends.now children.now) ∷ [])) }
-    {
-        match Forest::alone(ends, children) {
-            None => Ok(None),
-            Some((number, trace, at)) => {
-                if at > 0 && same(letter, trace.at(at - 1)) {
-                    let trace = trace.clone()?;
-                    Ok(Some(Forest::tail(number, trace, at - 1)))
-                } else {
-                    Ok(None)
-                }
-            }
-        }
-    }
-
     /// The only trace that passes a node, with the place from which on it is left, where it ends
     /// there or goes on to a tail. Takes no memory, and constant time.
     pub(crate) fn alone<'a>(
@@ -355,95 +216,4 @@ impl Forest {
             _ => None,
         }
     }
-
-    /// The children of two lists, where no letter of the first has the name, and all letters of the
-    /// second do. Refused also where there are 2^64 children or more.
-    fn joined(name: usize, first: Rc<Forest>, second: Rc<Forest>) -> M<Forest>
-        requires name { name < 64 }
-        requires lack { Each (λ (k : Kid). contains k.0 name ≡ false) first.value }
-        requires have { Each (λ (k : Kid). contains k.0 name ≡ true) second.value }
-        ensures { IfOk result (λ made. made ≡ first.value ++ second.value) }
-    {
-        let before = first.len();
-        let after = second.len();
-        if before == 0 {
-            return second.share();
-        }
-        if after == 0 {
-            return first.share();
-        }
-        first.kids_differ();
-        second.kids_differ();
-        match before.checked_add(after) {
-            None => Err(Memory),
-            Some(count) => Ok(Forest {
-                tree: Branch::Fork(name, count, first, second),
-            }),
-        }
-    }
-
-    /// As `joined`, with another first list.
-    fn with_first(alloc: Global, name: usize, first: Forest, second: &Rc<Forest>) -> M<Forest>
-        requires name { name < 64 }
-        requires lack { Each (λ (k : Kid). contains k.0 name ≡ false) first }
-        requires have { Each (λ (k : Kid). contains k.0 name ≡ true) second.now.value }
-        ensures { IfOk result (λ made. made ≡ first ++ second.now.value) }
-    {
-        let first = Rc::new(alloc, first)?;
-        let second = second.clone()?;
-        Forest::joined(name, first, second)
-    }
-
-    /// As `joined`, with another second list.
-    fn with_second(alloc: Global, name: usize, first: &Rc<Forest>, second: Forest) -> M<Forest>
-        requires name { name < 64 }
-        requires lack { Each (λ (k : Kid). contains k.0 name ≡ false) first.now.value }
-        requires have { Each (λ (k : Kid). contains k.0 name ≡ true) second }
-        ensures { IfOk result (λ made. made ≡ first.now.value ++ second) }
-    {
-        let first = first.clone()?;
-        let second = Rc::new(alloc, second)?;
-        Forest::joined(name, first, second)
-    }
-
-    /// The children of both lists. Those of the one have the name where the other ones lack it.
-    fn forked(alloc: Global, name: usize, has: bool, others: Forest, one: Forest) -> M<Forest>
-        requires name { name < 64 }
-        requires others { Each (λ (k : Kid). contains k.0 name ≡ not has) others }
-        requires one { Each (λ (k : Kid). contains k.0 name ≡ has) one }
-        ensures { IfOk result (λ made. made ≡ (if has then others ++ one else one ++ others)) }
-    {
-        if has {
-            let others = Rc::new(alloc, others)?;
-            Forest::with_second(alloc, name, &others, one)
-        } else {
-            let others = Rc::new(alloc, others)?;
-            Forest::with_first(alloc, name, one, &others)
-        }
-    }
-}
-
-/// Whether both are the same letter.
-pub(crate) fn same(a: LetterMask, b: LetterMask) -> bool
-    ensures { result ≡ same_letter a b }
-{
-    a.is_subset(&b) && b.is_subset(&a)
-}
-
-/// A name that one of the letters has and the other lacks. `None` where they are the same.
-fn differing(a: LetterMask, b: LetterMask) -> Option<usize>
-    ensures some { IfSome result (λ name. (name < 64) × (contains b name ≡ not (contains a name))) }
-    ensures none { IfNone result (a ≡ b) }
-{
-    if same(a, b) {
-        return None;
-    }
-    a.names_below();
-    b.names_below();
-    for name in 0..64 {
-        if a.has(name) != b.has(name) {
-            return Some(name);
-        }
-    }
-    None
 }

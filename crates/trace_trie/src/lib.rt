@@ -9,7 +9,10 @@
 
 mod cursor;
 mod forest;
+mod forest_made;
+mod forest_put;
 mod grown;
+mod letters;
 mod node;
 mod numbers;
 mod version;

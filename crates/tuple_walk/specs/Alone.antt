@@ -2,8 +2,8 @@
 use Rattle.std.specs.Prelude.{List, map}
 use Rattle.std.specs.Borrow.{Bor}
 use Rattle.hy_finite.specs.Traces.{Trace}
-use Rattle.tuple_walk.specs.declared.place.Spot.{Spot}
-use Rattle.tuple_walk.specs.declared.place.Spot.TheVariants.{Alone, Node}
+use Rattle.tuple_walk.specs.declared.spot.Spot.{Spot}
+use Rattle.tuple_walk.specs.declared.spot.Spot.TheVariants.{Alone, Node}
 use Rattle.tuple_walk.specs.declared.place.Place.{Place}
 
 abbrev pub IsAloneAt : Spot → Type 0

@@ -3,7 +3,7 @@ use Rattle.std.specs.Prelude.{ℕ, zero, suc, List, [], ◌∷◌, map, take}
 use Rattle.hy_bits.specs.Letter.{Letter}
 use Rattle.trace_trie.specs.Numbered.{Numbered}
 use Rattle.tuple_walk.specs.declared.place.Place.{Place}
-use Rattle.tuple_walk.specs.declared.place.Places.{Places}
+use Rattle.tuple_walk.specs.declared.places.Places.{Places}
 use Rattle.tuple_walk.specs.Places.{whole_of, rests_of, letters_at}
 
 abbrev pub four : Places → List Place

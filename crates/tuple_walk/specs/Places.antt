@@ -9,8 +9,8 @@ use Rattle.hy_finite.specs.declared.lengths.Lengths.TheVariants.{Min, Pad}
 use Rattle.hy_finite.specs.Traces.{Trace}
 use Rattle.trace_trie.specs.Numbered.{Numbered, led_by}
 use Rattle.trace_trie.specs.Cursors.{letters_of, rests_at}
-use Rattle.tuple_walk.specs.declared.place.Spot.{Spot}
-use Rattle.tuple_walk.specs.declared.place.Spot.TheVariants.{Alone, Node}
+use Rattle.tuple_walk.specs.declared.spot.Spot.{Spot}
+use Rattle.tuple_walk.specs.declared.spot.Spot.TheVariants.{Alone, Node}
 use Rattle.tuple_walk.specs.declared.place.Taken.{Taken}
 use Rattle.tuple_walk.specs.declared.place.Taken.TheVariants.{Nothing, Letter, Gap}
 use Rattle.tuple_walk.specs.declared.place.Place.{Place}

@@ -4,7 +4,7 @@ use Rattle.fin_monitor.specs.Machines.{Machine}
 use Rattle.fin_monitor.specs.Seen.{machine_of}
 use Rattle.trace_trie.specs.Numbered.{Numbered}
 use Rattle.tuple_walk.specs.declared.place.Place.{Place}
-use Rattle.tuple_walk.specs.declared.place.Places.{Places}
+use Rattle.tuple_walk.specs.declared.places.Places.{Places}
 use Rattle.tuple_walk.specs.declared.walk.Walk.{Walk}
 use Rattle.tuple_walk.specs.Four.{first_places, rests, wholes}
 

@@ -11,7 +11,7 @@ ghost use Rattle.tuple_walk.specs.Places.{AreSome};
 ghost use Rattle.tuple_walk.specs.Searches.{IsSearch, IsAccepted, IsRejected, AreSteps};
 ghost use Rattle.tuple_walk.specs.Walks.{machine_in, places_in, rests_in};
 
-use crate::place::Places;
+use crate::places::Places;
 use crate::tuple::Tuple;
 use crate::walk::{MOST_PLACES, Walk};
 use hy_base::Steps;

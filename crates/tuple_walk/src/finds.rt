@@ -9,7 +9,9 @@ ghost use Rattle.tuple_walk.specs.Four.{four, rests};
 ghost use Rattle.tuple_walk.specs.Places.{IsOpen};
 ghost use Rattle.tuple_walk.specs.JointPrefixes.{Row, IsJointPrefix, IsFirstPrefix};
 
-use crate::place::{Place, Places, Spot};
+use crate::place::Place;
+use crate::places::Places;
+use crate::spot::Spot;
 use crate::tuple::Tuple;
 use crate::walk::Walk;
 use fin_monitor::Monitor;

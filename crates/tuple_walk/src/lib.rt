@@ -3,8 +3,12 @@
 #![tactic(auto)]
 
 mod alone;
+mod ends;
 mod finds;
+mod onward;
 mod place;
+mod places;
+mod spot;
 mod tuple;
 mod walk;
 

@@ -1,4 +1,4 @@
-use Rattle.std.proofs.Common.{◌≡◌, ◌+◌, sym, ap, ◌∙◌, arith}
+use Rattle.std.proofs.Common.{◌+◌, sym, ap, ◌∙◌, arith}
 use Rattle.fin_monitor.specs.Parts.{bits_of}
 use Rattle.fin_monitor.proofs.LowParts.{looked-up, none-high}
 use Rattle.fin_monitor.proofs.variable_parts.VariableParts.of.Goals as goal

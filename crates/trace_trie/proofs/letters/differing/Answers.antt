@@ -1,6 +1,6 @@
 use Rattle.std.proofs.Common.{sym, ◌∙◌, arith}
 use Rattle.trace_trie.proofs.Lettering.{equal-letter, same-below}
-use Rattle.trace_trie.proofs.forest.differing.Goals as goal
+use Rattle.trace_trie.proofs.letters.differing.Goals as goal
 
 pub returns-then-same-clause-none : goal.returns-then-same-clause-none
 returns-then-same-clause-none c = equal-letter c.args.a c.args.b (sym c.same.ensures ∙ c.if-same.true)

@@ -4,9 +4,9 @@ use Rattle.std.specs.List.{Contains}
 use Rattle.hy_formula.proofs.Tuples.{contains-here}
 use Rattle.hy_finite.specs.Traces.{Trace}
 use Rattle.trace_trie.specs.Cursors.{rests_at}
-use Rattle.tuple_walk.specs.declared.place.Spot.{Spot}
+use Rattle.tuple_walk.specs.declared.spot.Spot.{Spot}
 use Rattle.tuple_walk.specs.Places.{rests_of, HasEnded}
-use Rattle.tuple_walk.proofs.place.Spot.any.Goals as goal
+use Rattle.tuple_walk.proofs.spot.Spot.any.Goals as goal
 
 pub returns-in-Alone-clause-some : goal.returns-in-Alone-clause-some
 returns-in-Alone-clause-some c =

@@ -2,11 +2,11 @@ use Rattle.std.proofs.Common.{◌≡◌, ◌<◌, length, List, slice_get, Some,
 use Rattle.hy_bits.specs.Letter.{Letter as NameSet}
 use Rattle.trace_trie.specs.Cursors.{letters_of, rests_at}
 use Rattle.trace_trie.specs.Numbered.{Numbered, under, led_by}
-use Rattle.tuple_walk.specs.declared.place.Spot.{Spot}
+use Rattle.tuple_walk.specs.declared.spot.Spot.{Spot}
 use Rattle.tuple_walk.specs.Places.{rests_of, letters_at, IsWay}
 use Rattle.tuple_walk.proofs.Lists.{each-at, get-contains}
 use Rattle.tuple_walk.proofs.Ways.{letter-way}
-use Rattle.tuple_walk.proofs.place.Spot.letter.Goals as goal
+use Rattle.tuple_walk.proofs.spot.Spot.letter.Goals as goal
 
 pub returns-in-Node-clause-way : goal.returns-in-Node-clause-way
 returns-in-Node-clause-way c a e =

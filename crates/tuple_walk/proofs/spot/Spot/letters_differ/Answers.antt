@@ -1,9 +1,9 @@
 use Rattle.std.proofs.Common.{sym, subst}
 use Rattle.trace_trie.specs.Cursors.{AreLetters}
-use Rattle.tuple_walk.specs.declared.place.Spot.{Spot}
+use Rattle.tuple_walk.specs.declared.spot.Spot.{Spot}
 use Rattle.tuple_walk.specs.Places.{rests_of, letters_at}
 use Rattle.tuple_walk.proofs.Ways.{alone-letters}
-use Rattle.tuple_walk.proofs.place.Spot.letters_differ.Goals as goal
+use Rattle.tuple_walk.proofs.spot.Spot.letters_differ.Goals as goal
 
 pub returns-in-Alone : goal.returns-in-Alone
 returns-in-Alone c =

@@ -1,0 +1,134 @@
+//! Where a walk stands at all places of its tuples.
+
+ghost use Rattle.std.specs.Prelude.{◌≡◌, ◌<◌, [], ◌∷◌, map, replicate, set, slice_get, Some};
+ghost use Rattle.tuple_walk.specs.Places.{open_at, letter_taken, has_taken};
+ghost use Rattle.tuple_walk.specs.Four.{four};
+ghost use Rattle.tuple_walk.specs.declared.place.Taken.TheVariants.{Nothing};
+
+use crate::place::Place;
+use crate::spot::Spot;
+use hy_bits::LetterMask;
+
+/// A place for each variable: of four, as many as there are variables.
+#[derive(Clone, Copy)]
+pub(crate) struct Places<'a> {
+    first: Place<'a>,
+    second: Place<'a>,
+    third: Place<'a>,
+    fourth: Place<'a>,
+}
+
+impl<'a> Places<'a> {
+    /// These four.
+    pub(crate) fn of(
+        first: &Place<'a>,
+        second: &Place<'a>,
+        third: &Place<'a>,
+        fourth: &Place<'a>,
+    ) -> Places<'a>
+        ensures { four result ≡ first.now ∷ second.now ∷ third.now ∷ fourth.now ∷ [] }
+    {
+        Places {
+            first: first.copied(),
+            second: second.copied(),
+            third: third.copied(),
+            fourth: fourth.copied(),
+        }
+    }
+
+    /// The same spot at each.
+    pub(crate) fn all(spot: &Spot<'a>) -> Places<'a>
+        ensures { four result ≡ replicate 4 (record { taken = Nothing; spot = spot.now }) }
+    {
+        Places {
+            first: Place::at(spot),
+            second: Place::at(spot),
+            third: Place::at(spot),
+            fourth: Place::at(spot),
+        }
+    }
+
+    /// Place `i`, counted from 0.
+    pub(crate) fn at(&self, i: usize) -> Place<'a>
+        requires { i < 4 }
+        ensures { slice_get (four self.now) i ≡ Some result }
+    {
+        match i {
+            0 => self.first.copied(),
+            1 => self.second.copied(),
+            2 => self.third.copied(),
+            _ => self.fourth.copied(),
+        }
+    }
+
+    /// The letter that is taken at place `i`, empty where there is none.
+    pub(crate) fn letter(&self, i: usize) -> LetterMask
+        requires { i < 4 }
+        ensures { slice_get (map letter_taken (four self.now)) i ≡ Some result }
+    {
+        match i {
+            0 => self.first.letter(),
+            1 => self.second.letter(),
+            2 => self.third.letter(),
+            _ => self.fourth.letter(),
+        }
+    }
+
+    /// Whether a letter is taken at place `i`.
+    pub(crate) fn has_letter(&self, i: usize) -> bool
+        requires { i < 4 }
+        ensures { slice_get (map has_taken (four self.now)) i ≡ Some result }
+    {
+        match i {
+            0 => self.first.has_letter(),
+            1 => self.second.has_letter(),
+            2 => self.third.has_letter(),
+            _ => self.fourth.has_letter(),
+        }
+    }
+
+    /// The same with another place `i`.
+    pub(crate) fn with(&self, i: usize, place: &Place<'a>) -> Places<'a>
+        requires { i < 4 }
+        ensures { four result ≡ set (four self.now) i place.now }
+    {
+        match i {
+            0 => Places {
+                first: place.copied(),
+                second: self.second.copied(),
+                third: self.third.copied(),
+                fourth: self.fourth.copied(),
+            },
+            1 => Places {
+                first: self.first.copied(),
+                second: place.copied(),
+                third: self.third.copied(),
+                fourth: self.fourth.copied(),
+            },
+            2 => Places {
+                first: self.first.copied(),
+                second: self.second.copied(),
+                third: place.copied(),
+                fourth: self.fourth.copied(),
+            },
+            _ => Places {
+                first: self.first.copied(),
+                second: self.second.copied(),
+                third: self.third.copied(),
+                fourth: place.copied(),
+            },
+        }
+    }
+
+    /// The same spots with nothing taken.
+    pub(crate) fn opened(&self) -> Places<'a>
+        ensures { four result ≡ map open_at (four self.now) }
+    {
+        Places {
+            first: Place::at(&self.first.spot),
+            second: Place::at(&self.second.spot),
+            third: Place::at(&self.third.spot),
+            fourth: Place::at(&self.fourth.spot),
+        }
+    }
+}
