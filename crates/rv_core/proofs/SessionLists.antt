@@ -1,37 +1,14 @@
 -- Lists of open sessions, and what a letter and an end make of them.
-use Rattle.std.proofs.Common.{◌≡◌, ℕ, zero, suc, ◌<◌, Bool, true, false, cond, nat_eq, List, [], ◌∷◌, ◌++◌, length, take, slice_get, Option, Some, None, Result, Ok, Err, OnOk, OnErr, inl, inr, refl, sym, ap, ◌∙◌, subst, arith}
-use Rattle.std.specs.List.{IsDistinct, AllByRecursion}
-use Rattle.std.specs.Map.{lookup, keys_of, set_value}
+use Rattle.std.proofs.Common.{◌≡◌, ℕ, suc, ◌<◌, Bool, true, false, cond, nat_eq, List, [], ◌∷◌, ◌++◌, length, Option, Some, None, Result, Ok, Err, OnOk, OnErr, inl, inr, refl, sym, ap, ◌∙◌, subst, arith}
+use Rattle.std.specs.Map.{set_value}
 use Rattle.std.proofs.lemmas.Map.Steps.{set_value_same}
 use Rattle.rv_core.specs.declared.rv_error.RvError.{RvError}
-use Rattle.std.proofs.lemmas.Bool.{cases_eq, eq-eqb, ne_eqb, eqb-false}
+use Rattle.std.proofs.lemmas.Bool.{cases_eq, eq-eqb, ne_eqb}
 use Rattle.hy_bits.specs.Letter.{Letter}
 use Rattle.hy_formula.specs.Quantifiers.{Each}
 use Rattle.rv_core.specs.Histories.{Session, letters_of, extended, closed}
 use Rattle.rv_core.specs.Held.{AreApart, AreSessions}
 use Rattle.rv_core.specs.Opened.{Open, letters_in, Puts, Extends, longer, opened, Closes}
-
--- ---- in a list of different keys the key of an entry does not stand before it
-
-key-apart : {X : Type 0} (es : List (ℕ × X)) (i j k : ℕ) (v : X)
-    → AllByRecursion (λ y. nat_eq j y ≡ false) (keys_of es)
-    → slice_get es i ≡ Some (k, v) → nat_eq j k ≡ false
-key-apart [] i j k v all at = absurd (cc)
-key-apart (e ∷ es) zero j k v all at =
-    let same : e ≡ (k, v) = cc in
-    let P : ℕ → Type 0 = λ q. nat_eq j q ≡ false in subst P (ap (λ p. p.0) same) all.0
-key-apart (e ∷ es) (suc i) j k v all at = key-apart es i j k v all.1 at
-
-pub absent-before : {X : Type 0} (es : List (ℕ × X)) (i k : ℕ) (v : X)
-    → IsDistinct nat_eq (keys_of es)
-    → slice_get es i ≡ Some (k, v) → lookup (nat_eq k) (take i es) ≡ None
-unfolding IsDistinct
-absent-before [] i k v apart at = absurd (cc)
-absent-before (e ∷ es) zero k v apart at = refl
-absent-before (e ∷ es) (suc i) k v apart at =
-    let other : nat_eq k e.0 ≡ false =
-    ne_eqb k e.0 (λ same. eqb-false e.0 k (key-apart es i e.0 k v apart.0 at) (sym same)) in
-    rw other (absent-before es i k v apart.1 at)
 
 -- ---- letters of sessions after a letter and after an end
 

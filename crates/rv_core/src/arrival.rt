@@ -9,7 +9,7 @@ ghost use Rattle.rv_core.specs.Replies.{IsReplyTo};
 ghost use Rattle.rv_core.specs.Seen.{watched_by};
 ghost use Rattle.rv_core.specs.StepBounds.{IsSpecBound, AreBounds};
 
-use crate::kept::{Kept, all_hold};
+use crate::kept::Kept;
 use crate::reply::Reply;
 use crate::rv::Rv;
 use hy_base::{List, M, Steps};
@@ -58,7 +58,7 @@ impl Rv {
         ensures bounded { (bounds : List ℕ) → AreBounds (held self.now) trace.now bounds
             → steps.new ≤ steps.old + sum bounds }
     {
-        if all_hold(&self.kept, trace.as_slice()) {
+        if self.kept.all_hold(trace.as_slice()) {
             return Ok(Arrival::Known);
         }
         let mut next = List::new(alloc);
@@ -71,7 +71,7 @@ impl Rv {
                 }
             }
         }
-        Ok(Arrival::Clean(next))
+        Ok(Arrival::Clean(Kept::of(alloc, next)?))
     }
 
     /// What would come of the trace for the spec with this number.

@@ -8,7 +8,7 @@ ghost use Rattle.rv_core.specs.Built.{HasFewQuantifiers, AreUniversal, EachBody,
 ghost use Rattle.rv_core.specs.Held.{spec_of};
 ghost use Rattle.rv_core.specs.Seen.{watched, watched_by};
 
-use crate::kept::none_kept;
+use crate::kept::Kept;
 use crate::rv::Rv;
 use crate::rv_error::RvNewError;
 use crate::sessions::Sessions;
@@ -50,14 +50,15 @@ impl Rv {
     {
         all_universal(formulas)?;
         let watches = watches_of(alloc, formulas)?;
-        let kept = none_kept(alloc, watches.len())?;
+        let kept = Kept::none(alloc, watches.len())?;
+        let sessions = Sessions::none(alloc)?;
         Ok(Rv {
             rule,
             drop_dominated,
             watches,
             traces: 0,
             kept,
-            sessions: Sessions::new(alloc),
+            sessions,
             saves: List::new(alloc),
             clean: true,
         })

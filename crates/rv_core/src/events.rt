@@ -7,7 +7,6 @@ ghost use Rattle.rv_core.specs.Histories.{arrives};
 ghost use Rattle.rv_core.specs.Opened.{letters_in};
 ghost use Rattle.rv_core.specs.StepBounds.{AreBounds, Brings};
 
-use crate::kept::share_kept;
 use crate::reply::Reply;
 use crate::rv::Rv;
 use crate::rv_error::RvError;
@@ -41,9 +40,10 @@ impl Rv {
     ///
     /// Where a trace arrives the steps grow at most by a bound for each spec, and by none for a
     /// spec that keeps an equal one; else they do not grow. A whole trace that each spec keeps
-    /// already takes no memory, and for each time linear in its letters. A letter takes constant
-    /// time but for growth, a back time linear in the open sessions and specs and a save, in time
-    /// and memory, in the letters of the sessions and in the specs.
+    /// already takes no memory, and for each time linear in its letters. A save takes constant
+    /// time: it shares what is kept and the open sessions. So the first letter or end after it takes
+    /// time and memory linear in the open sessions, the first letter of a session in its letters
+    /// too, and any other letter constant time but for growth. A back frees what no save shares.
     pub fn event<L: Ledger>(
         &mut self,
         alloc: Global,
@@ -129,7 +129,7 @@ impl Rv {
         };
         let trace = Trace::new(letters.copy(alloc)?).unwrap();
         let arrival = self.arrival(alloc, &trace, steps)?;
-        self.sessions.close(session);
+        self.sessions.close(session)?;
         Ok(self.take_arrival(arrival))
     }
 
@@ -143,8 +143,8 @@ impl Rv {
         if self.saves.len() >= MOST_SAVES {
             return Err(RvError::Limit(Kind::Saves));
         }
-        let kept = share_kept(alloc, &self.kept)?;
-        let sessions = self.sessions.copy(alloc)?;
+        let kept = self.kept.share()?;
+        let sessions = self.sessions.share()?;
         self.saves.push(Saved {
             arrived: self.traces,
             kept,

@@ -1,48 +1,82 @@
 //! What is kept of the traces that arrived, for each spec.
 
-ghost use Rattle.std.specs.Prelude.{◌≡◌, ◌↔◌, [], replicate, IfOk, IsTrue};
+ghost use Rattle.std.specs.Prelude.{◌≡◌, ◌↔◌, ◌<◌, [], length, replicate, slice_get, Some, IfOk, IsTrue};
 ghost use Rattle.hy_formula.specs.Quantifiers.{Each};
 ghost use Rattle.trace_trie.specs.Numbered.{IsHeld};
 
 use hy_base::{List, M};
 use hy_bits::LetterMask;
 use std::alloc::Global;
+use std::marker::Model;
+use std::rc::Rc;
 use trace_trie::Version;
 
-/// For each spec the traces that are kept, by their numbers.
-pub(crate) type Kept = List<Version>;
-
-/// No traces, for each of so many specs.
-pub(crate) fn none_kept(alloc: Global, specs: usize) -> M<Kept>
-    ensures { IfOk result (λ made. made ≡ replicate specs []) }
-{
-    let mut made = List::new(alloc);
-    for _spec in 0..specs {
-        made.push(Version::new(alloc))?;
-    }
-    Ok(made)
+/// For each spec the traces that are kept, by their numbers. Contracts see the list of these. Saves
+/// share it.
+#[derive(Drop)]
+pub(crate) struct Kept {
+    versions: Rc<List<Version>>,
 }
 
-/// The same traces, which share their memory, in time linear in the specs.
-pub(crate) fn share_kept(alloc: Global, kept: &Kept) -> M<Kept>
-    ensures { IfOk result (λ made. made ≡ kept.now) }
-{
-    let mut made = List::new(alloc);
-    for version in kept.as_slice() {
-        made.push(version.share()?)?;
-    }
-    Ok(made)
+impl Model for Kept {
+    ghost use Rattle.std.specs.Prelude.{ℕ, List};
+    ghost use Rattle.std.specs.Coded.{coded_ℕ, coded_list, coded×};
+    ghost use Rattle.std.specs.FinSet as set;
+    ghost use Rattle.hy_bits.specs.Letter.{Letter};
+
+    ghost Value = { List (List (ℕ × List Letter)) };
+
+    ghost coded = { coded_list (coded_list (coded× coded_ℕ (coded_list (set.code coded_ℕ)))) };
+
+    ghost view = { λ k. k.versions.value };
 }
 
-/// Whether these letters are those of some trace for each spec. Takes no memory, and time as
-/// `Version::holds` for each spec.
-pub(crate) fn all_hold(kept: &Kept, letters: &[LetterMask]) -> bool
-    ensures { IsTrue result ↔ Each (IsHeld letters.now) kept.now }
-{
-    for version in kept.as_slice() {
-        if !version.holds(letters) {
-            return false;
+impl Kept {
+    /// These, by the numbers of the specs.
+    pub(crate) fn of(alloc: Global, versions: List<Version>) -> M<Kept>
+        ensures { IfOk result (λ made. made ≡ versions) }
+    {
+        let versions = Rc::new(alloc, versions)?;
+        Ok(Kept { versions })
+    }
+
+    /// No traces, for each of so many specs.
+    pub(crate) fn none(alloc: Global, specs: usize) -> M<Kept>
+        ensures { IfOk result (λ made. made ≡ replicate specs []) }
+    {
+        let mut versions = List::new(alloc);
+        for _spec in 0..specs {
+            versions.push(Version::new(alloc))?;
         }
+        Kept::of(alloc, versions)
     }
-    true
+
+    /// The same, in constant time and with no memory.
+    pub(crate) fn share(&self) -> M<Kept>
+        ensures { IfOk result (λ made. made ≡ self.now) }
+    {
+        let versions = self.versions.clone()?;
+        Ok(Kept { versions })
+    }
+
+    /// What is kept for a spec.
+    pub(crate) fn at(&self, spec: usize) -> &Version
+        requires { spec < length self.now }
+        ensures { slice_get self.now spec ≡ Some result.now }
+    {
+        self.versions.at(spec)
+    }
+
+    /// Whether these letters are those of some trace for each spec. Takes no memory, and time as
+    /// `Version::holds` for each spec.
+    pub(crate) fn all_hold(&self, letters: &[LetterMask]) -> bool
+        ensures { IsTrue result ↔ Each (IsHeld letters.now) self.now }
+    {
+        for version in self.versions.as_slice() {
+            if !version.holds(letters) {
+                return false;
+            }
+        }
+        true
+    }
 }

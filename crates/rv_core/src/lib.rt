@@ -11,6 +11,8 @@ mod reply;
 mod rv;
 mod rv_error;
 mod saved;
+mod session_map;
+mod session_word;
 mod sessions;
 mod watch;
 

@@ -1,58 +1,59 @@
-//! Sessions that are open.
+//! Sessions that are open, as saves share them.
 
-ghost use Rattle.std.specs.Prelude.{◌≡◌, ◌<◌, ◌≤◌, ◌++◌, ◌∷◌, [], length, None, Some, IfOk, IfErr, IfSome, OnOk, OnErr, IsSome};
+ghost use Rattle.std.specs.Prelude.{◌≡◌, ◌≤◌, [], length, IfOk, IfErr, IfSome, OnOk, OnErr, IsSome};
 ghost use Rattle.std.specs.Option.{option_copied};
-ghost use Rattle.rv_core.specs.Opened.{IsNotLonger, letters_in, Extends, IsNotTaken, Puts};
 
 use crate::rv_error::RvError;
-use hy_base::{Kind, List, M};
+use crate::session_map::SessionMap;
+use hy_base::M;
 use hy_bits::{LetterMask, Letters};
-use hy_finite::MOST_LETTERS;
-use indexmap::IndexMap;
 use std::alloc::Global;
 use std::marker::Model;
+use std::rc::Rc;
 
-/// The most sessions that are open at once.
-const MOST_SESSIONS: usize = 1024;
-
-/// The letters of each open session, found by its number. At most 1,024 sessions are open, each
-/// with 1 to 1,024 letters.
+/// The open sessions, which saves share. Contracts see the list of their numbers and letters. What
+/// a save shares is copied before it is changed.
 #[derive(Drop)]
 pub(crate) struct Sessions {
-    map: IndexMap<u32, Letters>,
+    map: Rc<SessionMap>,
 }
 
 impl Model for Sessions {
     ghost use Rattle.std.specs.Coded.{coded_ℕ, coded×, coded_list};
     ghost use Rattle.std.specs.FinSet as set;
-    ghost use Rattle.rv_core.specs.Opened.{Open, AreOpen};
+    ghost use Rattle.rv_core.specs.Opened.{Open};
 
     ghost Value = { Open };
 
     ghost coded = { coded_list (coded× coded_ℕ (coded_list (set.code coded_ℕ))) };
 
-    ghost view = { λ s. s.map.entries };
-
-    ghost invariant = { λ s. AreOpen s.map.entries };
+    ghost view = { λ s. s.map.value };
 }
 
 impl Sessions {
     ghost use Rattle.rv_core.specs.Opened.{letters_in, Extends, IsNotTaken, Closes};
 
-    /// No session. Takes no memory.
-    pub(crate) fn new(alloc: Global) -> Sessions
-        ensures { result ≡ [] }
+    /// No session.
+    pub(crate) fn none(alloc: Global) -> M<Sessions>
+        ensures { IfOk result (λ made. made ≡ []) }
     {
-        Sessions {
-            map: IndexMap::new(alloc),
-        }
+        let map = Rc::new(alloc, SessionMap::new(alloc))?;
+        Ok(Sessions { map })
+    }
+
+    /// The same, in constant time and with no memory.
+    pub(crate) fn share(&self) -> M<Sessions>
+        ensures { IfOk result (λ made. made ≡ self.now) }
+    {
+        let map = self.map.clone()?;
+        Ok(Sessions { map })
     }
 
     /// How many sessions are open: at most 1,024.
     pub(crate) fn len(&self) -> u32
         ensures { result ≡ length self.now }
     {
-        self.map.len() as u32
+        self.map.len()
     }
 
     /// The letters of a session, where it is open: 1 to 1,024.
@@ -61,11 +62,10 @@ impl Sessions {
         ensures some { IfSome result (λ word. 1 ≤ length word.now) }
         ensures few { IfSome result (λ word. length word.now ≤ 1024) }
     {
-        self.map.get(&number)
+        self.map.letters(number)
     }
 
-    /// Puts a letter last in its session, which is opened where it is not open. `Limit` where the
-    /// session has 1,024 letters already, or 1,024 others are open. Refused it changes nothing.
+    /// As `SessionMap::extend`.
     pub(crate) fn extend(
         &mut self,
         alloc: Global,
@@ -76,78 +76,19 @@ impl Sessions {
         ensures refused { IfErr result (IsNotTaken number self.old) }
         ensures unchanged { OnErr result (self.new ≡ self.old) }
     {
-        match self.map.get_mut(&number) {
-            Some(letters) => add_letter(letters, letter),
-            None => open_session(&mut self.map, alloc, number, letter),
+        match Rc::make_mut(&mut self.map) {
+            Ok(map) => map.extend(alloc, number, letter),
+            Err(_) => Err(RvError::Memory),
         }
     }
 
-    /// Closes a session.
-    pub(crate) fn close(&mut self, number: u32)
+    /// As `SessionMap::close`. Refused it changes nothing.
+    pub(crate) fn close(&mut self, number: u32) -> M<()>
         requires { IsSome (letters_in number self.old) }
-        ensures { Closes number self.old self.new }
+        ensures closed { OnOk result (Closes number self.old self.new) }
+        ensures unchanged { OnErr result (self.new ≡ self.old) }
     {
-        let _letters = self.map.swap_remove(&number);
+        Rc::make_mut(&mut self.map)?.close(number);
+        Ok(())
     }
-
-    /// The same sessions, in time and memory linear in their letters.
-    pub(crate) fn copy(&self, alloc: Global) -> M<Sessions>
-        ensures { IfOk result (λ made. made ≡ self.now) }
-    {
-        let mut map = IndexMap::new(alloc);
-        for i in 0..self.map.len() {
-            let (number, letters) = self.map.get_index(i).unwrap();
-            insert(&mut map, *number, letters.copy(alloc)?)?;
-        }
-        Ok(Sessions { map })
-    }
-}
-
-/// Puts a letter last. `Limit` where there are 1,024 letters already. Refused it changes nothing.
-fn add_letter(letters: &mut Letters, letter: LetterMask) -> Result<(), RvError>
-    ensures added { OnOk result (letters.new ≡ letters.old ++ letter ∷ []) }
-    ensures short { OnOk result (length letters.old < 1024) }
-    ensures refused { IfErr result (IsNotLonger letters.old) }
-    ensures unchanged { OnErr result (letters.new ≡ letters.old) }
-{
-    if letters.len() >= MOST_LETTERS {
-        return Err(RvError::Limit(Kind::Length));
-    }
-    letters.push(letter)?;
-    Ok(())
-}
-
-/// Opens a session with its first letter. `Limit` where 1,024 sessions are open. Refused it changes
-/// nothing.
-fn open_session(
-    sessions: &mut IndexMap<u32, Letters>,
-    alloc: Global,
-    number: u32,
-    letter: LetterMask,
-) -> Result<(), RvError>
-    requires { letters_in number sessions.old.entries ≡ None }
-    ensures opened { OnOk result (Extends number letter sessions.old.entries sessions.new.entries) }
-    ensures refused { IfErr result (IsNotTaken number sessions.old.entries) }
-    ensures unchanged { OnErr result (sessions.new.entries ≡ sessions.old.entries) }
-{
-    if sessions.len() >= MOST_SESSIONS {
-        return Err(RvError::Limit(Kind::Sessions));
-    }
-    let mut letters = List::new(alloc);
-    letters.push(letter)?;
-    insert(sessions, number, letters)?;
-    Ok(())
-}
-
-/// Puts a new session last.
-fn insert(sessions: &mut IndexMap<u32, Letters>, number: u32, letters: Letters) -> M<()>
-    requires { letters_in number sessions.old.entries ≡ None }
-    ensures added { OnOk result
-        (sessions.new.entries ≡ sessions.old.entries ++ (number, letters) ∷ []) }
-    ensures put { OnOk result
-        (Puts number (Some letters) sessions.old.entries sessions.new.entries) }
-    ensures unchanged { OnErr result (sessions.new.entries ≡ sessions.old.entries) }
-{
-    sessions.insert(number, letters)?;
-    Ok(())
 }

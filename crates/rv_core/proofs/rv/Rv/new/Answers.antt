@@ -24,7 +24,7 @@ invariant_of-result c =
     AllZip-long IsFresh c.args.formulas.now (watched_by watches) c.in_ok-watches.ensures.fresh in
     record {
       below = subst P (sym kept) (none-below n 0);
-      within = subst Q (sym c.new-2.ensures) tt;
+      within = subst Q (sym c.new.ensures) tt;
       countable = omega (arith, long, length-map watches watched, c.requires.countable);
     }
 
@@ -37,11 +37,11 @@ returns-clause-stands c =
     c.in_ok-kept.ensures
     ∙ ap (λ k. replicate k []) (c.len.ensures ∙ sym (length-map watches watched)) in
     let P : Open → Type 0 =
-    λ os. StandsFor (made c.in_ok-kept.kept os (reverse c.new-2.result)) empty_history in
+    λ os. StandsFor (made c.in_ok-kept.kept os (reverse c.new.result)) empty_history in
     let Q : List Saved → Type 0 =
     λ saves. StandsFor (made c.in_ok-kept.kept [] (reverse saves)) empty_history in
     let R : List (List Numbered) → Type 0 = λ ks. StandsFor (made ks [] []) empty_history in
-    subst P (sym c.new.ensures) (subst Q (sym c.new-2.ensures) (subst R (sym kept)
+    subst P (sym c.in_ok-sessions.ensures) (subst Q (sym c.new.ensures) (subst R (sym kept)
     (fresh-stands c.args.rule c.args.drop_dominated c.args.formulas.now ms
     c.in_ok-watches.ensures.fresh)))
 

@@ -1,9 +1,10 @@
-use Rattle.std.proofs.Common.{◌≡◌, ◌≤◌, length, refl, Ok, Some, sym, ap, ◌∙◌, subst, arith}
+use Rattle.std.proofs.Common.{◌≡◌, ◌≤◌, length, refl, Ok, Err, Some, sym, ap, ◌∙◌, subst, arith}
 use Rattle.std.proofs.lemmas.Option.{MatchOption-at_some}
 use Rattle.std.proofs.lemmas.Result.{err_from_is_err_and}
 use Rattle.hy_finite.specs.declared.event.Event.TheVariants as event
 use Rattle.rv_core.specs.Held.{Held}
-use Rattle.rv_core.specs.Opened.{letters_in}
+use Rattle.rv_core.specs.declared.rv_error.RvError.TheVariants as error
+use Rattle.rv_core.specs.Opened.{Open, letters_in}
 use Rattle.rv_core.specs.Replies.{Answers}
 use Rattle.rv_core.specs.Seen.{held}
 use Rattle.rv_core.proofs.Answering.{end-brings, answered-arrival, memory-answer, no-end}
@@ -24,6 +25,16 @@ returns-in_err-arrival-clause-answers g c =
     c.from_residual-in_err-arrival.ensures.1 in
     rw (p.1, p.2) (memory-answer (held c.args.self.now) (event.End c.args.session) refl)
 
+pub returns-in_err-close-clause-answers : goal.returns-in_err-close-clause-answers
+returns-in_err-close-clause-answers g c =
+    let m = held c.args.self.now in
+    let p = err_from_is_err_and c.from_residual-in_err-close.result
+    c.from_residual-in_err-close.ensures.1 in
+    let P : Open → Type 0 =
+    λ os. Answers m (record m { sessions = os }) (event.End c.args.session) (Err error.Memory) in
+    rw (p.1, p.2)
+    (subst P (sym c.in_err-close.ensures.unchanged) (memory-answer m (event.End c.args.session) refl))
+
 pub returns-clause-answers : goal.returns-clause-answers
 returns-clause-answers g c =
     let m = held c.args.self.now in
@@ -39,6 +50,6 @@ returns-clause-answers g c =
     λ new. Answers m new (event.End c.args.session) (Ok c.take_arrival.result) in
     subst P (sym c.take_arrival.ensures.held)
     (answered-arrival m (event.End c.args.session) t c.close.new.self
-    (end-brings m c.args.session t c.close.new.self known c.close.ensures) refl
+    (end-brings m c.args.session t c.close.new.self known c.in_ok-close.ensures.closed) refl
     (omega (arith, short.0, ap length same)) c.in_ok-arrival.arrival c.take_arrival.result
     c.take_arrival.ensures.reply c.in_ok-arrival.ensures.arrival)

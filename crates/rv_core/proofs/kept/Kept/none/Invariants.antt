@@ -1,5 +1,5 @@
 use Rattle.std.proofs.Common.{◌≡◌, [], replicate}
-use Rattle.rv_core.proofs.kept.none_kept.Given as goal
+use Rattle.rv_core.proofs.kept.Kept.none.Given as goal
 
 abbrev pub invariant-loop-spec : goal.invariant-loop-spec
-invariant-loop-spec l = l.made ≡ replicate l._spec []
+invariant-loop-spec l = l.versions ≡ replicate l._spec []
