@@ -7,7 +7,7 @@ use Rattle.hy_finite.specs.declared.lengths.Lengths.{Lengths}
 use Rattle.hy_finite.specs.Traces.{Trace}
 use Rattle.trace_trie.specs.Numbered.{Numbered}
 use Rattle.dominance.specs.Dominance.{Dominates}
-use Rattle.dominance.specs.Leaders.{IsAt, AreLeaders, numbered, items}
+use Rattle.dominance.specs.Leaders.{IsAt, numbered}
 use Rattle.dominance.specs.Leaders as leaders
 use Rattle.dominance.proofs.Elements.{contains-here, contains-later, contains-cases, contains-none, each-from}
 use Rattle.dominance.proofs.Leaderships.{kept-apart}

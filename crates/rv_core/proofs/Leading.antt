@@ -7,7 +7,7 @@ use Rattle.hy_finite.specs.declared.lengths.Lengths.{Lengths}
 use Rattle.hy_finite.specs.Traces.{Trace}
 use Rattle.fin_monitor.specs.Machines.{Machine}
 use Rattle.trace_trie.specs.Numbered.{Numbered}
-use Rattle.dominance.specs.Leaders.{IsAt, AreLeaders, TestKept, numbered, kept_by}
+use Rattle.dominance.specs.Leaders.{IsAt, AreLeaders, TestKept, numbered}
 use Rattle.dominance.specs.Leaders as leaders
 use Rattle.dominance.proofs.Elements.{contains-here, contains-later, contains-cases, contains-none, at-one, each-at, any-from, any-of, false-or-true}
 use Rattle.dominance.proofs.Leaderships.{refused-new, kept-step}

@@ -8,4 +8,5 @@ pub mod Opened
 pub mod Replies
 pub mod Seen
 pub mod StepBounds
+pub mod Versions
 pub mod Watched

@@ -12,7 +12,8 @@ ghost use Rattle.rv_core.specs.StepBounds.{IsSpecBound, AreBounds};
 use crate::kept::Kept;
 use crate::reply::Reply;
 use crate::rv::Rv;
-use hy_base::{List, M, Steps};
+use crate::versions::Versions;
+use hy_base::{M, Steps};
 use hy_finite::Trace;
 use std::alloc::Global;
 use std::sync::ledger::Ledger;
@@ -61,7 +62,7 @@ impl Rv {
         if self.kept.all_hold(trace.as_slice()) {
             return Ok(Arrival::Known);
         }
-        let mut next = List::new(alloc);
+        let mut next = Versions::new(alloc);
         for i in 0..self.watches.len() {
             match self.outcome(alloc, i, trace, steps)? {
                 Outcome::Passes(version) => next.push(version)?,

@@ -39,11 +39,13 @@ impl Rv {
     /// memory. After a violation the monitor takes no more events.
     ///
     /// Where a trace arrives the steps grow at most by a bound for each spec, and by none for a
-    /// spec that keeps an equal one; else they do not grow. A whole trace that each spec keeps
-    /// already takes no memory, and for each time linear in its letters. A save takes constant
-    /// time: it shares what is kept and the open sessions. So the first letter or end after it takes
-    /// time and memory linear in the open sessions, the first letter of a session in its letters
-    /// too, and any other letter constant time but for growth. A back frees what no save shares.
+    /// spec that keeps an equal one; else they do not grow. The newest trace waits to be put with
+    /// those that are kept until the next trace arrives or a save comes, which pay for it. Apart from
+    /// that a whole trace that each spec keeps already takes no memory, and for each time linear in
+    /// its letters, and a save constant time: it shares what is kept and the open sessions. So the
+    /// first letter or end after it takes time and memory linear in the open sessions, the first
+    /// letter of a session in its letters too, and any other letter constant time but for growth. A
+    /// back frees what no save shares.
     pub fn event<L: Ledger>(
         &mut self,
         alloc: Global,
@@ -86,6 +88,7 @@ impl Rv {
             → steps.new ≤ steps.old + sum bounds }
     {
         prove!(trace.len() > 0);
+        self.kept.settle()?;
         let arrival = self.arrival(alloc, trace, steps)?;
         Ok(self.take_arrival(arrival))
     }
@@ -128,6 +131,7 @@ impl Rv {
             return Err(RvError::NoLetter);
         };
         let trace = Trace::new(letters.copy(alloc)?).unwrap();
+        self.kept.settle()?;
         let arrival = self.arrival(alloc, &trace, steps)?;
         self.sessions.close(session)?;
         Ok(self.take_arrival(arrival))
@@ -143,6 +147,7 @@ impl Rv {
         if self.saves.len() >= MOST_SAVES {
             return Err(RvError::Limit(Kind::Saves));
         }
+        self.kept.settle()?;
         let kept = self.kept.share()?;
         let sessions = self.sessions.share()?;
         self.saves.push(Saved {

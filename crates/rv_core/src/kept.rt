@@ -4,7 +4,8 @@ ghost use Rattle.std.specs.Prelude.{◌≡◌, ◌↔◌, ◌<◌, [], length, r
 ghost use Rattle.hy_formula.specs.Quantifiers.{Each};
 ghost use Rattle.trace_trie.specs.Numbered.{IsHeld};
 
-use hy_base::{List, M};
+use crate::versions::Versions;
+use hy_base::M;
 use hy_bits::LetterMask;
 use std::alloc::Global;
 use std::marker::Model;
@@ -15,7 +16,7 @@ use trace_trie::Version;
 /// share it.
 #[derive(Drop)]
 pub(crate) struct Kept {
-    versions: Rc<List<Version>>,
+    versions: Rc<Versions>,
 }
 
 impl Model for Kept {
@@ -33,7 +34,7 @@ impl Model for Kept {
 
 impl Kept {
     /// These, by the numbers of the specs.
-    pub(crate) fn of(alloc: Global, versions: List<Version>) -> M<Kept>
+    pub(crate) fn of(alloc: Global, versions: Versions) -> M<Kept>
         ensures { IfOk result (λ made. made ≡ versions) }
     {
         let versions = Rc::new(alloc, versions)?;
@@ -44,7 +45,7 @@ impl Kept {
     pub(crate) fn none(alloc: Global, specs: usize) -> M<Kept>
         ensures { IfOk result (λ made. made ≡ replicate specs []) }
     {
-        let mut versions = List::new(alloc);
+        let mut versions = Versions::new(alloc);
         for _spec in 0..specs {
             versions.push(Version::new(alloc))?;
         }
@@ -57,6 +58,17 @@ impl Kept {
     {
         let versions = self.versions.clone()?;
         Ok(Kept { versions })
+    }
+
+    /// Lets no trace wait to be put with the others. So what a save shares is settled, and is left
+    /// as it is. Refused all is as before.
+    pub(crate) fn settle(&mut self) -> M<()>
+        ensures { self.new ≡ self.old }
+    {
+        match Rc::get_mut(&mut self.versions) {
+            None => Ok(()),
+            Some(versions) => versions.settle(),
+        }
     }
 
     /// What is kept for a spec.
@@ -72,11 +84,6 @@ impl Kept {
     pub(crate) fn all_hold(&self, letters: &[LetterMask]) -> bool
         ensures { IsTrue result ↔ Each (IsHeld letters.now) self.now }
     {
-        for version in self.versions.as_slice() {
-            if !version.holds(letters) {
-                return false;
-            }
-        }
-        true
+        self.versions.all_hold(letters)
     }
 }

@@ -97,13 +97,13 @@ only-child {list} {a} is h = record { is = is; some = (subst AreKids is h).0 }
 
 -- ---- an element of two lists
 
-pub slice_get-left : (xs ys : List Kid) (i : ℕ) → i < length xs
+pub slice_get-left : {X : Type 0} (xs ys : List X) (i : ℕ) → i < length xs
     → slice_get (xs ++ ys) i ≡ slice_get xs i
 slice_get-left [] ys i lt = absurd (omega arith)
 slice_get-left (x ∷ xs) ys zero lt = refl
 slice_get-left (x ∷ xs) ys (suc i) lt = slice_get-left xs ys i (omega arith)
 
-pub slice_get-right : (xs ys : List Kid) (i : ℕ) → length xs ≤ i
+pub slice_get-right : {X : Type 0} (xs ys : List X) (i : ℕ) → length xs ≤ i
     → slice_get (xs ++ ys) i ≡ slice_get ys (i - length xs)
 slice_get-right [] ys i le = let e : i ≡ i - 0 = omega arith in ap (slice_get ys) e
 slice_get-right (x ∷ xs) ys zero le = absurd (omega arith)

@@ -1,5 +1,5 @@
 -- What is known of children that are in two parts.
-use Rattle.std.proofs.Common.{◌≡◌, ℕ, ◌<◌, true, false, List, [], ◌∷◌, ◌++◌, length, sym, ap, ◌∙◌, subst}
+use Rattle.std.proofs.Common.{◌≡◌, ℕ, ◌+◌, ◌^◌, ◌<◌, true, false, List, [], ◌∷◌, ◌++◌, length, sym, ap, ◌∙◌, subst}
 use Rattle.std.specs.FinSet.{contains}
 use Rattle.hy_bits.specs.Letter.{Letter}
 use Rattle.hy_formula.specs.Quantifiers.{Each}
@@ -15,12 +15,33 @@ pub record AtFork (list : List Kid) (name : ℕ) (l r : List Kid) : Type 0 where
   pub below : name < 64
   pub lack : Each (λ (k : Kid). contains k.0 name ≡ false) l
   pub have : Each (λ (k : Kid). contains k.0 name ≡ true) r
+  pub first : 0 < length l
+  pub second : 0 < length r
+  pub kids : AreKids (l ++ r)
 
 pub at_fork : {tree : Branch} {list : List Kid} {name count : ℕ} {l r : _} → kids_of tree ≡ list → IsForest tree → tree ≡ Fork name count l r
     → AtFork list name l.value r.value
 at_fork {tree} {list} {name} {count} {l} {r} view_is h is =
     let s : IsForked (Fork name count l r) = subst IsForked is h.forked in
-    record { is = sym view_is ∙ ap kids_of is; below = s.0; lack = s.4; have = s.5 }
+    let P : Branch → Type 0 = λ (q : Branch). AreKids (kids_of q) in
+    record {
+      is = sym view_is ∙ ap kids_of is;
+      below = s.0;
+      lack = s.4;
+      have = s.5;
+      first = s.1;
+      second = s.2;
+      kids = subst P is h.kids;
+    }
+
+-- a fork of such parts
+pub fork_is : {tree : Branch} {name count : ℕ} {l r : _} → tree ≡ Fork name count l r → AtFork (l.value ++ r.value) name l.value r.value
+    → count ≡ length (l.value ++ r.value) → count + 1 < 2 ^ 64 → IsForest tree
+fork_is {tree} {name} {count} {l} {r} is at e lt =
+    subst IsForest (sym is) record {
+      forked = (at.below, at.first, at.second, e, at.lack, at.have, lt);
+      kids = at.kids;
+    }
 
 -- and of one child
 pub record AtChild (list : List Kid) (a : Letter) (held : List Numbered) : Type 0 where

@@ -6,7 +6,7 @@ use Rattle.hy_formula.specs.Quantifiers.{Each}
 use Rattle.trace_trie.specs.Numbered.{Numbered, same_letter}
 use Rattle.trace_trie.specs.Kids.{Kid, AreKids, IsSwapped, behind, kid_of}
 use Rattle.trace_trie.proofs.Each.{each-append, each-left, each-right, each-like}
-use Rattle.trace_trie.proofs.Lettering.{equal-letter, letter-itself, same-false, same-apart, apart-by}
+use Rattle.trace_trie.proofs.Lettering.{equal-letter, letter-itself, same-false, apart-by}
 
 -- ---- what is behind a letter
 
@@ -127,19 +127,6 @@ swapped-gone a b old same lt =
       apart_before = tt;
       apart_after = tt;
       old_is = ap (λ l. l ++ []) (sym (kid-of-some a old lt) ∙ ap (kid_of a) (sym (behind-one a old [])));
-      new_is = refl;
-    }
-
--- where the only child has another letter
-pub swapped-other : (a b : Letter) (old : List Numbered) → same_letter a b ≡ false → IsSwapped a [] ((b, old) ∷ []) ((b, old) ∷ [])
-swapped-other a b old apart =
-    let none = behind-none a ((b, old) ∷ []) (same-apart a b apart, tt) in
-    record {
-      before = (b, old) ∷ [];
-      after = [];
-      apart_before = (same-apart a b apart, tt);
-      apart_after = tt;
-      old_is = ap (λ l. (b, old) ∷ kid_of a l ++ []) (sym none);
       new_is = refl;
     }
 

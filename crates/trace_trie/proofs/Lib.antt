@@ -1,5 +1,6 @@
 pub mod Alone
 pub mod Ascending
+pub mod Beside
 pub mod Each
 pub mod Finding
 pub mod Following
@@ -10,5 +11,7 @@ pub mod Lettering
 pub mod Numbering
 pub mod Ordering
 pub mod Parts
+pub mod Planting
 pub mod Rests
+pub mod Waiting
 pub mod Walking

@@ -31,7 +31,7 @@ spread-three a held before after =
 
 -- ---- one more
 
-more-led : (a : Letter) (n : ℕ) (t : List Letter) (old new : List Numbered) → IsMore (n, t) old new → IsMore (n, a ∷ t) (led_by a old) (led_by a new)
+pub more-led : (a : Letter) (n : ℕ) (t : List Letter) (old new : List Numbered) → IsMore (n, t) old new → IsMore (n, a ∷ t) (led_by a old) (led_by a new)
 more-led a n t old new m = record {
   before = led_by a m.before;
   after = led_by a m.after;
@@ -39,7 +39,7 @@ more-led a n t old new m = record {
   new_is = ap (led_by a) m.new_is ∙ map-append (λ (p : Numbered). (p.0, a ∷ p.1)) m.before ((n, t) ∷ m.after);
 }
 
-more-within : (p : Numbered) (xs ys old new : List Numbered) → IsMore p old new → IsMore p (xs ++ old ++ ys) (xs ++ new ++ ys)
+pub more-within : (p : Numbered) (xs ys old new : List Numbered) → IsMore p old new → IsMore p (xs ++ old ++ ys) (xs ++ new ++ ys)
 more-within p xs ys old new m = record {
   before = xs ++ m.before;
   after = m.after ++ ys;
@@ -103,7 +103,7 @@ filter-led n a (p ∷ ps) = step (not (eqb p.0 n)) (filter-led n a ps)
     step false h = h
 
 -- all rests begin with the letter of a child
-spread-each : (P : Numbered → Type 0) → (Q : Letter → Type 0) → ((n : ℕ) (b : Letter) (t : List Letter) → Q b → P (n, b ∷ t)) → (kids : List Kid) → Each (λ (k : Kid). Q k.0) kids
+pub spread-each : (P : Numbered → Type 0) → (Q : Letter → Type 0) → ((n : ℕ) (b : Letter) (t : List Letter) → Q b → P (n, b ∷ t)) → (kids : List Kid) → Each (λ (k : Kid). Q k.0) kids
     → Each P (spread kids)
 spread-each P Q f [] h = tt
 spread-each P Q f (k ∷ ks) h =
@@ -172,7 +172,7 @@ without-spread n {a} t {held} {old} {new} ends s e h =
 
 -- ---- what is left behind a letter
 
-under-append : (a : Letter) (xs ys : List Numbered) → under a (xs ++ ys) ≡ under a xs ++ under a ys
+pub under-append : (a : Letter) (xs ys : List Numbered) → under a (xs ++ ys) ≡ under a xs ++ under a ys
 under-append a xs ys =
     ap (map (λ (p : Numbered). (p.0, tail p.1))) (filter-append (λ (p : Numbered). begins a p.1) xs ys)
     ∙ map-append (λ (p : Numbered). (p.0, tail p.1)) (filter (λ (p : Numbered). begins a p.1) xs) (filter (λ (p : Numbered). begins a p.1) ys)

@@ -1,5 +1,5 @@
 -- What the children of a node are seen as, and what a node is.
-use Rattle.std.specs.Prelude.{◌≡◌, ℕ, ◌<◌, ◌≤◌, true, false, List, [], ◌∷◌, ◌++◌, length, drop}
+use Rattle.std.specs.Prelude.{◌≡◌, ℕ, ◌+◌, ◌^◌, ◌<◌, ◌≤◌, true, false, List, [], ◌∷◌, ◌++◌, length, drop}
 use Rattle.std.specs.FinSet.{contains}
 use Rattle.hy_bits.specs.Letter.{Letter}
 use Rattle.hy_formula.specs.Quantifiers.{Each}
@@ -33,8 +33,8 @@ kids_of (Child a ends children) = (a, passing ends children.value) ∷ []
 kids_of (Tail n t at) = kids_alone n (drop at t.value)
 kids_of (Fork name count l r) = l.value ++ r.value
 
--- The letters of the first part of a fork lack a name, and those of the second have it. A tail is
--- not past its trace.
+-- The letters of the first part of a fork lack a name, and those of the second have it; the count
+-- leaves room for one child more. A tail is not past its trace.
 abbrev pub IsForked : Branch → Type 0
 IsForked Bare = Unit {0}
 IsForked (Child a ends children) = Unit {0}
@@ -44,6 +44,7 @@ IsForked (Fork name count l r) =
     × (count ≡ length (l.value ++ r.value))
     × Each (λ (k : Kid). contains k.0 name ≡ false) l.value
     × Each (λ (k : Kid). contains k.0 name ≡ true) r.value
+    × (count + 1 < 2 ^ 64)
 
 pub record IsForest (tree : Branch) : Type 0 where
   pub forked : IsForked tree

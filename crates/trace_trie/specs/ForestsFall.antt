@@ -9,20 +9,20 @@ use Rattle.trace_trie.specs.Numbered.{Numbered, letters_in, led_by, ended}
 use Rattle.trace_trie.specs.Kids.{Kid, spread, AreKids}
 use Rattle.trace_trie.specs.Forests.{passing, kids_of, IsForest}
 
-letters-append : (xs ys : List Numbered) → letters_in (xs ++ ys) ≡ letters_in xs + letters_in ys
+pub letters-append : (xs ys : List Numbered) → letters_in (xs ++ ys) ≡ letters_in xs + letters_in ys
 letters-append [] ys = omega arith
 letters-append (p ∷ ps) ys = omega (arith, letters-append ps ys)
 
-letters-led : (a : Letter) (ps : List Numbered)
+pub letters-led : (a : Letter) (ps : List Numbered)
     → letters_in (led_by a ps) ≡ length ps + letters_in ps
 letters-led a [] = omega arith
 letters-led a (p ∷ ps) = omega (arith, letters-led a ps)
 
-letters-ended : (ps : List Numbered) → letters_in (ended ps) ≡ 0
+pub letters-ended : (ps : List Numbered) → letters_in (ended ps) ≡ 0
 letters-ended [] = omega arith
 letters-ended (p ∷ ps) = omega (arith, letters-ended ps)
 
-letters-spread : (xs ys : List Kid)
+pub letters-spread : (xs ys : List Kid)
     → letters_in (spread (xs ++ ys)) ≡ letters_in (spread xs) + letters_in (spread ys)
 letters-spread [] ys = omega arith
 letters-spread (k ∷ ks) ys =
@@ -33,12 +33,12 @@ letters-spread (k ∷ ks) ys =
       letters-append (led_by k.0 k.1) (spread ks),
     )
 
-some-left : (xs ys : List Kid) → AreKids (xs ++ ys) → 0 < length xs → 0 < letters_in (spread xs)
+pub some-left : (xs ys : List Kid) → AreKids (xs ++ ys) → 0 < length xs → 0 < letters_in (spread xs)
 some-left [] ys h lt = absurd (omega arith)
 some-left (k ∷ ks) ys h lt =
     omega (arith, h.0, letters-append (led_by k.0 k.1) (spread ks), letters-led k.0 k.1)
 
-some-right : (xs ys : List Kid) → AreKids (xs ++ ys) → 0 < length ys → 0 < letters_in (spread ys)
+pub some-right : (xs ys : List Kid) → AreKids (xs ++ ys) → 0 < length ys → 0 < letters_in (spread ys)
 some-right [] ys h lt = some-all ys h lt
   where
     some-all : (ys : List Kid) → AreKids ys → 0 < length ys → 0 < letters_in (spread ys)

@@ -3,7 +3,9 @@ pub mod Forests
 pub mod ForestsFall
 pub mod Grown
 pub mod Kids
+pub mod Newests
 pub mod Numbered
 pub mod NumberTrees
 pub mod NumberTreesFall
+pub mod Points
 pub mod Versions

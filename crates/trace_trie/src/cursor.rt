@@ -1,18 +1,18 @@
 //! Points of a version, one after another down a trace.
 
-ghost use Rattle.std.specs.Prelude.{◌≡◌, ℕ, ◌<◌, List, [], ◌∷◌, length, slice_get, Option, Some, None, IfSome, IfNone, is_some, true};
+ghost use Rattle.std.specs.Prelude.{◌≡◌, ℕ, ◌<◌, ◌≤◌, List, [], ◌∷◌, ◌++◌, length, slice_get, Option, Some, None, IfSome, IfNone, is_some, true};
 ghost use Rattle.std.specs.List.{Contains};
 ghost use Rattle.hy_bits.specs.Letter.{Letter};
 ghost use Rattle.hy_formula.specs.Quantifiers.{Each};
 ghost use Rattle.trace_trie.specs.Numbered.{Numbered, under, in_order};
 ghost use Rattle.trace_trie.specs.Forests.{passing};
-ghost use Rattle.trace_trie.specs.Grown.{left_in};
-ghost use Rattle.trace_trie.specs.Cursors.{letters_of, rests_at, is_alone, AreLetters};
+ghost use Rattle.trace_trie.specs.Points.{rests_of};
+ghost use Rattle.trace_trie.specs.Cursors.{letters_of, rests_at, is_alone, left_waiting, new_letter, AreLetters};
 
 use crate::forest::Forest;
-use crate::grown::{Grown, left};
 use crate::letters::same;
 use crate::numbers::Numbers;
+use crate::point::Point;
 use hy_bits::LetterMask;
 
 /// Where a walk down a version stands. Contracts see the list of what is left of the traces that
@@ -20,39 +20,29 @@ use hy_bits::LetterMask;
 #[derive(Clone, Copy)]
 pub struct Cursor<'a> {
     point: Point<'a>,
-}
-
-/// A point of a trie.
-#[derive(Clone, Copy)]
-enum Point<'a> {
-    /// A node: the numbers of the traces that end there, and its children.
-    Node(&'a Numbers, &'a Forest),
-    /// What is left of the trace with this number, which passes alone.
-    Alone(u32, &'a [LetterMask]),
+    /// The newest trace's number and what is left of it, where it waits and passes here beside
+    /// others.
+    newest: Option<(u32, &'a [LetterMask])>,
 }
 
 impl<'a> Cursor<'a> {
-    /// The node of these.
-    pub(crate) fn of(ends: &'a Numbers, children: &'a Forest) -> Cursor<'a>
-        ensures { rests_at result ≡ in_order (passing ends.now children.now) }
+    /// The node of these, and beside it the newest trace, where it waits.
+    pub(crate) fn of(
+        ends: &'a Numbers,
+        children: &'a Forest,
+        newest: Option<(u32, &'a [LetterMask])>,
+    ) -> Cursor<'a>
+        ensures { rests_at result ≡ in_order (passing ends.now children.now)
+            ++ left_waiting newest.entry }
     {
-        match Forest::alone(ends, children) {
-            Some((number, trace, at)) => Cursor::of_one(number, left(trace, at)),
-            None => Cursor {
-                point: Point::Node(ends, children),
+        match newest {
+            Some((number, rest)) if ends.is_empty() && children.len() == 0 => {
+                Cursor::of_one(number, rest)
+            }
+            _ => Cursor {
+                point: Point::of(ends, children),
+                newest,
             },
-        }
-    }
-
-    /// What stands behind a letter.
-    fn behind(grown: Grown<'a>) -> Cursor<'a>
-        ensures { rests_at result ≡ in_order (left_in grown.entry) }
-    {
-        match grown {
-            Grown::Node(ends, children) => Cursor {
-                point: Point::Node(ends, children),
-            },
-            Grown::Tail(number, trace, at) => Cursor::of_one(number, left(trace, at)),
         }
     }
 
@@ -63,7 +53,8 @@ impl<'a> Cursor<'a> {
         ensures alone { is_alone result ≡ true }
     {
         Cursor {
-            point: Point::Alone(number, rest),
+            point: Point::of_one(number, rest),
+            newest: None,
         }
     }
 
@@ -74,9 +65,9 @@ impl<'a> Cursor<'a> {
         ensures only { IfSome result (λ p. rests_at self.now ≡ (p.0, p.1.now) ∷ []) }
         ensures kept { is_some result ≡ is_alone self.now }
     {
-        match &self.point {
-            Point::Node(_, _) => None,
-            Point::Alone(number, rest) => Some((*number, *rest)),
+        match &self.newest {
+            None => self.point.alone(),
+            Some(_) => None,
         }
     }
 
@@ -84,9 +75,12 @@ impl<'a> Cursor<'a> {
     pub fn len(&self) -> usize
         ensures { result ≡ length (letters_of self.now) }
     {
-        match &self.point {
-            Point::Node(_, children) => children.len(),
-            Point::Alone(_, rest) => { if rest.is_empty() { 0 } else { 1 } }
+        match &self.newest {
+            None => self.point.len(),
+            Some((_, rest)) => {
+                self.point.len_fits();
+                self.point.len() + more(&self.point, rest)
+            }
         }
     }
 
@@ -94,10 +88,7 @@ impl<'a> Cursor<'a> {
     pub fn letters_differ(&self)
         ensures { AreLetters (letters_of self.now) (rests_at self.now) }
     {
-        match &self.point {
-            Point::Node(_, children) => children.kids_differ(),
-            Point::Alone(_, _) => {}
-        }
+        self.point.letters_differ();
     }
 
     /// The letter of child `i`, counted from 0. Takes no memory, and at most 64 steps.
@@ -105,9 +96,9 @@ impl<'a> Cursor<'a> {
         requires { i < length (letters_of self.now) }
         ensures { slice_get (letters_of self.now) i ≡ Some result }
     {
-        match &self.point {
-            Point::Node(_, children) => children.at(i).0,
-            Point::Alone(_, rest) => rest[0],
+        match &self.newest {
+            Some((_, rest)) if i >= self.point.len() => rest[0],
+            _ => self.point.letter(i),
         }
     }
 
@@ -118,12 +109,21 @@ impl<'a> Cursor<'a> {
         ensures { (a : Letter) → slice_get (letters_of self.now) i ≡ Some a
             → rests_at result ≡ under a (rests_at self.now) }
     {
-        match &self.point {
-            Point::Node(_, children) => {
-                children.kids_differ();
-                Cursor::behind(children.at(i).1)
+        match &self.newest {
+            None => Cursor {
+                point: self.point.child(i),
+                newest: None,
+            },
+            Some((number, rest)) => {
+                if i < self.point.len() {
+                    Cursor {
+                        point: self.point.child(i),
+                        newest: behind(self.point.letter(i), *number, rest),
+                    }
+                } else {
+                    Cursor::of_one(*number, &rest[1..])
+                }
             }
-            Point::Alone(number, rest) => Cursor::of_one(*number, &rest[1..]),
         }
     }
 
@@ -134,19 +134,19 @@ impl<'a> Cursor<'a> {
             rests_at child ≡ under letter (rests_at self.now)) }
         ensures none { IfNone result (under letter (rests_at self.now) ≡ []) }
     {
-        match &self.point {
-            Point::Node(_, children) => {
-                children.kids_differ();
-                match children.get(letter) {
-                    Some(grown) => Some(Cursor::behind(grown)),
-                    None => None,
-                }
-            }
-            Point::Alone(number, rest) => {
-                if !rest.is_empty() && same(letter, rest[0]) {
-                    Some(Cursor::of_one(*number, &rest[1..]))
-                } else {
-                    None
+        match &self.newest {
+            None => match self.point.child_of(letter) {
+                Some(point) => Some(Cursor {
+                    point,
+                    newest: None,
+                }),
+                None => None,
+            },
+            Some((number, rest)) => {
+                match (self.point.child_of(letter), behind(letter, *number, rest)) {
+                    (Some(point), newest) => Some(Cursor { point, newest }),
+                    (None, Some((number, rest))) => Some(Cursor::of_one(number, rest)),
+                    (None, None) => None,
                 }
             }
         }
@@ -157,9 +157,12 @@ impl<'a> Cursor<'a> {
         ensures some { IfSome result (λ n. Contains (rests_at self.now) (n, [])) }
         ensures none { IfNone result (Each (λ (p : Numbered). 0 < length p.1) (rests_at self.now)) }
     {
-        match &self.point {
-            Point::Node(ends, _) => ends.first(),
-            Point::Alone(number, rest) => { if rest.is_empty() { Some(*number) } else { None } }
+        match self.point.first() {
+            Some(number) => Some(number),
+            None => match &self.newest {
+                Some((number, rest)) if rest.is_empty() => Some(*number),
+                _ => None,
+            },
         }
     }
 
@@ -170,12 +173,42 @@ impl<'a> Cursor<'a> {
             × Contains (rests_at self.now) (n, t)) }
         ensures none { IfNone result (rests_at self.now ≡ []) }
     {
-        match &self.point {
-            Point::Node(ends, children) => match ends.first() {
-                Some(number) => Some(number),
-                None => children.any(),
+        match self.point.below() {
+            Some(number) => Some(number),
+            None => match &self.newest {
+                Some((number, _)) => Some(*number),
+                None => None,
             },
-            Point::Alone(number, _) => Some(*number),
         }
+    }
+}
+
+/// What is left of a trace behind a letter, where it goes on by it.
+fn behind<'a>(
+    letter: LetterMask,
+    number: u32,
+    rest: &'a [LetterMask],
+) -> Option<(u32, &'a [LetterMask])>
+    ensures { left_waiting result ≡ under letter ((number, rest.now) ∷ []) }
+{
+    if !rest.is_empty() && same(letter, rest[0]) {
+        Some((number, &rest[1..]))
+    } else {
+        None
+    }
+}
+
+/// How many children there are more for a trace with this rest: one where it goes on by a letter by
+/// which none of the others goes on, else none.
+fn more(point: &Point<'_>, rest: &[LetterMask]) -> usize
+    ensures more { result ≡ length (new_letter (rests_of point.now) rest.now) }
+    ensures one { result ≤ 1 }
+{
+    if rest.is_empty() {
+        return 0;
+    }
+    match point.child_of(rest[0]) {
+        Some(_) => 0,
+        None => 1,
     }
 }

@@ -1,6 +1,6 @@
 //! The children of a node of a trie by their letters, in versions that share their nodes.
 
-ghost use Rattle.std.specs.Prelude.{◌≡◌, ℕ, ◌<◌, List, [], length, slice_get, IfOk, IfSome, IfNone, Some, None};
+ghost use Rattle.std.specs.Prelude.{◌≡◌, ℕ, ◌+◌, ◌^◌, ◌<◌, List, [], length, slice_get, IfOk, IfSome, IfNone, Some, None};
 ghost use Rattle.trace_trie.specs.Numbered.{without_number};
 ghost use Rattle.std.specs.List.{Contains};
 ghost use Rattle.hy_bits.specs.Letter.{Letter};
@@ -107,6 +107,13 @@ impl Forest {
         let _tree = &self.tree;
     }
 
+    /// The number of children leaves room for one more.
+    pub(crate) fn len_fits(&self)
+        ensures { length self.now + 1 < 2 ^ 64 }
+    {
+        let _tree = &self.tree;
+    }
+
     /// Child `i`, counted from 0: its letter, and what stands behind it. Takes no memory, and time
     /// logarithmic in the number of children mostly, at most 64 steps.
     pub(crate) fn at(&self, i: usize) -> (LetterMask, Grown<'_>)
@@ -151,6 +158,7 @@ impl Forest {
     /// The child of a letter, where there is one. Takes no memory, and at most 64 steps.
     pub(crate) fn get(&self, letter: LetterMask) -> Option<Grown<'_>>
         ensures some { IfSome result (λ grown. behind letter self.now ≡ left_in grown) }
+        ensures passed { IfSome result (λ grown. 0 < length (left_in grown)) }
         ensures none { IfNone result (behind letter self.now ≡ []) }
     {
         match &self.tree {

@@ -67,7 +67,7 @@ impl Forest {
     }
 
     /// The children of two lists, where no letter of the first has the name, and all letters of the
-    /// second do. Refused also where there are 2^64 children or more.
+    /// second do. Refused also where there are 2^64 - 1 children or more.
     fn joined(name: usize, first: Rc<Forest>, second: Rc<Forest>) -> M<Forest>
         requires name { name < 64 }
         requires lack { Each (λ (k : Kid). contains k.0 name ≡ false) first.value }
@@ -85,10 +85,10 @@ impl Forest {
         first.kids_differ();
         second.kids_differ();
         match before.checked_add(after) {
-            None => Err(Memory),
-            Some(count) => Ok(Forest {
+            Some(count) if count < usize::MAX => Ok(Forest {
                 tree: Branch::Fork(name, count, first, second),
             }),
+            _ => Err(Memory),
         }
     }
 

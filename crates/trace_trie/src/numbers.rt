@@ -1,12 +1,12 @@
 //! Traces by number, in versions that share their nodes.
 
-ghost use Rattle.std.specs.Prelude.{◌≡◌, ◌≢◌, ℕ, ◌<◌, ◌≤◌, List, [], ◌∷◌, ◌++◌, length, IfOk, IfSome, IfNone, Some, None, nat_eq};
+ghost use Rattle.std.specs.Prelude.{◌≡◌, ◌≢◌, ℕ, ◌<◌, ◌≤◌, List, [], ◌∷◌, ◌++◌, length, IfOk, IfSome, IfNone, OnOk, OnErr, Some, None, nat_eq};
 ghost use Rattle.hy_formula.specs.Quantifiers.{Each};
 ghost use Rattle.trace_trie.specs.Numbered.{Numbered, first_number, rest_from, with_number, without_number};
 
 use hy_base::M;
 use hy_finite::Trace;
-use std::alloc::Global;
+use std::alloc::{AllocError, Global};
 use std::marker::Model;
 use std::rc::Rc;
 
@@ -204,23 +204,37 @@ impl Numbers {
     }
 
     /// One trace more, whose number is above all. In time and memory logarithmic in their number
-    /// where none is taken away.
-    pub(crate) fn push(&self, alloc: Global, number: u32, trace: Rc<Trace>) -> M<Numbers>
-        requires { Each (λ (p : Numbered). p.0 < number) self.now }
-        ensures { IfOk result (λ made. made ≡ self.now ++ (number, trace.value) ∷ []) }
+    /// where none is taken away; what another version shares is copied first. Refused it changes
+    /// nothing.
+    pub(crate) fn add(&mut self, alloc: Global, number: u32, trace: &Rc<Trace>) -> M<()>
+        requires { Each (λ (p : Numbered). p.0 < number) self.old }
+        ensures added { OnOk result (self.new ≡ self.old ++ (number, trace.now.value) ∷ []) }
+        ensures unchanged { OnErr result (self.new ≡ self.old) }
     {
-        match &self.tree {
-            NumberTree::Nothing => Ok(Numbers::one(number, trace)),
-            NumberTree::Two(split, _, first, second) if second.count() < first.count() => {
-                let more = second.push(alloc, number, trace)?;
-                Numbers::with_second(alloc, *split, first, more)
+        match &mut self.tree {
+            NumberTree::Two(_, count, first, second) if second.count() < first.count() => {
+                Rc::make_mut(second)?.add(alloc, number, trace)?;
+                *count = count.saturating_add(1);
+                Ok(())
             }
             _ => {
-                let all = Rc::new(alloc, self.share()?)?;
-                let last = Numbers::one(number, trace);
-                Numbers::with_second(alloc, number, &all, last)
+                *self = self.beside(alloc, number, trace)?;
+                Ok(())
             }
         }
+    }
+
+    /// The list as first part, beside one trace more, whose number is above all.
+    fn beside(&self, alloc: Global, number: u32, trace: &Rc<Trace>) -> M<Numbers>
+        requires { Each (λ (p : Numbered). p.0 < number) self.now }
+        ensures { IfOk result (λ made. made ≡ self.now ++ (number, trace.now.value) ∷ []) }
+    {
+        let last = Numbers::one(number, trace.clone()?);
+        if self.is_empty() {
+            return Ok(last);
+        }
+        let all = Rc::new(alloc, self.share()?)?;
+        Numbers::with_second(alloc, number, &all, last)
     }
 
     /// Whether there is no trace.
@@ -234,7 +248,7 @@ impl Numbers {
         }
     }
 
-    /// The list without a number. In time and memory as `push`.
+    /// The list without a number. In time and memory as `add`.
     pub(crate) fn without(&self, alloc: Global, number: u32) -> M<Numbers>
         ensures { IfOk result (λ made. made ≡ without_number number self.now) }
     {
@@ -256,6 +270,18 @@ impl Numbers {
                     Numbers::with_second(alloc, *split, first, rest)
                 }
             }
+        }
+    }
+}
+
+impl Clone for Numbers {
+    ghost is_clone = { λ n copy. copy ≡ n };
+
+    /// As `share`.
+    fn clone(&self) -> Result<Numbers, AllocError> {
+        match self.share() {
+            Ok(made) => Ok(made),
+            Err(_) => Err(AllocError),
         }
     }
 }

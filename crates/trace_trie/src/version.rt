@@ -2,14 +2,12 @@
 
 ghost use Rattle.std.specs.Prelude.{◌≡◌, ◌↔◌, ℕ, ◌<◌, List, [], ◌∷◌, ◌++◌, Some, None, IfOk, IfSome, IfNone, IsSome, IsTrue, is_some, option_map};
 ghost use Rattle.hy_formula.specs.Quantifiers.{Each};
-ghost use Rattle.trace_trie.specs.Numbered.{Numbered, IsAscending, AreTraces, IsHeld, in_order, rest_from, with_number, without_number};
-ghost use Rattle.trace_trie.specs.Forests.{passing};
+ghost use Rattle.trace_trie.specs.Numbered.{Numbered, IsAscending, AreTraces, IsHeld, rest_from, with_number, without_number};
 ghost use Rattle.trace_trie.specs.Cursors.{rests_at};
 
 use crate::cursor::Cursor;
-use crate::forest::Forest;
-use crate::node::{Node, planted, uprooted};
-use crate::numbers::Numbers;
+use crate::roll::Roll;
+use crate::trie::Trie;
 use hy_base::{M, Remake};
 use hy_bits::LetterMask;
 use hy_finite::Trace;
@@ -18,12 +16,12 @@ use std::marker::Model;
 use std::rc::Rc;
 
 /// Traces with their numbers, which ascend; contracts see the list of these pairs. Versions share
-/// their nodes, and no call on one changes another.
+/// their nodes, and no call on one changes another. The newest trace waits to be put with the
+/// others, until the next comes.
 pub struct Version {
     alloc: Global,
-    all: Numbers,
-    ends: Numbers,
-    children: Forest,
+    all: Roll,
+    trie: Trie,
 }
 
 impl Model for Version {
@@ -40,7 +38,7 @@ impl Model for Version {
 
     ghost view = { λ v. v.all };
 
-    ghost invariant = { λ v. IsVersion v.all v.ends v.children };
+    ghost invariant = { λ v. IsVersion v.all v.trie };
 }
 
 impl Drop for Version {
@@ -49,8 +47,7 @@ impl Drop for Version {
         let Version {
             alloc: _,
             all: _,
-            ends: _,
-            children: _,
+            trie: _,
         } = self;
     }
 }
@@ -62,9 +59,8 @@ impl Version {
     {
         Version {
             alloc,
-            all: Numbers::new(),
-            ends: Numbers::new(),
-            children: Forest::new(),
+            all: Roll::new(),
+            trie: Trie::new(),
         }
     }
 
@@ -73,12 +69,11 @@ impl Version {
         ensures { IfOk result (λ made. made ≡ self.now) }
     {
         let all = self.all.share()?;
-        let node = self.top()?;
+        let trie = self.trie.share()?;
         Ok(Version {
             alloc: self.alloc,
             all,
-            ends: node.ends,
-            children: node.children,
+            trie,
         })
     }
 
@@ -90,41 +85,52 @@ impl Version {
         let _all = &self.all;
     }
 
-    /// This version with one trace more, whose number is above all. Its letters are copied once.
-    /// Nodes are built only for the front that it has in common with another trace, in time and
-    /// memory at most 64 times as much, and logarithmic in the number of traces; the others are
-    /// shared.
+    /// The same traces, of which none waits any more to be put with the others. So a version that
+    /// has been settled is shared, and one trace more put beside it, in constant time. Nodes that
+    /// no other version has are changed in place, the others copied: those of the front that the
+    /// newest trace has in common with another, in time and memory at most 64 times as much, and
+    /// logarithmic in the number of traces. Refused all is as before.
+    pub fn settle(&mut self) -> M<()>
+        ensures { self.new ≡ self.old }
+    {
+        self.all.settle(self.alloc)?;
+        self.trie.settle(self.alloc)
+    }
+
+    /// This version with one trace more, whose number is above all. Its letters are copied once. It
+    /// waits to be put with the others; where one waited before, that is put with them in the new
+    /// version, in time and memory as `settle`.
     pub fn insert(&self, number: u32, trace: &Trace) -> M<Version>
         requires { Each (λ (p : Numbered). p.0 < number) self.now }
         ensures { IfOk result (λ made. made ≡ self.now ++ (number, trace.now) ∷ []) }
     {
         trace.len();
         let trace = Rc::new(self.alloc, trace.remake(self.alloc)?)?;
-        let node = planted(self.alloc, self.top()?, number, &trace, 0)?;
-        let all = self.all.push(self.alloc, number, trace)?;
+        let mut all = self.all.share()?;
+        let mut trie = self.trie.share()?;
+        all.add(self.alloc, number, trace.clone()?)?;
+        trie.add(self.alloc, number, trace)?;
         Ok(Version {
             alloc: self.alloc,
             all,
-            ends: node.ends,
-            children: node.children,
+            trie,
         })
     }
 
-    /// This version without the trace of a number. In time and memory as `insert`, where nothing is
-    /// copied.
+    /// This version without the trace of a number. In time and memory linear in its letters, at most
+    /// 64 times as much, and logarithmic in the number of traces; nothing is copied.
     pub fn without(&self, number: u32) -> M<Version>
         ensures { IfOk result (λ made. made ≡ without_number number self.now) }
     {
         match self.all.get(number) {
             None => self.share(),
             Some(trace) => {
-                let node = uprooted(self.alloc, self.top()?, number, trace, 0)?;
+                let trie = self.trie.without(self.alloc, number, trace)?;
                 let all = self.all.without(self.alloc, number)?;
                 Ok(Version {
                     alloc: self.alloc,
                     all,
-                    ends: node.ends,
-                    children: node.children,
+                    trie,
                 })
             }
         }
@@ -173,19 +179,10 @@ impl Version {
         }
     }
 
-    /// The node that all traces pass, in constant time.
-    fn top(&self) -> M<Node>
-        ensures { IfOk result (λ node. in_order (passing node.ends node.children) ≡ self.now) }
-    {
-        let ends = self.ends.share()?;
-        let children = self.children.share()?;
-        Ok(Node { ends, children })
-    }
-
     /// The node that all traces pass. Takes no memory.
     pub fn root(&self) -> Cursor<'_>
         ensures { rests_at result ≡ self.now }
     {
-        Cursor::of(&self.ends, &self.children)
+        self.trie.root()
     }
 }

@@ -1,7 +1,8 @@
-use Rattle.std.proofs.Common.{◌≡◌, ◌≤◌, length, refl, Ok, Err, Some, sym, ap, ◌∙◌, subst, arith}
+use Rattle.std.proofs.Common.{◌≡◌, ◌≤◌, List, length, refl, Ok, Err, Some, sym, ap, ◌∙◌, subst, arith}
 use Rattle.std.proofs.lemmas.Option.{MatchOption-at_some}
 use Rattle.std.proofs.lemmas.Result.{err_from_is_err_and}
 use Rattle.hy_finite.specs.declared.event.Event.TheVariants as event
+use Rattle.trace_trie.specs.Numbered.{Numbered}
 use Rattle.rv_core.specs.Held.{Held}
 use Rattle.rv_core.specs.declared.rv_error.RvError.TheVariants as error
 use Rattle.rv_core.specs.Opened.{Open, letters_in}
@@ -19,21 +20,37 @@ returns-in_err-copy-clause-answers g c =
     let p = err_from_is_err_and c.from_residual.result c.from_residual.ensures.1 in
     rw (p.1, p.2) (memory-answer (held c.args.self.now) (event.End c.args.session) refl)
 
+pub returns-in_err-settle-clause-answers : goal.returns-in_err-settle-clause-answers
+returns-in_err-settle-clause-answers g c =
+    let m = held c.args.self.now in
+    let p = err_from_is_err_and c.from_residual-in_err-settle.result
+    c.from_residual-in_err-settle.ensures.1 in
+    let P : List (List Numbered) → Type 0 =
+    λ kept. Answers m (record m { kept = kept }) (event.End c.args.session) (Err error.Memory) in
+    rw (p.1, p.2) (subst P (sym c.settle.ensures) (memory-answer m (event.End c.args.session) refl))
+
 pub returns-in_err-arrival-clause-answers : goal.returns-in_err-arrival-clause-answers
 returns-in_err-arrival-clause-answers g c =
+    let m = held c.args.self.now in
     let p = err_from_is_err_and c.from_residual-in_err-arrival.result
     c.from_residual-in_err-arrival.ensures.1 in
-    rw (p.1, p.2) (memory-answer (held c.args.self.now) (event.End c.args.session) refl)
+    let P : List (List Numbered) → Type 0 =
+    λ kept. Answers m (record m { kept = kept }) (event.End c.args.session) (Err error.Memory) in
+    rw (p.1, p.2) (subst P (sym c.settle.ensures) (memory-answer m (event.End c.args.session) refl))
 
 pub returns-in_err-close-clause-answers : goal.returns-in_err-close-clause-answers
 returns-in_err-close-clause-answers g c =
     let m = held c.args.self.now in
     let p = err_from_is_err_and c.from_residual-in_err-close.result
     c.from_residual-in_err-close.ensures.1 in
-    let P : Open → Type 0 =
-    λ os. Answers m (record m { sessions = os }) (event.End c.args.session) (Err error.Memory) in
+    let P : List (List Numbered) → Type 0 =
+    λ kept. Answers m (record m { kept = kept }) (event.End c.args.session) (Err error.Memory) in
+    let Q : Open → Type 0 =
+    λ os. Answers m (record m { kept = c.settle.new.self; sessions = os })
+    (event.End c.args.session) (Err error.Memory) in
     rw (p.1, p.2)
-    (subst P (sym c.in_err-close.ensures.unchanged) (memory-answer m (event.End c.args.session) refl))
+    (subst Q (sym c.in_err-close.ensures.unchanged)
+    (subst P (sym c.settle.ensures) (memory-answer m (event.End c.args.session) refl)))
 
 pub returns-clause-answers : goal.returns-clause-answers
 returns-clause-answers g c =
@@ -46,10 +63,15 @@ returns-clause-answers g c =
     c.unwrap-trace.ensures c.new.ensures.short in
     let known : letters_in c.args.session m.sessions ≡ Some t =
     sym c.in-Some.ensures.letters ∙ ap Some (sym (same ∙ c.in_ok-copy.ensures)) in
+    let mid : Held = record m { kept = c.settle.new.self } in
     let P : Held → Type 0 =
-    λ new. Answers m new (event.End c.args.session) (Ok c.take_arrival.result) in
-    subst P (sym c.take_arrival.ensures.held)
-    (answered-arrival m (event.End c.args.session) t c.close.new.self
-    (end-brings m c.args.session t c.close.new.self known c.in_ok-close.ensures.closed) refl
+    λ new. Answers mid new (event.End c.args.session) (Ok c.take_arrival.result) in
+    let Q : List (List Numbered) → Type 0 =
+    λ kept. Answers (record m { kept = kept }) (held c.take_arrival.new.self)
+    (event.End c.args.session) (Ok c.take_arrival.result) in
+    subst Q c.settle.ensures
+    (subst P (sym c.take_arrival.ensures.held)
+    (answered-arrival mid (event.End c.args.session) t c.close.new.self
+    (end-brings mid c.args.session t c.close.new.self known c.in_ok-close.ensures.closed) refl
     (omega (arith, short.0, ap length same)) c.in_ok-arrival.arrival c.take_arrival.result
-    c.take_arrival.ensures.reply c.in_ok-arrival.ensures.arrival)
+    c.take_arrival.ensures.reply c.in_ok-arrival.ensures.arrival))

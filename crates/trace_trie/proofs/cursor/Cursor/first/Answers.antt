@@ -1,26 +1,17 @@
-use Rattle.std.proofs.Common.{◌<◌, [], length, sym, subst}
+use Rattle.std.proofs.Common.{◌≡◌, [], List, length, sym, ◌∙◌, subst}
+use Rattle.std.proofs.lemmas.Bool.{eqb-true}
+use Rattle.std.proofs.lemmas.List.{nil_from_length}
 use Rattle.std.specs.List.{Contains}
-use Rattle.std.specs.Option.{IfSome, IfNone}
-use Rattle.hy_formula.specs.Quantifiers.{Each}
-use Rattle.trace_trie.specs.Numbered.{Numbered, in_order}
-use Rattle.trace_trie.specs.Forests.{passing}
-use Rattle.trace_trie.specs.Cursors.{ends_at, kids_at}
-use Rattle.trace_trie.specs.declared.cursor.Point.{Point}
-use Rattle.trace_trie.proofs.Finding.{first-some, first-none}
+use Rattle.hy_bits.specs.Letter.{Letter}
+use Rattle.trace_trie.specs.Cursors.{rests_at}
+use Rattle.trace_trie.specs.Points.{rests_of}
+use Rattle.trace_trie.proofs.Beside.{newest-passes}
 use Rattle.trace_trie.proofs.cursor.Cursor.first.Goals as goal
 
-pub returns-in-Node-clause-some : goal.returns-in-Node-clause-some
-returns-in-Node-clause-some c =
-    let P : Point → Type 0 =
-    λ q. IfSome c.first.result
-    (λ n. Contains (in_order (passing (ends_at q) (kids_at q))) (n, [])) in
-    subst P (sym c.in-Node.is)
-    (rw c.first.ensures (first-some c.in-Node.ends.now c.in-Node.field-1.now))
-
-pub returns-in-Node-clause-none : goal.returns-in-Node-clause-none
-returns-in-Node-clause-none c =
-    let P : Point → Type 0 =
-    λ q. IfNone c.first.result
-    (Each (λ (p : Numbered). 0 < length p.1) (in_order (passing (ends_at q) (kids_at q)))) in
-    subst P (sym c.in-Node.is)
-    (rw c.first.ensures (first-none c.in-Node.ends.now c.in-Node.field-1.now))
+pub returns-in-Some-newest-clause-some : goal.returns-in-Some-newest-clause-some
+returns-in-Some-newest-clause-some c =
+    let rest : List Letter = c.in-Some-newest.rest.now in
+    let none : rest ≡ [] =
+    nil_from_length rest (eqb-true (length rest) 0 (sym c.is_empty.ensures ∙ c.if-is_empty.true)) in
+    let P : List Letter → Type 0 = λ q. Contains (rests_at c.args.self.now) (c.in-Some-newest.number, q) in
+    subst P none (newest-passes (rests_of c.args.self.now.point) c.in-Some-newest.is)

@@ -1,4 +1,4 @@
-use Rattle.std.proofs.Common.{◌≡◌, ◌<◌, ◌+◌, ◌++◌, length, length-append, ap, ◌∙◌, subst, arith}
+use Rattle.std.proofs.Common.{◌≡◌, ◌<◌, ◌+◌, ◌^◌, ◌++◌, length, length-append, ap, ◌∙◌, subst, arith}
 use Rattle.trace_trie.specs.Kids.{AreKids}
 use Rattle.trace_trie.proofs.Kids.{kids-append}
 use Rattle.trace_trie.proofs.forest.Forest.joined.Goals as goal
@@ -14,7 +14,8 @@ invariant_of-result c =
     let sum : c.in-Some.count ≡ c.len-before.result + c.len-after.result = c.in-Some.ensures.1 in
     let count : c.in-Some.count ≡ length (c.args.first.value ++ c.args.second.value) =
     omega (arith, length-append c.args.first.value c.args.second.value, before, after, sum) in
+    let few : c.in-Some.count + 1 < 2 ^ 64 = omega arith in
     record {
-      forked = (c.requires.name, some, more, count, c.requires.lack, c.requires.have);
+      forked = (c.requires.name, some, more, count, c.requires.lack, c.requires.have, few);
       kids = kids-append c.args.name c.args.first.value c.args.second.value kids others c.requires.lack c.requires.have;
     }

@@ -1,10 +1,8 @@
 use Rattle.std.proofs.Common.{◌≡◌, ◌≤◌, not, eqb, List, length, sym, ap, ◌∙◌, subst}
 use Rattle.hy_formula.specs.Quantifiers.{Each}
-use Rattle.trace_trie.specs.Numbered.{Numbered, IsAscending, AreTraces, in_order, without_number}
-use Rattle.trace_trie.specs.Forests.{passing}
+use Rattle.trace_trie.specs.Numbered.{Numbered, IsAscending, AreTraces, without_number}
 use Rattle.trace_trie.proofs.Each.{each-filter}
 use Rattle.trace_trie.proofs.Ascending.{ascending-filter, only-number, without-none}
-use Rattle.trace_trie.proofs.Ordering.{each-unorder, in-order-filter}
 use Rattle.trace_trie.proofs.version.Version.without.Goals as goal
 
 pub returns-in-None : goal.returns-in-None
@@ -14,14 +12,13 @@ returns-in-None c =
     ∙ without-none c.args.number c.self.inside.all c.in-None.ensures.none ∙ c.self.view_is in
     rw none c.share.ensures
 
-pub uprooted-requires-clause-only : goal.uprooted-requires-clause-only
-uprooted-requires-clause-only c =
+pub without-requires : goal.without-requires
+without-requires c =
     let P : List Numbered → Type 0 =
     Each (λ (p : Numbered). p.0 ≡ c.args.number → p.1 ≡ c.in-Some.trace.now) in
-    each-unorder (λ (p : Numbered). p.0 ≡ c.args.number → p.1 ≡ c.in-Some.trace.now) _
-    (subst P (sym (c.in_ok-top-in-Some.ensures ∙ sym c.self.view_is))
+    subst P (sym c.self.invariant.held_is)
     (only-number c.args.number c.in-Some.trace.now c.self.inside.all c.self.invariant.ascending
-    c.in-Some.ensures.some))
+    c.in-Some.ensures.some)
 
 pub invariant_of-result : goal.invariant_of-result
 invariant_of-result c =
@@ -37,10 +34,7 @@ invariant_of-result c =
           subst AreTraces (sym whole)
           (each-filter (λ (p : Numbered). (1 ≤ length p.1) × (length p.1 ≤ 1024))
           (λ (p : Numbered). not (eqb p.0 c.args.number)) all c.self.invariant.traces);
-      rests =
-          ap in_order c.in_ok-node-in-Some.ensures
-          ∙ in-order-filter (λ (p : Numbered). not (eqb p.0 c.args.number))
-          (passing c.in_ok-top-in-Some.field-0.ends c.in_ok-top-in-Some.field-0.children)
-          ∙ ap (without_number c.args.number) (c.in_ok-top-in-Some.ensures ∙ sym c.self.view_is)
+      held_is =
+          c.in_ok-trie-in-Some.ensures ∙ ap (without_number c.args.number) c.self.invariant.held_is
           ∙ sym whole;
     }
