@@ -47,7 +47,7 @@ impl Kept {
     {
         let mut versions = Versions::new(alloc);
         for _spec in 0..specs {
-            versions.push(Version::new(alloc))?;
+            versions.push(Version::new(alloc)?)?;
         }
         Kept::of(alloc, versions)
     }

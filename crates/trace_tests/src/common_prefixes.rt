@@ -71,7 +71,7 @@ fn tried<L: Ledger, R: AllocGlobal + Abort>(
     let alloc = rt.alloc();
     let [one, two, three] = traces;
     let three = trace_of(alloc, three)?;
-    let version = Version::new(alloc).insert(0, &trace_of(alloc, one)?)?;
+    let version = Version::new(alloc)?.insert(0, &trace_of(alloc, one)?)?;
     let version = version.insert(1, &trace_of(alloc, two)?)?;
     let version = version.insert(2, &three)?;
     match find(

@@ -30,7 +30,7 @@ fn trace_of(alloc: Global, letters: &[LetterMask]) -> Result<Trace, Fail> {
 fn of_two(alloc: Global, first: &[LetterMask], second: &[LetterMask]) -> Result<Version, Fail> {
     let first = trace_of(alloc, first)?;
     let second = trace_of(alloc, second)?;
-    let one = Version::new(alloc).insert(0, &first)?;
+    let one = Version::new(alloc)?.insert(0, &first)?;
     Ok(one.insert(1, &second)?)
 }
 

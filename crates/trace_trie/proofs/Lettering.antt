@@ -30,11 +30,6 @@ same-false a b apart = elim (cases_Bool (same_letter a b)) [
   | inr e ↦ e
 ]
 
-pub same-apart : (a b : Letter) → same_letter a b ≡ false → b ≡ a → ⊥
-same-apart a b e same =
-    let f : same_letter a b ≡ true = ap (same_letter a) same ∙ letter-itself a in
-    absurd (cc)
-
 -- letters of which one has a name that the other lacks
 pub apart-by : (a b : Letter) (name : ℕ) → contains a name ≡ false → contains b name ≡ true → b ≡ a → ⊥
 apart-by a b name lacks has same =

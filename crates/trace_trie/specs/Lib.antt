@@ -1,3 +1,4 @@
+pub mod Bases
 pub mod Cursors
 pub mod Forests
 pub mod ForestsFall

@@ -8,6 +8,7 @@
 //! place, and the others of its path copied.
 #![tactic(auto)]
 
+mod base;
 mod cursor;
 mod forest;
 mod forest_made;
@@ -19,8 +20,6 @@ mod newest;
 mod node;
 mod numbers;
 mod point;
-mod roll;
-mod trie;
 mod version;
 
 pub use cursor::Cursor;

@@ -5,9 +5,9 @@ ghost use Rattle.hy_formula.specs.Quantifiers.{Each};
 ghost use Rattle.trace_trie.specs.Numbered.{Numbered, IsAscending, AreTraces, IsHeld, rest_from, with_number, without_number};
 ghost use Rattle.trace_trie.specs.Cursors.{rests_at};
 
+use crate::base::Base;
 use crate::cursor::Cursor;
-use crate::roll::Roll;
-use crate::trie::Trie;
+use crate::newest::Newest;
 use hy_base::{M, Remake};
 use hy_bits::LetterMask;
 use hy_finite::Trace;
@@ -20,25 +20,25 @@ use std::rc::Rc;
 /// others, until the next comes.
 pub struct Version {
     alloc: Global,
-    all: Roll,
-    trie: Trie,
+    base: Rc<Base>,
+    newest: Option<Newest>,
 }
 
 impl Model for Version {
-    ghost use Rattle.std.specs.Prelude.{ℕ, List};
+    ghost use Rattle.std.specs.Prelude.{ℕ, List, ◌++◌};
     ghost use Rattle.std.specs.Coded.{coded_ℕ, coded_list, coded×};
     ghost use Rattle.std.specs.FinSet as set;
     ghost use Rattle.hy_bits.specs.Letter.{Letter};
+    ghost use Rattle.trace_trie.specs.Newests.{waiting};
+    ghost use Rattle.trace_trie.specs.Versions.{IsVersion};
 
     ghost Value = { List (ℕ × List Letter) };
 
     ghost coded = { coded_list (coded× coded_ℕ (coded_list (set.code coded_ℕ))) };
 
-    ghost use Rattle.trace_trie.specs.Versions.{IsVersion};
+    ghost view = { λ v. v.base.value ++ waiting v.newest };
 
-    ghost view = { λ v. v.all };
-
-    ghost invariant = { λ v. IsVersion v.all v.trie };
+    ghost invariant = { λ v. IsVersion (v.base.value ++ waiting v.newest) };
 }
 
 impl Drop for Version {
@@ -46,34 +46,35 @@ impl Drop for Version {
     fn drop(self) {
         let Version {
             alloc: _,
-            all: _,
-            trie: _,
+            base: _,
+            newest: _,
         } = self;
     }
 }
 
 impl Version {
-    /// No trace. Takes no memory.
-    pub fn new(alloc: Global) -> Version
-        ensures { result ≡ [] }
+    /// No trace.
+    pub fn new(alloc: Global) -> M<Version>
+        ensures { IfOk result (λ made. made ≡ []) }
     {
-        Version {
+        let base = Rc::new(alloc, Base::new())?;
+        Ok(Version {
             alloc,
-            all: Roll::new(),
-            trie: Trie::new(),
-        }
+            base,
+            newest: None,
+        })
     }
 
     /// An equal version that shares all nodes, in constant time.
     pub fn share(&self) -> M<Version>
         ensures { IfOk result (λ made. made ≡ self.now) }
     {
-        let all = self.all.share()?;
-        let trie = self.trie.share()?;
+        let base = self.base.clone()?;
+        let newest = Newest::share(&self.newest)?;
         Ok(Version {
             alloc: self.alloc,
-            all,
-            trie,
+            base,
+            newest,
         })
     }
 
@@ -82,7 +83,7 @@ impl Version {
         ensures ascending { IsAscending self.now }
         ensures traces { AreTraces self.now }
     {
-        let _all = &self.all;
+        let _base = &self.base;
     }
 
     /// The same traces, of which none waits any more to be put with the others. So a version that
@@ -93,8 +94,11 @@ impl Version {
     pub fn settle(&mut self) -> M<()>
         ensures { self.new ≡ self.old }
     {
-        self.all.settle(self.alloc)?;
-        self.trie.settle(self.alloc)
+        if self.newest.is_some() {
+            Rc::make_mut(&mut self.base)?.take_in(self.alloc, &self.newest)?;
+            self.newest = None;
+        }
+        Ok(())
     }
 
     /// This version with one trace more, whose number is above all. Its letters are copied once. It
@@ -106,15 +110,24 @@ impl Version {
     {
         trace.len();
         let trace = Rc::new(self.alloc, trace.remake(self.alloc)?)?;
-        let mut all = self.all.share()?;
-        let mut trie = self.trie.share()?;
-        all.add(self.alloc, number, trace.clone()?)?;
-        trie.add(self.alloc, number, trace)?;
+        let base = self.settled()?;
+        let newest = Some(Newest { number, trace });
         Ok(Version {
             alloc: self.alloc,
-            all,
-            trie,
+            base,
+            newest,
         })
+    }
+
+    /// All traces, of which none waits.
+    fn settled(&self) -> M<Rc<Base>>
+        ensures { IfOk result (λ made. made.value ≡ self.now) }
+    {
+        let mut base = self.base.clone()?;
+        if self.newest.is_some() {
+            Rc::make_mut(&mut base)?.take_in(self.alloc, &self.newest)?;
+        }
+        Ok(base)
     }
 
     /// This version without the trace of a number. In time and memory linear in its letters, at most
@@ -122,15 +135,15 @@ impl Version {
     pub fn without(&self, number: u32) -> M<Version>
         ensures { IfOk result (λ made. made ≡ without_number number self.now) }
     {
-        match self.all.get(number) {
+        match self.get(number) {
             None => self.share(),
             Some(trace) => {
-                let trie = self.trie.without(self.alloc, number, trace)?;
-                let all = self.all.without(self.alloc, number)?;
+                let base = Rc::new(self.alloc, self.base.without(self.alloc, number, trace)?)?;
+                let newest = Newest::without(&self.newest, number)?;
                 Ok(Version {
                     alloc: self.alloc,
-                    all,
-                    trie,
+                    base,
+                    newest,
                 })
             }
         }
@@ -156,7 +169,7 @@ impl Version {
     pub fn has(&self, number: u32) -> bool
         ensures { result ≡ is_some (with_number number self.now) }
     {
-        self.all.get(number).is_some()
+        self.get(number).is_some()
     }
 
     /// The trace with the least number from `from` on, with its number. Takes no memory, and time
@@ -166,14 +179,17 @@ impl Version {
             × (rest_from from self.now ≡ (p.0, p.1.now) ∷ more)) }
         ensures none { IfNone result (rest_from from self.now ≡ []) }
     {
-        self.all.next(from)
+        match self.base.next(from) {
+            Some(found) => Some(found),
+            None => Newest::next(&self.newest, from),
+        }
     }
 
     /// The trace with the number, where there is one, in time linear in its letters.
     pub fn trace(&self, number: u32) -> M<Option<Trace>>
         ensures { IfOk result (λ t. t ≡ with_number number self.now) }
     {
-        match self.all.get(number) {
+        match self.get(number) {
             None => Ok(None),
             Some(trace) => Ok(Some(trace.remake(self.alloc)?)),
         }
@@ -183,6 +199,17 @@ impl Version {
     pub fn root(&self) -> Cursor<'_>
         ensures { rests_at result ≡ self.now }
     {
-        self.trie.root()
+        self.base.root(Newest::letters(&self.newest))
+    }
+
+    /// The trace with the number, where there is one. Takes no memory.
+    fn get(&self, number: u32) -> Option<&Trace>
+        ensures some { IfSome result (λ t. with_number number self.now ≡ Some t.now) }
+        ensures none { IfNone result (with_number number self.now ≡ None) }
+    {
+        match self.base.get(number) {
+            Some(trace) => Some(trace),
+            None => Newest::get(&self.newest, number),
+        }
     }
 }
