@@ -1,6 +1,8 @@
 //! What comes of a trace that arrives.
 
 ghost use Rattle.std.specs.Prelude.{◌≡◌, ◌+◌, ◌<◌, ◌≤◌, ◌^◌, ℕ, List, length, sum, slice_get, Some, IfOk};
+ghost use Rattle.hy_formula.specs.Quantifiers.{Each};
+ghost use Rattle.trace_trie.specs.Numbered.{IsHeld};
 ghost use Rattle.fin_monitor.specs.Machines.{Machine};
 ghost use Rattle.tuple_walk.specs.Finds.{traces_of};
 ghost use Rattle.rv_core.specs.Arrivals.{IsOutcome, IsArrival, FitsIn, after_arrival};
@@ -75,7 +77,8 @@ impl Rv {
         Ok(Arrival::Clean(Kept::of(alloc, next)?))
     }
 
-    /// What would come of the trace for the spec with this number.
+    /// What would come of the trace for the spec with this number, where not each spec keeps an equal
+    /// one.
     ///
     /// Where an equal one is kept there are no new tuples, and none is walked. Else the trace is
     /// put with those that are kept and its tuples are walked; and where dominated ones are
@@ -89,6 +92,7 @@ impl Rv {
     ) -> M<Outcome>
         requires few { (held self.now).arrived < 2 ^ 31 }
         requires there { spec < length self.now.watches }
+        requires not_all { ¬ Each (IsHeld trace.now) self.now.kept }
         ensures outcome { (m : Machine) → slice_get (watched_by self.now.watches) spec ≡ Some m
             → IfOk result (IsOutcome self.now.rule self.now.drop_dominated m trace.now
             self.now.traces (kept_at self.now.kept spec)) }
@@ -102,7 +106,7 @@ impl Rv {
         let kept = self.kept.at(spec);
         let number = self.traces;
         let letters = trace.as_slice();
-        if kept.holds(letters) {
+        if self.kept.is_held(spec, letters) {
             return Ok(Outcome::Passes(kept.share()?));
         }
         let all = kept.insert(number, trace)?;

@@ -1,8 +1,8 @@
 //! What is kept of the traces that arrived, for each spec.
 
-ghost use Rattle.std.specs.Prelude.{◌≡◌, ◌↔◌, ◌<◌, [], length, replicate, slice_get, Some, IfOk, IsTrue};
+ghost use Rattle.std.specs.Prelude.{◌≡◌, ◌↔◌, ◌<◌, [], List, length, replicate, slice_get, Some, IfOk, IsTrue};
 ghost use Rattle.hy_formula.specs.Quantifiers.{Each};
-ghost use Rattle.trace_trie.specs.Numbered.{IsHeld};
+ghost use Rattle.trace_trie.specs.Numbered.{Numbered, IsHeld};
 
 use crate::versions::Versions;
 use hy_base::M;
@@ -85,5 +85,15 @@ impl Kept {
         ensures { IsTrue result ↔ Each (IsHeld letters.now) self.now }
     {
         self.versions.all_hold(letters)
+    }
+
+    /// As `Versions::is_held`.
+    pub(crate) fn is_held(&self, spec: usize, letters: &[LetterMask]) -> bool
+        requires there { spec < length self.now }
+        requires not_all { ¬ Each (IsHeld letters.now) self.now }
+        ensures { (version : List Numbered) → slice_get self.now spec ≡ Some version
+            → IsTrue result ↔ IsHeld letters.now version }
+    {
+        self.versions.is_held(spec, letters)
     }
 }

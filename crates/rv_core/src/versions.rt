@@ -1,8 +1,8 @@
 //! Versions of tries by spec.
 
-ghost use Rattle.std.specs.Prelude.{◌≡◌, ◌↔◌, ◌<◌, ◌++◌, ◌∷◌, [], length, slice_get, Some, OnOk, OnErr, IsTrue};
+ghost use Rattle.std.specs.Prelude.{◌≡◌, ◌↔◌, ◌<◌, ◌++◌, ◌∷◌, [], List, length, slice_get, Some, OnOk, OnErr, IsTrue};
 ghost use Rattle.hy_formula.specs.Quantifiers.{Each};
-ghost use Rattle.trace_trie.specs.Numbered.{IsHeld};
+ghost use Rattle.trace_trie.specs.Numbered.{Numbered, IsHeld};
 
 use hy_base::M;
 use hy_bits::LetterMask;
@@ -85,6 +85,21 @@ impl Versions {
             }
         }
         true
+    }
+
+    /// Whether these letters are those of some trace of the version of a spec. Not each version has
+    /// such a trace: so where there is one alone nothing is looked for. Takes no memory, and else
+    /// time as `Version::holds`.
+    pub(crate) fn is_held(&self, spec: usize, letters: &[LetterMask]) -> bool
+        requires there { spec < length self.now }
+        requires not_all { ¬ Each (IsHeld letters.now) self.now }
+        ensures { (version : List Numbered) → slice_get self.now spec ≡ Some version
+            → IsTrue result ↔ IsHeld letters.now version }
+    {
+        if self.others.as_slice().is_empty() {
+            return false;
+        }
+        self.at(spec).holds(letters)
     }
 
     /// Settles each version, up to the first that is refused.

@@ -7,7 +7,7 @@ use Rattle.hy_formula.specs.Quantifiers.{Each}
 use Rattle.trace_trie.specs.Numbered.{Numbered, begins, tail, under, put_in_order, in_order}
 use Rattle.trace_trie.specs.Kids.{IsMore}
 use Rattle.trace_trie.proofs.Each.{each-like, each-filter}
-use Rattle.trace_trie.proofs.Holding.{contains-here, contains-later, contains-cases, contains-none}
+use Rattle.trace_trie.proofs.Holding.{contains-here, contains-later, contains-cases, contains-none, each-at, each-from}
 
 -- ---- what holds of each pair
 
@@ -75,6 +75,12 @@ contains-in-order x (p ∷ ps) c = elim (contains-cases p x ps c) [
   | inl same ↦ let P : Numbered → Type 0 = Contains (put_in_order p (in_order ps)) in subst P same (contains-put p (in_order ps))
   | inr later ↦ contains-put-later p x (in_order ps) (contains-in-order x ps later)
 ]
+
+pub contains-unorder : (x : Numbered) (xs : List Numbered) → Contains (in_order xs) x
+    → Contains xs x
+contains-unorder x xs c =
+    let P : Numbered → Type 0 = Contains xs in
+    each-at P (in_order xs) x (each-in-order P xs (each-from P xs (λ y d. d))) c
 
 -- ---- a filter
 

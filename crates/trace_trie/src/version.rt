@@ -154,14 +154,7 @@ impl Version {
     pub fn holds(&self, letters: &[LetterMask]) -> bool
         ensures { IsTrue result ↔ IsHeld letters.now self.now }
     {
-        let mut node = self.root();
-        for letter in letters {
-            match node.child_of(*letter) {
-                Some(child) => node = child,
-                None => return false,
-            }
-        }
-        node.first().is_some()
+        self.base.holds(letters) || Newest::holds(&self.newest, letters)
     }
 
     /// Whether there is a trace with the number. Takes no memory, and time logarithmic in the

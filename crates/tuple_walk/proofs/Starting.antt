@@ -14,7 +14,7 @@ use Rattle.trace_trie.specs.Numbered.{Numbered, AreTraces, tail}
 use Rattle.tuple_walk.specs.declared.place.Place.{Place}
 use Rattle.tuple_walk.specs.Finds.{numbers_of, traces_of, AreViolating, IsFirst, AllMeet, FirstMeet}
 use Rattle.tuple_walk.specs.JointPrefixes.{Row, IsPrefixOf, IsJointPrefix, IsFirstPrefix}
-use Rattle.tuple_walk.specs.Places.{AreSome}
+use Rattle.tuple_walk.specs.Places.{AreSome, IsOpen}
 use Rattle.tuple_walk.specs.Searches.{state_over, AreFrom, IsTupleOf, AreRejected, AreAccepted, IsSearch, IsPrefixIn, AreSteps}
 use Rattle.tuple_walk.proofs.Lists.{map-take, map-set, map-of, map-from, each-at, apart-most}
 use Rattle.tuple_walk.proofs.Stepping.{left_at, all-judged, tuple-pairs}
@@ -141,6 +141,19 @@ pub start-rests : (n : ℕ) (ps all : List Place) (place : ℕ) (alone : Place)
     → map left_at all ≡ ls → left_at alone ≡ l → map left_at (take n ps) ≡ take n (set ls place l)
 start-rests n ps all place alone ls l e f g =
     map-take left_at n ps ∙ ap (take n) (start-lists ps all place alone ls l e f g)
+
+-- nothing is taken at any of these
+pub start-open : (other alone : Place) (place : ℕ) (ps : List Place)
+    → ps ≡ set (replicate 4 other) place alone → IsOpen other → IsOpen alone → Each IsOpen ps
+start-open other alone place ps e open_other open_alone =
+    let P : List Place → Type 0 = λ qs. Each IsOpen qs in
+    subst P (sym e) (with_one (replicate 4 other) place
+    (open_other, (open_other, (open_other, (open_other, tt)))))
+  where
+    with_one : (qs : List Place) (i : ℕ) → Each IsOpen qs → Each IsOpen (set qs i alone)
+    with_one [] i h = tt
+    with_one (q ∷ qs) zero h = (open_alone, h.1)
+    with_one (q ∷ qs) (suc i) h = (h.0, with_one qs i h.1)
 
 -- ---- states of whole tuples
 

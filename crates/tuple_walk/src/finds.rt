@@ -52,6 +52,10 @@ pub fn find<'a, L: Ledger>(
         → steps.new ≤ steps.old + (machine_of monitor.now).variables * length prefixes }
 {
     version.numbers_ascend();
+    // From a settled state on nothing is rejected, so no place need be made.
+    if monitor.is_settled(monitor.start()) {
+        return None;
+    }
     let walk = Walk {
         alloc,
         monitor,
@@ -91,6 +95,10 @@ pub fn find_first<'a, L: Ledger>(
         → steps.new ≤ steps.old + length prefixes }
 {
     version.numbers_ascend();
+    // From a settled state on nothing is rejected, so no place need be made.
+    if monitor.is_settled(monitor.start()) {
+        return None;
+    }
     let walk = Walk {
         alloc,
         monitor,
@@ -108,5 +116,6 @@ fn start<'a>(version: &'a Version, place: usize, number: u32, trace: &'a [Letter
     ensures open { Each IsOpen (four result) }
 {
     let alone = Place::at(&Spot::Alone(number, trace));
-    Places::all(&Spot::of(version.root())).with(place, &alone)
+    let other = Place::at(&Spot::of(version.root()));
+    Places::one_at(place, &alone, &other)
 }

@@ -3,10 +3,8 @@
 ghost use Rattle.std.specs.Prelude.{◌≡◌, ◌<◌, [], ◌∷◌, map, replicate, set, slice_get, Some};
 ghost use Rattle.tuple_walk.specs.Places.{open_at, letter_taken, has_taken};
 ghost use Rattle.tuple_walk.specs.Four.{four};
-ghost use Rattle.tuple_walk.specs.declared.place.Taken.TheVariants.{Nothing};
 
 use crate::place::Place;
-use crate::spot::Spot;
 use hy_bits::LetterMask;
 
 /// A place for each variable: of four, as many as there are variables.
@@ -36,15 +34,16 @@ impl<'a> Places<'a> {
         }
     }
 
-    /// The same spot at each.
-    pub(crate) fn all(spot: &Spot<'a>) -> Places<'a>
-        ensures { four result ≡ replicate 4 (record { taken = Nothing; spot = spot.now }) }
+    /// One at place `i`, counted from 0, and another at each other place.
+    pub(crate) fn one_at(i: usize, one: &Place<'a>, other: &Place<'a>) -> Places<'a>
+        requires { i < 4 }
+        ensures { four result ≡ set (replicate 4 other.now) i one.now }
     {
-        Places {
-            first: Place::at(spot),
-            second: Place::at(spot),
-            third: Place::at(spot),
-            fourth: Place::at(spot),
+        match i {
+            0 => Places::of(one, other, other, other),
+            1 => Places::of(other, one, other, other),
+            2 => Places::of(other, other, one, other),
+            _ => Places::of(other, other, other, one),
         }
     }
 

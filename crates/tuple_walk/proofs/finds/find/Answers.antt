@@ -1,13 +1,29 @@
-use Rattle.std.proofs.Common.{◌≡◌, ◌+◌, ◌-◌, ◌<◌, ◌≤◌, List, length, get_or, sym, ◌∙◌, subst, arith, below_more}
+use Rattle.std.proofs.Common.{◌≡◌, ◌+◌, ◌-◌, ◌<◌, ◌≤◌, List, length, get_or, refl, sym, ◌∙◌, subst, arith, below_more}
+use Rattle.std.proofs.lemmas.Bool.{eqb-true}
 use Rattle.std.specs.List.{Contains}
 use Rattle.hy_formula.specs.Quantifiers.{IsTuple}
 use Rattle.hy_finite.specs.Traces.{Trace, Meets}
+use Rattle.fin_monitor.specs.Machines.{settled_state}
 use Rattle.fin_monitor.specs.Seen.{machine_of}
 use Rattle.trace_trie.specs.Numbered.{Numbered}
 use Rattle.tuple_walk.specs.Finds.{traces_of}
 use Rattle.tuple_walk.specs.Places.{AreSome}
-use Rattle.tuple_walk.proofs.Starting.{starts-right, some-starts, from-some, from-no, steps-joint, meets-all, one-more, within-times}
+use Rattle.tuple_walk.proofs.Ending.{settled-accepted}
+use Rattle.tuple_walk.proofs.Starting.{starts, starts-right, some-starts, from-some, from-no, steps-joint, meets-all, one-more, within-times}
 use Rattle.tuple_walk.proofs.finds.find.Goals as goal
+
+pub returns-then-is_settled-clause-none : goal.returns-then-is_settled-clause-none
+returns-then-is_settled-clause-none g c =
+    let m = machine_of c.args.monitor.now in
+    let right = c.args.monitor.now.right in
+    let x : Numbered = (c.args.number, c.args.trace.now) in
+    let settled : c.start.result ≡ settled_state m =
+    eqb-true c.start.result (settled_state m) (sym c.is_settled.ensures ∙ c.if-is_settled.true) in
+    meets-all m c.args.lengths c.args.version.now c.args.trace.now (λ k lt.
+    let lists = starts c.args.version.now x m.variables k in
+    from-no m right c.args.lengths c.args.version.now c.numbers_ascend.ensures.traces x
+    c.requires.member k lt c.start.result lists c.start.ensures.start refl
+    (settled-accepted m right c.args.lengths c.start.result settled lists))
 
 pub loop-place-init : goal.loop-place-init
 loop-place-init g c = record {
@@ -44,8 +60,8 @@ returns-in-Some-clause-found g c =
       c.vars-place-end.ensures.few,
     ) in
     (from-some m c.args.monitor.now.right c.args.lengths c.args.version.now
-    c.numbers_ascend.ensures.traces x c.requires.member p lt c.start.result _
-    c.start.ensures.start
+    c.numbers_ascend.ensures.traces x c.requires.member p lt c.start-in-loop-place.result _
+    c.start-in-loop-place.ensures.start
     (c.start-places.ensures.rests m.variables
     ∙ starts-right c.args.version.now x m.variables 4 p few lt)
     c.in-Some.tuple c.in-Some.ensures.searched).0
@@ -62,8 +78,8 @@ returns-in-Some-clause-given g c =
       c.vars-place-end.ensures.few,
     ) in
     (from-some m c.args.monitor.now.right c.args.lengths c.args.version.now
-    c.numbers_ascend.ensures.traces x c.requires.member p lt c.start.result _
-    c.start.ensures.start
+    c.numbers_ascend.ensures.traces x c.requires.member p lt c.start-in-loop-place.result _
+    c.start-in-loop-place.ensures.start
     (c.start-places.ensures.rests m.variables
     ∙ starts-right c.args.version.now x m.variables 4 p few lt)
     c.in-Some.tuple c.in-Some.ensures.searched).1
@@ -84,8 +100,8 @@ returns-in-Some-clause-bounded g c = λ prefixes all.
       c.vars-place-end.ensures.few,
     ) in
     let most = steps-joint m c.args.monitor.now.right c.args.lengths c.args.version.now
-    c.numbers_ascend.ensures.traces x c.requires.member p lt c.start.result _
-    c.start.ensures.start
+    c.numbers_ascend.ensures.traces x c.requires.member p lt c.start-in-loop-place.result _
+    c.start-in-loop-place.ensures.start
     (c.start-places.ensures.rests m.variables
     ∙ starts-right c.args.version.now x m.variables 4 p few lt)
     (c.search.new.steps - c.loop-place.steps) c.search.ensures.counted prefixes all in
@@ -112,8 +128,8 @@ loop-place-preserved g c =
           → get_or ts k c.args.trace.now ≡ c.args.trace.now → Meets c.args.lengths m.body ts) _
           c.loop-place.invariant.meet
           (from-no m c.args.monitor.now.right c.args.lengths c.args.version.now
-          c.numbers_ascend.ensures.traces x c.requires.member p lt c.start.result _
-          c.start.ensures.start
+          c.numbers_ascend.ensures.traces x c.requires.member p lt c.start-in-loop-place.result _
+          c.start-in-loop-place.ensures.start
           (c.start-places.ensures.rests m.variables
           ∙ starts-right c.args.version.now x m.variables 4 p few lt)
           c.in-None.ensures.searched);
@@ -121,8 +137,8 @@ loop-place-preserved g c =
           one-more c.loop-place.steps c.args.steps.now c.search.new.steps p (length prefixes)
           (c.loop-place.invariant.bounded prefixes all) c.search.ensures.steps
           (steps-joint m c.args.monitor.now.right c.args.lengths c.args.version.now
-          c.numbers_ascend.ensures.traces x c.requires.member p lt c.start.result _
-          c.start.ensures.start
+          c.numbers_ascend.ensures.traces x c.requires.member p lt c.start-in-loop-place.result _
+          c.start-in-loop-place.ensures.start
           (c.start-places.ensures.rests m.variables
           ∙ starts-right c.args.version.now x m.variables 4 p few lt)
           (c.search.new.steps - c.loop-place.steps) c.search.ensures.counted prefixes all);

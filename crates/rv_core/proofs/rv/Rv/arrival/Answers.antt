@@ -1,7 +1,9 @@
 use Rattle.std.proofs.Common.{◌≡◌, ◌∙◌, ◌+◌, ◌<◌, ◌∷◌, [], ℕ, length, List, slice_get, Some, sym, subst, ap, arith, length-append}
 use Rattle.std.proofs.lemmas.List.{length-map}
 use Rattle.fin_monitor.specs.Machines.{Machine}
-use Rattle.trace_trie.specs.Numbered.{Numbered}
+use Rattle.hy_formula.specs.Quantifiers.{Each}
+use Rattle.hy_finite.specs.Traces.{Trace}
+use Rattle.trace_trie.specs.Numbered.{Numbered, IsHeld}
 use Rattle.rv_core.specs.declared.arrival.Outcome.{Outcome}
 use Rattle.rv_core.specs.Arrivals.{AreNext, IsPassed, IsNext, IsOutcome}
 use Rattle.rv_core.specs.Keeping.{AreBelow, kept_at}
@@ -143,3 +145,9 @@ pub returns-clause-bounded : goal.returns-clause-bounded
 returns-clause-bounded g c bounds are =
     bounds-all (held c.args.self.now) c.args.trace.now bounds are c.args.steps.now c.loop-i.i
     c.loop-i.steps (c.loop-i.invariant.bounded bounds are)
+
+pub outcome-requires-clause-not_all : goal.outcome-requires-clause-not_all
+outcome-requires-clause-not_all g c =
+    let P : Trace → Type 0 = λ t. ¬ Each (IsHeld t) c.args.self.now.kept in
+    subst P c.as_slice.ensures
+    (λ all. let yes = c.all_hold.ensures.1 all in let no = c.if-all_hold.false in absurd (cc (yes, no)))

@@ -1,4 +1,4 @@
-use Rattle.std.proofs.Common.{◌<◌, List, Bool, sym, subst}
+use Rattle.std.proofs.Common.{◌<◌, List, Bool, sym, subst, arith}
 use Rattle.std.specs.List.{Contains}
 use Rattle.std.proofs.lemmas.List.Elements.{Contains-push}
 use Rattle.hy_formula.specs.Quantifiers.{Each}
@@ -32,8 +32,8 @@ find-requires g c =
     subst P (sym c.as_slice-letters.ensures)
     (subst Q (sym c.in_ok-all.ensures) (Contains-push c.at-kept.result.now (n, c.args.trace.now)))
 
-pub returns-then-holds-clause-outcome : goal.returns-then-holds-clause-outcome
-returns-then-holds-clause-outcome g c m there =
+pub returns-then-is_held-clause-outcome : goal.returns-then-is_held-clause-outcome
+returns-then-is_held-clause-outcome g c m there =
     let rv = c.args.self.now in
     let t = c.args.trace.now in
     let w = c.at-watch.result.now in
@@ -42,7 +42,7 @@ returns-then-holds-clause-outcome g c m there =
     outcome-at rv.rule rv.watches rv.kept t c.args.spec w old c.at-watch.ensures c.at-kept.ensures
     m there rv.drop_dominated rv.traces (Passes c.in_ok-share.field-0)
     (held-passes rv.rule (watched w) rv.traces t old rv.drop_dominated c.in_ok-share.field-0
-    (subst P c.as_slice-letters.ensures (c.holds.ensures.0 c.if-holds.true))
+    (subst P c.as_slice-letters.ensures ((c.is_held.ensures old c.at-kept.ensures).0 c.if-is_held.true))
     c.in_ok-share.ensures)
 
 pub returns-in-Some-clause-outcome : goal.returns-in-Some-clause-outcome
@@ -81,8 +81,8 @@ returns-in-None-2-clause-outcome g c m there =
     let made = c.in_ok-all.all in
     let P : Trace → Type 0 = AllMeet (watched w) rv.rule (traces_of made) in
     let Q : Bool → Type 0 = λ b. IsOutcome rv.rule b (watched w) t rv.traces old (Passes made) in
-    let absent = not-held c.holds.result c.as_slice-letters.result.now t old c.holds.ensures
-    c.as_slice-letters.ensures c.if-holds.false in
+    let absent = not-held c.is_held.result c.as_slice-letters.result.now t old (c.is_held.ensures old c.at-kept.ensures)
+    c.as_slice-letters.ensures c.if-is_held.false in
     outcome-at rv.rule rv.watches rv.kept t c.args.spec w old c.at-watch.ensures c.at-kept.ensures
     m there rv.drop_dominated rv.traces (Passes made)
     (subst Q (sym c.if-self.false)
@@ -96,8 +96,8 @@ returns-in-Some-clause-bounded g c m bound there b =
     let u = c.as_slice-letters.result.now in
     let w = c.at-watch.result.now in
     let old = c.at-kept.result.now in
-    let absent = not-held c.holds.result u t old c.holds.ensures c.as_slice-letters.ensures
-    c.if-holds.false in
+    let absent = not-held c.is_held.result u t old (c.is_held.ensures old c.at-kept.ensures) c.as_slice-letters.ensures
+    c.if-is_held.false in
     walk-steps rv.rule (watched w) rv.traces t old absent c.in_ok-all.all u c.args.steps.now
     c.find.new.steps c.in_ok-all.ensures c.as_slice-letters.ensures c.find.ensures.bounded bound
     (bound-at rv.rule rv.watches rv.kept t c.args.spec w old c.at-watch.ensures
@@ -110,8 +110,8 @@ returns-in_err-left-in-None-clause-bounded g c m bound there b =
     let u = c.as_slice-letters.result.now in
     let w = c.at-watch.result.now in
     let old = c.at-kept.result.now in
-    let absent = not-held c.holds.result u t old c.holds.ensures c.as_slice-letters.ensures
-    c.if-holds.false in
+    let absent = not-held c.is_held.result u t old (c.is_held.ensures old c.at-kept.ensures) c.as_slice-letters.ensures
+    c.if-is_held.false in
     walk-steps rv.rule (watched w) rv.traces t old absent c.in_ok-all.all u c.args.steps.now
     c.find.new.steps c.in_ok-all.ensures c.as_slice-letters.ensures c.find.ensures.bounded bound
     (bound-at rv.rule rv.watches rv.kept t c.args.spec w old c.at-watch.ensures
@@ -124,8 +124,8 @@ returns-in_ok-left-in-None-clause-bounded g c m bound there b =
     let u = c.as_slice-letters.result.now in
     let w = c.at-watch.result.now in
     let old = c.at-kept.result.now in
-    let absent = not-held c.holds.result u t old c.holds.ensures c.as_slice-letters.ensures
-    c.if-holds.false in
+    let absent = not-held c.is_held.result u t old (c.is_held.ensures old c.at-kept.ensures) c.as_slice-letters.ensures
+    c.if-is_held.false in
     walk-steps rv.rule (watched w) rv.traces t old absent c.in_ok-all.all u c.args.steps.now
     c.find.new.steps c.in_ok-all.ensures c.as_slice-letters.ensures c.find.ensures.bounded bound
     (bound-at rv.rule rv.watches rv.kept t c.args.spec w old c.at-watch.ensures
@@ -138,9 +138,20 @@ returns-in-None-2-clause-bounded g c m bound there b =
     let u = c.as_slice-letters.result.now in
     let w = c.at-watch.result.now in
     let old = c.at-kept.result.now in
-    let absent = not-held c.holds.result u t old c.holds.ensures c.as_slice-letters.ensures
-    c.if-holds.false in
+    let absent = not-held c.is_held.result u t old (c.is_held.ensures old c.at-kept.ensures) c.as_slice-letters.ensures
+    c.if-is_held.false in
     walk-steps rv.rule (watched w) rv.traces t old absent c.in_ok-all.all u c.args.steps.now
     c.find.new.steps c.in_ok-all.ensures c.as_slice-letters.ensures c.find.ensures.bounded bound
     (bound-at rv.rule rv.watches rv.kept t c.args.spec w old c.at-watch.ensures
     c.at-kept.ensures m there bound b)
+
+pub is_held-requires-clause-there : goal.is_held-requires-clause-there
+is_held-requires-clause-there g c =
+    let long = c.args.self.now.below.0 in
+    let there = c.requires.there in
+    omega (arith, long, there)
+
+pub is_held-requires-clause-not_all : goal.is_held-requires-clause-not_all
+is_held-requires-clause-not_all g c =
+    let P : Trace → Type 0 = λ t. ¬ Each (IsHeld t) c.args.self.now.kept in
+    subst P (sym c.as_slice-letters.ensures) c.requires.not_all
