@@ -1,5 +1,5 @@
 -- Checking the lines of a file one after another, and collecting what they say.
-use Rattle.std.proofs.Common.{◌≡◌, ℕ, suc, ◌+◌, ◌<◌, Bool, true, false, List, [], ◌∷◌, ◌++◌, length, Some, Ok, Err, inl, inr, refl, sym, ap, subst, arith, append_assoc, append-nil}
+use Rattle.std.proofs.Common.{◌≡◌, ℕ, suc, ◌+◌, ◌<◌, Bool, true, false, List, [], ◌∷◌, ◌++◌, length, Option, Some, None, Result, Ok, Err, inl, inr, refl, sym, ap, subst, arith, append_assoc, append-nil}
 use Rattle.hy_formula.specs.Quantifiers.{Each}
 use Rattle.hy_finite.specs.declared.event.Placed.{Placed}
 use Rattle.hy_text.specs.declared.line_error.LineError.{LineError}
@@ -7,7 +7,7 @@ use Rattle.hy_text.specs.declared.line_error.LineError.TheVariants.{Syntax, Limi
 use Rattle.hy_finite.specs.Traces.{most_letters}
 use Rattle.hy_finite.specs.EventLines.{Said, word, SaysNothing, Says, IsShort, IsFaulty, IsTooLong, IsText, IsGood}
 use Rattle.hy_finite.specs.EventFiles.{event_of, lines_of, SayEvents, FirstFault, SomeTooLong}
-use Rattle.hy_finite.specs.EventAnswers.{IsFileAnswer}
+use Rattle.hy_finite.specs.EventAnswers.{IsFileAnswer, AreChecked}
 use Rattle.hy_finite.specs.LinesLeft.{LinesLeft}
 use Rattle.hy_finite.specs.NextEvents.{Reaches, IsNextAnswer}
 use Rattle.hy_text.specs.Bytes.{past_blanks}
@@ -35,17 +35,17 @@ good-not_long line (inr (said, says, short)) long =
 
 -- ---- checking
 
--- Of the lines those before `left`, of which the first has number n, have been checked.
-pub record Checked (lines : List (List ℕ)) (n : ℕ) (left : List (List ℕ))
+-- Of the lines, of which the first has number m, those before `left`, of which the first has number n, have been checked.
+pub record Checked (m : ℕ) (lines : List (List ℕ)) (n : ℕ) (left : List (List ℕ))
     (is_long : Bool) : Type 0 where
-  pub fault : (k : ℕ) → FirstFault n left k → FirstFault 1 lines k
+  pub fault : (k : ℕ) → FirstFault n left k → FirstFault m lines k
   pub texts : Each IsText left → Each IsText lines
   pub later : SomeTooLong left → SomeTooLong lines
   pub long : is_long ≡ true → SomeTooLong lines
   pub good : is_long ≡ false → Each IsGood left → Each IsGood lines
 
-pub checked-none : (lines : List (List ℕ)) → Checked lines 1 lines false
-checked-none lines = record {
+pub checked-none : (m : ℕ) (lines : List (List ℕ)) → Checked m lines m lines false
+checked-none m lines = record {
   fault = λ k f. f;
   texts = λ each. each;
   later = λ some. some;
@@ -53,22 +53,22 @@ checked-none lines = record {
   good = λ e each. each;
 }
 
-pub checked-fault : (lines : List (List ℕ)) (n : ℕ) (left : List (List ℕ)) (b : Bool)
-    (line : List ℕ) (rest : List (List ℕ)) → Checked lines n left b → left ≡ line ∷ rest
-    → IsFaulty line → FirstFault 1 lines n
-checked-fault lines n left b line rest before first fault =
+pub checked-fault : (m : ℕ) (lines : List (List ℕ)) (n : ℕ) (left : List (List ℕ)) (b : Bool)
+    (line : List ℕ) (rest : List (List ℕ)) → Checked m lines n left b → left ≡ line ∷ rest
+    → IsFaulty line → FirstFault m lines n
+checked-fault m lines n left b line rest before first fault =
     let P : List (List ℕ) → Type 0 = λ ls. FirstFault n ls n in
     before.fault n (subst P (sym first) (inl (fault, refl)))
 
-pub checked-good : (lines : List (List ℕ)) (n : ℕ) (left : List (List ℕ)) (b : Bool)
-    (line : List ℕ) (rest : List (List ℕ)) → Checked lines n left b → left ≡ line ∷ rest
-    → IsGood line → Checked lines (n + 1) rest b
-checked-good lines n left b line rest before first good =
-    let F : List (List ℕ) → Type 0 = λ ls. (k : ℕ) → FirstFault n ls k → FirstFault 1 lines k in
+pub checked-good : (m : ℕ) (lines : List (List ℕ)) (n : ℕ) (left : List (List ℕ)) (b : Bool)
+    (line : List ℕ) (rest : List (List ℕ)) → Checked m lines n left b → left ≡ line ∷ rest
+    → IsGood line → Checked m lines (n + 1) rest b
+checked-good m lines n left b line rest before first good =
+    let F : List (List ℕ) → Type 0 = λ ls. (k : ℕ) → FirstFault n ls k → FirstFault m lines k in
     let T : List (List ℕ) → Type 0 = λ ls. Each IsText ls → Each IsText lines in
     let S : List (List ℕ) → Type 0 = λ ls. SomeTooLong ls → SomeTooLong lines in
     let G : List (List ℕ) → Type 0 = λ ls. Each IsGood ls → Each IsGood lines in
-    let P : ℕ → Type 0 = λ m. (k : ℕ) → FirstFault m rest k → FirstFault 1 lines k in
+    let P : ℕ → Type 0 = λ j. (k : ℕ) → FirstFault j rest k → FirstFault m lines k in
     let next : n + 1 ≡ suc n = omega arith in
     record {
       fault =
@@ -79,14 +79,14 @@ checked-good lines n left b line rest before first good =
       good = λ e each. subst G first (before.good e) (good, each);
     }
 
-pub checked-long : (lines : List (List ℕ)) (n : ℕ) (left : List (List ℕ)) (b : Bool)
-    (line : List ℕ) (rest : List (List ℕ)) → Checked lines n left b → left ≡ line ∷ rest
-    → IsTooLong line → Checked lines (n + 1) rest true
-checked-long lines n left b line rest before first long =
-    let F : List (List ℕ) → Type 0 = λ ls. (k : ℕ) → FirstFault n ls k → FirstFault 1 lines k in
+pub checked-long : (m : ℕ) (lines : List (List ℕ)) (n : ℕ) (left : List (List ℕ)) (b : Bool)
+    (line : List ℕ) (rest : List (List ℕ)) → Checked m lines n left b → left ≡ line ∷ rest
+    → IsTooLong line → Checked m lines (n + 1) rest true
+checked-long m lines n left b line rest before first long =
+    let F : List (List ℕ) → Type 0 = λ ls. (k : ℕ) → FirstFault n ls k → FirstFault m lines k in
     let T : List (List ℕ) → Type 0 = λ ls. Each IsText ls → Each IsText lines in
     let S : List (List ℕ) → Type 0 = λ ls. SomeTooLong ls → SomeTooLong lines in
-    let P : ℕ → Type 0 = λ m. (k : ℕ) → FirstFault m rest k → FirstFault 1 lines k in
+    let P : ℕ → Type 0 = λ j. (k : ℕ) → FirstFault j rest k → FirstFault m lines k in
     let next : n + 1 ≡ suc n = omega arith in
     record {
       fault =
@@ -97,14 +97,14 @@ checked-long lines n left b line rest before first long =
       good = λ e. absurd (cc);
     }
 
-pub checked-all-good : (lines : List (List ℕ)) (n : ℕ) (left : List (List ℕ)) (b : Bool)
-    → Checked lines n left b → left ≡ [] → b ≡ false → Each IsGood lines
-checked-all-good lines n left b done none short =
+pub checked-all-good : (m : ℕ) (lines : List (List ℕ)) (n : ℕ) (left : List (List ℕ)) (b : Bool)
+    → Checked m lines n left b → left ≡ [] → b ≡ false → Each IsGood lines
+checked-all-good m lines n left b done none short =
     let P : List (List ℕ) → Type 0 = Each IsGood in done.good short (subst P (sym none) tt)
 
-pub checked-all-long : (lines : List (List ℕ)) (n : ℕ) (left : List (List ℕ)) (b : Bool)
-    → Checked lines n left b → left ≡ [] → b ≡ true → Each IsText lines × SomeTooLong lines
-checked-all-long lines n left b done none long =
+pub checked-all-long : (m : ℕ) (lines : List (List ℕ)) (n : ℕ) (left : List (List ℕ)) (b : Bool)
+    → Checked m lines n left b → left ≡ [] → b ≡ true → Each IsText lines × SomeTooLong lines
+checked-all-long m lines n left b done none long =
     let P : List (List ℕ) → Type 0 = Each IsText in
     (done.texts (subst P (sym none) tt), done.long long)
 
@@ -187,6 +187,56 @@ next-no_fault table old new (Syntax k) each (kept, (line, rest, reached, fault))
 next-no_fault table old new Limit each (kept, (k, line, rest, reached, long)) =
     absurd (good-not_long line (reached-good old.first old.lines k line rest reached each).0 long)
 next-no_fault table old new Memory each kept = refl
+
+-- ---- what is found of the lines that are left
+
+good-checked : (n : ℕ) (line : List ℕ) (rest : List (List ℕ)) → IsGood line
+    → (found : Result (Unit {0}) LineError)
+    → AreChecked (record { first = suc n; lines = rest }) found
+    → AreChecked (record { first = n; lines = line ∷ rest }) found
+good-checked n line rest good (Ok u) each = (good, each)
+good-checked n line rest good (Err (Syntax k)) fault = inr (good-text line good, fault)
+good-checked n line rest good (Err Limit) (texts, long) =
+    ((good-text line good, texts), inr long)
+good-checked n line rest good (Err Memory) none = none
+
+reached-checked : (n : ℕ) (lines : List (List ℕ)) (k : ℕ) (line : List ℕ) (rest : List (List ℕ))
+    → Reaches n lines k line rest → IsGood line → (found : Result (Unit {0}) LineError)
+    → AreChecked (record { first = suc k; lines = rest }) found
+    → AreChecked (record { first = n; lines = lines }) found
+reached-checked n [] k line rest r good found left = absurd r
+reached-checked n (x ∷ xs) k line rest (inl (nothing, r)) good found left =
+    good-checked n x xs (inl nothing) found
+    (reached-checked (suc n) xs k line rest r good found left)
+reached-checked n (x ∷ xs) k line rest (inr (loud, e, same, f)) good found left =
+    let P : List ℕ → Type 0 = IsGood in
+    let Q : ℕ → Type 0 = λ j. AreChecked (record { first = suc j; lines = xs }) found in
+    let R : List (List ℕ) → Type 0 = λ ls. AreChecked (record { first = suc k; lines = ls }) found in
+    good-checked n x xs (subst P same good) found (subst Q e (subst R f left))
+
+silent-good : (lines : List (List ℕ)) → Each SaysNothing lines → Each IsGood lines
+silent-good [] each = tt
+silent-good (x ∷ xs) (nothing, each) = (inl nothing, silent-good xs each)
+
+none-checked : (old new : LinesLeft) → Each SaysNothing old.lines → new.lines ≡ []
+    → (found : Result (Unit {0}) LineError) → AreChecked new found → AreChecked old found
+none-checked old new silent none (Ok u) each = silent-good old.lines silent
+none-checked old new silent none (Err (Syntax k)) fault =
+    let P : List (List ℕ) → Type 0 = λ ls. FirstFault new.first ls k in
+    absurd (let no : FirstFault new.first [] k = subst P none fault in no)
+none-checked old new silent none (Err Limit) (texts, long) =
+    let P : List (List ℕ) → Type 0 = SomeTooLong in absurd (subst P none long)
+none-checked old new silent none (Err Memory) absent = absurd absent
+
+-- What a check finds of the lines behind the next event it finds of all.
+pub next-checked : (table : List (List ℕ)) (old new : LinesLeft) (next : Option Placed)
+    → IsNextAnswer table old new (Ok next) → (found : Result (Unit {0}) LineError)
+    → AreChecked new found → AreChecked old found
+next-checked table old new None (silent, none) found left = none-checked old new silent none found left
+next-checked table old new (Some placed) (line, said, reached, next, says, short, e) found left =
+    let P : ℕ → Type 0 = λ n. AreChecked (record { first = n; lines = new.lines }) found in
+    reached-checked old.first old.lines placed.line line new.lines reached (inr (said, says, short))
+    found (subst P next left)
 
 -- ---- collecting
 

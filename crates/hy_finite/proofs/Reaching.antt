@@ -36,6 +36,7 @@ onward-reached old here line rest before first loud =
     before.reaches here.first line rest (subst P (sym first) (inr (loud, refl, refl, refl)))
 
 pub onward-end : (old here : LinesLeft) → Onward old here → here.lines ≡ []
-    → Each SaysNothing old.lines
+    → Each SaysNothing old.lines × (here.lines ≡ [])
 onward-end old here before none =
-    let P : List (List ℕ) → Type 0 = Each SaysNothing in before.silent (subst P (sym none) tt)
+    let P : List (List ℕ) → Type 0 = Each SaysNothing in
+    (before.silent (subst P (sym none) tt), none)

@@ -9,6 +9,7 @@ use Rattle.hy_text.specs.declared.line_error.LineError.{LineError}
 use Rattle.hy_text.specs.declared.line_error.LineError.TheVariants.{Syntax, Limit, Memory}
 use Rattle.hy_finite.specs.EventLines.{Said, letter, SaysNothing, Says, IsShort, IsFaulty, IsTooLong, IsText, IsGood}
 use Rattle.hy_finite.specs.EventFiles.{event_of, lines_of, IsEventFile, FirstFault, SomeTooLong}
+use Rattle.hy_finite.specs.LinesLeft.{LinesLeft}
 
 -- The line says nothing, or this event, or it is at fault, or a trace that is too long.
 abbrev pub IsLineAnswer : List (List ℕ) → List ℕ → Result (Option Event) LineError → Type 0
@@ -29,16 +30,28 @@ IsLetterAnswer table n text (Err (Syntax k)) =
     (past_blanks rest ≡ []))
 IsLetterAnswer table n text _ = ⊥
 
--- why a file is refused: its first line that is no text, or that all are and one is a trace that is too long
+-- why lines are refused: the first that is no text, or that all are and one is a trace that is too long
+abbrev pub AreRefused : LinesLeft → LineError → Type 0
+AreRefused left (Syntax k) = FirstFault left.first left.lines k
+AreRefused left Limit = Each IsText left.lines × SomeTooLong left.lines
+AreRefused left Memory = ⊥
+
+-- The lines are taken, or are refused.
+abbrev pub AreChecked : LinesLeft → Result (Unit {0}) LineError → Type 0
+AreChecked left (Ok _) = Each IsGood left.lines
+AreChecked left (Err fault) = AreRefused left fault
+
+-- all lines of a file
+abbrev pub all_lines : List ℕ → LinesLeft
+all_lines bytes = record { first = 1; lines = lines_of bytes }
+
+-- why a file is refused
 abbrev pub IsRefusal : List ℕ → LineError → Type 0
-IsRefusal bytes (Syntax k) = FirstFault 1 (lines_of bytes) k
-IsRefusal bytes Limit = Each IsText (lines_of bytes) × SomeTooLong (lines_of bytes)
-IsRefusal bytes Memory = ⊥
+IsRefusal bytes fault = AreRefused (all_lines bytes) fault
 
 -- The file is one of events, or is refused.
 abbrev pub IsCheckAnswer : List ℕ → Result (Unit {0}) LineError → Type 0
-IsCheckAnswer bytes (Ok _) = Each IsGood (lines_of bytes)
-IsCheckAnswer bytes (Err fault) = IsRefusal bytes fault
+IsCheckAnswer bytes result = AreChecked (all_lines bytes) result
 
 -- The file is these events, or is refused.
 abbrev pub IsFileAnswer : List (List ℕ) → List ℕ → Result (List Placed) LineError → Type 0

@@ -17,10 +17,10 @@ event_of table (finish n) = End n
 event_of table save = Save
 event_of table back = Back
 
--- the letters of a whole trace
-abbrev pub letters_in : Event → List NameSet
-letters_in (Whole trace) = trace
-letters_in _ = []
+-- the letters of a whole trace, or else these
+abbrev pub letters_or : List NameSet → Event → List NameSet
+letters_or letters (Whole trace) = trace
+letters_or letters _ = letters
 
 -- The lines, of which the first has number n, say these events.
 abbrev pub SayEvents : List (List ℕ) → ℕ → List (List ℕ) → List Placed → Type 0

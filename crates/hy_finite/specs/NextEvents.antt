@@ -16,16 +16,17 @@ Reaches n (x ∷ xs) k line rest =
     (SaysNothing x × Reaches (suc n) xs k line rest)
     ⊎ ((¬ SaysNothing x) × (k ≡ n) × (line ≡ x) × (rest ≡ xs))
 
--- The next line that says something, or there is none.
+-- The next line that says something, or there is none, and no line is left.
 abbrev pub IsNextLine : LinesLeft → LinesLeft → Option (ℕ × Bor (List ℕ)) → Type 0
-IsNextLine old new None = Each SaysNothing old.lines
+IsNextLine old new None = Each SaysNothing old.lines × (new.lines ≡ [])
 IsNextLine old new (Some (k, line)) =
     Reaches old.first old.lines k line.now new.lines × (new.first ≡ suc k)
 
--- The next event, or there is none; or the next line that says something is no text, or a trace that is too long.
+-- The next event, or there is none, and no line is left; or the next line that says something is no text, or a trace
+-- that is too long.
 abbrev pub IsNextAnswer : List (List ℕ) → LinesLeft → LinesLeft → Result
     (Option Placed) LineError → Type 0
-IsNextAnswer table old new (Ok None) = Each SaysNothing old.lines
+IsNextAnswer table old new (Ok None) = Each SaysNothing old.lines × (new.lines ≡ [])
 IsNextAnswer table old new (Ok (Some placed)) =
     (line : List ℕ) × (said : Said) × Reaches old.first old.lines placed.line line new.lines
     × (new.first ≡ suc placed.line) × Says line said × IsShort said ×

@@ -5,7 +5,6 @@ ghost use Rattle.std.specs.Prelude.{◌≡◌};
 use crate::trace::Trace;
 use hy_base::List;
 use hy_bits::{LetterMask, Letters};
-use std::alloc::Global;
 
 /// What a line of a trace file brings. A session is a trace that comes letter by letter; it is known
 /// by its number.
@@ -24,17 +23,16 @@ pub enum Event {
 }
 
 impl Event {
-    ghost use Rattle.hy_finite.specs.EventFiles.{letters_in};
+    ghost use Rattle.hy_finite.specs.EventFiles.{letters_or};
 
-    /// The letters of a whole trace, whose memory can be lent again; none of any other event.
-    pub fn into_letters(self, alloc: Global) -> Letters
-        ensures { result ≡ letters_in self }
+    /// Puts the letters of a whole trace in place of these, so that their memory can be lent again.
+    /// Any other event leaves them as they are.
+    pub fn return_letters(self, letters: &mut Letters)
+        ensures { letters.new ≡ letters_or letters.old self }
     {
         match self {
-            Event::Whole(trace) => trace.into_letters(),
-            Event::Letter { .. } | Event::End { .. } | Event::Save | Event::Back => List::new(
-                alloc,
-            ),
+            Event::Whole(trace) => *letters = trace.into_letters(),
+            Event::Letter { .. } | Event::End { .. } | Event::Save | Event::Back => {}
         }
     }
 }

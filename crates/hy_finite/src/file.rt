@@ -4,12 +4,11 @@ ghost use Rattle.std.specs.Prelude.{◌≤◌, length};
 ghost use Rattle.hy_base.specs.declared.reading.TheConstants.{BYTES_LIMIT};
 ghost use Rattle.hy_finite.specs.EventAnswers.{IsCheckAnswer, IsFileAnswer};
 
-use crate::checks::{LineCheck, check_line};
-use crate::event::{EventList, Placed};
+use crate::event::EventList;
 use crate::lines::EventLines;
 use hy_base::List;
 use hy_formula::NameTable;
-use hy_text::{LineError, split_line};
+use hy_text::LineError;
 use std::alloc::Global;
 
 /// Whether the bytes are a file of events, and if not, why. Takes no memory, and time linear in the
@@ -21,24 +20,7 @@ pub fn check_events(alloc: Global, bytes: &[u8]) -> Result<(), LineError>
     requires { length bytes.now ≤ BYTES_LIMIT }
     ensures { IsCheckAnswer bytes.now result }
 {
-    let names = NameTable::new(alloc)?;
-    let mut left = Some(bytes);
-    let mut line = 1;
-    let mut is_long = false;
-    while let Some(text) = left {
-        let (first, rest) = split_line(text);
-        match check_line(first, &names) {
-            LineCheck::Good => {}
-            LineCheck::TooLong => is_long = true,
-            LineCheck::Fault => return Err(LineError::Syntax { line }),
-        }
-        left = rest;
-        line += 1;
-    }
-    if is_long {
-        return Err(LineError::Limit);
-    }
-    Ok(())
+    EventLines::new(bytes).check(alloc)
 }
 
 /// The events of a file, in the order of its lines. Names that the table lacks are passed over. In
@@ -50,7 +32,8 @@ pub fn read_events(alloc: Global, bytes: &[u8], names: &NameTable) -> Result<Eve
     check_events(alloc, bytes)?;
     let mut events = List::new(alloc);
     let mut lines = EventLines::new(bytes);
-    while let Some(placed) = lines.next(names, List::new(alloc))? {
+    let mut letters = List::new(alloc);
+    while let Some(placed) = lines.next(alloc, names, &mut letters)? {
         events.push(placed)?;
     }
     Ok(events)

@@ -15,7 +15,7 @@ ghost use Rattle.hy_finite.specs.Traces.{Trace, judged, Meets, Violates, Violate
 ghost use Rattle.hy_text.specs.Lines.{SaysNothing};
 ghost use Rattle.hy_finite.specs.EventLines.{IsGood};
 ghost use Rattle.hy_finite.specs.EventFiles.{SayEvents};
-ghost use Rattle.hy_finite.specs.EventAnswers.{IsLineAnswer, IsFileAnswer};
+ghost use Rattle.hy_finite.specs.EventAnswers.{IsLineAnswer, IsFileAnswer, AreChecked};
 ghost use Rattle.hy_finite.specs.LinesLeft.{LinesLeft};
 ghost use Rattle.hy_finite.specs.NextEvents.{IsNextAnswer};
 
@@ -49,7 +49,7 @@ pub fn one_answer()
 {}
 
 /// What a reader gives line by line are the events of the lines, one after another, and there is no
-/// fault where no line has one.
+/// fault where no line has one. What a check finds of the lines behind an event it finds of all.
 pub fn next_events()
     ensures there { (table : List (List ℕ)) (n : ℕ) (lines : List (List ℕ)) → Each IsGood lines
         → (events : List Placed) × SayEvents table n lines events }
@@ -64,6 +64,9 @@ pub fn next_events()
     ensures good { (table : List (List ℕ)) (old new : LinesLeft) (placed : Placed)
         → IsNextAnswer table old new (Ok (Some placed))
         → Each IsGood old.lines → Each IsGood new.lines }
+    ensures checked { (table : List (List ℕ)) (old new : LinesLeft) (next : Option Placed)
+        → IsNextAnswer table old new (Ok next) → (found : Result (Unit {0}) LineError)
+        → AreChecked new found → AreChecked old found }
     ensures no_fault { (table : List (List ℕ)) (old new : LinesLeft) (fault : LineError)
         → Each IsGood old.lines → IsNextAnswer table old new (Err fault) → fault ≡ errors.Memory }
 {}

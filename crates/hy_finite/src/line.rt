@@ -19,14 +19,16 @@ use std::alloc::Global;
 pub fn read_event(alloc: Global, line: &[u8], names: &NameTable) -> Result<Option<Event>, LineError>
     ensures { IsLineAnswer names.now line.now result }
 {
-    read_line(line, names, List::new(alloc))
+    let mut letters = List::new(alloc);
+    read_line(alloc, line, names, &mut letters)
 }
 
-/// As `read_event`, with the letters of a trace in the memory of `letters`, what that has is dropped.
+/// As `read_event`. A trace takes the memory of `letters`, and what that has is dropped.
 pub fn read_line(
+    alloc: Global,
     line: &[u8],
     names: &NameTable,
-    letters: Letters,
+    letters: &mut Letters,
 ) -> Result<Option<Event>, LineError>
     ensures { IsLineAnswer names.now line.now result }
 {
@@ -35,7 +37,7 @@ pub fn read_line(
     };
     match begun {
         Begun::Nothing => Ok(None),
-        Begun::Word(text) => Ok(Some(Event::Whole(read_trace(text, names, letters)?))),
+        Begun::Word(text) => { Ok(Some(Event::Whole(read_trace(alloc, text, names, letters)?))) }
         Begun::Letter { session, set } => read_letter(session, set, names),
         Begun::End { session } => Ok(Some(Event::End { session })),
         Begun::Save => Ok(Some(Event::Save)),

@@ -2,10 +2,7 @@
 use Rattle.std.proofs.Common.{◌≡◌, ◌⊎◌, ℕ, Bool, true, false, List, Ok, Err, inl, inr, refl, sym, subst, ◌∙◌}
 use Rattle.hy_base.specs.Shelf.{ReadsFile}
 use Rattle.hy_base.specs.declared.shelf.Shelf.{Ghosts}
-use Rattle.hy_formula.specs.Quantifiers.{Each}
 use Rattle.hy_finite.specs.EventAnswers.{IsRefusal as IsEventRefusal}
-use Rattle.hy_finite.specs.EventLines.{IsGood}
-use Rattle.hy_text.specs.Lines.{lines_of}
 use Rattle.hy_text.specs.declared.line_error.LineError.{LineError}
 use Rattle.hy_text.specs.declared.line_error.LineError.TheVariants as faults
 use Rattle.hy_lasso.specs.LassoFiles.{IsLassosAnswer}
@@ -20,7 +17,7 @@ use Rattle.hy_answer.specs.Refusals.{Refuses, IsTextAnswer, line_answer}
 use Rattle.aiger_body.specs.Outcomes.{Refusal}
 use Rattle.hy_top.specs.Circuits.{IsNoCircuit, circuit_answer}
 use Rattle.hy_top.specs.Contents.{Content, specifications, one_formula, events, lassos, circuit, IsRefused}
-use Rattle.hy_top.specs.Steps.{Ends, TakesEvents, spent, refused}
+use Rattle.hy_top.specs.Steps.{Ends, spent, refused}
 
 -- Memory ran out, or the fact holds.
 abbrev OrMemory : Answer → Type 0 → Type 0
@@ -67,9 +64,6 @@ module _ {S : Type 0} (g : Ghosts S) (old new : S) (name : List ℕ) (quantifier
 
   pub events-end : (fault : LineError) → IsEventRefusal read fault → Ends g old new name quantifiers names k events (line_answer k fault)
   events-end fault is = refused-ends events _ (fault, is, refl)
-
-  pub events-taken : Each IsGood (lines_of read) → TakesEvents g old new name bytes
-  events-taken each = let P : List ℕ → Type 0 = λ b. Each IsGood (lines_of b) in record { read = came; lines = subst P same each }
 
   -- A text that is no circuit, or memory ran out over it.
   pub circuit-ends : (a : Answer) → (a ≡ answers.Memory) ⊎ ((refusal : Refusal) × IsNoCircuit read refusal × (a ≡ circuit_answer refusal))

@@ -20,7 +20,7 @@ use Rattle.rv_core.specs.Replies.{error_of, IsFound, IsAnswer, quiet, arrived, v
 use Rattle.hy_answer.specs.declared.answer.Answer.{Answer}
 use Rattle.hy_answer.specs.declared.answer.Answer.TheVariants as answers
 use Rattle.hy_top.specs.Monitoring.{refusal_answer, IsNoViolation, Comes, ComesTo, EventsCome}
-use Rattle.hy_top.specs.Watching.{OrMemory, IsEventAnswer, GoesOn, Stops, AreLeft, count_left, IsReady, IsAhead, IsThrough}
+use Rattle.hy_top.specs.Watching.{OrMemory, IsEventAnswer, GoesOn, Stops, AreLeft, count_left, AreNumbered, AreGood, AreRead, IsAhead, IsThrough}
 use Rattle.hy_top.specs.declared.source.Source.{Source}
 use Rattle.hy_top.proofs.Sources.{some-left}
 
@@ -180,28 +180,36 @@ pub record Passed (lengths : Lengths) (drop : Bool) (specs : List Spec) (start l
   pub rule : m.rule ≡ lengths
   pub dropping : m.drop ≡ drop
   pub few : length history.present.arrived + count_left left ≤ count_left start
-  pub ready : IsReady left
+  pub numbered : AreNumbered left
+  pub good : AreGood start → AreGood left
+  pub read : AreRead start left
   pub back : (more : List Placed) (a : Answer) → AreLeft left more → ComesTo lengths drop specs history more a
       → EventsCome lengths drop specs (AreLeft start) a
 
 pub passed-none : (lengths : Lengths) (drop : Bool) (start : Source) (m : Held) → StandsFor m empty_history
-    → m.rule ≡ lengths → m.drop ≡ drop → IsReady start → Passed lengths drop (specs_of m) start start m
-passed-none lengths drop start m stands rule dropping ready = record {
+    → m.rule ≡ lengths → m.drop ≡ drop → AreNumbered start → Passed lengths drop (specs_of m) start start m
+passed-none lengths drop start m stands rule dropping numbered = record {
   history = empty_history;
   stands = stands;
   specs_are = refl;
   rule = rule;
   dropping = dropping;
   few = omega arith;
-  ready = ready;
+  numbered = numbered;
+  good = λ good. good;
+  read = λ found left. left;
   back = λ more a left comes. (more, left, comes);
 }
 
 module _ (lengths : Lengths) (drop : Bool) (specs : List Spec) (start old : Source) (m : Held) (before : Passed lengths drop specs start old m) where
-  pub passed-more : (placed : Placed) (new : Source) (m' : Held) → IsAhead old new placed → specs_of m' ≡ specs_of m
+  -- what is read of the source that was left
+  pub read-on : (new : Source) → AreRead old new → AreRead start new
+  read-on new read found left = before.read found (read found left)
+
+  pub passed-more : (placed : Placed) (new : Source) (m' : Held) → IsAhead old new placed → AreRead old new → specs_of m' ≡ specs_of m
       → m'.rule ≡ m.rule → m'.drop ≡ m.drop → GoesOn m.rule (specs_of m) before.history placed m'
       → Passed lengths drop specs start new m'
-  passed-more placed new m' ahead same rules drops goes_on =
+  passed-more placed new m' ahead read same rules drops goes_on =
       let h = before.history in
       let more_traces = one-more m h placed.event goes_on.next before.stands goes_on.steps in
       let fewer = ahead.fewer in
@@ -215,7 +223,9 @@ module _ (lengths : Lengths) (drop : Bool) (specs : List Spec) (start old : Sour
         rule = rules ∙ before.rule;
         dropping = drops ∙ before.dropping;
         few = omega (arith, more_traces, fewer, few);
-        ready = ahead.ready;
+        numbered = ahead.numbered;
+        good = λ good. ahead.good (before.good good);
+        read = read-on new read;
         back = λ more a left comes.
             before.back (placed ∷ more) a (ahead.before more left)
             (goes-comes lengths specs placed.line (arrives placed.event) (step h placed.event) goes_on.next
@@ -223,11 +233,11 @@ module _ (lengths : Lengths) (drop : Bool) (specs : List Spec) (start old : Sour
             (λ loud. subst R before.rule (subst Q before.specs_are (goes_on.clean loud))) comes);
       }
 
-  pub passed-stops : (placed : Placed) (new : Source) (a : Answer) → IsAhead old new placed
+  pub passed-stops : (placed : Placed) (new : Source) (a : Answer) → IsAhead old new placed → AreGood start
       → Stops m.rule (specs_of m) before.history placed a → EventsCome lengths drop specs (AreLeft start) a
-  passed-stops placed new a ahead stops =
+  passed-stops placed new a ahead good stops =
       let h = before.history in
-      let (more, left) = some-left new ahead.ready in
+      let (more, left) = some-left new (ahead.good (before.good good)) in
       let P : List Spec → Type 0 = λ s. Comes m.rule s placed.line (arrives placed.event) (step h placed.event) (λ next. ⊥) a in
       let R : Lengths → Type 0 = λ l. Comes l specs placed.line (arrives placed.event) (step h placed.event) (λ next. ⊥) a in
       before.back (placed ∷ more) a (ahead.before more left)

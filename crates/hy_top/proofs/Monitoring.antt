@@ -1,5 +1,6 @@
 -- What formulas come to on the events of a file, or on made traces, is the answer of the run.
 use Rattle.std.proofs.Common.{◌≡◌, ◌≤◌, ℕ, Bool, zero, suc, List, [], ◌∷◌, ◌++◌, length, Ok, inr, refl, sym, subst, append-nil, length-append, inl, arith}
+use Rattle.hy_base.specs.Shelf.{ReadsFile}
 use Rattle.hy_base.specs.declared.shelf.Shelf.{Ghosts}
 use Rattle.hy_formula.specs.Quantifiers.{Each}
 use Rattle.hy_formula.specs.Trees.{Tree}
@@ -9,6 +10,7 @@ use Rattle.ea_reduce.specs.Refused.{HasFewMaps}
 use Rattle.fin_monitor.specs.Limits.{HasLargeClosure, HasSmallClosure, HasManyAtoms, HasFewAtoms, HasLargeTable, HasSmallTable, IsTaken}
 use Rattle.hy_finite.specs.declared.event.Placed.{Placed}
 use Rattle.hy_finite.specs.declared.lengths.Lengths.{Lengths}
+use Rattle.hy_finite.specs.EventAnswers.{IsCheckAnswer}
 use Rattle.hy_finite.specs.EventFiles.{IsEventFile}
 use Rattle.made_traces.specs.MadeTraces.{made_trace, made_traces}
 use Rattle.hy_read.specs.Answers.{Plain}
@@ -29,7 +31,9 @@ use Rattle.hy_top.specs.Runs.{Follows, extras_of}
 use Rattle.hy_top.specs.Stages.{names as names_stage}
 use Rattle.hy_top.specs.Stages.{First, here, later, count, closure, joint, atoms, table, work, stages_of_formulas, ComesTo}
 use Rattle.hy_top.specs.Steps.{Takes, TakesEvents, Ends}
+use Rattle.hy_top.specs.Watching.{IsLinesAnswer}
 use Rattle.hy_top.proofs.Bodies.{closure_passed, atoms_passed, table_passed}
+use Rattle.hy_top.proofs.Ending.{events-end}
 use Rattle.hy_top.proofs.Formulas.{class_passed, instances_passed}
 use Rattle.hy_top.proofs.Progress.{Progress, begun, goes_on, ends_here, answers_behind, runs_short, texts_still}
 
@@ -190,6 +194,18 @@ module _ {S : Type 0} (g : Ghosts S) (old mid new : S) (specs file : List ℕ) (
         outcome_follows g old new (monitor specs file lengths drop) lengths drop given formulas names (of-file specs file lengths drop) read_all refl
         (texts_still (monitor specs file lengths drop) (Ok first.bytes ∷ []) (Ok bytes ∷ []) 1 formulas names read_first.texts) a
         (outcome-by lengths drop formulas a (λ es file_is. (bytes, refl, file_is)) outcome)
+
+  -- The run follows what comes of the lines.
+  pub lines_follow : (bytes read : List ℕ) → ReadsFile g mid new file (Ok bytes) → read ≡ bytes → (a : Answer)
+      → IsLinesAnswer lengths drop formulas names read a
+      → Follows g old new (monitor specs file lengths drop) a (out_text (extras_of (monitor specs file lengths drop)) names a)
+  lines_follow bytes read came same a (inl (good, outcome)) =
+      let P : List ℕ → Type 0 = λ b. IsCheckAnswer b (Ok tt) in
+      let Q : List ℕ → Type 0 = λ b. IsOutcome lengths drop formulas (IsEventFile names b) a in
+      events_follow bytes (record { read = came; lines = subst P same good }) a (subst Q same outcome)
+  lines_follow bytes read came same a (inr (fault, refusal, e)) =
+      let P : Answer → Type 0 = λ b. Ends g mid new file 4 names 1 events b in
+      ends_at_events a (subst P (sym e) (events-end g mid new file 4 names 1 bytes read came same fault refusal))
 
 -- ---- made traces
 

@@ -1,20 +1,19 @@
 //! Files that are read whole and taken, or end the run.
 
-ghost use Rattle.std.specs.Prelude.{◌≡◌, ◌⊎◌, ◌∷◌, ◌+◌, ◌<◌, ◌≤◌, ◌^◌, [], ℕ, List, length, IfOk, IfErr};
-ghost use Rattle.hy_base.specs.Shelf.{KeepsShelf};
+ghost use Rattle.std.specs.Prelude.{◌≡◌, ◌⊎◌, ◌∷◌, ◌+◌, ◌<◌, ◌≤◌, ◌^◌, [], ℕ, List, Ok, length, IfOk, IfErr};
+ghost use Rattle.hy_base.specs.Shelf.{KeepsShelf, ReadsFile};
 ghost use Rattle.hy_base.specs.declared.reading.TheConstants.{BYTES_LIMIT};
 ghost use Rattle.aiger_body.specs.Answers.{Refuses};
 ghost use Rattle.aiger_body.specs.Outcomes.{Outcome, Refusal, refused};
 ghost use Rattle.hy_top.specs.Circuits.{circuit_answer};
 ghost use Rattle.hy_read.specs.Builds.{plain_formula, plain_formulas};
 ghost use Rattle.hy_top.specs.Contents.{specifications, one_formula, events, lassos, circuit};
-ghost use Rattle.hy_top.specs.Steps.{Takes, TakesCircuit, TakesEvents, TakesLassos, Ends};
+ghost use Rattle.hy_top.specs.Steps.{Takes, TakesCircuit, TakesLassos, Ends};
 
 use aig_net::Net;
 use aiger_read::{AigerError, read_aiger};
 use hy_answer::{Answer, fault_answer, line_answer, text_answer};
 use hy_base::{Shelf, Text, read_all};
-use hy_finite::check_events;
 use hy_formula::{Formula, NameTable};
 use hy_lasso::{LassoList, read_lassos};
 use hy_read::{SpecList, read_formula, read_specs};
@@ -74,22 +73,17 @@ pub fn specs_in<S: Shelf>(
     }
 }
 
-/// The bytes of the second file of the command, each of whose lines is a text that is taken; or the
-/// answer with which the run ends there.
+/// The bytes of the second file of the command, or the answer with which the run ends there.
 pub fn events_in<S: Shelf>(alloc: Global, shelf: &mut S, name: &str) -> Result<Text, Answer>
     ensures keeps { KeepsShelf S.Shelf shelf.old shelf.new }
-    ensures taken { IfOk result (λ bytes. TakesEvents S.Shelf shelf.old shelf.new name.now bytes) }
+    ensures read { IfOk result (λ bytes. ReadsFile S.Shelf shelf.old shelf.new name.now (Ok bytes)) }
     ensures few { IfOk result (λ bytes. length bytes ≤ BYTES_LIMIT) }
     ensures ended { IfErr result (λ answer. (names : List (List ℕ))
         → Ends S.Shelf shelf.old shelf.new name.now 4 names 1 events answer) }
 {
-    let bytes = match read_all(alloc, shelf, name) {
-        Ok(bytes) => bytes,
-        Err(error) => return Err(fault_answer(error, 1)),
-    };
-    match check_events(alloc, bytes.as_slice()) {
-        Ok(()) => Ok(bytes),
-        Err(error) => Err(line_answer(error, 1)),
+    match read_all(alloc, shelf, name) {
+        Ok(bytes) => Ok(bytes),
+        Err(error) => Err(fault_answer(error, 1)),
     }
 }
 

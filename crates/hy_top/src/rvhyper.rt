@@ -3,23 +3,19 @@
 ghost use Rattle.std.specs.Prelude.{◌≡◌, ◌≤◌, ◌<◌, ◌^◌, ℕ, Bool, All, List, [], length};
 ghost use Rattle.hy_base.specs.Shelf.{KeepsShelf};
 ghost use Rattle.hy_base.specs.declared.reading.TheConstants.{BYTES_LIMIT};
-ghost use Rattle.hy_formula.specs.Quantifiers.{Each};
 ghost use Rattle.hy_formula.specs.declared.formula.Formula.{Formula};
-ghost use Rattle.hy_text.specs.Lines.{lines_of};
-ghost use Rattle.hy_finite.specs.EventFiles.{IsEventFile};
-ghost use Rattle.hy_finite.specs.EventLines.{IsGood};
 ghost use Rattle.hy_read.specs.Builds.{plain_formulas};
 ghost use Rattle.rv_core.specs.Built.{HasFewQuantifiers, IsNewRefusal};
 ghost use Rattle.hy_answer.specs.Outputs.{out_text};
 ghost use Rattle.hy_words.specs.Commands.{monitor, monitor_made};
 ghost use Rattle.hy_top.specs.Monitoring.{IsOutcome};
 ghost use Rattle.hy_top.specs.Runs.{Follows, extras_of};
-ghost use Rattle.hy_top.specs.Watching.{AreLeft, count_left, IsReady};
+ghost use Rattle.hy_top.specs.Watching.{AreLeft, count_left, AreNumbered, AreGood, AreRead, IsLinesAnswer};
 
 use crate::files::{events_in, specs_in};
 use crate::source::Source;
 use crate::watching::watch;
-use hy_answer::Answer;
+use hy_answer::{Answer, line_answer};
 use hy_base::Shelf;
 use hy_finite::Lengths;
 use hy_formula::NameTable;
@@ -80,11 +76,12 @@ pub fn monitor_made<S: Shelf>(
     let Ok(traces) = make_traces(alloc, count, names) else {
         return Answer::Memory;
     };
-    let source = Source::of_traces(traces.as_slice());
-    judge(alloc, &formulas, lengths, drop, source)
+    let mut source = Source::of_traces(traces.as_slice());
+    judge(alloc, &formulas, lengths, drop, &mut source)
 }
 
-/// What formulas come to on the events of lines that are taken.
+/// What formulas come to on the events of lines, or the answer for lines that are refused. Each line
+/// is read once: those behind the last event that is given are checked alone.
 fn judge_lines(
     alloc: Global,
     specs: &SpecList,
@@ -96,21 +93,32 @@ fn judge_lines(
     requires quantifiers { All HasFewQuantifiers specs.now }
     requires countable { length specs.now < 2 ^ 32 }
     requires few { length bytes.now ≤ BYTES_LIMIT }
-    requires good { Each IsGood (lines_of bytes.now) }
-    ensures { IsOutcome lengths drop (plain_formulas specs.now) (IsEventFile names.now bytes.now)
-        result }
+    ensures { IsLinesAnswer lengths drop (plain_formulas specs.now) names.now bytes.now result }
 {
-    let source = Source::of_lines(bytes, names);
-    judge(alloc, specs, lengths, drop, source)
+    let mut source = Source::of_lines(bytes, names);
+    let answer = judge(alloc, specs, lengths, drop, &mut source);
+    match source.check(alloc) {
+        Ok(()) => answer,
+        Err(fault) => line_answer(fault, 1),
+    }
 }
 
-/// What formulas come to on the events of a source.
-fn judge(alloc: Global, specs: &SpecList, lengths: Lengths, drop: bool, source: Source) -> Answer
+/// What formulas come to on the events of a source, where all its lines are taken. The source has
+/// left what is not read.
+fn judge(
+    alloc: Global,
+    specs: &SpecList,
+    lengths: Lengths,
+    drop: bool,
+    source: &mut Source,
+) -> Answer
     requires quantifiers { All HasFewQuantifiers specs.now }
     requires countable { length specs.now < 2 ^ 32 }
-    requires few { count_left source < 2 ^ 31 }
-    requires ready { IsReady source }
-    ensures { IsOutcome lengths drop (plain_formulas specs.now) (AreLeft source.entry) result }
+    requires few { count_left source.old < 2 ^ 31 }
+    requires numbered { AreNumbered source.old }
+    ensures outcome { AreGood source.old → IsOutcome lengths drop (plain_formulas specs.now)
+        (AreLeft source.old) result }
+    ensures read { AreRead source.old source.new }
 {
     match Rv::new(alloc, specs.as_slice(), lengths, drop) {
         Ok(mut rv) => watch(alloc, &mut rv, specs.len() as u32, source),

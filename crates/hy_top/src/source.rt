@@ -1,24 +1,22 @@
 //! Where the events of a run come from: the lines of a file, or traces that were made.
 
-ghost use Rattle.std.specs.Prelude.{◌≡◌, ◌<◌, ◌≤◌, ◌^◌, ℕ, List, length, IfOk, IfErr};
+ghost use Rattle.std.specs.Prelude.{◌≡◌, ◌<◌, ◌≤◌, ◌^◌, ℕ, List, Result, length, IfOk, IfErr};
 ghost use Rattle.hy_base.specs.declared.reading.TheConstants.{BYTES_LIMIT};
-ghost use Rattle.hy_formula.specs.Quantifiers.{Each};
-ghost use Rattle.hy_text.specs.Lines.{lines_of};
+ghost use Rattle.hy_text.specs.declared.line_error.LineError.{LineError as Fault};
 ghost use Rattle.hy_finite.specs.declared.event.Placed.{Placed};
+ghost use Rattle.hy_finite.specs.EventAnswers.{IsCheckAnswer};
 ghost use Rattle.hy_finite.specs.EventFiles.{IsEventFile};
-ghost use Rattle.hy_finite.specs.EventLines.{IsGood};
 
-use hy_answer::Answer;
 use hy_base::Remake;
 use hy_bits::Letters;
-use hy_finite::{Event, EventLines, Placed, Trace};
+use hy_finite::{Event, EventLines, LineError, Placed, Trace};
 use hy_formula::NameTable;
 use std::alloc::Global;
 
 /// The events that are left.
 #[derive(Clone, Copy)]
 pub enum Source<'a> {
-    /// Those of lines that are taken, by the names of a table.
+    /// Those of lines, by the names of a table.
     Lines {
         lines: EventLines<'a>,
         names: &'a NameTable,
@@ -32,16 +30,17 @@ pub enum Source<'a> {
 
 impl<'a> Source<'a> {
     ghost use Rattle.hy_top.specs.Monitoring.{whole_traces};
-    ghost use Rattle.hy_top.specs.Watching.{AreLeft, count_left, IsReady, IsNext};
+    ghost use Rattle.hy_top.specs.Watching.{AreLeft, count_left, AreNumbered, IsLeftAnswer, AreGood, AreRead, IsNext};
 
-    /// The events of lines that are taken. Names that the table lacks are passed over.
+    /// The events of lines. Names that the table lacks are passed over.
     pub fn of_lines(bytes: &'a [u8], names: &'a NameTable) -> Source<'a>
-        requires short { length bytes.now ≤ BYTES_LIMIT }
-        requires good { Each IsGood (lines_of bytes.now) }
+        requires { length bytes.now ≤ BYTES_LIMIT }
         ensures left { (events : List Placed) → AreLeft result events
             → IsEventFile names.now bytes.now events }
         ensures few { count_left result < 2 ^ 31 }
-        ensures ready { IsReady result }
+        ensures numbered { AreNumbered result }
+        ensures all { (found : Result (Unit {0}) Fault) → IsLeftAnswer result found
+            → IsCheckAnswer bytes.now found }
     {
         Source::Lines {
             lines: EventLines::new(bytes),
@@ -55,23 +54,38 @@ impl<'a> Source<'a> {
         ensures left { (events : List Placed) → AreLeft result events
             → events ≡ whole_traces 0 traces.now }
         ensures few { count_left result < 2 ^ 31 }
-        ensures ready { IsReady result }
+        ensures numbered { AreNumbered result }
+        ensures good { AreGood result }
     {
         Source::Made { first: 0, traces }
     }
 
-    /// The next event, if there is one. That of a line is put into the memory of `letters`. Only
-    /// memory may be wanting.
-    pub fn next(&mut self, alloc: Global, letters: Letters) -> Result<Option<Placed>, Answer>
-        requires { IsReady self.old }
+    /// Whether the lines that are left are taken, and if not, why: as `EventLines::check`. Made
+    /// traces are.
+    pub fn check(&self, alloc: Global) -> Result<(), LineError>
+        ensures { IsLeftAnswer self.now result }
+    {
+        match self {
+            Source::Lines { lines, .. } => lines.check(alloc),
+            Source::Made { .. } => Ok(()),
+        }
+    }
+
+    /// The next event, if there is one. That of a line takes the memory of `letters`. As
+    /// `EventLines::next` where the next line is at fault; else only memory may be wanting.
+    pub fn next(
+        &mut self,
+        alloc: Global,
+        letters: &mut Letters,
+    ) -> Result<Option<Placed>, LineError>
+        requires { AreNumbered self.old }
         ensures next { IfOk result (λ next. IsNext self.old self.new next) }
-        ensures ended { IfErr result (λ answer. answer ≡ Answer.Memory) }
+        ensures read { AreRead self.old self.new }
+        ensures ended { IfErr result (λ fault. AreGood self.old → fault ≡ LineError.Memory) }
     {
         match *self {
             Source::Lines { mut lines, names } => {
-                let Ok(next) = lines.next(names, letters) else {
-                    return Err(Answer::Memory);
-                };
+                let next = lines.next(alloc, names, letters)?;
                 *self = Source::Lines { lines, names };
                 Ok(next)
             }
@@ -79,9 +93,7 @@ impl<'a> Source<'a> {
                 let [trace, rest @ ..] = traces else {
                     return Ok(None);
                 };
-                let Ok(trace) = trace.remake(alloc) else {
-                    return Err(Answer::Memory);
-                };
+                let trace = trace.remake(alloc)?;
                 *self = Source::Made {
                     first: first + 1,
                     traces: rest,

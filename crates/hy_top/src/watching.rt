@@ -5,13 +5,12 @@ ghost use Rattle.rv_core.specs.Held.{StandsFor, specs_of};
 ghost use Rattle.rv_core.specs.Seen.{held};
 ghost use Rattle.rv_core.specs.Histories.{History, empty_history};
 ghost use Rattle.hy_top.specs.Monitoring.{EventsCome, AreKeptCounts, IsNoViolation};
-ghost use Rattle.hy_top.specs.Watching.{OrMemory, IsEventAnswer, GoesOn, Stops, AreLeft, count_left, IsReady, IsThrough};
+ghost use Rattle.hy_top.specs.Watching.{OrMemory, IsEventAnswer, GoesOn, Stops, AreLeft, count_left, AreNumbered, AreGood, AreRead, IsThrough};
 
 use crate::source::Source;
-use hy_answer::Answer;
+use hy_answer::{Answer, line_answer};
 use hy_base::{M, Memory, NumList, Steps};
 use hy_bits::Letters;
-use hy_finite::Placed;
 use rv_core::laws::keeping;
 use rv_core::{Reply, Rv, RvError};
 use std::alloc::Global;
@@ -19,14 +18,15 @@ use std::marker::Brand;
 use std::sync::ledger::{Blank, Ledger};
 
 /// What the events of a source come to with a monitor of `specs` formulas to which nothing has come
-/// yet.
-pub fn watch(alloc: Global, rv: &mut Rv, specs: u32, source: Source) -> Answer
+/// yet, where all its lines are taken. The source has left what is not read.
+pub fn watch(alloc: Global, rv: &mut Rv, specs: u32, source: &mut Source) -> Answer
     requires stands { StandsFor (held rv.old) empty_history }
     requires specs { specs ≡ length (specs_of (held rv.old)) }
-    requires few { count_left source < 2 ^ 31 }
-    requires ready { IsReady source }
-    ensures { OrMemory result (EventsCome (held rv.old).rule (held rv.old).drop
-        (specs_of (held rv.old)) (AreLeft source.entry) result) }
+    requires few { count_left source.old < 2 ^ 31 }
+    requires numbered { AreNumbered source.old }
+    ensures come { AreGood source.old → OrMemory result (EventsCome (held rv.old).rule
+        (held rv.old).drop (specs_of (held rv.old)) (AreLeft source.old) result) }
+    ensures read { AreRead source.old source.new }
 {
     match watch_on::<Brand>(alloc, rv, source, Blank::new(1)) {
         Ok(()) => clean_answer(alloc, rv, specs),
@@ -38,12 +38,12 @@ pub fn watch(alloc: Global, rv: &mut Rv, specs: u32, source: Source) -> Answer
 fn watch_on<L: Ledger>(
     alloc: Global,
     rv: &mut Rv,
-    source: Source,
+    source: &mut Source,
     blank: Blank,
 ) -> Result<(), Answer>
     requires stands { StandsFor (held rv.old) empty_history }
-    requires few { count_left source < 2 ^ 31 }
-    requires ready { IsReady source }
+    requires few { count_left source.old < 2 ^ 31 }
+    requires numbered { AreNumbered source.old }
     requires name { blank.name ≡ L.name }
     requires parts { blank.parts ≡ L.parts }
     requires some { 0 < blank.parts }
@@ -51,9 +51,11 @@ fn watch_on<L: Ledger>(
     ensures rule { (held rv.new).rule ≡ (held rv.old).rule }
     ensures dropping { (held rv.new).drop ≡ (held rv.old).drop }
     ensures through { OnOk result (IsThrough (held rv.old).rule (held rv.old).drop
-        (specs_of (held rv.old)) source.entry (held rv.new)) }
-    ensures ended { IfErr result (λ answer. OrMemory answer (EventsCome (held rv.old).rule
-        (held rv.old).drop (specs_of (held rv.old)) (AreLeft source.entry) answer)) }
+        (specs_of (held rv.old)) source.old (held rv.new)) }
+    ensures ended { IfErr result (λ answer. AreGood source.old → OrMemory answer (EventsCome
+        (held rv.old).rule (held rv.old).drop (specs_of (held rv.old)) (AreLeft source.old)
+        answer)) }
+    ensures read { AreRead source.old source.new }
 {
     let mut steps = Steps::<L>::new(blank);
     watch_events(alloc, rv, source, &mut steps)
@@ -64,55 +66,42 @@ fn watch_on<L: Ledger>(
 fn watch_events<L: Ledger>(
     alloc: Global,
     rv: &mut Rv,
-    source: Source,
+    source: &mut Source,
     steps: &mut Steps<L>,
 ) -> Result<(), Answer>
     requires stands { StandsFor (held rv.old) empty_history }
-    requires few { count_left source < 2 ^ 31 }
-    requires ready { IsReady source }
+    requires few { count_left source.old < 2 ^ 31 }
+    requires numbered { AreNumbered source.old }
     ensures specs { specs_of (held rv.new) ≡ specs_of (held rv.old) }
     ensures rule { (held rv.new).rule ≡ (held rv.old).rule }
     ensures dropping { (held rv.new).drop ≡ (held rv.old).drop }
     ensures through { OnOk result (IsThrough (held rv.old).rule (held rv.old).drop
-        (specs_of (held rv.old)) source.entry (held rv.new)) }
-    ensures ended { IfErr result (λ answer. OrMemory answer (EventsCome (held rv.old).rule
-        (held rv.old).drop (specs_of (held rv.old)) (AreLeft source.entry) answer)) }
+        (specs_of (held rv.old)) source.old (held rv.new)) }
+    ensures ended { IfErr result (λ answer. AreGood source.old → OrMemory answer (EventsCome
+        (held rv.old).rule (held rv.old).drop (specs_of (held rv.old)) (AreLeft source.old)
+        answer)) }
+    ensures read { AreRead source.old source.new }
 {
-    let mut left = source;
     let mut letters = Letters::new(alloc);
-    while let Some(placed) = left.next(alloc, letters)? {
-        take(alloc, rv, &placed, steps)?;
-        letters = placed.event.into_letters(alloc);
-    }
-    Ok(())
-}
-
-/// Gives the monitor an event, or says what is answered where it is refused or violates a formula.
-fn take<L: Ledger>(
-    alloc: Global,
-    rv: &mut Rv,
-    placed: &Placed,
-    steps: &mut Steps<L>,
-) -> Result<(), Answer>
-    requires clean { IsTrue (held rv.old).clean }
-    requires few { (held rv.old).arrived < 2 ^ 31 }
-    ensures specs { specs_of (held rv.new) ≡ specs_of (held rv.old) }
-    ensures rule { (held rv.new).rule ≡ (held rv.old).rule }
-    ensures dropping { (held rv.new).drop ≡ (held rv.old).drop }
-    ensures went { OnOk result ((h : History) → StandsFor (held rv.old) h
-        → GoesOn (held rv.old).rule (specs_of (held rv.old)) h placed.now (held rv.new)) }
-    ensures ended { IfErr result (λ answer. OrMemory answer ((h : History) → StandsFor (held rv.old) h
-        → Stops (held rv.old).rule (specs_of (held rv.old)) h placed.now answer)) }
-{
-    match rv.event(alloc, &placed.event, steps) {
-        Ok(Reply::Quiet) => Ok(()),
-        Ok(Reply::Arrived { .. }) => Ok(()),
-        Ok(Reply::Violation { spec, trace, tuple }) => Err(Answer::Violation {
-            spec,
-            trace,
-            tuple,
-        }),
-        Err(error) => Err(event_answer(error, placed.line)),
+    // An answer is large, so none is made before the end.
+    loop {
+        let placed = match source.next(alloc, &mut letters) {
+            Ok(Some(placed)) => placed,
+            Ok(None) => return Ok(()),
+            Err(fault) => return Err(line_answer(fault, 1)),
+        };
+        let reply = match rv.event(alloc, &placed.event, steps) {
+            Ok(reply) => reply,
+            Err(error) => return Err(event_answer(error, placed.line)),
+        };
+        match reply {
+            Reply::Quiet => {}
+            Reply::Arrived { .. } => {}
+            Reply::Violation { spec, trace, tuple } => {
+                return Err(Answer::Violation { spec, trace, tuple });
+            }
+        }
+        placed.event.return_letters(&mut letters);
     }
 }
 

@@ -95,7 +95,8 @@ fn a_line_says_letters(rt: HostRuntime) -> Result<(), Fail> {
     let alloc = rt.alloc();
     let table = names(alloc)?;
     let whole = read_event(alloc, b"\t{ \"a b\" ,go,else };{}\r", &table)?.ok_or("nothing")?;
-    let letters = whole.into_letters(alloc);
+    let mut letters = Letters::new(alloc);
+    whole.return_letters(&mut letters);
     assert_eq!(rt; letters.as_slice(), [letter(b'c'), letter(b'.')].as_slice());
     assert!(rt; read_event(alloc, b" # {", &table)?.is_none());
     Ok(())
@@ -148,10 +149,15 @@ fn files_say_events_by_lines(rt: HostRuntime) -> Result<(), Fail> {
     assert_eq!(rt; events.at(1).line, 4);
     assert_eq!(rt; events.at(2).line, 5);
     let mut lines = EventLines::new(file);
-    let first = lines.next(&table, Letters::new(alloc))?.ok_or("nothing")?;
+    let mut lent = Letters::new(alloc);
+    let first = lines.next(alloc, &table, &mut lent)?.ok_or("nothing")?;
     assert_eq!(rt; first.line, 2);
-    let lent = first.event.into_letters(alloc);
-    assert_eq!(rt; lines.next(&table, lent)?.ok_or("nothing")?.line, 4);
+    assert!(rt; lines.check(alloc)? == ());
+    first.event.return_letters(&mut lent);
+    assert_eq!(rt;
+        lines.next(alloc, &table, &mut lent)?.ok_or("nothing")?.line,
+        4
+    );
     assert!(rt;
         matches!(
             check_events(alloc, b"\n{}\n{a}{b}"),

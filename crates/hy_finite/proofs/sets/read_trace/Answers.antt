@@ -30,7 +30,7 @@ returns-in-Some-new c =
       sets,
       subst Q none spelled,
       short,
-      c.in-Some-new.ensures.made
+      c.in-Some-new.ensures.made ∙ c.replace.ensures.value
           ∙ trace-found c.args.names.now sets c.truncate.new.self c.read_word.new.letters
           c.truncate.ensures short kept,
     )
@@ -44,4 +44,4 @@ returns-in-None c =
     let letters = trace-found c.args.names.now sets c.truncate.new.self c.read_word.new.letters
     c.truncate.ensures short kept in
     absurd (trace-fits c.args.names.now c.args.text.now c.in-Some.word.rest.now sets
-    c.read_word.new.letters spelled short letters c.in-None.ensures.refused)
+    c.replace.result spelled short (c.replace.ensures.value ∙ letters) c.in-None.ensures.refused)

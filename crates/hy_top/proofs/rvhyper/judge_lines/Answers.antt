@@ -1,5 +1,15 @@
+use Rattle.std.proofs.Common.{Ok, Err, inl, inr}
 use Rattle.hy_top.proofs.Monitoring.{outcome-by}
 use Rattle.hy_top.proofs.rvhyper.judge_lines.Goals as goal
 
-pub returns : goal.returns
-returns c = outcome-by c.args.lengths c.args.drop _ _ c.of_lines-source.ensures.left c.judge.ensures
+pub returns-in-Ok : goal.returns-in-Ok
+returns-in-Ok c =
+    let good = c.judge-answer.ensures.read (Ok tt) c.in-Ok.ensures in
+    inl
+    (c.of_lines-source.ensures.all (Ok tt) good, outcome-by c.args.lengths c.args.drop _ _ c.of_lines-source.ensures.left (c.judge-answer.ensures.outcome good))
+
+pub returns-in-Err : goal.returns-in-Err
+returns-in-Err c =
+    let fault = c.in-Err.fault in
+    inr
+    (fault, c.of_lines-source.ensures.all (Err fault) (c.judge-answer.ensures.read (Err fault) c.in-Err.ensures), c.line_answer.ensures)

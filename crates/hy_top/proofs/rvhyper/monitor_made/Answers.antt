@@ -28,4 +28,5 @@ pub returns-clause-follows : goal.returns-clause-follows
 returns-clause-follows g c =
     let same : c.as_slice.result.now ≡ made_traces c.specs_in.new.names c.args.count = c.as_slice.ensures ∙ c.in-Ok-make_traces.ensures in
     made_follow g.S.Shelf _ _ c.args.specs.now c.args.count c.args.lengths c.args.drop _ _ (rw c.requires.empty at c.in-Ok.ensures.taken) _
-    (outcome-by c.args.lengths c.args.drop _ _ (λ es left. c.of_traces-source.ensures.left es left ∙ ap (whole_traces 0) same) c.judge.ensures)
+    (outcome-by c.args.lengths c.args.drop _ _ (λ es left. c.of_traces-source.ensures.left es left ∙ ap (whole_traces 0) same)
+    (c.judge.ensures.outcome c.of_traces-source.ensures.good))

@@ -5,7 +5,7 @@ use Rattle.hy_top.proofs.EventSteps.{Passed}
 use Rattle.hy_top.proofs.watching.watch_events.Given as goal
 
 abbrev pub invariant-loop-placed : goal.invariant-loop-placed
-invariant-loop-placed g l = Passed (held l.fn.rv).rule (held l.fn.rv).drop (specs_of (held l.fn.rv)) l.source l.left (held l.rv)
+invariant-loop-placed g l = Passed (held l.fn.rv).rule (held l.fn.rv).drop (specs_of (held l.fn.rv)) l.fn.source l.source (held l.rv)
 
 abbrev pub decreases-loop-placed : goal.decreases-loop-placed
-decreases-loop-placed g l = count_left l.left
+decreases-loop-placed g l = count_left l.source

@@ -1,7 +1,6 @@
 use Rattle.std.proofs.Common.{◌<◌, ◌^◌, length, sym, subst}
-use Rattle.hy_formula.specs.Quantifiers.{Each}
+use Rattle.hy_finite.specs.EventAnswers.{AreChecked}
 use Rattle.hy_finite.specs.EventFiles.{SayEvents}
-use Rattle.hy_finite.specs.EventLines.{IsGood}
 use Rattle.hy_finite.specs.LinesLeft.{LinesLeft}
 use Rattle.hy_top.proofs.Sources.{few-lines}
 use Rattle.hy_top.proofs.source.Source.of_lines.Goals as goal
@@ -14,9 +13,9 @@ returns-clause-left c events left =
 pub returns-clause-few : goal.returns-clause-few
 returns-clause-few c =
     let P : LinesLeft → Type 0 = λ l. length l.lines < 2 ^ 31 in
-    subst P (sym c.new.ensures) (few-lines c.args.bytes.now c.requires.short)
+    subst P (sym c.new.ensures) (few-lines c.args.bytes.now c.requires)
 
-pub returns-clause-ready : goal.returns-clause-ready
-returns-clause-ready c =
-    let P : LinesLeft → Type 0 = λ l. Each IsGood l.lines in
-    subst P (sym c.new.ensures) c.requires.good
+pub returns-clause-all : goal.returns-clause-all
+returns-clause-all c found left =
+    let P : LinesLeft → Type 0 = λ l. AreChecked l found in
+    subst P c.new.ensures left
