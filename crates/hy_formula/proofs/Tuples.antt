@@ -4,7 +4,7 @@ use Rattle.std.specs.List.{Contains}
 use Rattle.std.proofs.lemmas.List.Elements.{Contains-append_right, Contains-append_cases}
 use Rattle.hy_formula.specs.Temporal.{Decided}
 use Rattle.hy_formula.specs.declared.prefix.Quant.TheVariants.{Exists, Forall}
-use Rattle.hy_formula.specs.Quantifiers.{Quantified, repeated, Each, IsTuple}
+use Rattle.hy_formula.specs.Quantifiers.{Quantified, repeated, IsTuple}
 use Rattle.hy_formula.proofs.Choices.{IsSearched}
 
 pub contains-here : {A : Type 0} (x : A) (xs : List A) → Contains (x ∷ xs) x

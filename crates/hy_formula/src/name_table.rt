@@ -1,5 +1,6 @@
-ghost use Rattle.std.specs.Prelude.{◌≡◌, ◌↔◌, ◌≤◌, ◌<◌, [], length, slice_get, Some, None, ◌++◌, ◌∷◌, IsTrue, IsErrOf, IfSome, IfOk, OnOk, OnErr};
+ghost use Rattle.std.specs.Prelude.{◌≡◌, ◌↔◌, ◌≤◌, ◌<◌, [], length, slice_get, Some, None, ◌++◌, ◌∷◌, IsTrue, IsErrOf, IfSome, IfOk, OnOk, OnErr, position};
 ghost use Rattle.hy_formula.specs.Names.{place_of, with_name, are_distinct};
+ghost use Rattle.hy_formula.specs.KeptNames.{is_named};
 ghost use Rattle.hy_formula.specs.declared.name_table.NameError.TheVariants.{Memory as OutOfMemory};
 
 use hy_base::{M, Memory};
@@ -11,6 +12,9 @@ use std::marker::Model;
 
 /// The most names that a table holds.
 const MAX_NAMES: usize = 64;
+
+/// So many names are sooner compared one by one than found by a hash.
+const FEW_NAMES: usize = 8;
 
 /// A name was not added.
 #[derive(Clone, Copy, Debug, PartialEq, Eq)]
@@ -82,8 +86,20 @@ impl NameTable {
         ensures place { result ≡ place_of name.now self.now }
         ensures within { IfSome result (λ k. k < 64) }
     {
-        let place = self.names.get_index_of(name)?;
+        let place = self.place(name)?;
         Some(place as u8)
+    }
+
+    /// As `find`. Few names are looked at one after another.
+    fn place(&self, name: &[u8]) -> Option<usize>
+        ensures place { result ≡ place_of name.now self.now }
+        ensures within { IfSome result (λ k. k < 64) }
+    {
+        let names = self.names.as_slice();
+        if names.len() <= FEW_NAMES {
+            return place_in(names, name);
+        }
+        self.names.get_index_of(name)
     }
 
     /// The name at place `i`.
@@ -128,4 +144,12 @@ impl NameTable {
         self.names.insert(owned)?;
         Ok(())
     }
+}
+
+/// The place of the first of the names that is this one, in time linear in the names.
+fn place_in(names: &[Vec<u8>], name: &[u8]) -> Option<usize>
+    ensures place { result ≡ position (is_named name.now) names.now }
+    ensures within { IfSome result (λ k. k < length names.now) }
+{
+    names.iter().position(|held| held.as_slice() == name)
 }
