@@ -14,16 +14,10 @@ use Rattle.trace_trie.specs.Numbered.{Numbered, AreTraces, tail}
 use Rattle.tuple_walk.specs.declared.place.Place.{Place}
 use Rattle.tuple_walk.specs.Finds.{numbers_of, traces_of, AreViolating, IsFirst, AllMeet, FirstMeet}
 use Rattle.tuple_walk.specs.JointPrefixes.{Row, IsPrefixOf, IsJointPrefix, IsFirstPrefix}
-use Rattle.tuple_walk.specs.Places.{AreSome, IsOpen}
+use Rattle.tuple_walk.specs.Places.{AreSome, IsOpen, starts}
 use Rattle.tuple_walk.specs.Searches.{state_over, AreFrom, IsTupleOf, AreRejected, AreAccepted, IsSearch, IsPrefixIn, AreSteps}
 use Rattle.tuple_walk.proofs.Lists.{map-take, map-set, map-of, map-from, each-at, apart-most}
 use Rattle.tuple_walk.proofs.Stepping.{left_at, all-judged, tuple-pairs}
-
--- n lists, that of one member at place p
-abbrev pub starts : List Numbered → Numbered → ℕ → ℕ → List (List Numbered)
-starts list x zero p = []
-starts list x (suc n) zero = (x ∷ []) ∷ replicate n list
-starts list x (suc n) (suc p) = list ∷ starts list x n p
 
 take-replicate : {A : Type 0} (n k : ℕ) (x : A) → n ≤ k → take n (replicate k x) ≡ replicate n x
 take-replicate zero k x le = refl
@@ -298,49 +292,18 @@ module _ (m : Machine) (is : IsMonitor m) (lengths : Lengths) (list : List Numbe
       all rows (first-prefix rows ts t (sym (ap (λ k. get_or ts k x.1) zero_p) ∙ at) has pre)) in
       omega (arith, s.many, most)
 
-  module _ (q : ℕ) (ls : List (List Numbered)) (start : q ≡ 0)
-      (same : ls ≡ starts list x m.variables p) where
-    pub from-some : (numbers : List ℕ) → AreRejected m lengths q ls numbers
-        → AreViolating m lengths list numbers × Contains numbers x.0
-        × (p ≡ 0 → IsFirst x.0 numbers)
-    from-some numbers r =
-        let P : ℕ → Type 0 = λ k. AreRejected m lengths k ls numbers in
-        let Q : List (List Numbered) → Type 0 = λ l. AreRejected m lengths 0 l numbers in
-        found-violating numbers (subst Q same (subst P start r))
-
-    pub from-no : AreAccepted m lengths q 0 ls
-        → (ts : List Trace) → IsTuple (Contains (traces_of list)) m.variables ts
-        → get_or ts p x.1 ≡ x.1 → Meets lengths m.body ts
-    from-no accepted =
-        let P : ℕ → Type 0 = λ k. AreAccepted m lengths k 0 ls in
-        let Q : List (List Numbered) → Type 0 = λ l. AreAccepted m lengths 0 0 l in
-        none-meets (subst Q same (subst P start accepted))
-
-    pub steps-joint : (made : ℕ) → AreSteps lengths ls made → (prefixes : List (List Row))
-        → ((rows : List Row) → IsJointPrefix lengths (traces_of list) x.1 m.variables rows
-        → Contains prefixes rows) → made ≤ length prefixes
-    steps-joint made s =
-        let Q : List (List Numbered) → Type 0 = λ l. AreSteps lengths l made in
-        joint-most made (subst Q same s)
-
-    pub steps-first : p ≡ 0 → (made : ℕ) → AreSteps lengths ls made → (prefixes : List (List Row))
-        → ((rows : List Row) → IsFirstPrefix lengths (traces_of list) x.1 m.variables rows
-        → Contains prefixes rows) → made ≤ length prefixes
-    steps-first zero_p made s =
-        let Q : List (List Numbered) → Type 0 = λ l. AreSteps lengths l made in
-        first-most zero_p made (subst Q same s)
-
-    pub first-some : p ≡ 0 → (r : Option (List ℕ)) → IsSearch m lengths q 0 ls r
-        → IfSome r (AreViolating m lengths list) × IfSome r (IsFirst x.0)
-        × IfNone r (FirstMeet m lengths (traces_of list) x.1)
-    first-some zero_p (Some numbers) r =
-        let (violating, has, first) = from-some numbers r in (violating, first zero_p, tt)
-    first-some zero_p None r = (
-      tt,
-      tt,
-      λ others t. from-no r (x.1 ∷ others) t
-          (ap (λ k. get_or (x.1 ∷ others) k x.1) zero_p),
-    )
+  pub first-search : p ≡ 0 → (r : Option (List ℕ))
+      → IsSearch m lengths 0 0 (starts list x m.variables p) r
+      → IfSome r (AreViolating m lengths list) × IfSome r (IsFirst x.0)
+      × IfNone r (FirstMeet m lengths (traces_of list) x.1)
+  first-search zero_p (Some numbers) r =
+      let (violating, has, first) = found-violating numbers r in (violating, first zero_p, tt)
+  first-search zero_p None r = (
+    tt,
+    tt,
+    λ others t. none-meets r (x.1 ∷ others) t
+        (ap (λ k. get_or (x.1 ∷ others) k x.1) zero_p),
+  )
 
 -- the trace stands somewhere
 pub meets-all : (m : Machine) (lengths : Lengths) (list : List Numbered) (t : Trace)

@@ -61,6 +61,28 @@ impl<'a> Walk<'a> {
         }
     }
 
+    /// As `search` before all letters, where the formula has one variable: the tuple is the given
+    /// trace. No place is made, and the stack stays flat.
+    pub(crate) fn follow_trace<L: Ledger>(
+        &self,
+        number: u32,
+        trace: &[LetterMask],
+        steps: &mut Steps<L>,
+    ) -> Option<Tuple>
+        requires one { (machine_in self.now).variables ≡ 1 }
+        ensures searched { IsSearch (machine_in self.now) self.now.lengths 0 0
+            (((number, trace.now) ∷ []) ∷ []) result }
+        ensures steps { steps.old ≤ steps.new }
+        ensures counted { AreSteps self.now.lengths (((number, trace.now) ∷ []) ∷ [])
+            (steps.new - steps.old) }
+    {
+        if self.rejects_rests(&[trace], self.monitor.start(), steps) {
+            Some(Tuple::new(self.alloc, [number, 0, 0, 0], 1))
+        } else {
+            None
+        }
+    }
+
     /// Whether the tuple of these rests is rejected from state `q` on. It is stepped once for each
     /// position on which it is judged, until nothing is rejected any more.
     fn rejects_rests<L: Ledger>(

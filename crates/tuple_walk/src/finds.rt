@@ -1,13 +1,15 @@
 //! Tuples of a version with a new trace.
 
-ghost use Rattle.std.specs.Prelude.{◌≡◌, ◌+◌, ◌*◌, ◌≤◌, ◌∷◌, ◌<◌, [], ℕ, List, length, replicate, set, take, IfSome, IfNone};
+ghost use Rattle.std.specs.Prelude.{◌≡◌, ◌+◌, ◌-◌, ◌*◌, ◌≤◌, ◌∷◌, ◌<◌, [], ℕ, List, length, replicate, set, take, IfSome, IfNone};
 ghost use Rattle.std.specs.List.{Contains};
 ghost use Rattle.hy_formula.specs.Quantifiers.{Each};
 ghost use Rattle.fin_monitor.specs.Seen.{machine_of};
 ghost use Rattle.tuple_walk.specs.Finds.{AreViolating, AllMeet, FirstMeet, IsFirst, traces_of};
 ghost use Rattle.tuple_walk.specs.Four.{four, rests};
-ghost use Rattle.tuple_walk.specs.Places.{IsOpen};
+ghost use Rattle.tuple_walk.specs.Places.{IsOpen, starts};
 ghost use Rattle.tuple_walk.specs.JointPrefixes.{Row, IsJointPrefix, IsFirstPrefix};
+ghost use Rattle.tuple_walk.specs.Searches.{IsSearch, AreSteps};
+ghost use Rattle.tuple_walk.specs.Walks.{machine_in};
 
 use crate::place::Place;
 use crate::places::Places;
@@ -29,7 +31,8 @@ use trace_trie::Version;
 /// prefix of such tuples is stepped at most once, and none from a state on from which nothing is
 /// rejected. For `n` variables a letter takes at most 2n + 3 frames of the stack, as long as more
 /// than one trace may still come at some place; from there on a tuple is walked in a loop, with a
-/// flat stack.
+/// flat stack. With one variable the trace alone is the one such tuple: no place is made, the stack
+/// stays flat, and the time is linear in the trace, until nothing is rejected any more.
 pub fn find<'a, L: Ledger>(
     alloc: Global,
     version: &'a Version,
@@ -52,18 +55,13 @@ pub fn find<'a, L: Ledger>(
         → steps.new ≤ steps.old + (machine_of monitor.now).variables * length prefixes }
 {
     version.numbers_ascend();
-    // From a settled state on nothing is rejected, so no place need be made.
-    if monitor.is_settled(monitor.start()) {
-        return None;
-    }
     let walk = Walk {
         alloc,
         monitor,
         lengths,
     };
     for place in 0..monitor.vars() as usize {
-        let places = start(version, place, number, trace);
-        match walk.search(&places, monitor.start(), steps) {
+        match walk.search_at(version, place, number, trace, steps) {
             Some(tuple) => return Some(tuple),
             None => {}
         }
@@ -72,7 +70,7 @@ pub fn find<'a, L: Ledger>(
 }
 
 /// As `find`, with the given trace at the first place. Each joint prefix of such tuples is stepped
-/// at most once.
+/// at most once. With one variable no place is made here either.
 pub fn find_first<'a, L: Ledger>(
     alloc: Global,
     version: &'a Version,
@@ -95,17 +93,65 @@ pub fn find_first<'a, L: Ledger>(
         → steps.new ≤ steps.old + length prefixes }
 {
     version.numbers_ascend();
-    // From a settled state on nothing is rejected, so no place need be made.
-    if monitor.is_settled(monitor.start()) {
-        return None;
-    }
     let walk = Walk {
         alloc,
         monitor,
         lengths,
     };
-    let places = start(version, 0, number, trace);
-    walk.search(&places, monitor.start(), steps)
+    walk.search_at(version, 0, number, trace, steps)
+}
+
+impl<'a> Walk<'a> {
+    /// A rejected tuple, with the given trace at the place and traces of the version at all others.
+    fn search_at<L: Ledger>(
+        &self,
+        version: &'a Version,
+        place: usize,
+        number: u32,
+        trace: &'a [LetterMask],
+        steps: &mut Steps<L>,
+    ) -> Option<Tuple>
+        requires member { Contains version.now (number, trace.now) }
+        requires within { place < (machine_in self.now).variables }
+        ensures searched { IsSearch (machine_in self.now) self.now.lengths 0 0
+            (starts version.now (number, trace.now) (machine_in self.now).variables place) result }
+        ensures steps { steps.old ≤ steps.new }
+        ensures counted { AreSteps self.now.lengths
+            (starts version.now (number, trace.now) (machine_in self.now).variables place)
+            (steps.new - steps.old) }
+    {
+        if self.monitor.vars() == 1 {
+            return self.follow_trace(number, trace, steps);
+        }
+        // From a settled state on nothing is rejected, so no place need be made.
+        if self.monitor.is_settled(self.monitor.start()) {
+            return None;
+        }
+        self.search_from(version, place, number, trace, steps)
+    }
+
+    /// As `search_at`, from places. These are large, so they stand in a function of their own, which
+    /// is not called where none is needed.
+    fn search_from<L: Ledger>(
+        &self,
+        version: &'a Version,
+        place: usize,
+        number: u32,
+        trace: &'a [LetterMask],
+        steps: &mut Steps<L>,
+    ) -> Option<Tuple>
+        requires member { Contains version.now (number, trace.now) }
+        requires within { place < (machine_in self.now).variables }
+        ensures searched { IsSearch (machine_in self.now) self.now.lengths 0 0
+            (starts version.now (number, trace.now) (machine_in self.now).variables place) result }
+        ensures steps { steps.old ≤ steps.new }
+        ensures counted { AreSteps self.now.lengths
+            (starts version.now (number, trace.now) (machine_in self.now).variables place)
+            (steps.new - steps.old) }
+    {
+        let places = start(version, place, number, trace);
+        self.search(&places, self.monitor.start(), steps)
+    }
 }
 
 /// The places before all letters, with the given trace alone at one place.
