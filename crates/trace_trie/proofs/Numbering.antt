@@ -1,9 +1,10 @@
--- Looking a number up in two lists, and taking it from them.
-use Rattle.std.proofs.Common.{◌≡◌, ℕ, false, not, cond, List, [], ◌∷◌, ◌++◌, length, Some, None, eqb, refl, ap, ◌∙◌, arith}
-use Rattle.std.proofs.lemmas.Bool.{ne_eqb}
+-- Looking a number up in two lists, and taking it from them; and what a walk along a list knows.
+use Rattle.std.proofs.Common.{◌≡◌, ℕ, suc, ◌<◌, ◌≤◌, Bool, true, false, not, cond, List, [], ◌∷◌, ◌++◌, length, drop, Some, None, eqb, get_or, refl, sym, ap, ◌∙◌, arith, drop-cons}
+use Rattle.std.proofs.lemmas.Bool.{ne_eqb, le-ltb}
 use Rattle.std.proofs.lemmas.List.Elements.{filter-append}
+use Rattle.std.specs.List.{filter}
 use Rattle.hy_formula.specs.Quantifiers.{Each}
-use Rattle.trace_trie.specs.Numbered.{Numbered, with_number, without_number}
+use Rattle.trace_trie.specs.Numbered.{Numbered, with_number, without_number, rest_from}
 
 pub without-other : (n : ℕ) (xs : List Numbered) → Each (λ (p : Numbered). p.0 ≡ n → ⊥) xs → without_number n xs ≡ xs
 without-other n [] h = refl
@@ -31,3 +32,18 @@ with-first n (x ∷ xs) ys h = ap (λ l. cond (eqb x.0 n) (Some x.1) l) (with-fi
 pub none-left : (xs : List Numbered) → length xs ≡ 0 → xs ≡ []
 none-left [] e = refl
 none-left (x ∷ xs) e = absurd (omega arith)
+
+pub rest-at : (n : ℕ) (xs : List Numbered) (i : ℕ) (x : Numbered) → i < length xs → x ≡ get_or xs i x → n ≤ x.0
+    → rest_from n (drop i xs) ≡ x ∷ drop (suc i) xs
+rest-at n xs i x lt is le =
+    ap (rest_from n) (drop-cons xs i x lt ∙ ap (λ h. h ∷ drop (suc i) xs) (sym is))
+    ∙ ap (λ b. cond b (rest_from n (drop (suc i) xs)) (x ∷ drop (suc i) xs)) (le-ltb x.0 n le)
+
+pub no_longer : {A : Type 0} (p : A → Bool) (xs : List A) → length (filter p xs) ≤ length xs
+no_longer p [] = omega arith
+no_longer {A} p (x ∷ xs) = step (p x) (no_longer p xs)
+  where
+    step : (b : Bool) → length (filter p xs) ≤ length xs
+        → length (cond b (x ∷ filter p xs) (filter p xs)) ≤ suc (length xs)
+    step true le = omega arith
+    step false le = omega arith

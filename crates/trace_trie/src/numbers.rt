@@ -23,9 +23,53 @@ pub(crate) struct Numbers {
 enum NumberTree {
     Nothing,
     One(u32, Rc<Trace>),
+    /// At least one trace.
+    Few(Bucket),
     /// The numbers of the first part are below the split, and those of the second are not. The
     /// count is about how many there are.
     Two(u32, u32, Rc<Numbers>, Rc<Numbers>),
+}
+
+/// Up to 16 traces by number in a list of their own, so that most traces need no node of the tree.
+/// Contracts see it as the list of their pairs. Each call takes time linear in them at most.
+#[derive(Drop)]
+struct Bucket {
+    traces: Vec<Held>,
+}
+
+/// A trace with its number. Contracts see the pair.
+#[derive(Drop)]
+struct Held {
+    number: u32,
+    trace: Rc<Trace>,
+}
+
+impl Model for Held {
+    ghost use Rattle.std.specs.Prelude.{ℕ, List};
+    ghost use Rattle.std.specs.Coded.{coded_ℕ, coded_list, coded×};
+    ghost use Rattle.std.specs.FinSet as set;
+    ghost use Rattle.hy_bits.specs.Letter.{Letter};
+
+    ghost Value = { ℕ × List Letter };
+
+    ghost coded = { coded× coded_ℕ (coded_list (set.code coded_ℕ)) };
+
+    ghost view = { λ h. (h.number, h.trace.value) };
+}
+
+impl Model for Bucket {
+    ghost use Rattle.std.specs.Prelude.{ℕ, ◌≤◌, List, length};
+    ghost use Rattle.std.specs.Coded.{coded_ℕ, coded_list, coded×};
+    ghost use Rattle.std.specs.FinSet as set;
+    ghost use Rattle.hy_bits.specs.Letter.{Letter};
+
+    ghost Value = { List (ℕ × List Letter) };
+
+    ghost coded = { coded_list (coded× coded_ℕ (coded_list (set.code coded_ℕ))) };
+
+    ghost view = { λ b. b.traces.items };
+
+    ghost invariant = { λ b. length b.traces.items ≤ 16 };
 }
 
 impl Model for Numbers {
@@ -61,13 +105,15 @@ impl Numbers {
         }
     }
 
-    /// An equal list that shares its nodes, in constant time.
+    /// An equal list that shares its nodes, in constant time; at most 16 traces are copied, which
+    /// takes memory.
     pub(crate) fn share(&self) -> M<Numbers>
         ensures { IfOk result (λ made. made ≡ self.now) }
     {
         let tree = match &self.tree {
             NumberTree::Nothing => NumberTree::Nothing,
             NumberTree::One(number, trace) => NumberTree::One(*number, trace.clone()?),
+            NumberTree::Few(bucket) => NumberTree::Few(bucket.share()?),
             NumberTree::Two(split, count, first, second) => {
                 NumberTree::Two(*split, *count, first.clone()?, second.clone()?)
             }
@@ -93,6 +139,7 @@ impl Numbers {
         match &self.tree {
             NumberTree::Nothing => None,
             NumberTree::One(number, trace) => Some((*number, trace)),
+            NumberTree::Few(bucket) => bucket.only(),
             NumberTree::Two(_, _, _, _) => None,
         }
     }
@@ -104,6 +151,7 @@ impl Numbers {
         match &self.tree {
             NumberTree::Nothing => None,
             NumberTree::One(number, _) => Some(*number),
+            NumberTree::Few(bucket) => bucket.first(),
             NumberTree::Two(_, _, first, _) => first.first(),
         }
     }
@@ -116,6 +164,7 @@ impl Numbers {
         match &self.tree {
             NumberTree::Nothing => None,
             NumberTree::One(held, trace) => { if *held == number { Some(trace) } else { None } }
+            NumberTree::Few(bucket) => bucket.get(number),
             NumberTree::Two(split, _, first, second) => {
                 if number < *split {
                     first.get(number)
@@ -142,6 +191,7 @@ impl Numbers {
                     Some((*number, trace))
                 }
             }
+            NumberTree::Few(bucket) => bucket.next(from),
             NumberTree::Two(split, _, first, second) => {
                 if *split <= from {
                     return second.next(from);
@@ -159,6 +209,7 @@ impl Numbers {
         match &self.tree {
             NumberTree::Nothing => 0,
             NumberTree::One(_, _) => 1,
+            NumberTree::Few(bucket) => bucket.len() as u32,
             NumberTree::Two(_, count, _, _) => *count,
         }
     }
@@ -203,9 +254,9 @@ impl Numbers {
         Numbers::joined(split, first, second)
     }
 
-    /// One trace more, whose number is above all. In time and memory logarithmic in their number
-    /// where none is taken away; what another version shares is copied first. Refused it changes
-    /// nothing.
+    /// One trace more, whose number is above all. In time logarithmic in their number where none
+    /// is taken away. It takes a place in a bucket, and for one trace in 16 two nodes; what another
+    /// version shares is copied first. Refused it changes nothing.
     pub(crate) fn add(&mut self, alloc: Global, number: u32, trace: &Rc<Trace>) -> M<()>
         requires { Each (λ (p : Numbered). p.0 < number) self.old }
         ensures added { OnOk result (self.new ≡ self.old ++ (number, trace.now.value) ∷ []) }
@@ -217,6 +268,7 @@ impl Numbers {
                 *count = count.saturating_add(1);
                 Ok(())
             }
+            NumberTree::Few(bucket) if bucket.len() < 16 => bucket.push(number, trace),
             _ => {
                 *self = self.beside(alloc, number, trace)?;
                 Ok(())
@@ -224,17 +276,40 @@ impl Numbers {
         }
     }
 
-    /// The list as first part, beside one trace more, whose number is above all.
+    /// The list with one trace more, whose number is above all: a trace alone goes into a bucket
+    /// with it, and any other list is the first part beside it.
     fn beside(&self, alloc: Global, number: u32, trace: &Rc<Trace>) -> M<Numbers>
         requires { Each (λ (p : Numbered). p.0 < number) self.now }
         ensures { IfOk result (λ made. made ≡ self.now ++ (number, trace.now.value) ∷ []) }
     {
-        let last = Numbers::one(number, trace.clone()?);
-        if self.is_empty() {
-            return Ok(last);
+        match &self.tree {
+            NumberTree::Nothing => Ok(Numbers::one(number, trace.clone()?)),
+            NumberTree::One(least, other) => {
+                let mut bucket = Bucket::new(alloc);
+                bucket.push(*least, other)?;
+                bucket.push(number, trace)?;
+                Ok(Numbers {
+                    tree: NumberTree::Few(bucket),
+                })
+            }
+            _ => {
+                let last = Numbers::one(number, trace.clone()?);
+                let all = Rc::new(alloc, self.share()?)?;
+                Numbers::with_second(alloc, number, &all, last)
+            }
         }
-        let all = Rc::new(alloc, self.share()?)?;
-        Numbers::with_second(alloc, number, &all, last)
+    }
+
+    /// The traces of a bucket. Takes no memory, and constant time.
+    fn of_bucket(bucket: Bucket) -> Numbers
+        ensures { result ≡ bucket }
+    {
+        if bucket.len() == 0 {
+            return Numbers::new();
+        }
+        Numbers {
+            tree: NumberTree::Few(bucket),
+        }
     }
 
     /// Whether there is no trace.
@@ -244,11 +319,13 @@ impl Numbers {
         match &self.tree {
             NumberTree::Nothing => true,
             NumberTree::One(_, _) => false,
+            NumberTree::Few(_) => false,
             NumberTree::Two(_, _, _, _) => false,
         }
     }
 
-    /// The list without a number. In time and memory as `add`.
+    /// The list without a number. In time as `add`, and as much memory: the nodes on the way and
+    /// one bucket are made anew.
     pub(crate) fn without(&self, alloc: Global, number: u32) -> M<Numbers>
         ensures { IfOk result (λ made. made ≡ without_number number self.now) }
     {
@@ -261,6 +338,7 @@ impl Numbers {
                     self.share()
                 }
             }
+            NumberTree::Few(bucket) => Ok(Numbers::of_bucket(bucket.without(alloc, number)?)),
             NumberTree::Two(split, _, first, second) => {
                 if number < *split {
                     let rest = first.without(alloc, number)?;
@@ -283,5 +361,123 @@ impl Clone for Numbers {
             Ok(made) => Ok(made),
             Err(_) => Err(AllocError),
         }
+    }
+}
+
+impl Bucket {
+    /// No trace. Takes no memory.
+    fn new(alloc: Global) -> Bucket
+        ensures { result ≡ [] }
+    {
+        Bucket {
+            traces: Vec::new(alloc),
+        }
+    }
+
+    /// An equal bucket. Takes memory for a list of as many traces.
+    fn share(&self) -> M<Bucket>
+        ensures { IfOk result (λ made. made ≡ self.now) }
+    {
+        let alloc = *self.traces.allocator();
+        let traces = Vec::from_clones(alloc, self.traces.as_slice())?;
+        Ok(Bucket { traces })
+    }
+
+    /// How many traces there are.
+    fn len(&self) -> usize
+        ensures count { result ≡ length self.now }
+        ensures limit { result ≤ 16 }
+    {
+        self.traces.len()
+    }
+
+    /// The trace with its number, where there is one and no other.
+    fn only(&self) -> Option<(u32, &Rc<Trace>)>
+        ensures some { IfSome result (λ p. self.now ≡ (p.0, p.1.now.value) ∷ []) }
+        ensures none { IfNone result (length self.now ≢ 1) }
+    {
+        if self.traces.len() == 1 {
+            let held = &self.traces[0];
+            Some((held.number, &held.trace))
+        } else {
+            None
+        }
+    }
+
+    /// The first number.
+    fn first(&self) -> Option<u32>
+        ensures { result ≡ first_number self.now }
+    {
+        if self.traces.is_empty() {
+            return None;
+        }
+        let held = &self.traces[0];
+        Some(held.number)
+    }
+
+    /// The trace with the number, where there is one.
+    fn get(&self, number: u32) -> Option<&Trace>
+        ensures some { IfSome result (λ t. with_number number self.now ≡ Some t.now) }
+        ensures none { IfNone result (with_number number self.now ≡ None) }
+    {
+        for held in &self.traces {
+            if held.number == number {
+                return Some(&held.trace);
+            }
+        }
+        None
+    }
+
+    /// The first trace whose number is not below `from`, with its number.
+    fn next(&self, from: u32) -> Option<(u32, &Trace)>
+        ensures some { IfSome result (λ p. (more : List Numbered)
+            × (rest_from from self.now ≡ (p.0, p.1.now) ∷ more)) }
+        ensures none { IfNone result (rest_from from self.now ≡ []) }
+    {
+        for held in &self.traces {
+            if from <= held.number {
+                let trace: &Trace = &held.trace;
+                return Some((held.number, trace));
+            }
+        }
+        None
+    }
+
+    /// One trace more. Refused it changes nothing.
+    fn push(&mut self, number: u32, trace: &Rc<Trace>) -> M<()>
+        requires { length self.old < 16 }
+        ensures added { OnOk result (self.new ≡ self.old ++ (number, trace.now.value) ∷ []) }
+        ensures unchanged { OnErr result (self.new ≡ self.old) }
+    {
+        let held = Held {
+            number,
+            trace: trace.clone()?,
+        };
+        self.traces.push(held)?;
+        Ok(())
+    }
+
+    /// A copy without a number.
+    fn without(&self, alloc: Global, number: u32) -> M<Bucket>
+        ensures { IfOk result (λ made. made ≡ without_number number self.now) }
+    {
+        let mut traces = Vec::new(alloc);
+        for held in &self.traces {
+            if held.number != number {
+                traces.push(held.clone()?)?;
+            }
+        }
+        Ok(Bucket { traces })
+    }
+}
+
+impl Clone for Held {
+    ghost is_clone = { λ held copy. copy ≡ held };
+
+    fn clone(&self) -> Result<Held, AllocError> {
+        Ok(Held {
+            number: self.number,
+            trace: self.trace.clone()?,
+        })
     }
 }

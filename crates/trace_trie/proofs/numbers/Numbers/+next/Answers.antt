@@ -7,12 +7,12 @@ use Rattle.trace_trie.proofs.numbers.Numbers.+next.Goals as goal
 pub returns-then-split-from-clause-some : goal.returns-then-split-from-clause-some
 returns-then-split-from-clause-some t c =
     let at = at_two c.self.view_is c.self.invariant c.in-Two.is in
-    rw (rest-second c.args.from at c.if-split-from.true, sym c.deref.ensures) c.next.ensures.some
+    rw (rest-second c.args.from at c.if-split-from.true, sym c.deref.ensures) c.next-then-split-from.ensures.some
 
 pub returns-then-split-from-clause-none : goal.returns-then-split-from-clause-none
 returns-then-split-from-clause-none t c =
     let at = at_two c.self.view_is c.self.invariant c.in-Two.is in
-    rw (rest-second c.args.from at c.if-split-from.true, sym c.deref.ensures) c.next.ensures.none
+    rw (rest-second c.args.from at c.if-split-from.true, sym c.deref.ensures) c.next-then-split-from.ensures.none
 
 pub returns-in-Some-clause-some : goal.returns-in-Some-clause-some
 returns-in-Some-clause-some t c =
