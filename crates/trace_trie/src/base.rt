@@ -55,7 +55,7 @@ impl Base {
         }
     }
 
-    /// Equal traces that share their nodes, in constant time and with no memory.
+    /// Equal traces that share their nodes, in constant time. Takes memory where they are a bucket.
     fn share(&self) -> M<Base>
         ensures { IfOk result (λ made. made ≡ self.now) }
     {

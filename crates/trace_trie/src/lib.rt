@@ -9,6 +9,7 @@
 #![tactic(auto)]
 
 mod base;
+mod bucket;
 mod cursor;
 mod forest;
 mod forest_made;

@@ -38,7 +38,7 @@ impl Node {
         }
     }
 
-    /// An equal node that shares what is below it, in constant time.
+    /// An equal node that shares what is below it, in constant time but for a bucket of its ends.
     pub(crate) fn share(&self) -> M<Node>
         ensures { IfOk result (λ made. passing made.ends made.children
             ≡ passing self.now.ends self.now.children) }
@@ -48,7 +48,7 @@ impl Node {
         Ok(Node { ends, children })
     }
 
-    /// A node as it stands behind a letter. Takes no memory, and constant time.
+    /// A node as it stands behind a letter. As `share`.
     pub(crate) fn behind(grown: Grown<'_>) -> M<Node>
         ensures { IfOk result (λ node. passing node.ends node.children ≡ left_in grown.entry) }
     {

@@ -1,6 +1,6 @@
 use Rattle.std.proofs.Common.{◌≡◌, drop}
 use Rattle.trace_trie.specs.Numbered.{rest_from}
-use Rattle.trace_trie.proofs.numbers.Bucket.next.Given as goal
+use Rattle.trace_trie.proofs.bucket.Bucket.next.Given as goal
 
 -- each number passed is below the first one wanted
 abbrev pub invariant-loop-held : goal.invariant-loop-held

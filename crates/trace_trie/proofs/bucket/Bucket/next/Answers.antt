@@ -1,7 +1,7 @@
 use Rattle.std.proofs.Common.{◌≡◌, suc, List, drop, sym, ap, ◌∙◌, subst, get_or}
 use Rattle.trace_trie.specs.Numbered.{Numbered, rest_from}
 use Rattle.trace_trie.proofs.Numbering.{rest-at}
-use Rattle.trace_trie.proofs.numbers.Bucket.next.Goals as goal
+use Rattle.trace_trie.proofs.bucket.Bucket.next.Goals as goal
 
 pub returns-then-from-held-clause-some : goal.returns-then-from-held-clause-some
 returns-then-from-held-clause-some c =

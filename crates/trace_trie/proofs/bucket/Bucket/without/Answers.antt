@@ -1,7 +1,7 @@
 use Rattle.std.proofs.Common.{List, not, eqb, length, take, ap, arith, length-take}
 use Rattle.trace_trie.specs.Numbered.{Numbered}
 use Rattle.trace_trie.proofs.Numbering.{no_longer}
-use Rattle.trace_trie.proofs.numbers.Bucket.without.Goals as goal
+use Rattle.trace_trie.proofs.bucket.Bucket.without.Goals as goal
 
 pub invariant_of-result : goal.invariant_of-result
 invariant_of-result c =

@@ -1,6 +1,6 @@
 use Rattle.std.proofs.Common.{◌≡◌, drop}
 use Rattle.trace_trie.specs.Numbered.{with_number}
-use Rattle.trace_trie.proofs.numbers.Bucket.get.Given as goal
+use Rattle.trace_trie.proofs.bucket.Bucket.get.Given as goal
 
 -- the number is not among those passed
 abbrev pub invariant-loop-held : goal.invariant-loop-held
