@@ -1,5 +1,5 @@
 -- What comes of a trace for one spec.
-use Rattle.std.proofs.Common.{◌≡◌, ◌↔◌, ◌≤◌, ◌<◌, ◌+◌, ℕ, zero, suc, Bool, true, false, IsTrue, List, [], ◌∷◌, ◌++◌, length, slice_get, Option, Some, None, inl, inr, refl, sym, ◌∙◌, subst, arith}
+use Rattle.std.proofs.Common.{◌≡◌, ◌↔◌, ◌≤◌, ◌<◌, ◌+◌, ℕ, zero, suc, Bool, true, false, IsTrue, List, [], ◌∷◌, ◌++◌, length, slice_get, Option, Some, None, option_to_list, inl, inr, refl, sym, ◌∙◌, subst, arith}
 use Rattle.std.specs.List.{Contains}
 use Rattle.std.proofs.lemmas.Option.{slice_get_within, same_Some}
 use Rattle.hy_formula.specs.Quantifiers.{Each}
@@ -17,15 +17,14 @@ use Rattle.rv_core.specs.Held.{spec_of}
 use Rattle.rv_core.specs.Keeping.{kept_at}
 use Rattle.rv_core.specs.Seen.{watched, watched_by}
 use Rattle.rv_core.specs.StepBounds.{IsBound, IsSpecBound}
-use Rattle.rv_core.specs.Versions.{versions}
 use Rattle.rv_core.proofs.Keepings.{covers-itself, traces-from, traces-push}
 use Rattle.rv_core.proofs.Seeing.{seen-at, kept-there}
 
 -- Where the only version has no such trace, none is held.
 pub only-not-held : (t : Trace) (first : Option (List Numbered)) (others : List (List Numbered))
     → length others ≡ 0 → (spec : ℕ) (version : List Numbered)
-    → slice_get (versions first others) spec ≡ Some version
-    → (¬ Each (IsHeld t) (versions first others)) → ¬ IsHeld t version
+    → slice_get (option_to_list first ++ others) spec ≡ Some version
+    → (¬ Each (IsHeld t) (option_to_list first ++ others)) → ¬ IsHeld t version
 only-not-held t None [] alone spec version at not_all held = absurd (cc)
 only-not-held t (Some first) [] alone zero version at not_all held =
     let same : first ≡ version = cc in

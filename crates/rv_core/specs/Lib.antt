@@ -8,5 +8,4 @@ pub mod Opened
 pub mod Replies
 pub mod Seen
 pub mod StepBounds
-pub mod Versions
 pub mod Watched

@@ -14,7 +14,6 @@ ghost use Rattle.rv_core.specs.StepBounds.{IsSpecBound, AreBounds};
 use crate::kept::Kept;
 use crate::reply::Reply;
 use crate::rv::Rv;
-use crate::versions::Versions;
 use hy_base::{M, Steps};
 use hy_finite::Trace;
 use std::alloc::Global;
@@ -64,7 +63,7 @@ impl Rv {
         if self.kept.all_hold(trace.as_slice()) {
             return Ok(Arrival::Known);
         }
-        let mut next = Versions::new(alloc);
+        let mut next = Kept::new(alloc);
         for i in 0..self.watches.len() {
             match self.outcome(alloc, i, trace, steps)? {
                 Outcome::Passes(version) => next.push(version)?,
@@ -74,7 +73,7 @@ impl Rv {
                 }
             }
         }
-        Ok(Arrival::Clean(Kept::of(alloc, next)?))
+        Ok(Arrival::Clean(next))
     }
 
     /// What would come of the trace for the spec with this number, where not each spec keeps an equal

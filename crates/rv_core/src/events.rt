@@ -42,10 +42,11 @@ impl Rv {
     /// spec that keeps an equal one; else they do not grow. The newest trace waits to be put with
     /// those that are kept until the next trace arrives or a save comes, which pay for it. Apart from
     /// that a whole trace that each spec keeps already takes no memory, and for each time linear in
-    /// its letters, and a save constant time: it shares what is kept and the open sessions. So the
-    /// first letter or end after it takes time and memory linear in the open sessions, the first
-    /// letter of a session in its letters too, and any other letter constant time but for growth. A
-    /// back frees what no save shares.
+    /// its letters. A save takes time linear in the number of specs, and memory for them where there
+    /// is more than one: it shares what is kept and the open sessions. So the first letter or end
+    /// after it takes time and memory linear in the open sessions, the first letter of a session in
+    /// its letters too, and any other letter constant time but for growth. A back frees what no save
+    /// shares.
     pub fn event<L: Ledger>(
         &mut self,
         alloc: Global,
@@ -148,7 +149,7 @@ impl Rv {
             return Err(RvError::Limit(Kind::Saves));
         }
         self.kept.settle()?;
-        let kept = self.kept.share()?;
+        let kept = self.kept.share(alloc)?;
         let sessions = self.sessions.share()?;
         self.saves.push(Saved {
             arrived: self.traces,

@@ -1,26 +1,25 @@
 //! What is kept of the traces that arrived, for each spec.
 
-ghost use Rattle.std.specs.Prelude.{◌≡◌, ◌↔◌, ◌<◌, [], List, length, replicate, slice_get, Some, IfOk, IsTrue};
+ghost use Rattle.std.specs.Prelude.{◌≡◌, ◌↔◌, ◌<◌, ◌++◌, ◌∷◌, [], List, length, replicate, slice_get, Some, IfOk, OnOk, OnErr, IsTrue};
 ghost use Rattle.hy_formula.specs.Quantifiers.{Each};
 ghost use Rattle.trace_trie.specs.Numbered.{Numbered, IsHeld};
 
-use crate::versions::Versions;
 use hy_base::M;
 use hy_bits::LetterMask;
 use std::alloc::Global;
 use std::marker::Model;
-use std::rc::Rc;
 use trace_trie::Version;
 
-/// For each spec the traces that are kept, by their numbers. Contracts see the list of these. Saves
-/// share it.
+/// For each spec the traces that are kept, by their numbers. Contracts see the list of these. Where
+/// there is one spec, as mostly, it takes no memory of its own.
 #[derive(Drop)]
 pub(crate) struct Kept {
-    versions: Rc<Versions>,
+    first: Option<Version>,
+    others: Vec<Version>,
 }
 
 impl Model for Kept {
-    ghost use Rattle.std.specs.Prelude.{ℕ, List};
+    ghost use Rattle.std.specs.Prelude.{◌≡◌, ◌++◌, ℕ, List, [], None, option_to_list};
     ghost use Rattle.std.specs.Coded.{coded_ℕ, coded_list, coded×};
     ghost use Rattle.std.specs.FinSet as set;
     ghost use Rattle.hy_bits.specs.Letter.{Letter};
@@ -29,46 +28,69 @@ impl Model for Kept {
 
     ghost coded = { coded_list (coded_list (coded× coded_ℕ (coded_list (set.code coded_ℕ)))) };
 
-    ghost view = { λ k. k.versions.value };
+    ghost view = { λ k. option_to_list k.first ++ k.others.items };
+
+    ghost invariant = { λ k. k.first ≡ None → k.others.items ≡ [] };
 }
 
 impl Kept {
-    /// These, by the numbers of the specs.
-    pub(crate) fn of(alloc: Global, versions: Versions) -> M<Kept>
-        ensures { IfOk result (λ made. made ≡ versions) }
+    /// No spec. Takes no memory.
+    pub(crate) fn new(alloc: Global) -> Kept
+        ensures { result ≡ [] }
     {
-        let versions = Rc::new(alloc, versions)?;
-        Ok(Kept { versions })
+        Kept {
+            first: None,
+            others: Vec::new(alloc),
+        }
+    }
+
+    /// Adds what is kept for the next spec. Refused it changes nothing.
+    pub(crate) fn push(&mut self, version: Version) -> M<()>
+        ensures added { OnOk result (self.new ≡ self.old ++ version ∷ []) }
+        ensures refused { OnErr result (self.new ≡ self.old) }
+    {
+        if self.first.is_none() {
+            self.first = Some(version);
+            return Ok(());
+        }
+        self.others.push(version)?;
+        Ok(())
     }
 
     /// No traces, for each of so many specs.
     pub(crate) fn none(alloc: Global, specs: usize) -> M<Kept>
         ensures { IfOk result (λ made. made ≡ replicate specs []) }
     {
-        let mut versions = Versions::new(alloc);
+        let mut kept = Kept::new(alloc);
         for _spec in 0..specs {
-            versions.push(Version::new(alloc)?)?;
+            kept.push(Version::new(alloc)?)?;
         }
-        Kept::of(alloc, versions)
+        Ok(kept)
     }
 
-    /// The same, in constant time and with no memory.
-    pub(crate) fn share(&self) -> M<Kept>
+    /// The same, in time linear in the number of specs, and in memory where there is more than one.
+    pub(crate) fn share(&self, alloc: Global) -> M<Kept>
         ensures { IfOk result (λ made. made ≡ self.now) }
     {
-        let versions = self.versions.clone()?;
-        Ok(Kept { versions })
+        let mut kept = Kept::new(alloc);
+        let Some(first) = &self.first else {
+            return Ok(kept);
+        };
+        kept.push(first.share()?)?;
+        for version in &self.others {
+            kept.push(version.share()?)?;
+        }
+        Ok(kept)
     }
 
-    /// Lets no trace wait to be put with the others. So what a save shares is settled, and is left
-    /// as it is. Refused all is as before.
+    /// Lets no trace wait to be put with the others, up to the first spec for which that is refused.
     pub(crate) fn settle(&mut self) -> M<()>
         ensures { self.new ≡ self.old }
     {
-        match Rc::get_mut(&mut self.versions) {
-            None => Ok(()),
-            Some(versions) => versions.settle(),
+        if let Some(first) = &mut self.first {
+            first.settle()?;
         }
+        settle_all(&mut self.others)
     }
 
     /// What is kept for a spec.
@@ -76,7 +98,10 @@ impl Kept {
         requires { spec < length self.now }
         ensures { slice_get self.now spec ≡ Some result.now }
     {
-        self.versions.at(spec)
+        match &self.first {
+            Some(first) if spec == 0 => first,
+            _ => &self.others[spec - 1],
+        }
     }
 
     /// Whether these letters are those of some trace for each spec. Takes no memory, and time as
@@ -84,16 +109,41 @@ impl Kept {
     pub(crate) fn all_hold(&self, letters: &[LetterMask]) -> bool
         ensures { IsTrue result ↔ Each (IsHeld letters.now) self.now }
     {
-        self.versions.all_hold(letters)
+        if let Some(first) = &self.first {
+            if !first.holds(letters) {
+                return false;
+            }
+        }
+        for version in &self.others {
+            if !version.holds(letters) {
+                return false;
+            }
+        }
+        true
     }
 
-    /// As `Versions::is_held`.
+    /// Whether these letters are those of some trace for a spec. Not each spec has such a trace: so
+    /// where there is one alone nothing is looked for. Takes no memory, and else time as
+    /// `Version::holds`.
     pub(crate) fn is_held(&self, spec: usize, letters: &[LetterMask]) -> bool
         requires there { spec < length self.now }
         requires not_all { ¬ Each (IsHeld letters.now) self.now }
         ensures { (version : List Numbered) → slice_get self.now spec ≡ Some version
             → IsTrue result ↔ IsHeld letters.now version }
     {
-        self.versions.is_held(spec, letters)
+        if self.others.as_slice().is_empty() {
+            return false;
+        }
+        self.at(spec).holds(letters)
     }
+}
+
+/// Settles each version, up to the first that is refused.
+fn settle_all(versions: &mut Vec<Version>) -> M<()>
+    ensures { versions.new.items ≡ versions.old.items }
+{
+    for version in versions.iter_mut() {
+        version.settle()?;
+    }
+    Ok(())
 }

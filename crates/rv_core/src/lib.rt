@@ -14,7 +14,6 @@ mod saved;
 mod session_map;
 mod session_word;
 mod sessions;
-mod versions;
 mod watch;
 
 pub use reply::Reply;

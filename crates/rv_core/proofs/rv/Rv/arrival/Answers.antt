@@ -5,8 +5,8 @@ use Rattle.hy_formula.specs.Quantifiers.{Each}
 use Rattle.hy_finite.specs.Traces.{Trace}
 use Rattle.trace_trie.specs.Numbered.{Numbered, IsHeld}
 use Rattle.rv_core.specs.declared.arrival.Outcome.{Outcome}
-use Rattle.rv_core.specs.Arrivals.{AreNext, IsPassed, IsNext, IsOutcome}
-use Rattle.rv_core.specs.Keeping.{AreBelow, kept_at}
+use Rattle.rv_core.specs.Arrivals.{IsPassed, IsNext, IsOutcome}
+use Rattle.rv_core.specs.Keeping.{kept_at}
 use Rattle.rv_core.specs.Seen.{watched, watched_by, held}
 use Rattle.rv_core.proofs.Below.{machine-some, next-below}
 use Rattle.rv_core.proofs.Bounding.{bounds-more, bounds-all}
@@ -118,12 +118,9 @@ pub returns-clause-arrival : goal.returns-clause-arrival
 returns-clause-arrival g c =
     let rv = c.args.self.now in
     let before = c.loop-i.invariant in
-    let P : List (List Numbered) → Type 0 =
-    AreNext rv.rule rv.drop_dominated (watched_by rv.watches) rv.traces c.args.trace.now rv.kept in
-    subst P (sym c.in_ok-of.ensures)
-    (all-made rv.rule rv.drop_dominated (watched_by rv.watches) rv.traces c.args.trace.now rv.kept
+    all-made rv.rule rv.drop_dominated (watched_by rv.watches) rv.traces c.args.trace.now rv.kept
     c.loop-i.next c.loop-i.i (omega (arith, length-map rv.watches watched)) before.long
-    before.passed before.right)
+    before.passed before.right
 
 pub returns-clause-below : goal.returns-clause-below
 returns-clause-below g c =
@@ -132,8 +129,7 @@ returns-clause-below g c =
     let ms = watched_by rv.watches in
     let before = c.loop-i.invariant in
     let next = all-made rv.rule rv.drop_dominated ms rv.traces t rv.kept c.loop-i.next c.loop-i.i
-    (omega (arith, length-map rv.watches watched)) before.long before.passed before.right in
-    subst (AreBelow (length rv.watches) (rv.traces + 1)) (sym c.in_ok-of.ensures) (
+    (omega (arith, length-map rv.watches watched)) before.long before.passed before.right in (
       next.long ∙ length-map rv.watches watched,
       next-below rv.rule rv.drop_dominated ms rv.traces t rv.kept c.loop-i.next next rv.below.1,
     )

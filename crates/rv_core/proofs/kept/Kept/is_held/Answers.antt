@@ -4,7 +4,7 @@ use Rattle.std.proofs.lemmas.Option.{same_Some}
 use Rattle.hy_formula.specs.Quantifiers.{Each}
 use Rattle.trace_trie.specs.Numbered.{Numbered, IsHeld}
 use Rattle.rv_core.proofs.Outcomes.{only-not-held}
-use Rattle.rv_core.proofs.versions.Versions.is_held.Goals as goal
+use Rattle.rv_core.proofs.kept.Kept.is_held.Goals as goal
 
 pub returns-then-is_empty : goal.returns-then-is_empty
 returns-then-is_empty c version at =
