@@ -1,11 +1,11 @@
 //! Events, given to a monitor one after another.
 
-ghost use Rattle.std.specs.Prelude.{◌≡◌, ◌+◌, ◌<◌, ◌^◌, IfOk, IfErr, OnOk, IsTrue, length};
+ghost use Rattle.std.specs.Prelude.{◌≡◌, ◌<◌, ◌^◌, IfOk, IfErr, OnOk, length};
 ghost use Rattle.rv_core.specs.Held.{StandsFor, specs_of};
 ghost use Rattle.rv_core.specs.Seen.{held};
 ghost use Rattle.rv_core.specs.Histories.{History, empty_history};
 ghost use Rattle.hy_top.specs.Monitoring.{EventsCome, AreKeptCounts, IsNoViolation};
-ghost use Rattle.hy_top.specs.Watching.{OrMemory, IsEventAnswer, GoesOn, Stops, AreLeft, count_left, AreNumbered, AreGood, AreRead, IsThrough};
+ghost use Rattle.hy_top.specs.Watching.{OrMemory, IsEventAnswer, AreLeft, count_left, AreNumbered, AreGood, AreRead, IsThrough};
 
 use crate::source::Source;
 use hy_answer::{Answer, line_answer};
