@@ -123,7 +123,7 @@ module _ (m : Held) (e : Event) (t : Trace) (os : Open) (brings : Brings m e t o
   pub answered-arrival : (a : Arrival) (reply : Reply) → IsReplyTo m.arrived a reply
       → IsArrival m t a
       → Answers m (after_arrival (changed m m.kept m.arrived os m.clean) a) e (Ok reply)
-  answered-arrival arrival.Known reply r next =
+  answered-arrival arrival.Same reply r next =
       let P : Reply → Type 0 =
       λ q. Answers m (changed m m.kept (m.arrived + 1) os m.clean) e (Ok q) in
       subst P (sym r) (answered-clean m.kept next)

@@ -1,5 +1,5 @@
 -- What is kept of a list is of it, and covers it.
-use Rattle.std.proofs.Common.{◌≡◌, ℕ, ◌<◌, Bool, true, false, List, [], ◌∷◌, ◌++◌, length, if◌then◌else◌, inl, inr, refl, sym, ap, ◌∙◌, subst}
+use Rattle.std.proofs.Common.{◌≡◌, ℕ, ◌<◌, Bool, true, false, nat_eq, List, [], ◌∷◌, ◌++◌, length, if◌then◌else◌, inl, inr, refl, sym, ap, ◌∙◌, subst}
 use Rattle.std.specs.List.{Contains}
 use Rattle.std.proofs.lemmas.List.{length-map}
 use Rattle.hy_formula.specs.Quantifiers.{Each}
@@ -17,7 +17,7 @@ use Rattle.tuple_walk.specs.Finds.{traces_of}
 use Rattle.rv_core.specs.Endings.{Spec, spec_at}
 use Rattle.rv_core.specs.Held.{Held, specs_of, StandsFor, kept_count}
 use Rattle.rv_core.specs.Histories.{History}
-use Rattle.rv_core.specs.Keeping.{Covers, members_of, IsKept, IsKeptCount, kept_at}
+use Rattle.rv_core.specs.Keeping.{is_dropping, CoversIf, Covers, members_of, IsKept, IsKeptCount, kept_at}
 
 -- ---- pairs and their traces
 
@@ -78,21 +78,43 @@ member-from (q ∷ qs) x c =
 -- ---- what covers a trace
 
 module _ (rule : Lengths) where
+  itself-if : (b : Bool) (spec : Spec) (t : Trace) → CoversIf b rule spec t t
+  itself-if false spec t = refl
+  itself-if true spec t = over-itself rule spec.variables spec.body t
+
   pub covers-itself : (drop : Bool) (spec : Spec) (t : Trace) → Covers rule drop spec t t
-  covers-itself false spec t = refl
-  covers-itself true spec t = over-itself rule spec.variables spec.body t
+  covers-itself drop spec t = itself-if (is_dropping drop spec) spec t
+
+  through-if : (b : Bool) (spec : Spec) (t u v : Trace) → CoversIf b rule spec t u
+      → CoversIf b rule spec u v → CoversIf b rule spec t v
+  through-if false spec t u v e f = e ∙ f
+  through-if true spec t u v p q = over-through rule spec.variables spec.body t u v p q
 
   pub covers-through : (drop : Bool) (spec : Spec) (t u v : Trace) → Covers rule drop spec t u
       → Covers rule drop spec u v → Covers rule drop spec t v
-  covers-through false spec t u v e f = e ∙ f
-  covers-through true spec t u v p q = over-through rule spec.variables spec.body t u v p q
+  covers-through drop spec t u v p q = through-if (is_dropping drop spec) spec t u v p q
+
+  dominates-if : (b : Bool) (spec : Spec) (t u : Trace) → CoversIf b rule spec t u
+      → Dominates rule spec.variables spec.body t u
+  dominates-if false spec t u e =
+      let P : Trace → Type 0 = Dominates rule spec.variables spec.body t in
+      subst P e (over-itself rule spec.variables spec.body t)
+  dominates-if true spec t u o = o
 
   dominates : (drop : Bool) (spec : Spec) (t u : Trace) → Covers rule drop spec t u
       → Dominates rule spec.variables spec.body t u
-  dominates false spec t u e =
-      let P : Trace → Type 0 = Dominates rule spec.variables spec.body t in
-      subst P e (over-itself rule spec.variables spec.body t)
-  dominates true spec t u o = o
+  dominates drop spec t u o = dominates-if (is_dropping drop spec) spec t u o
+
+  -- where dominated ones are not dropped, what covers a trace equals it
+  pub covers-equal : (b : Bool) (spec : Spec) (t u : Trace) → b ≡ false
+      → CoversIf b rule spec t u → t ≡ u
+  covers-equal false spec t u e same = same
+  covers-equal true spec t u e o = absurd (cc)
+
+pub not-dropping : (drop : Bool) (spec : Spec) → drop ≡ false → nat_eq spec.variables 1 ≡ false
+    → is_dropping drop spec ≡ false
+not-dropping false spec e f = f
+not-dropping true spec e f = absurd (cc)
 
 -- ---- what is kept is of the list, and covers it
 

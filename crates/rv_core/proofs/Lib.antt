@@ -7,6 +7,8 @@ mod Calling
 mod Ending
 mod Keepings
 mod Leading
+mod Lone
+mod Making
 mod Outcomes
 mod Places
 mod Seeing

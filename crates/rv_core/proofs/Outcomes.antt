@@ -7,17 +7,17 @@ use Rattle.hy_finite.specs.declared.lengths.Lengths.{Lengths}
 use Rattle.hy_finite.specs.Traces.{Trace}
 use Rattle.fin_monitor.specs.Machines.{Machine}
 use Rattle.trace_trie.specs.Numbered.{Numbered, IsHeld}
-use Rattle.dominance.proofs.Elements.{each-from}
+use Rattle.dominance.proofs.Elements.{contains-here, contains-later, each-from}
 use Rattle.tuple_walk.specs.Finds.{AllMeet, traces_of}
 use Rattle.rv_core.specs.declared.arrival.Outcome.{Outcome}
-use Rattle.rv_core.specs.declared.arrival.Outcome.TheVariants.{Passes}
+use Rattle.rv_core.specs.declared.arrival.Outcome.TheVariants.{Stays, Passes}
 use Rattle.rv_core.specs.declared.watch.Watch.{Watch}
 use Rattle.rv_core.specs.Arrivals.{IsPassed, IsOver, AreLeft, none, stays, IsNext, over, last, IsOutcome, AreNext}
 use Rattle.rv_core.specs.Held.{spec_of}
-use Rattle.rv_core.specs.Keeping.{kept_at}
+use Rattle.rv_core.specs.Keeping.{is_dropping, kept_at}
 use Rattle.rv_core.specs.Seen.{watched, watched_by}
 use Rattle.rv_core.specs.StepBounds.{IsBound, IsSpecBound}
-use Rattle.rv_core.proofs.Keepings.{covers-itself, traces-from, traces-push}
+use Rattle.rv_core.proofs.Keepings.{covers-itself, covers-equal, traces-from, traces-push}
 use Rattle.rv_core.proofs.Seeing.{seen-at, kept-there}
 
 -- Where the only version has no such trace, none is held.
@@ -34,10 +34,9 @@ only-not-held t first (o ∷ os) alone spec version at not_all held = absurd (cc
 
 module _ (rule : Lengths) (m : Machine) (n : ℕ) (t : Trace) (old : List Numbered) where
   -- an equal one is kept
-  pub held-passes : (drop : Bool) (new : List Numbered) → IsHeld t old → new ≡ old
-      → IsOutcome rule drop m t n old (Passes new)
-  held-passes drop new (k, c) same =
-      (inl (k, c), over (k, t) c (covers-itself rule drop (spec_of m) t) same)
+  pub held-stays : (drop : Bool) → IsHeld t old → IsOutcome rule drop m t n old Stays
+  held-stays drop (k, c) =
+      (inl (k, c), over (k, t) c (covers-itself rule drop (spec_of m) t) refl)
 
   meets : AllMeet m rule (traces_of (old ++ (n, t) ∷ [])) t → IsPassed rule m t old
   meets all =
@@ -54,21 +53,29 @@ module _ (rule : Lengths) (m : Machine) (n : ℕ) (t : Trace) (old : List Number
 
   -- no equal one is kept
   module _ (absent : ¬ IsHeld t old) where
-    no-over : Each (λ (p : Numbered). ¬ IsOver rule false m t p) old
-    no-over =
-        each-from (λ (p : Numbered). ¬ IsOver rule false m t p) old (λ p c e.
-        let P : Trace → Type 0 = λ u. Contains old (p.0, u) in absent (p.0, subst P e c))
+    differ : (p : Numbered) → Contains old p → ¬ (p.1 ≡ t)
+    differ p c e = let P : Trace → Type 0 = λ u. Contains old (p.0, u) in absent (p.0, subst P e c)
 
-    left-all : (ps : List Numbered) → Each (λ (p : Numbered). ¬ IsOver rule false m t p) ps
-        → AreLeft rule false m t ps ps
-    left-all [] e = none
-    left-all (p ∷ ps) (here, e) = stays p ps ps (λ same. here (sym same)) (left-all ps e)
+    module _ (drop : Bool) (equal : is_dropping drop (spec_of m) ≡ false) where
+      no-over : Each (λ (p : Numbered). ¬ IsOver rule drop m t p) old
+      no-over =
+          each-from (λ (p : Numbered). ¬ IsOver rule drop m t p) old (λ p c o.
+          differ p c (covers-equal rule (is_dropping drop (spec_of m)) (spec_of m) p.1 t equal o))
 
-    pub all-pass : (new : List Numbered) → AllMeet m rule (traces_of new) t
-        → new ≡ old ++ (n, t) ∷ [] → IsOutcome rule false m t n old (Passes new)
-    all-pass new all added =
-        let P : List Numbered → Type 0 = λ ps. AllMeet m rule (traces_of ps) t in
-        (meets (subst P added all), last old no-over (left-all old no-over) added)
+      left-all : (ps : List Numbered) → ((p : Numbered) → Contains ps p → ¬ (p.1 ≡ t))
+          → AreLeft rule drop m t ps ps
+      left-all [] e = none
+      left-all (p ∷ ps) e =
+          stays p ps ps
+          (λ o. e p (contains-here p ps)
+          (sym (covers-equal rule (is_dropping drop (spec_of m)) (spec_of m) t p.1 equal o)))
+          (left-all ps (λ q c. e q (contains-later p q ps c)))
+
+      pub all-pass : (new : List Numbered) → AllMeet m rule (traces_of new) t
+          → new ≡ old ++ (n, t) ∷ [] → IsOutcome rule drop m t n old (Passes new)
+      all-pass new all added =
+          let P : List Numbered → Type 0 = λ ps. AllMeet m rule (traces_of ps) t in
+          (meets (subst P added all), last old no-over (left-all old differ) added)
 
     walk-bound : (bound : ℕ) → IsSpecBound rule m (traces_of old) t bound
         → IsBound rule m (traces_of (old ++ (n, t) ∷ [])) t bound
@@ -120,21 +127,6 @@ module _ (rule : Lengths) (watches : List Watch) (kept : List (List Numbered)) (
 
 -- ---- all specs
 
--- as many as there are specs
-pub all-made : (rule : Lengths) (drop : Bool) (ms : List Machine) (n : ℕ) (t : Trace)
-    (old made : List (List Numbered)) (i : ℕ) → i ≡ length ms → length made ≡ i
-    → ((s : ℕ) (m : Machine) → s < i → slice_get ms s ≡ Some m → IsPassed rule m t (kept_at old s))
-    → ((s : ℕ) (m : Machine) → s < i → slice_get ms s ≡ Some m
-    → IsNext rule drop m t n (kept_at old s) (kept_at made s))
-    → AreNext rule drop ms n t old made
-all-made rule drop ms n t old made i end long passed right = record {
-  long = long ∙ end;
-  passed = λ s m at.
-      let within = slice_get_within ms s m at in passed s m (omega arith) at;
-  right = λ s m at.
-      let within = slice_get_within ms s m at in right s m (omega arith) at;
-}
-
 -- an equal one is kept for each
 pub all-known : (rule : Lengths) (drop : Bool) (ms : List Machine) (n : ℕ) (t u : Trace)
     (kept : List (List Numbered)) → u ≡ t → length kept ≡ length ms → Each (IsHeld u) kept
@@ -152,9 +144,8 @@ all-known rule drop ms n t u kept same long holds = record {
     each-kept (list ∷ lists) (suc s) lt h = each-kept lists s (omega arith) h.1
 
     passes : (s : ℕ) (m : Machine) → slice_get ms s ≡ Some m
-        → IsOutcome rule drop m t n (kept_at kept s) (Passes (kept_at kept s))
+        → IsOutcome rule drop m t n (kept_at kept s) Stays
     passes s m there =
         let P : Trace → Type 0 = λ v. IsHeld v (kept_at kept s) in
         let lt : s < length kept = omega (arith, slice_get_within ms s m there, long) in
-        held-passes rule m n t (kept_at kept s) drop (kept_at kept s)
-        (subst P same (each-kept kept s lt holds)) refl
+        held-stays rule m n t (kept_at kept s) drop (subst P same (each-kept kept s lt holds))

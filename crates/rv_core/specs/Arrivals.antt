@@ -1,5 +1,5 @@
 -- What comes of a trace that arrives, for one spec and for all.
-use Rattle.std.specs.Prelude.{◌≡◌, ◌⊎◌, ℕ, ◌+◌, ◌<◌, Bool, false, List, [], ◌∷◌, ◌++◌, length, slice_get, Some}
+use Rattle.std.specs.Prelude.{◌≡◌, ◌⊎◌, ℕ, ◌+◌, ◌<◌, Bool, false, List, [], ◌∷◌, ◌++◌, length, slice_get, Option, Some, None}
 use Rattle.std.specs.List.{Contains}
 use Rattle.hy_formula.specs.Quantifiers.{Each}
 use Rattle.hy_finite.specs.declared.lengths.Lengths.{Lengths}
@@ -8,9 +8,9 @@ use Rattle.fin_monitor.specs.Machines.{Machine}
 use Rattle.trace_trie.specs.Numbered.{Numbered, IsHeld}
 use Rattle.tuple_walk.specs.Finds.{AreViolating, AllMeet, traces_of}
 use Rattle.rv_core.specs.declared.arrival.Outcome.{Outcome}
-use Rattle.rv_core.specs.declared.arrival.Outcome.TheVariants.{Passes, Violates}
+use Rattle.rv_core.specs.declared.arrival.Outcome.TheVariants.{Stays, Passes, Violates}
 use Rattle.rv_core.specs.declared.arrival.Arrival.{Arrival}
-use Rattle.rv_core.specs.declared.arrival.Arrival.TheVariants.{Known, Clean, Violation}
+use Rattle.rv_core.specs.declared.arrival.Arrival.TheVariants.{Same, Clean, Violation}
 use Rattle.rv_core.specs.Held.{Held, spec_of}
 use Rattle.rv_core.specs.Keeping.{Covers, AreBelow, kept_at}
 
@@ -47,6 +47,7 @@ module _ (rule : Lengths) (drop : Bool) (m : Machine) (t : Trace) where
 
   -- What comes of it: what is kept then, or a tuple that violates the body.
   abbrev pub IsOutcome : ℕ → List Numbered → Outcome → Type 0
+  IsOutcome n old Stays = IsPassed rule m t old × IsNext n old old
   IsOutcome n old (Passes new) = IsPassed rule m t old × IsNext n old new
   IsOutcome n old (Violates tuple) = AreViolating m rule (old ++ (n, t) ∷ []) tuple
 
@@ -70,15 +71,20 @@ pub record FirstFound (rule : Lengths) (machines : List Machine) (n : ℕ) (t : 
   pub before : (s : ℕ) (m : Machine) → s < k → slice_get machines s ≡ Some m
       → IsPassed rule m t (kept_at old s)
 
+-- what is kept then, where it changes, or else now
+abbrev pub kept_or : List (List Numbered) → Option (List (List Numbered)) → List (List Numbered)
+kept_or kept None = kept
+kept_or kept (Some next) = next
+
 abbrev pub IsArrival : Held → Trace → Arrival → Type 0
-IsArrival m t Known = AreNext m.rule m.drop m.machines m.arrived t m.kept m.kept
+IsArrival m t Same = AreNext m.rule m.drop m.machines m.arrived t m.kept m.kept
 IsArrival m t (Clean kept) = AreNext m.rule m.drop m.machines m.arrived t m.kept kept
 IsArrival m t (Violation spec tuple) =
     FirstFound m.rule m.machines m.arrived t m.kept spec tuple
 
 -- What is kept then, where it changes, has numbers below n, for so many specs.
 abbrev pub FitsIn : ℕ → ℕ → Arrival → Type 0
-FitsIn specs n Known = Unit {0}
+FitsIn specs n Same = Unit {0}
 FitsIn specs n (Clean kept) = AreBelow specs n kept
 FitsIn specs n (Violation spec tuple) = Unit {0}
 
@@ -96,8 +102,8 @@ with_kept m kept clean =
       clean = clean;
     }
 
--- What was kept stays where an equal one is, and after a violation.
+-- What was kept stays where nothing more is, and after a violation.
 abbrev pub after_arrival : Held → Arrival → Held
-after_arrival m Known = with_kept m m.kept m.clean
+after_arrival m Same = with_kept m m.kept m.clean
 after_arrival m (Clean kept) = with_kept m kept m.clean
 after_arrival m (Violation spec tuple) = with_kept m m.kept false

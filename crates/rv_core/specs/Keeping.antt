@@ -1,6 +1,6 @@
 -- What is kept of the traces that arrived, for a spec: those that no other one covers, of equal
 -- ones the first.
-use Rattle.std.specs.Prelude.{◌≡◌, ℕ, ◌<◌, Bool, true, false, List, [], ◌∷◌, length, map, slice_index_or}
+use Rattle.std.specs.Prelude.{◌≡◌, ℕ, ◌<◌, Bool, true, false, ◌||◌, nat_eq, List, [], ◌∷◌, length, map, slice_index_or}
 use Rattle.std.specs.Coded.{×_prop, Unit-prop, le_prop, Coded-set, coded_ℕ}
 use Rattle.hy_formula.specs.Quantifiers.{Each}
 use Rattle.hy_finite.specs.declared.lengths.Lengths.{Lengths}
@@ -11,11 +11,19 @@ use Rattle.dominance.specs.Leaders.{AreLeaders, numbered}
 use Rattle.dominance.specs.Leaders as leaders
 use Rattle.rv_core.specs.Endings.{Spec, spec_at}
 
+-- Dominated traces of the spec are dropped: where that is asked for, and where there is one variable.
+-- Then each trace is judged by itself, and one that satisfies the body dominates each other one.
+abbrev pub is_dropping : Bool → Spec → Bool
+is_dropping drop spec = drop || nat_eq spec.variables 1
+
 -- The first trace covers the other: it dominates it, where dominated ones are dropped; else they
 -- are equal.
+abbrev pub CoversIf : Bool → Lengths → Spec → Trace → Trace → Type 0
+CoversIf false rule spec t u = t ≡ u
+CoversIf true rule spec t u = Dominates rule spec.variables spec.body t u
+
 abbrev pub Covers : Lengths → Bool → Spec → Trace → Trace → Type 0
-Covers rule false spec t u = t ≡ u
-Covers rule true spec t u = Dominates rule spec.variables spec.body t u
+Covers rule drop spec t u = CoversIf (is_dropping drop spec) rule spec t u
 
 -- numbered traces as members that arrived
 abbrev pub members_of : List Numbered → List (leaders.Numbered Trace)

@@ -77,7 +77,7 @@ pub record IsAsBefore (old new : Held) : Type 0 where
 
 -- The answer where the trace with this number arrived, and this came of it.
 abbrev pub IsReplyTo : ℕ → Arrival → Reply → Type 0
-IsReplyTo trace arrival.Known reply = reply ≡ Arrived trace
+IsReplyTo trace arrival.Same reply = reply ≡ Arrived trace
 IsReplyTo trace (arrival.Clean kept) reply = reply ≡ Arrived trace
 IsReplyTo trace (arrival.Violation spec tuple) reply = reply ≡ Violation spec trace tuple
 

@@ -2,10 +2,11 @@
 
 ghost use Rattle.std.specs.Prelude.{◌≡◌, ◌+◌, ◌<◌, ◌≤◌, ◌^◌, ℕ, List, length, sum, slice_get, Some, IfOk};
 ghost use Rattle.hy_formula.specs.Quantifiers.{Each};
-ghost use Rattle.trace_trie.specs.Numbered.{IsHeld};
+ghost use Rattle.trace_trie.specs.Numbered.{Numbered, IsHeld};
 ghost use Rattle.fin_monitor.specs.Machines.{Machine};
 ghost use Rattle.tuple_walk.specs.Finds.{traces_of};
-ghost use Rattle.rv_core.specs.Arrivals.{IsOutcome, IsArrival, FitsIn, after_arrival};
+ghost use Rattle.rv_core.specs.Arrivals.{IsOutcome, IsArrival, FitsIn, after_arrival, kept_or};
+ghost use Rattle.rv_core.specs.declared.arrival.Arrival.TheVariants.{Same};
 ghost use Rattle.rv_core.specs.Keeping.{kept_at};
 ghost use Rattle.rv_core.specs.Replies.{IsReplyTo};
 ghost use Rattle.rv_core.specs.Seen.{watched_by};
@@ -24,6 +25,8 @@ use tuple_walk::Tuple;
 /// What comes of a trace for one spec.
 #[derive(Drop)]
 pub(crate) enum Outcome {
+    /// The spec is not violated, and what is kept for it stays.
+    Stays,
     /// The spec is not violated, and this is kept for it.
     Passes(Version),
     /// The spec is violated by these traces.
@@ -33,8 +36,8 @@ pub(crate) enum Outcome {
 /// What comes of a trace for all specs.
 #[derive(Drop)]
 pub(crate) enum Arrival {
-    /// For each spec an equal trace is kept, and nothing changes.
-    Known,
+    /// No spec is violated, and what is kept stays.
+    Same,
     /// No spec is violated, and this is kept.
     Clean(Kept),
     /// The first spec that is violated, and by which traces.
@@ -44,8 +47,8 @@ pub(crate) enum Arrival {
 impl Rv {
     ghost use Rattle.rv_core.specs.Seen.{held};
 
-    /// What would come of the trace. It takes all memory that its arrival takes: none, where an
-    /// equal one is kept for each spec.
+    /// What would come of the trace, where not each spec keeps an equal one. It takes all memory that
+    /// its arrival takes.
     pub(crate) fn arrival<L: Ledger>(
         &self,
         alloc: Global,
@@ -53,6 +56,7 @@ impl Rv {
         steps: &mut Steps<L>,
     ) -> M<Arrival>
         requires few { (held self.now).arrived < 2 ^ 31 }
+        requires not_all { ¬ Each (IsHeld trace.now) self.now.kept }
         ensures arrival { IfOk result (IsArrival (held self.now) trace.now) }
         ensures below { IfOk result
             (FitsIn (length self.now.watches) ((held self.now).arrived + 1)) }
@@ -60,28 +64,43 @@ impl Rv {
         ensures bounded { (bounds : List ℕ) → AreBounds (held self.now) trace.now bounds
             → steps.new ≤ steps.old + sum bounds }
     {
-        if self.kept.all_hold(trace.as_slice()) {
-            return Ok(Arrival::Known);
-        }
-        let mut next = Kept::new(alloc);
+        let mut next = None;
         for i in 0..self.watches.len() {
             match self.outcome(alloc, i, trace, steps)? {
-                Outcome::Passes(version) => next.push(version)?,
+                Outcome::Stays => {}
+                Outcome::Passes(version) => {
+                    let mut kept = self.kept_or_shared(alloc, next)?;
+                    kept.set(i, version);
+                    next = Some(kept);
+                }
                 Outcome::Violates(tuple) => {
                     let spec = i as u32;
                     return Ok(Arrival::Violation { spec, tuple });
                 }
             }
         }
-        Ok(Arrival::Clean(next))
+        match next {
+            Some(kept) => Ok(Arrival::Clean(kept)),
+            None => Ok(Arrival::Same),
+        }
+    }
+
+    /// This, or else what is kept now.
+    fn kept_or_shared(&self, alloc: Global, next: Option<Kept>) -> M<Kept>
+        ensures { IfOk result (λ kept. kept ≡ kept_or self.now.kept next) }
+    {
+        match next {
+            Some(kept) => Ok(kept),
+            None => self.kept.share(alloc),
+        }
     }
 
     /// What would come of the trace for the spec with this number, where not each spec keeps an equal
     /// one.
     ///
-    /// Where an equal one is kept there are no new tuples, and none is walked. Else the trace is
-    /// put with those that are kept and its tuples are walked; and where dominated ones are
-    /// dropped, it is compared with those.
+    /// Where an equal one is kept there are no new tuples, and none is walked. Else, with one variable
+    /// the trace is judged by itself. With more it is put with those that are kept and its tuples
+    /// are walked; and where dominated ones are dropped, it is compared with those.
     fn outcome<L: Ledger>(
         &self,
         alloc: Global,
@@ -106,7 +125,10 @@ impl Rv {
         let number = self.traces;
         let letters = trace.as_slice();
         if self.kept.is_held(spec, letters) {
-            return Ok(Outcome::Passes(kept.share()?));
+            return Ok(Outcome::Stays);
+        }
+        if watch.has_one_variable() {
+            return self.lone_outcome(alloc, spec, trace, steps);
         }
         let all = kept.insert(number, trace)?;
         match watch.find(alloc, self.rule, &all, number, letters, steps) {
@@ -119,6 +141,54 @@ impl Rv {
         }
     }
 
+    /// As `outcome`, where the body has one variable: the trace is judged by itself, and one of those
+    /// that satisfy the body is kept, which does as well as any other.
+    fn lone_outcome<L: Ledger>(
+        &self,
+        alloc: Global,
+        spec: usize,
+        trace: &Trace,
+        steps: &mut Steps<L>,
+    ) -> M<Outcome>
+        requires few { (held self.now).arrived < 2 ^ 31 }
+        requires there { spec < length self.now.watches }
+        requires absent { (version : List Numbered) → slice_get self.now.kept spec ≡ Some version
+            → ¬ IsHeld trace.now version }
+        requires one { (m : Machine) → slice_get (watched_by self.now.watches) spec ≡ Some m
+            → m.variables ≡ 1 }
+        ensures outcome { (m : Machine) → slice_get (watched_by self.now.watches) spec ≡ Some m
+            → IfOk result (IsOutcome self.now.rule self.now.drop_dominated m trace.now
+            self.now.traces (kept_at self.now.kept spec)) }
+        ensures counted { steps.old ≤ steps.new }
+        ensures bounded { (m : Machine) (bound : ℕ)
+            → slice_get (watched_by self.now.watches) spec ≡ Some m
+            → IsSpecBound self.now.rule m (traces_of (kept_at self.now.kept spec)) trace.now bound
+            → steps.new ≤ steps.old + bound }
+    {
+        let watch = self.watches.at(spec);
+        let kept = self.kept.at(spec);
+        let number = self.traces;
+        trace.len();
+        match watch.find_alone(alloc, self.rule, number, trace.as_slice(), steps) {
+            Some(tuple) => Ok(Outcome::Violates(tuple)),
+            None => match kept.next(0) {
+                Some(_) => Ok(Outcome::Stays),
+                None => Ok(Outcome::Passes(kept.insert(number, trace)?)),
+            },
+        }
+    }
+
+    /// The trace arrives, and what is kept stays.
+    pub(crate) fn take_same(&mut self) -> Reply
+        requires few { (held self.old).arrived < 2 ^ 31 }
+        ensures held { held self.new ≡ after_arrival (held self.old) Same }
+        ensures reply { IsReplyTo (held self.old).arrived Same result }
+    {
+        let trace = self.traces;
+        self.traces = trace + 1;
+        Reply::Arrived { trace }
+    }
+
     /// The trace arrives.
     pub(crate) fn take_arrival(&mut self, arrival: Arrival) -> Reply
         requires few { (held self.old).arrived < 2 ^ 31 }
@@ -129,7 +199,7 @@ impl Rv {
         let trace = self.traces;
         self.traces = trace + 1;
         match arrival {
-            Arrival::Known => Reply::Arrived { trace },
+            Arrival::Same => Reply::Arrived { trace },
             Arrival::Clean(kept) => {
                 self.kept = kept;
                 Reply::Arrived { trace }

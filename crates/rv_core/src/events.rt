@@ -31,7 +31,8 @@ impl Rv {
     /// arrived and the open sessions, and a back brings those that were put aside last. A trace
     /// that arrives is judged for each spec up to the first that is violated: where an equal one is
     /// kept nothing comes of it; else its tuples with what is kept are walked, and it is kept too
-    /// or, where dominated traces are dropped, compared with what is kept.
+    /// or, where dominated traces are dropped, compared with what is kept. With one variable it is
+    /// judged by itself, and no more than one trace is kept.
     ///
     /// `NoLetter` where the session that ends is not open, `NoSave` where there is nothing put
     /// aside; `Limit` where a session has 1,024 letters already, 1,024 sessions are open, or 64
@@ -89,6 +90,9 @@ impl Rv {
             → steps.new ≤ steps.old + sum bounds }
     {
         prove!(trace.len() > 0);
+        if self.kept.all_hold(trace.as_slice()) {
+            return Ok(self.take_same());
+        }
         self.kept.settle()?;
         let arrival = self.arrival(alloc, trace, steps)?;
         Ok(self.take_arrival(arrival))
@@ -132,6 +136,10 @@ impl Rv {
             return Err(RvError::NoLetter);
         };
         let trace = Trace::new(letters.copy(alloc)?).unwrap();
+        if self.kept.all_hold(trace.as_slice()) {
+            self.sessions.close(session)?;
+            return Ok(self.take_same());
+        }
         self.kept.settle()?;
         let arrival = self.arrival(alloc, &trace, steps)?;
         self.sessions.close(session)?;

@@ -1,6 +1,6 @@
 //! What is kept of the traces that arrived, for each spec.
 
-ghost use Rattle.std.specs.Prelude.{◌≡◌, ◌↔◌, ◌<◌, ◌++◌, ◌∷◌, [], List, length, replicate, slice_get, Some, IfOk, OnOk, OnErr, IsTrue};
+ghost use Rattle.std.specs.Prelude.{◌≡◌, ◌↔◌, ◌<◌, ◌++◌, ◌∷◌, [], List, length, replicate, slice_get, slice_set, Some, IfOk, OnOk, OnErr, IsTrue};
 ghost use Rattle.hy_formula.specs.Quantifiers.{Each};
 ghost use Rattle.trace_trie.specs.Numbered.{Numbered, IsHeld};
 
@@ -55,6 +55,18 @@ impl Kept {
         }
         self.others.push(version)?;
         Ok(())
+    }
+
+    /// This is kept for a spec instead. Takes no memory.
+    pub(crate) fn set(&mut self, spec: usize, version: Version)
+        requires { spec < length self.old }
+        ensures { self.new ≡ slice_set self.old spec version }
+    {
+        if spec == 0 {
+            self.first = Some(version);
+        } else {
+            self.others[spec - 1] = version;
+        }
     }
 
     /// No traces, for each of so many specs.

@@ -63,7 +63,8 @@ pub fn runs()
 
 /// For each spec it is said that as many traces are kept as have arrived; or, where dominated ones
 /// are dropped, as there are leaders. Of those that are kept none covers another, and one covers
-/// each that arrived: it dominates it where dominated ones are dropped, and else equals it.
+/// each that arrived: it dominates it where dominated ones are dropped or there is one variable, and
+/// else equals it.
 pub fn keeping()
     ensures counts { (m : Held) (h : History) (s : ℕ) → StandsFor m h → s < length (specs_of m)
         → IsKeptCount m.rule m.drop (spec_at (specs_of m) s) h.present.arrived (kept_count m s) }

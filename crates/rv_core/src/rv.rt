@@ -41,8 +41,7 @@ impl Rv {
 
     /// How many traces are kept for a spec, by its number. Where dominated ones are dropped these
     /// are the leaders, and it takes time linear in them, times the logarithm of their number. Else
-    /// each trace that has arrived counts, also one that is kept but once with its equals, in
-    /// constant time.
+    /// each trace that has arrived counts, also one that another stands for, in constant time.
     pub fn kept(&self, spec: u32) -> u32
         requires { spec < length (specs_of (held self.now)) }
         ensures { result ≡ kept_count (held self.now) spec }

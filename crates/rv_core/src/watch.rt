@@ -1,6 +1,6 @@
 //! What a spec is watched by.
 
-ghost use Rattle.std.specs.Prelude.{◌≡◌, ◌↔◌, ◌+◌, ◌<◌, ◌≤◌, ℕ, true, IfOk, IfSome, IfNone, IsTrue};
+ghost use Rattle.std.specs.Prelude.{◌≡◌, ◌↔◌, ◌+◌, ◌<◌, ◌≤◌, ◌∷◌, [], ℕ, true, nat_eq, length, IfOk, IfSome, IfNone, IsTrue};
 ghost use Rattle.std.specs.Coded.{→_prop};
 ghost use Rattle.hy_formula.specs.Quantifiers.{Each};
 ghost use Rattle.trace_trie.specs.Numbered.{Numbered};
@@ -21,7 +21,7 @@ use hy_finite::{Lengths, Trace};
 use std::alloc::Global;
 use std::sync::ledger::Ledger;
 use trace_trie::Version;
-use tuple_walk::{Tuple, find, find_first};
+use tuple_walk::{Tuple, find, find_alone, find_first};
 
 /// The monitor of a spec's body.
 #[derive(Drop)]
@@ -73,6 +73,37 @@ impl Watch {
         } else {
             find(alloc, kept, &self.monitor, number, trace, rule, steps)
         }
+    }
+
+    /// Whether the body has one variable.
+    pub(crate) fn has_one_variable(&self) -> bool
+        ensures { result ≡ nat_eq (watched self.now).variables 1 }
+    {
+        self.monitor.vars() == 1
+    }
+
+    /// The tuple of the trace alone, by this number, where it violates the body, which has one
+    /// variable. Takes no memory.
+    pub(crate) fn find_alone<L: Ledger>(
+        &self,
+        alloc: Global,
+        rule: Lengths,
+        number: u32,
+        trace: &[LetterMask],
+        steps: &mut Steps<L>,
+    ) -> Option<Tuple>
+        requires some { 1 ≤ length trace.now }
+        requires short { length trace.now ≤ 1024 }
+        requires one { (watched self.now).variables ≡ 1 }
+        ensures found { IfSome result
+            (AreViolating (watched self.now) rule ((number, trace.now) ∷ [])) }
+        ensures none { IfNone result
+            (AllMeet (watched self.now) rule (trace.now ∷ []) trace.now) }
+        ensures counted { steps.old ≤ steps.new }
+        ensures bounded { (bound : ℕ) → IsBound rule (watched self.now) (trace.now ∷ []) trace.now
+            bound → steps.new ≤ steps.old + bound }
+    {
+        find_alone(alloc, &self.monitor, number, trace, rule, steps)
     }
 
     /// What is kept with a new trace, where dominated ones are dropped: what was kept, if one of

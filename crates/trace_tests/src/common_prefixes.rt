@@ -15,7 +15,7 @@ use std::process::Abort;
 use std::sync::ledger::{Blank, Ledger};
 use std::test::Fail;
 use trace_trie::Version;
-use tuple_walk::{find, find_first};
+use tuple_walk::{find, find_alone, find_first};
 
 /// That not each of the variables, `n` of them, has the name of its own number at first.
 fn not_all(alloc: Global, n: u8) -> Result<Body, Fail>
@@ -151,6 +151,18 @@ fn rules<L: Ledger, R: AllocGlobal + Abort>(rt: &R, steps: &mut Steps<L>) -> Res
     tried(rt, &monitor, Lengths::Pad, longer, &[2, 0], &[2, 0], steps)
 }
 
+/// With one variable the trace alone.
+fn alone<L: Ledger, R: AllocGlobal + Abort>(rt: &R, steps: &mut Steps<L>) -> Result<(), Fail> {
+    let alloc = rt.alloc();
+    let (a, b) = (of(0), of(1));
+    let monitor = Monitor::build(alloc, &not_all(alloc, 1)?, 1)?;
+    let found = find_alone(alloc, &monitor, 7, &[a, b], Lengths::Min, steps).ok_or("no tuple")?;
+    let expected: &[u32] = &[7];
+    assert_eq!(rt; found.as_slice(), expected);
+    assert!(rt; find_alone(alloc, &monitor, 7, &[b, a], Lengths::Pad, steps).is_none());
+    Ok(())
+}
+
 fn all<L: Ledger, R: AllocGlobal + Abort>(rt: &R, blank: Blank) -> Result<(), Fail>
     requires name { blank.name ≡ L.name }
     requires parts { blank.parts ≡ L.parts }
@@ -158,7 +170,8 @@ fn all<L: Ledger, R: AllocGlobal + Abort>(rt: &R, blank: Blank) -> Result<(), Fa
 {
     let mut steps = Steps::<L>::new(blank);
     places(rt, &mut steps)?;
-    rules(rt, &mut steps)
+    rules(rt, &mut steps)?;
+    alone(rt, &mut steps)
 }
 
 #[test]

@@ -28,7 +28,7 @@ impl Clone for Forest {
 impl Forest {
     /// Puts in what is left of a trace from place `at` on. Its number is above all. In time and
     /// memory linear in how much of it another trace has too; what another version shares is copied
-    /// first. Refused it changes nothing.
+    /// first. Refused, for memory or from 2^64 - 2 children on, it changes nothing.
     pub(crate) fn plant(
         &mut self,
         alloc: Global,

@@ -319,3 +319,50 @@ one-more a b c k l le more made = omega (arith, le, more, made, add-mul k 1 l)
 
 pub within-times : (a b k n l : ℕ) → a ≤ b + k * l → k ≤ n → a ≤ b + n * l
 within-times a b k n l le more = omega (arith, le, mul-le-mul_right l more)
+
+-- one variable: the trace alone
+module _ (m : Machine) (is : IsMonitor m) (lengths : Lengths) (x : Numbered)
+    (some : 1 ≤ length x.1) (short : length x.1 ≤ 1024) (one : m.variables ≡ 1) where
+  lone-traces : AreTraces (x ∷ [])
+  lone-traces = ((some, short), tt)
+
+  lone-starts : starts (x ∷ []) x m.variables 0 ≡ (x ∷ []) ∷ []
+  lone-starts = ap (λ n. starts (x ∷ []) x n 0) one
+
+  first-place : 0 < m.variables
+  first-place = omega (arith, one)
+
+  pub lone-search : (r : Option (List ℕ)) → IsSearch m lengths 0 0 ((x ∷ []) ∷ []) r
+      → IfSome r (AreViolating m lengths (x ∷ [])) × IfSome r (λ numbers. Contains numbers x.0)
+      × IfNone r (AllMeet m lengths (x.1 ∷ []) x.1)
+  lone-search r search =
+      let P : List (List Numbered) → Type 0 = λ lists. IsSearch m lengths 0 0 lists r in
+      by r (subst P (sym lone-starts) search)
+    where
+      by : (r : Option (List ℕ)) → IsSearch m lengths 0 0 (starts (x ∷ []) x m.variables 0) r
+          → IfSome r (AreViolating m lengths (x ∷ [])) × IfSome r (λ numbers. Contains numbers x.0)
+          × IfNone r (AllMeet m lengths (x.1 ∷ []) x.1)
+      by (Some numbers) s =
+          let (violating, has, first) = found-violating m is lengths (x ∷ []) lone-traces x
+          (contains-here x []) 0 first-place numbers s in (violating, has, tt)
+      by None s = (
+        tt,
+        tt,
+        meets-all m lengths (x ∷ []) x.1 (λ k lt ts t at.
+            let Q : ℕ → Type 0 = λ j. get_or ts j x.1 ≡ x.1 in
+            let first : k ≡ 0 = omega (arith, lt, one) in
+            none-meets m is lengths (x ∷ []) lone-traces x (contains-here x []) 0 first-place s ts t
+            (subst Q first at)),
+      )
+
+  pub lone-most : (made : ℕ) → AreSteps lengths ((x ∷ []) ∷ []) made
+      → (prefixes : List (List Row))
+      → ((rows : List Row) → IsJointPrefix lengths (x.1 ∷ []) x.1 m.variables rows
+      → Contains prefixes rows) → made ≤ m.variables * length prefixes
+  lone-most made s prefixes all =
+      let P : List (List Numbered) → Type 0 = λ lists. AreSteps lengths lists made in
+      let most = joint-most m is lengths (x ∷ []) lone-traces x (contains-here x []) 0 first-place
+      made (subst P (sym lone-starts) s) prefixes all in
+      let same : m.variables * length prefixes ≡ 1 * length prefixes =
+      ap (λ n. n * length prefixes) one in
+      omega (arith, most, same)

@@ -101,6 +101,39 @@ pub fn find_first<'a, L: Ledger>(
     walk.search_at(version, 0, number, trace, steps)
 }
 
+/// As `find` for a formula with one variable: the one tuple with the given trace is that trace alone,
+/// so no version is asked. In time linear in the trace, until nothing is rejected any more, with a
+/// flat stack. Takes no memory.
+pub fn find_alone<L: Ledger>(
+    alloc: Global,
+    monitor: &Monitor,
+    number: u32,
+    trace: &[LetterMask],
+    lengths: Lengths,
+    steps: &mut Steps<L>,
+) -> Option<Tuple>
+    requires some { 1 ≤ length trace.now }
+    requires short { length trace.now ≤ 1024 }
+    requires one { (machine_of monitor.now).variables ≡ 1 }
+    ensures found { IfSome result
+        (AreViolating (machine_of monitor.now) lengths ((number, trace.now) ∷ [])) }
+    ensures given { IfSome result (λ numbers. Contains numbers number) }
+    ensures none { IfNone result
+        (AllMeet (machine_of monitor.now) lengths (trace.now ∷ []) trace.now) }
+    ensures counted { steps.old ≤ steps.new }
+    ensures bounded { (prefixes : List (List Row)) → ((rows : List Row)
+        → IsJointPrefix lengths (trace.now ∷ []) trace.now
+        (machine_of monitor.now).variables rows → Contains prefixes rows)
+        → steps.new ≤ steps.old + (machine_of monitor.now).variables * length prefixes }
+{
+    let walk = Walk {
+        alloc,
+        monitor,
+        lengths,
+    };
+    walk.follow_trace(number, trace, steps)
+}
+
 impl<'a> Walk<'a> {
     /// A rejected tuple, with the given trace at the place and traces of the version at all others.
     fn search_at<L: Ledger>(

@@ -12,5 +12,5 @@ mod spot;
 mod tuple;
 mod walk;
 
-pub use finds::{find, find_first};
+pub use finds::{find, find_alone, find_first};
 pub use tuple::Tuple;

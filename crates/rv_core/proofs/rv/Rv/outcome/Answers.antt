@@ -1,15 +1,20 @@
-use Rattle.std.proofs.Common.{◌<◌, List, Bool, sym, subst, arith}
+use Rattle.std.proofs.Common.{◌≡◌, ◌<◌, List, Bool, sym, ◌∙◌, subst, arith}
+use Rattle.std.proofs.lemmas.Bool.{eqb-true}
+use Rattle.fin_monitor.specs.Machines.{Machine}
+use Rattle.rv_core.specs.Held.{spec_of}
+use Rattle.rv_core.proofs.Keepings.{not-dropping}
+use Rattle.rv_core.proofs.Seeing.{same-watched}
 use Rattle.std.specs.List.{Contains}
 use Rattle.std.proofs.lemmas.List.Elements.{Contains-push}
 use Rattle.hy_formula.specs.Quantifiers.{Each}
 use Rattle.hy_finite.specs.Traces.{Trace}
 use Rattle.trace_trie.specs.Numbered.{Numbered, IsHeld}
 use Rattle.tuple_walk.specs.Finds.{AreViolating, AllMeet, traces_of}
-use Rattle.rv_core.specs.declared.arrival.Outcome.TheVariants.{Passes, Violates}
+use Rattle.rv_core.specs.declared.arrival.Outcome.TheVariants.{Stays, Passes, Violates}
 use Rattle.rv_core.specs.Arrivals.{IsOutcome}
 use Rattle.rv_core.specs.Seen.{watched}
 use Rattle.rv_core.proofs.Places.{each-at}
-use Rattle.rv_core.proofs.Outcomes.{held-passes, leaders-pass, all-pass, walk-steps, not-held, outcome-at, bound-at}
+use Rattle.rv_core.proofs.Outcomes.{held-stays, leaders-pass, all-pass, walk-steps, not-held, outcome-at, bound-at}
 use Rattle.rv_core.proofs.rv.Rv.outcome.Goals as goal
 
 pub insert-requires : goal.insert-requires
@@ -40,10 +45,10 @@ returns-then-is_held-clause-outcome g c m there =
     let old = c.at-kept.result.now in
     let P : Trace → Type 0 = λ u. IsHeld u old in
     outcome-at rv.rule rv.watches rv.kept t c.args.spec w old c.at-watch.ensures c.at-kept.ensures
-    m there rv.drop_dominated rv.traces (Passes c.in_ok-share.field-0)
-    (held-passes rv.rule (watched w) rv.traces t old rv.drop_dominated c.in_ok-share.field-0
-    (subst P c.as_slice-letters.ensures ((c.is_held.ensures old c.at-kept.ensures).0 c.if-is_held.true))
-    c.in_ok-share.ensures)
+    m there rv.drop_dominated rv.traces Stays
+    (held-stays rv.rule (watched w) rv.traces t old rv.drop_dominated
+    (subst P c.as_slice-letters.ensures
+    ((c.is_held.ensures old c.at-kept.ensures).0 c.if-is_held.true)))
 
 pub returns-in-Some-clause-outcome : goal.returns-in-Some-clause-outcome
 returns-in-Some-clause-outcome g c m there =
@@ -80,14 +85,14 @@ returns-in-None-2-clause-outcome g c m there =
     let old = c.at-kept.result.now in
     let made = c.in_ok-all.all in
     let P : Trace → Type 0 = AllMeet (watched w) rv.rule (traces_of made) in
-    let Q : Bool → Type 0 = λ b. IsOutcome rv.rule b (watched w) t rv.traces old (Passes made) in
     let absent = not-held c.is_held.result c.as_slice-letters.result.now t old (c.is_held.ensures old c.at-kept.ensures)
     c.as_slice-letters.ensures c.if-is_held.false in
+    let equal = not-dropping rv.drop_dominated (spec_of (watched w)) c.if-self.false
+    (sym c.has_one_variable.ensures ∙ c.if-has_one_variable.false) in
     outcome-at rv.rule rv.watches rv.kept t c.args.spec w old c.at-watch.ensures c.at-kept.ensures
     m there rv.drop_dominated rv.traces (Passes made)
-    (subst Q (sym c.if-self.false)
-    (all-pass rv.rule (watched w) rv.traces t old absent made
-    (subst P c.as_slice-letters.ensures c.in-None.ensures.none) c.in_ok-all.ensures))
+    (all-pass rv.rule (watched w) rv.traces t old absent rv.drop_dominated equal made
+    (subst P c.as_slice-letters.ensures c.in-None.ensures.none) c.in_ok-all.ensures)
 
 pub returns-in-Some-clause-bounded : goal.returns-in-Some-clause-bounded
 returns-in-Some-clause-bounded g c m bound there b =
@@ -155,3 +160,17 @@ pub is_held-requires-clause-not_all : goal.is_held-requires-clause-not_all
 is_held-requires-clause-not_all g c =
     let P : Trace → Type 0 = λ t. ¬ Each (IsHeld t) c.args.self.now.kept in
     subst P (sym c.as_slice-letters.ensures) c.requires.not_all
+
+pub lone_outcome-requires-clause-absent : goal.lone_outcome-requires-clause-absent
+lone_outcome-requires-clause-absent g c version at =
+    let t = c.args.trace.now in
+    not-held c.is_held.result c.as_slice-letters.result.now t version (c.is_held.ensures version at)
+    c.as_slice-letters.ensures c.if-is_held.false
+
+pub lone_outcome-requires-clause-one : goal.lone_outcome-requires-clause-one
+lone_outcome-requires-clause-one g c m there =
+    let rv = c.args.self.now in
+    let w = c.at-watch.result.now in
+    let P : Machine → Type 0 = λ q. q.variables ≡ 1 in
+    subst P (same-watched rv.watches c.args.spec w m c.at-watch.ensures there)
+    (eqb-true (watched w).variables 1 (sym c.has_one_variable.ensures ∙ c.if-has_one_variable.true))

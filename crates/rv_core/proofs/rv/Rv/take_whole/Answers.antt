@@ -1,13 +1,39 @@
-use Rattle.std.proofs.Common.{List, refl, Ok, Err, sym, subst, arith}
+use Rattle.std.proofs.Common.{List, refl, Ok, Err, sym, ◌∙◌, subst, arith}
+use Rattle.std.proofs.lemmas.List.{length-map}
 use Rattle.std.proofs.lemmas.Result.{err_from_is_err_and}
 use Rattle.hy_finite.specs.declared.event.Event.TheVariants as event
-use Rattle.trace_trie.specs.Numbered.{Numbered}
+use Rattle.hy_finite.specs.Traces.{Trace}
+use Rattle.hy_formula.specs.Quantifiers.{Each}
+use Rattle.trace_trie.specs.Numbered.{Numbered, IsHeld}
+use Rattle.rv_core.specs.declared.arrival.Arrival.TheVariants.{Same}
 use Rattle.rv_core.specs.Held.{Held}
 use Rattle.rv_core.specs.declared.rv_error.RvError.TheVariants as error
 use Rattle.rv_core.specs.Replies.{Answers}
-use Rattle.rv_core.specs.Seen.{held}
+use Rattle.rv_core.specs.Seen.{held, watched, watched_by}
 use Rattle.rv_core.proofs.Answering.{whole-brings, answered-arrival, memory-answer}
+use Rattle.rv_core.proofs.Outcomes.{all-known}
 use Rattle.rv_core.proofs.rv.Rv.take_whole.Goals as goal
+
+pub returns-then-all_hold-clause-answers : goal.returns-then-all_hold-clause-answers
+returns-then-all_hold-clause-answers g c =
+    let m = held c.args.self.now in
+    let rv = c.args.self.now in
+    let t = c.args.trace.now in
+    let P : Held → Type 0 = λ new. Answers m new (event.Whole t) (Ok c.take_same.result) in
+    subst P (sym c.take_same.ensures.held)
+    (answered-arrival m (event.Whole t) t m.sessions (whole-brings m t) refl (omega arith) Same
+    c.take_same.result c.take_same.ensures.reply
+    (all-known rv.rule rv.drop_dominated (watched_by rv.watches) rv.traces t
+    c.as_slice.result.now rv.kept c.as_slice.ensures
+    (rv.below.0 ∙ sym (length-map rv.watches watched)) (c.all_hold.ensures.0 c.if-all_hold.true)))
+
+pub arrival-requires-clause-not_all : goal.arrival-requires-clause-not_all
+arrival-requires-clause-not_all g c =
+    let P : Trace → Type 0 = λ t. ¬ Each (IsHeld t) c.args.self.now.kept in
+    let Q : List (List Numbered) → Type 0 = λ kept. ¬ Each (IsHeld c.args.trace.now) kept in
+    subst Q (sym c.settle.ensures)
+    (subst P c.as_slice.ensures
+    (λ all. let yes = c.all_hold.ensures.1 all in let no = c.if-all_hold.false in absurd (cc (yes, no))))
 
 pub returns-in_err-settle-clause-answers : goal.returns-in_err-settle-clause-answers
 returns-in_err-settle-clause-answers g c =
