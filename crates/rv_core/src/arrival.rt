@@ -6,7 +6,6 @@ ghost use Rattle.trace_trie.specs.Numbered.{Numbered, IsHeld};
 ghost use Rattle.fin_monitor.specs.Machines.{Machine};
 ghost use Rattle.tuple_walk.specs.Finds.{traces_of};
 ghost use Rattle.rv_core.specs.Arrivals.{IsOutcome, IsArrival, FitsIn, after_arrival, kept_or};
-ghost use Rattle.rv_core.specs.declared.arrival.Arrival.TheVariants.{Same};
 ghost use Rattle.rv_core.specs.Keeping.{kept_at};
 ghost use Rattle.rv_core.specs.Replies.{IsReplyTo};
 ghost use Rattle.rv_core.specs.Seen.{watched_by};
@@ -168,7 +167,7 @@ impl Rv {
         let watch = self.watches.at(spec);
         let kept = self.kept.at(spec);
         let number = self.traces;
-        trace.len();
+        prove!(trace.len() > 0);
         match watch.find_alone(alloc, self.rule, number, trace.as_slice(), steps) {
             Some(tuple) => Ok(Outcome::Violates(tuple)),
             None => match kept.next(0) {
@@ -176,17 +175,6 @@ impl Rv {
                 None => Ok(Outcome::Passes(kept.insert(number, trace)?)),
             },
         }
-    }
-
-    /// The trace arrives, and what is kept stays.
-    pub(crate) fn take_same(&mut self) -> Reply
-        requires few { (held self.old).arrived < 2 ^ 31 }
-        ensures held { held self.new ≡ after_arrival (held self.old) Same }
-        ensures reply { IsReplyTo (held self.old).arrived Same result }
-    {
-        let trace = self.traces;
-        self.traces = trace + 1;
-        Reply::Arrived { trace }
     }
 
     /// The trace arrives.

@@ -7,6 +7,7 @@ ghost use Rattle.rv_core.specs.Histories.{arrives};
 ghost use Rattle.rv_core.specs.Opened.{letters_in};
 ghost use Rattle.rv_core.specs.StepBounds.{AreBounds, Brings};
 
+use crate::arrival::Arrival;
 use crate::reply::Reply;
 use crate::rv::Rv;
 use crate::rv_error::RvError;
@@ -91,7 +92,7 @@ impl Rv {
     {
         prove!(trace.len() > 0);
         if self.kept.all_hold(trace.as_slice()) {
-            return Ok(self.take_same());
+            return Ok(self.take_arrival(Arrival::Same));
         }
         self.kept.settle()?;
         let arrival = self.arrival(alloc, trace, steps)?;
@@ -138,7 +139,7 @@ impl Rv {
         let trace = Trace::new(letters.copy(alloc)?).unwrap();
         if self.kept.all_hold(trace.as_slice()) {
             self.sessions.close(session)?;
-            return Ok(self.take_same());
+            return Ok(self.take_arrival(Arrival::Same));
         }
         self.kept.settle()?;
         let arrival = self.arrival(alloc, &trace, steps)?;

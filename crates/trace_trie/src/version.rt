@@ -108,7 +108,7 @@ impl Version {
         requires { Each (λ (p : Numbered). p.0 < number) self.now }
         ensures { IfOk result (λ made. made ≡ self.now ++ (number, trace.now) ∷ []) }
     {
-        trace.len();
+        prove!(trace.len() > 0);
         let trace = Rc::new(self.alloc, trace.remake(self.alloc)?)?;
         let base = self.settled()?;
         let newest = Some(Newest { number, trace });

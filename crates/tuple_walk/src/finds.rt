@@ -31,8 +31,7 @@ use trace_trie::Version;
 /// prefix of such tuples is stepped at most once, and none from a state on from which nothing is
 /// rejected. For `n` variables a letter takes at most 2n + 3 frames of the stack, as long as more
 /// than one trace may still come at some place; from there on a tuple is walked in a loop, with a
-/// flat stack. With one variable the trace alone is the one such tuple: no place is made, the stack
-/// stays flat, and the time is linear in the trace, until nothing is rejected any more.
+/// flat stack. For one variable `find_alone` does without a version.
 pub fn find<'a, L: Ledger>(
     alloc: Global,
     version: &'a Version,
@@ -70,7 +69,7 @@ pub fn find<'a, L: Ledger>(
 }
 
 /// As `find`, with the given trace at the first place. Each joint prefix of such tuples is stepped
-/// at most once. With one variable no place is made here either.
+/// at most once.
 pub fn find_first<'a, L: Ledger>(
     alloc: Global,
     version: &'a Version,
@@ -153,9 +152,6 @@ impl<'a> Walk<'a> {
             (starts version.now (number, trace.now) (machine_in self.now).variables place)
             (steps.new - steps.old) }
     {
-        if self.monitor.vars() == 1 {
-            return self.follow_trace(number, trace, steps);
-        }
         // From a settled state on nothing is rejected, so no place need be made.
         if self.monitor.is_settled(self.monitor.start()) {
             return None;
