@@ -1,0 +1,3 @@
+pub mod Branches
+pub mod Runs
+pub mod Words
