@@ -1,6 +1,6 @@
 //! Where the events of a run come from: the lines of a file, or traces that were made.
 
-ghost use Rattle.std.specs.Prelude.{◌≡◌, ◌<◌, ◌≤◌, ◌^◌, ℕ, List, Result, length, IfOk, IfErr};
+ghost use Rattle.std.specs.Prelude.{◌≡◌, ◌<◌, ◌≤◌, ◌^◌, ℕ, List, Result, length, IfOk, IfErr, OnErr};
 ghost use Rattle.hy_base.specs.declared.reading.TheConstants.{BYTES_LIMIT};
 ghost use Rattle.hy_text.specs.declared.line_error.LineError.{LineError as Fault};
 ghost use Rattle.hy_finite.specs.declared.event.Placed.{Placed};
@@ -72,7 +72,8 @@ impl<'a> Source<'a> {
     }
 
     /// The next event, if there is one. That of a line takes the memory of `letters`. As
-    /// `EventLines::next` where the next line is at fault; else only memory may be wanting.
+    /// `EventLines::next` where the next line is at fault; else only memory may be wanting. A refusal
+    /// leaves the source as it was.
     pub fn next(
         &mut self,
         alloc: Global,
@@ -82,6 +83,7 @@ impl<'a> Source<'a> {
         ensures next { IfOk result (λ next. IsNext self.old self.new next) }
         ensures read { AreRead self.old self.new }
         ensures ended { IfErr result (λ fault. AreGood self.old → fault ≡ LineError.Memory) }
+        ensures refused { OnErr result (self.new ≡ self.old) }
     {
         match *self {
             Source::Lines { mut lines, names } => {
