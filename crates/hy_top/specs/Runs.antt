@@ -1,5 +1,6 @@
 -- What a run answers, what it has read then, and what it writes.
-use Rattle.std.specs.Prelude.{◌≡◌, ℕ, ◌<◌, ◌⊎◌, false, List, [], length}
+use Rattle.std.specs.Borrow.{Bor}
+use Rattle.std.specs.Prelude.{◌≡◌, ℕ, ◌<◌, ◌⊎◌, false, List, [], ◌∷◌, length, Option, Some, None}
 use Rattle.hy_base.specs.Shelf.{ReadsFiles}
 use Rattle.hy_base.specs.Sink.{GivesWhole, FailsToGive}
 use Rattle.hy_base.specs.declared.shelf.Shelf.{Ghosts}
@@ -28,6 +29,15 @@ extras_of (decide formula states proof) = record { kept = false; proof = proof }
 extras_of (imply first second states proof) = record { kept = false; proof = proof }
 extras_of (compare first second states proof) = record { kept = false; proof = proof }
 extras_of (check circuit formula depth conflicts plain proof) = record { kept = false; proof = proof }
+
+-- Some words of some tool are the command.
+abbrev pub IsSaid : Command → Type 0
+IsSaid command = (tool : Tool) × (words : List (List ℕ)) × IsCommand tool words command
+
+-- the names of one file or two
+abbrev pub named : Bor (List ℕ) × Option (Bor (List ℕ)) → List (List ℕ)
+named (first, None) = first.now ∷ []
+named (first, Some second) = first.now ∷ second.now ∷ []
 
 -- This text is due with the answer: lassos are printed by the names of the command's formulas.
 pub record IsTextDue (command : Command) (given : Given) (answer : Answer) (text : List ℕ) : Type 0 where

@@ -4,10 +4,10 @@ ghost use Rattle.std.specs.Prelude.{◌≡◌, ◌⊎◌, ◌∷◌, List, [], �
 ghost use Rattle.hy_base.specs.Shelf.{KeepsShelf};
 ghost use Rattle.hy_base.specs.Sink.{KeepsSink};
 ghost use Rattle.hy_answer.specs.Outputs.{error_line, out_text, status_of, Received, plain};
-ghost use Rattle.hy_words.specs.Commands.{IsCommand, HasNoCommand};
+ghost use Rattle.hy_words.specs.Commands.{IsCommand, HasNoCommand, files_of};
 ghost use Rattle.hy_words.specs.Said.{said_by};
 ghost use Rattle.hy_words.specs.Words.{texts};
-ghost use Rattle.hy_top.specs.Runs.{Comes, IsWritten, Names};
+ghost use Rattle.hy_top.specs.Runs.{Comes, Follows, IsSaid, IsWritten, Names, extras_of, named};
 
 use crate::{eahyper, mchyper, rvhyper};
 use hy_answer::{Answer, Extras, out_text, status_of, write_error};
@@ -16,6 +16,12 @@ use hy_formula::NameTable;
 use hy_words::{Command, Tool, command_of};
 use mc_core::Ask;
 use std::alloc::Global;
+
+/// The text of an answer shows the verdict alone.
+const PLAIN: Extras = Extras {
+    kept: false,
+    proof: false,
+};
 
 /// The end of a run: its exit status, and what it answered.
 #[derive(Drop)]
@@ -46,94 +52,121 @@ pub fn run<S: Shelf, O: Sink, E: Sink>(
     ensures keeps_out { KeepsSink O.Sink out.old out.new }
     ensures keeps_err { KeepsSink E.Sink err.old err.new }
 {
-    let plain = Extras {
-        kept: false,
-        proof: false,
-    };
     let Ok(mut names) = NameTable::new(alloc) else {
         unreachable!()
     };
     let command = match command_in(alloc, tool, words) {
         Ok(command) => command,
-        Err(due) => return finish(alloc, due, plain, &names, &[], out, err),
+        Err(due) => return finish(alloc, due, PLAIN, &names, &[], out, err),
     };
+    let due = due_to(alloc, shelf, command, &mut names);
+    let extras = extras_of(command);
+    let (first, second) = files_of(command);
+    match second {
+        None => finish(alloc, due, extras, &names, &[first], out, err),
+        Some(second) => finish(alloc, due, extras, &names, &[first, second], out, err),
+    }
+}
+
+/// The answer that is due to a command. The names of its formulas are added to the empty table.
+fn due_to<S: Shelf>(
+    alloc: Global,
+    shelf: &mut S,
+    command: Command<'_>,
+    names: &mut NameTable,
+) -> Answer
+    requires empty { names.old ≡ [] }
+    requires said { IsSaid (said_by command) }
+    ensures keeps { KeepsShelf S.Shelf shelf.old shelf.new }
+    ensures follows { let told = said_by command.entry in
+        Follows S.Shelf shelf.old shelf.new told result
+        (out_text (extras_of told) names.new result) }
+{
     match command {
         Command::Monitor {
             specs,
             traces,
             lengths,
             drop,
-        } => {
-            let due = rvhyper::monitor(alloc, shelf, specs, traces, lengths, drop, &mut names);
-            let extras = Extras {
-                kept: drop,
-                proof: false,
-            };
-            finish(alloc, due, extras, &names, &[specs, traces], out, err)
-        }
+        } => rvhyper::monitor(alloc, shelf, specs, traces, lengths, drop, names),
         Command::MonitorMade {
             specs,
             count,
             lengths,
             drop,
-        } => {
-            let due = rvhyper::monitor_made(alloc, shelf, specs, count, lengths, drop, &mut names);
-            let extras = Extras {
-                kept: drop,
-                proof: false,
-            };
-            finish(alloc, due, extras, &names, &[specs], out, err)
-        }
+        } => rvhyper::monitor_made(alloc, shelf, specs, count, lengths, drop, names),
         Command::Judge { formula, lassos } => {
-            let due = eahyper::judge(alloc, shelf, formula, lassos, &mut names);
-            finish(alloc, due, plain, &names, &[formula, lassos], out, err)
+            eahyper::judge(alloc, shelf, formula, lassos, names)
         }
         Command::Decide {
             formula,
             states,
-            proof,
-        } => {
-            let due = eahyper::decide(alloc, shelf, formula, states, &mut names);
-            let extras = Extras { kept: false, proof };
-            finish(alloc, due, extras, &names, &[formula], out, err)
-        }
+            ..
+        } => eahyper::decide(alloc, shelf, formula, states, names),
         Command::Imply {
             first,
             second,
             states,
-            proof,
-        } => {
-            let due = eahyper::imply(alloc, shelf, (first, second), states, &mut names);
-            let extras = Extras { kept: false, proof };
-            finish(alloc, due, extras, &names, &[first, second], out, err)
-        }
+            ..
+        } => eahyper::imply(alloc, shelf, (first, second), states, names),
         Command::Compare {
             first,
             second,
             states,
-            proof,
-        } => {
-            let due = eahyper::compare(alloc, shelf, (first, second), states, &mut names);
-            let extras = Extras { kept: false, proof };
-            finish(alloc, due, extras, &names, &[first, second], out, err)
-        }
+            ..
+        } => eahyper::compare(alloc, shelf, (first, second), states, names),
         Command::Check {
             circuit,
             formula,
             depth,
             conflicts,
-            plain: bare,
-            proof,
+            plain,
+            ..
         } => {
             let ask = Ask {
                 depth,
                 conflicts,
-                plain: bare,
+                plain,
             };
-            let due = mchyper::check(alloc, shelf, (circuit, formula), &ask, &mut names);
-            let extras = Extras { kept: false, proof };
-            finish(alloc, due, extras, &names, &[circuit, formula], out, err)
+            mchyper::check(alloc, shelf, (circuit, formula), &ask, names)
         }
+    }
+}
+
+/// What the text of an answer to a command shows beside the verdict.
+fn extras_of(command: Command<'_>) -> Extras
+    ensures { result ≡ extras_of (said_by command.entry) }
+{
+    match command {
+        Command::Monitor { drop, .. } | Command::MonitorMade { drop, .. } => Extras {
+            kept: drop,
+            proof: false,
+        },
+        Command::Judge { .. } => PLAIN,
+        Command::Decide { proof, .. }
+        | Command::Imply { proof, .. }
+        | Command::Compare { proof, .. }
+        | Command::Check { proof, .. } => Extras { kept: false, proof },
+    }
+}
+
+/// The names of the files of a command, in the order in which they are read.
+fn files_of<'a>(command: Command<'a>) -> (&'a str, Option<&'a str>)
+    ensures { named result ≡ files_of (said_by command.entry) }
+{
+    match command {
+        Command::Monitor { specs, traces, .. } => (specs, Some(traces)),
+        Command::MonitorMade { specs, .. } => (specs, None),
+        Command::Judge { formula, lassos } => (formula, Some(lassos)),
+        Command::Decide { formula, .. } => (formula, None),
+        Command::Imply { first, second, .. } | Command::Compare { first, second, .. } => {
+            (first, Some(second))
+        }
+        Command::Check {
+            circuit,
+            formula,
+            ..
+        } => (circuit, Some(formula)),
     }
 }
 
