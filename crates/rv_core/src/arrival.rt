@@ -6,6 +6,7 @@ ghost use Rattle.trace_trie.specs.Numbered.{Numbered, IsHeld};
 ghost use Rattle.fin_monitor.specs.Machines.{Machine};
 ghost use Rattle.tuple_walk.specs.Finds.{traces_of};
 ghost use Rattle.rv_core.specs.Arrivals.{IsOutcome, IsArrival, FitsIn, after_arrival, kept_or};
+ghost use Rattle.rv_core.specs.declared.arrival.Arrival.TheVariants.{Same};
 ghost use Rattle.rv_core.specs.Keeping.{kept_at};
 ghost use Rattle.rv_core.specs.Replies.{IsReplyTo};
 ghost use Rattle.rv_core.specs.Seen.{watched_by};
@@ -177,6 +178,18 @@ impl Rv {
         }
     }
 
+    /// The trace arrives, and what is kept stays. So do most traces of a long run, and this is all
+    /// that they cost.
+    pub(crate) fn take_same(&mut self) -> Reply
+        requires few { (held self.old).arrived < 2 ^ 31 }
+        ensures held { held self.new ≡ after_arrival (held self.old) Same }
+        ensures reply { IsReplyTo (held self.old).arrived Same result }
+    {
+        let trace = self.traces;
+        self.traces = trace + 1;
+        Reply::Arrived { trace }
+    }
+
     /// The trace arrives.
     pub(crate) fn take_arrival(&mut self, arrival: Arrival) -> Reply
         requires few { (held self.old).arrived < 2 ^ 31 }
@@ -185,12 +198,12 @@ impl Rv {
         ensures reply { IsReplyTo (held self.old).arrived arrival result }
     {
         let trace = self.traces;
-        self.traces = trace + 1;
+        let reply = self.take_same();
         match arrival {
-            Arrival::Same => Reply::Arrived { trace },
+            Arrival::Same => reply,
             Arrival::Clean(kept) => {
                 self.kept = kept;
-                Reply::Arrived { trace }
+                reply
             }
             Arrival::Violation { spec, tuple } => {
                 self.clean = false;

@@ -7,7 +7,6 @@ ghost use Rattle.rv_core.specs.Histories.{arrives};
 ghost use Rattle.rv_core.specs.Opened.{letters_in};
 ghost use Rattle.rv_core.specs.StepBounds.{AreBounds, Brings};
 
-use crate::arrival::Arrival;
 use crate::reply::Reply;
 use crate::rv::Rv;
 use crate::rv_error::RvError;
@@ -92,7 +91,7 @@ impl Rv {
     {
         prove!(trace.len() > 0);
         if self.kept.all_hold(trace.as_slice()) {
-            return Ok(self.take_arrival(Arrival::Same));
+            return Ok(self.take_same());
         }
         self.kept.settle()?;
         let arrival = self.arrival(alloc, trace, steps)?;
@@ -139,7 +138,7 @@ impl Rv {
         let trace = Trace::new(letters.copy(alloc)?).unwrap();
         if self.kept.all_hold(trace.as_slice()) {
             self.sessions.close(session)?;
-            return Ok(self.take_arrival(Arrival::Same));
+            return Ok(self.take_same());
         }
         self.kept.settle()?;
         let arrival = self.arrival(alloc, &trace, steps)?;

@@ -80,11 +80,11 @@ returns-then-all_hold-clause-answers g c =
     c.unwrap-trace.ensures c.new.ensures.short in
     let known : letters_in c.args.session m.sessions ≡ Some t =
     sym c.in-Some.ensures.letters ∙ ap Some (sym (same ∙ c.in_ok-copy.ensures)) in
-    let P : Held → Type 0 = λ new. Answers m new (event.End c.args.session) (Ok c.take_arrival.result) in
-    subst P (sym c.take_arrival.ensures.held)
+    let P : Held → Type 0 = λ new. Answers m new (event.End c.args.session) (Ok c.take_same.result) in
+    subst P (sym c.take_same.ensures.held)
     (answered-arrival m (event.End c.args.session) t c.close.new.self
     (end-brings m c.args.session t c.close.new.self known c.in_ok-close.ensures.closed) refl
-    (omega (arith, short.0, ap length same)) Same c.take_arrival.result c.take_arrival.ensures.reply
+    (omega (arith, short.0, ap length same)) Same c.take_same.result c.take_same.ensures.reply
     (all-known rv.rule rv.drop_dominated (watched_by rv.watches) rv.traces t
     c.as_slice.result.now rv.kept c.as_slice.ensures
     (rv.below.0 ∙ sym (length-map rv.watches watched)) (c.all_hold.ensures.0 c.if-all_hold.true)))
@@ -111,13 +111,13 @@ returns-clause-answers g c =
     sym c.in-Some.ensures.letters ∙ ap Some (sym (same ∙ c.in_ok-copy.ensures)) in
     let mid : Held = record m { kept = c.settle.new.self } in
     let P : Held → Type 0 =
-    λ new. Answers mid new (event.End c.args.session) (Ok c.take_arrival-2.result) in
+    λ new. Answers mid new (event.End c.args.session) (Ok c.take_arrival.result) in
     let Q : List (List Numbered) → Type 0 =
-    λ kept. Answers (record m { kept = kept }) (held c.take_arrival-2.new.self)
-    (event.End c.args.session) (Ok c.take_arrival-2.result) in
+    λ kept. Answers (record m { kept = kept }) (held c.take_arrival.new.self)
+    (event.End c.args.session) (Ok c.take_arrival.result) in
     subst Q c.settle.ensures
-    (subst P (sym c.take_arrival-2.ensures.held)
+    (subst P (sym c.take_arrival.ensures.held)
     (answered-arrival mid (event.End c.args.session) t c.close-2.new.self
     (end-brings mid c.args.session t c.close-2.new.self known c.in_ok-close-2.ensures.closed) refl
-    (omega (arith, short.0, ap length same)) c.in_ok-arrival.arrival c.take_arrival-2.result
-    c.take_arrival-2.ensures.reply c.in_ok-arrival.ensures.arrival))
+    (omega (arith, short.0, ap length same)) c.in_ok-arrival.arrival c.take_arrival.result
+    c.take_arrival.ensures.reply c.in_ok-arrival.ensures.arrival))

@@ -19,10 +19,10 @@ returns-then-all_hold-clause-answers g c =
     let m = held c.args.self.now in
     let rv = c.args.self.now in
     let t = c.args.trace.now in
-    let P : Held → Type 0 = λ new. Answers m new (event.Whole t) (Ok c.take_arrival.result) in
-    subst P (sym c.take_arrival.ensures.held)
+    let P : Held → Type 0 = λ new. Answers m new (event.Whole t) (Ok c.take_same.result) in
+    subst P (sym c.take_same.ensures.held)
     (answered-arrival m (event.Whole t) t m.sessions (whole-brings m t) refl (omega arith) Same
-    c.take_arrival.result c.take_arrival.ensures.reply
+    c.take_same.result c.take_same.ensures.reply
     (all-known rv.rule rv.drop_dominated (watched_by rv.watches) rv.traces t
     c.as_slice.result.now rv.kept c.as_slice.ensures
     (rv.below.0 ∙ sym (length-map rv.watches watched)) (c.all_hold.ensures.0 c.if-all_hold.true)))
@@ -59,12 +59,12 @@ returns-clause-answers g c =
     let m = held c.args.self.now in
     let mid : Held = record m { kept = c.settle.new.self } in
     let P : Held → Type 0 =
-    λ new. Answers mid new (event.Whole c.args.trace.now) (Ok c.take_arrival-2.result) in
+    λ new. Answers mid new (event.Whole c.args.trace.now) (Ok c.take_arrival.result) in
     let Q : List (List Numbered) → Type 0 =
-    λ kept. Answers (record m { kept = kept }) (held c.take_arrival-2.new.self)
-    (event.Whole c.args.trace.now) (Ok c.take_arrival-2.result) in
+    λ kept. Answers (record m { kept = kept }) (held c.take_arrival.new.self)
+    (event.Whole c.args.trace.now) (Ok c.take_arrival.result) in
     subst Q c.settle.ensures
-    (subst P (sym c.take_arrival-2.ensures.held)
+    (subst P (sym c.take_arrival.ensures.held)
     (answered-arrival mid (event.Whole c.args.trace.now) c.args.trace.now m.sessions
     (whole-brings mid c.args.trace.now) refl (omega arith) c.in_ok-arrival.arrival
-    c.take_arrival-2.result c.take_arrival-2.ensures.reply c.in_ok-arrival.ensures.arrival))
+    c.take_arrival.result c.take_arrival.ensures.reply c.in_ok-arrival.ensures.arrival))
