@@ -1,7 +1,9 @@
 -- What a monitor stands for where a whole trace has arrived.
-use Rattle.std.proofs.Common.{◌≡◌, ℕ, zero, suc, ◌+◌, ◌<◌, List, [], ◌∷◌, ◌++◌, length, take, get_or, Result, Ok, sym, ap, ◌∙◌, subst, arith}
+use Rattle.std.proofs.Common.{◌≡◌, ℕ, suc, ◌+◌, ◌<◌, List, [], ◌∷◌, ◌++◌, length, take, get_or, Result, Ok, refl, sym, ap, ◌∙◌, subst, arith}
+use Rattle.std.proofs.lemmas.Option.{slice_get_read}
 use Rattle.hy_finite.specs.declared.event.Event.TheVariants as event
 use Rattle.hy_finite.specs.Traces.{Trace}
+use Rattle.tuple_walk.proofs.Lists.{take-more}
 use Rattle.rv_core.specs.declared.reply.Reply.{Reply}
 use Rattle.rv_core.specs.declared.reply.Reply.TheVariants.{Arrived}
 use Rattle.rv_core.specs.declared.rv_error.RvError.{RvError}
@@ -21,15 +23,10 @@ after-whole old new h t a n (violated next s k tuple goes-to is found off) same 
 after-whole old new h t a n (refused_by why stops stands) same = absurd (cc)
 after-whole old new h t a n (spent takes stands) same = absurd (cc)
 
-take-at : (xs : List Trace) (k : ℕ) (x : Trace) → k < length xs → x ≡ get_or xs k x
-    → take k xs ++ x ∷ [] ≡ take (suc k) xs
-take-at [] k x lt at = absurd (omega (arith, lt))
-take-at (y ∷ ys) zero x lt at = ap (λ (t : Trace). t ∷ []) at
-take-at (y ∷ ys) (suc k) x lt at =
-    ap (λ (ts : List Trace). y ∷ ts) (take-at ys k x (omega (arith, lt)) at)
-
 pub take-one : (xs : List Trace) (k : ℕ) (x y : Trace) → k < length xs → x ≡ get_or xs k x → y ≡ x
     → take k xs ++ y ∷ [] ≡ take (k + 1) xs
 take-one xs k x y lt at same =
     let one : suc k ≡ k + 1 = omega arith in
-    ap (λ (t : Trace). take k xs ++ t ∷ []) same ∙ take-at xs k x lt at ∙ ap (λ n. take n xs) one
+    ap (λ (t : Trace). take k xs ++ t ∷ []) same
+    ∙ sym (take-more xs k x (slice_get_read xs (length xs) k x refl lt at))
+    ∙ ap (λ n. take n xs) one

@@ -4,7 +4,6 @@ use Rattle.std.specs.List.{Contains}
 use Rattle.std.proofs.lemmas.List.{length-map}
 use Rattle.std.proofs.lemmas.List.Elements.{Contains-append_cases}
 use Rattle.std.proofs.lemmas.Option.{slice_get_within}
-use Rattle.hy_formula.specs.Quantifiers.{Each}
 use Rattle.hy_formula.proofs.Tuples.{contains-cases, contains-none}
 use Rattle.hy_finite.specs.declared.lengths.Lengths.{Lengths}
 use Rattle.hy_finite.specs.declared.lengths.Lengths.TheVariants.{Min}
@@ -14,7 +13,7 @@ use Rattle.dominance.specs.Dominance.{IsSymmetric}
 use Rattle.dominance.specs.Leaders.{AreLeaders, numbered}
 use Rattle.trace_trie.specs.Numbered.{Numbered}
 use Rattle.tuple_walk.specs.Finds.{traces_of}
-use Rattle.tuple_walk.proofs.Lists.{map-of, map-from}
+use Rattle.tuple_walk.proofs.Lists.{map-of, map-from, get-contains, each-at}
 use Rattle.rv_core.specs.Endings.{Spec}
 use Rattle.rv_core.specs.Held.{Held, spec_of, specs_of, StandsFor}
 use Rattle.rv_core.specs.Histories.{History}
@@ -41,15 +40,6 @@ bound-at f [] s q e = absurd (cc)
 bound-at f (m ∷ ms) zero q e =
     let same : m ≡ q = cc in ap (λ (x : Machine). f (spec_of x)) same
 bound-at f (m ∷ ms) (suc s) q e = bound-at f ms s q e
-
-each-spec : (P : Spec → Type 0) (ms : List Machine) (s : ℕ) (q : Machine)
-    → slice_get ms s ≡ Some q → Each P (map spec_of ms) → P (spec_of q)
-each-spec P [] s q e each = absurd (cc)
-each-spec P (m ∷ ms) zero q e each =
-    let same : m ≡ q = cc in
-    let Q : Machine → Type 0 = λ x. P (spec_of x) in
-    subst Q same each.0
-each-spec P (m ∷ ms) (suc s) q e each = each-spec P ms s q e each.1
 
 module _ (list : List Trace) (t : Trace) (words : List (List Trace))
     (branches : Branches list t words) where
@@ -125,4 +115,6 @@ module _ (m : Held) (h : History) (t : Trace) (words : List (List Trace)) (stand
       (λ s q kept there among.
       let Q : Lengths → Type 0 = λ l. P l (spec_of q) in
       first-bound h.present.arrived t words branches q kept among
-      (subst Q rule (each-spec (P m.rule) m.machines s q there symmetric)))
+      (subst Q rule
+      (each-at (P m.rule) (specs_of m) (spec_of q) symmetric
+      (map-of spec_of m.machines q (get-contains m.machines s q there)))))

@@ -4,12 +4,12 @@ use Rattle.std.specs.List.{Contains}
 use Rattle.std.proofs.lemmas.List.{length-map}
 use Rattle.std.proofs.lemmas.List.Elements.{Contains-append_left, Contains-append_right}
 use Rattle.hy_formula.specs.Quantifiers.{Each}
-use Rattle.hy_formula.proofs.Tuples.{contains-here, contains-cases, contains-none}
+use Rattle.hy_formula.proofs.Tuples.{contains-here}
 use Rattle.hy_finite.specs.Traces.{Trace, judged}
 use Rattle.hy_finite.specs.declared.lengths.Lengths.TheVariants.{Min}
 use Rattle.trace_trie.specs.Numbered.{tail}
 use Rattle.tuple_walk.specs.JointPrefixes.{Row, entry, rows_of, IsPrefixOf, IsJointPrefix, IsFirstPrefix}
-use Rattle.tuple_walk.proofs.Lists.{map-of}
+use Rattle.tuple_walk.proofs.Lists.{map-of, each-at, each-like}
 use Rattle.step_counts.specs.Branches.{Branches, counts_of, over_lengths}
 use Rattle.step_counts.proofs.Having.{firsts, having, in-firsts, in-having}
 
@@ -78,27 +78,20 @@ module _ (t : Trace) (chosen : Trace → List Trace → List (List Trace)) where
 
 -- ---- each member is as long as the tuple is judged
 
-shorter : (m k : ℕ) → m ≤ k → (us : List Trace) → Each (λ (v : Trace). k ≤ length v) us
-    → Each (λ (v : Trace). m ≤ length v) us
-shorter m k le [] h = tt
-shorter m k le (v ∷ vs) h = (omega (arith, h.0), shorter m k le vs h.1)
+-- at least m letters long
+abbrev IsLong : ℕ → Trace → Type 0
+IsLong m t = m ≤ length t
 
-each-long : (tuple : List Trace) → Each (λ (u : Trace). judged Min tuple ≤ length u) tuple
+each-long : (tuple : List Trace) → Each (IsLong (judged Min tuple)) tuple
 each-long [] = tt
 each-long (t ∷ []) = (omega arith, tt)
 each-long (t ∷ u ∷ ts) =
-    let more = each-long (u ∷ ts) in
-    let few : judged Min (t ∷ u ∷ ts) ≤ judged Min (u ∷ ts) = omega arith in
-    (omega arith, shorter (judged Min (t ∷ u ∷ ts)) (judged Min (u ∷ ts)) few (u ∷ ts) more)
-
-long-member : (tuple : List Trace) (t : Trace) (m : ℕ)
-    → Each (λ (u : Trace). m ≤ length u) tuple → Contains tuple t → m ≤ length t
-long-member [] t m h c = absurd (contains-none t c)
-long-member (u ∷ us) t m h c =
-    elim (contains-cases u t us c) [
-      | inl e ↦ omega (arith, h.0, ap (λ (v : Trace). length v) e)
-      | inr later ↦ long-member us t m h.1 later
-    ]
+    let rest = judged Min (u ∷ ts) in
+    let few : judged Min (t ∷ u ∷ ts) ≤ rest = omega arith in (
+      omega arith,
+      each-like (IsLong rest) (IsLong (judged Min (t ∷ u ∷ ts))) (λ v long. omega (arith, few, long))
+          (u ∷ ts) (each-long (u ∷ ts)),
+    )
 
 -- ---- all of them
 
@@ -116,7 +109,7 @@ module _ (list with_new : List Trace) (t : Trace) (words : List (List Trace))
     ]
 
     each-begins : (tuple : List Trace) → Each (Contains with_new) tuple
-        → Each (λ (u : Trace). suc k ≤ length u) tuple → Each Begins (map (take (suc k)) tuple)
+        → Each (IsLong (suc k)) tuple → Each Begins (map (take (suc k)) tuple)
     each-begins [] members long = tt
     each-begins (u ∷ us) members long =
         (begins u (omega (arith, long.0)) members.0, each-begins us members.1 long.1)
@@ -135,8 +128,10 @@ module _ (list with_new : List Trace) (t : Trace) (words : List (List Trace))
           by zero e = absurd (omega (arith, is.some, e))
           by (suc k) e =
               let le : suc k ≤ judged Min tuple = omega (arith, is.inside, e) in
-              let each = shorter (suc k) (judged Min tuple) le tuple (each-long tuple) in
-              let lt : k < length t = omega (arith, long-member tuple t (suc k) each one) in
+              let each =
+              each-like (IsLong (judged Min tuple)) (IsLong (suc k))
+              (λ v long. omega (arith, le, long)) tuple (each-long tuple) in
+              let lt : k < length t = omega (arith, each-at (IsLong (suc k)) tuple t each one) in
               let cut = map (take (suc k)) tuple in
               let same : rows ≡ rows_of cut (suc k) =
               is.same ∙ ap (rows_of tuple) e ∙ sym (rows-cut (suc k) tuple) in
