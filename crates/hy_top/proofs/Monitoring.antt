@@ -1,5 +1,5 @@
 -- What formulas come to on the events of a file, or on made traces, is the answer of the run.
-use Rattle.std.proofs.Common.{◌≡◌, ◌≤◌, ℕ, Bool, zero, suc, List, [], ◌∷◌, ◌++◌, length, Ok, inr, refl, sym, subst, append-nil, length-append, inl, arith}
+use Rattle.std.proofs.Common.{◌≡◌, ℕ, Bool, zero, suc, List, [], ◌∷◌, ◌++◌, length, Ok, inr, refl, sym, subst, append-nil, length-append, inl, arith}
 use Rattle.hy_base.specs.Shelf.{ReadsFile}
 use Rattle.hy_base.specs.declared.shelf.Shelf.{Ghosts}
 use Rattle.hy_formula.specs.Quantifiers.{Each}
@@ -17,9 +17,7 @@ use Rattle.hy_read.specs.Answers.{Plain}
 use Rattle.hy_answer.specs.declared.answer.Answer.{Answer}
 use Rattle.hy_answer.specs.declared.answer.Answer.TheVariants.{Prefix}
 use Rattle.hy_answer.specs.Outputs.{out_text}
-use Rattle.hy_words.specs.declared.tool.Tool.{Tool}
-use Rattle.hy_words.specs.declared.tool.Tool.TheVariants.{EaHyper, RvHyper, McHyper}
-use Rattle.hy_words.specs.Commands.{Command, monitor, monitor_made, files_of, IsCommand}
+use Rattle.hy_words.specs.Commands.{Command, monitor, monitor_made, files_of}
 use Rattle.hy_top.specs.Checking.{IsChecking}
 use Rattle.hy_top.specs.Classes.{is_universal, takes, file_of, FirstUntaken, AreTaken}
 use Rattle.hy_top.specs.Contents.{specifications, events}
@@ -223,10 +221,3 @@ made_follow g old new specs n lengths drop formulas names first a outcome =
 pub length-made : (known : List (List ℕ)) (n : ℕ) → length (made_traces known n) ≡ n
 length-made known zero = refl
 length-made known (suc n) = omega (arith, length-append (made_traces known n) (made_trace known n ∷ []), length-made known n)
-
--- Words ask for at most a million traces.
-pub few-made : (tool : Tool) (words : List (List ℕ)) (specs : List ℕ) (n : ℕ) (lengths : Lengths) (drop : Bool)
-    → IsCommand tool words (monitor_made specs n lengths drop) → n ≤ 1000000
-few-made RvHyper words specs n lengths drop (items, says, proper, (text, monitors, number)) = number.2
-few-made EaHyper words specs n lengths drop (items, says, proper, none) = absurd none
-few-made McHyper words specs n lengths drop (items, says, proper, none) = absurd none
