@@ -178,8 +178,8 @@ impl Rv {
         }
     }
 
-    /// The trace arrives, and what is kept stays. So do most traces of a long run, and this is all
-    /// that they cost.
+    /// The trace arrives, and what is kept stays. So do most traces of a long run, and they cost no
+    /// match over what may come of one.
     pub(crate) fn take_same(&mut self) -> Reply
         requires few { (held self.old).arrived < 2 ^ 31 }
         ensures held { held self.new ≡ after_arrival (held self.old) Same }
