@@ -14,3 +14,5 @@ mod lassos;
 mod plans;
 #[cfg(test)]
 mod walks;
+#[cfg(test)]
+mod worked;
