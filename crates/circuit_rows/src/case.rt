@@ -1,6 +1,8 @@
 //! Cases, and how their lines are read.
 
-use anyhow::{Context, Result, bail, ensure};
+use crate::report::report;
+use anyhow::{Context, Result, bail};
+use case_files::TestCase;
 use hy_base::Text;
 use std::alloc::Global;
 
@@ -34,13 +36,10 @@ pub struct Case {
     pub runs: Vec<String>,
 }
 
-impl Case {
-    /// The case that this line begins, which says nothing more yet.
-    pub fn begin(alloc: Global, directive: &str, text: &str) -> Result<Case> {
-        ensure!(directive == "case", "no case is open");
-        ensure!(!text.is_empty(), "a case has a name");
+impl TestCase for Case {
+    fn named(alloc: Global, name: &str) -> Result<Case> {
         Ok(Case {
-            name: String::from_str(alloc, text)?,
+            name: String::from_str(alloc, name)?,
             text: Text::new(alloc),
             refusal: String::new(alloc),
             wanted: Wanted::Own,
@@ -51,8 +50,7 @@ impl Case {
         })
     }
 
-    /// Takes one more line of the case.
-    pub fn take(&mut self, directive: &str, text: &str) -> Result<()> {
+    fn take(&mut self, alloc: Global, directive: &str, text: &str) -> Result<()> {
         match directive {
             "line" => push_line(&mut self.text, text)?,
             "part" => self.text.extend(text.as_bytes())?,
@@ -61,21 +59,21 @@ impl Case {
             "fault" => self.refusal.push_str(text)?,
             "limit" => self.refusal.push_str("limit")?,
             "copies" => self.wanted = Wanted::Copies(text.parse::<u8>().context("no number")?),
-            "oracles" => self.wanted = Wanted::Oracles(owned(self.runs.allocator(), text)?),
-            "safe" => self.wanted = Wanted::Safe(owned(self.runs.allocator(), text)?),
+            "oracles" => self.wanted = Wanted::Oracles(String::from_str(alloc, text)?),
+            "safe" => self.wanted = Wanted::Safe(String::from_str(alloc, text)?),
             "counts" => self.counts.push_str(text)?,
             "aag" => push_line(&mut self.aag, text)?,
             "aig" => push_line(&mut self.aig, text)?,
             "aig-bytes" => push_bytes(&mut self.aig, text)?,
-            "run" => self.runs.push(owned(self.runs.allocator(), text)?)?,
+            "run" => self.runs.push(String::from_str(alloc, text)?)?,
             _ => bail!("no line of a case begins with {directive:?}"),
         }
         Ok(())
     }
-}
 
-fn owned(alloc: &Global, text: &str) -> Result<String> {
-    Ok(String::from_str(*alloc, text)?)
+    fn holds(self, rt: &HostRuntime) -> Result<bool> {
+        report(rt, &self)
+    }
 }
 
 fn push_line(bytes: &mut Text, text: &str) -> Result<()> {

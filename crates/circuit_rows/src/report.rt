@@ -8,42 +8,15 @@ use anyhow::{Result, ensure};
 use bench_tools::{composed, formula_net, rows_text, run_of, safe_of};
 use hy_base::{BYTES_LIMIT, Text};
 use std::alloc::Global;
-use std::fmt;
 
-/// How many cases of a file were run, and how many gave another answer than the expected one.
-#[derive(Clone, Copy)]
-pub struct Tally {
-    cases: u64,
-    differ: u64,
-}
-
-impl Tally {
-    /// No case yet.
-    pub fn new() -> Tally {
-        Tally {
-            cases: 0,
-            differ: 0,
-        }
-    }
-}
-
-impl fmt::Display for Tally {
-    fn fmt<W: fmt::Write>(&self, f: &mut fmt::Formatter<W>) -> fmt::Result {
-        write!(f, "{} cases, {} differ", self.cases, self.differ)
-    }
-}
-
-/// Runs a case, counts it, and prints its name where something differs.
-pub fn report(rt: &HostRuntime, tally: &mut Tally, case: Case) -> Result<()> {
-    let alloc = rt.alloc();
-    tally.cases = tally.cases.saturating_add(1);
-    let said = answer(alloc, &case)?;
+/// Tries a case, and prints what differs behind its name. Says whether nothing does.
+pub fn report(rt: &HostRuntime, case: &Case) -> Result<bool> {
+    let said = answer(rt.alloc(), case)?;
     if said.is_empty() {
-        return Ok(());
+        return Ok(true);
     }
-    tally.differ = tally.differ.saturating_add(1);
     println!(rt; "{}: {said}", case.name)?;
-    Ok(())
+    Ok(false)
 }
 
 /// What differs, empty where nothing does.

@@ -1,7 +1,9 @@
 //! Cases, and how their lines are read.
 
 use crate::escape::{text_of, word_of};
+use crate::report::report;
 use anyhow::{Context, Result, bail, ensure};
+use case_files::TestCase;
 use hy_base::{File, FileList, NumList, Text};
 use hy_words::Tool;
 use std::alloc::Global;
@@ -63,13 +65,10 @@ pub struct Lassos {
     pub violate: Option<Text>,
 }
 
-impl Case {
-    /// The case that this line begins, which says nothing more yet.
-    pub fn begin(alloc: Global, directive: &str, text: &str) -> Result<Case> {
-        ensure!(directive == "case", "no case is open");
-        ensure!(!text.is_empty(), "a case has a name");
+impl TestCase for Case {
+    fn named(alloc: Global, name: &str) -> Result<Case> {
         Ok(Case {
-            name: String::from_str(alloc, text)?,
+            name: String::from_str(alloc, name)?,
             command: Command {
                 tool: None,
                 words: Vec::new(alloc),
@@ -92,8 +91,7 @@ impl Case {
         })
     }
 
-    /// Takes one more line of the case.
-    pub fn take(&mut self, alloc: Global, directive: &str, text: &str) -> Result<()> {
+    fn take(&mut self, alloc: Global, directive: &str, text: &str) -> Result<()> {
         match directive {
             "tool" => self.set_tool(text)?,
             "word" => self.command.words.push(word_of(alloc, text)?)?,
@@ -116,6 +114,12 @@ impl Case {
         Ok(())
     }
 
+    fn holds(self, rt: &HostRuntime) -> Result<bool> {
+        report(rt, self)
+    }
+}
+
+impl Case {
     fn set_tool(&mut self, text: &str) -> Result<()> {
         ensure!(self.command.tool.is_none(), "a case names one tool");
         self.command.tool = match text {

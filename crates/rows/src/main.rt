@@ -2,8 +2,8 @@
 //! with the answer that is expected of it. It prints a line for each file, and in full each case whose
 //! answer is another.
 //!
-//! A line that begins with `#` says nothing, and an empty line ends a case. The first line of a case
-//! is `case NAME`; each other line is one of these, in any order:
+//! `case_files` says how a file is read. Behind `case NAME` each line of a case is one of these, in
+//! any order:
 //!
 //! ```text
 //! tool NAME           which tool runs
@@ -25,7 +25,7 @@
 //! ```
 //!
 //! A text stands for its bytes, with `\n`, `\t`, `\r`, `\\` and `\xHH` for those that a line cannot
-//! show. A line that is none of these ends the program, with that line on standard error.
+//! show.
 #![tactic(auto)]
 
 mod case;
@@ -34,68 +34,10 @@ mod lassos;
 mod report;
 mod running;
 
-use anyhow::{Context, Result};
+use anyhow::Result;
 use case::Case;
-use hy_base::{DiskShelf, Text, read_all};
-use report::{Tally, report};
-use std::env;
+use case_files::run_files;
 
 fn main(rt: HostRuntime) -> Result<()> {
-    for name in env::args(&rt)?.skip(1) {
-        run_file(&rt, name.as_str()).context(format_args!("{name}"))?;
-    }
-    Ok(())
-}
-
-/// Runs the cases of one file, and prints how many there are and how many differ.
-fn run_file(rt: &HostRuntime, name: &str) -> Result<()> {
-    let text = read_all(rt.alloc(), &mut DiskShelf::new(rt), name)?;
-    let mut tally = Tally::new();
-    let mut open = None;
-    let mut number = 0u64;
-    for line in lines(&text)?.split('\n') {
-        number = number.saturating_add(1);
-        take_line(rt, &mut tally, &mut open, line).context(format_args!(
-            "line {number} is not understood"
-        ))?;
-    }
-    finish(rt, &mut tally, open)?;
-    println!(rt; "{name}: {tally}")?;
-    Ok(())
-}
-
-/// The text of a file of cases.
-fn lines(text: &Text) -> Result<&str> {
-    std::str::from_utf8(text.as_slice()).context("the file is no UTF-8")
-}
-
-/// Takes one line of a file: `open` is the case whose lines are being read.
-fn take_line(
-    rt: &HostRuntime,
-    tally: &mut Tally,
-    open: &mut Option<Case>,
-    line: &str,
-) -> Result<()> {
-    if line.is_empty() {
-        return finish(rt, tally, open.take());
-    }
-    if line.starts_with('#') {
-        return Ok(());
-    }
-    let (directive, text) = line.split_once(' ').unwrap_or((line, ""));
-    match open {
-        Some(case) => case.take(rt.alloc(), directive, text),
-        None => {
-            *open = Some(Case::begin(rt.alloc(), directive, text)?);
-            Ok(())
-        }
-    }
-}
-
-/// Runs the case that was read, if there is one.
-fn finish(rt: &HostRuntime, tally: &mut Tally, open: Option<Case>) -> Result<()> {
-    match open {
-        Some(case) => report(rt, tally, case),
-        None => Ok(()),
-    }
+    run_files::<Case>(&rt)
 }

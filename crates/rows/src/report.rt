@@ -6,33 +6,10 @@ use crate::lassos::are_wanted;
 use crate::running::status_of;
 use anyhow::{Result, bail};
 use hy_base::{MemShelf, MemSink, Text};
-use std::fmt;
 
-/// How many cases of a file were run, and how many gave another answer than the expected one.
-#[derive(Clone, Copy)]
-pub struct Tally {
-    cases: u64,
-    differ: u64,
-}
-
-impl Tally {
-    /// No case yet.
-    pub fn new() -> Tally {
-        Tally {
-            cases: 0,
-            differ: 0,
-        }
-    }
-}
-
-impl fmt::Display for Tally {
-    fn fmt<W: fmt::Write>(&self, f: &mut fmt::Formatter<W>) -> fmt::Result {
-        write!(f, "{} cases, {} differ", self.cases, self.differ)
-    }
-}
-
-/// Runs a case, counts it, and prints what differs: each part that is not as expected, and then as it is.
-pub fn report(rt: &HostRuntime, tally: &mut Tally, case: Case) -> Result<()> {
+/// Runs a case, and prints what differs: each part that is not as expected, and then as it is. Says
+/// whether nothing does.
+pub fn report(rt: &HostRuntime, case: Case) -> Result<bool> {
     let alloc = rt.alloc();
     let Case {
         name,
@@ -55,14 +32,13 @@ pub fn report(rt: &HostRuntime, tally: &mut Tally, case: Case) -> Result<()> {
         &mut out,
         &mut err,
     );
-    tally.cases = tally.cases.saturating_add(1);
     if status == given && is_wanted(rt, &wanted, out.bytes(), err.bytes())? {
-        return Ok(());
+        return Ok(true);
     }
-    tally.differ = tally.differ.saturating_add(1);
     println!(rt; "{name}: status {given} for {status}")?;
     print_part(rt, "out", wanted.out.as_slice(), out.bytes())?;
-    print_part(rt, "err", wanted.err.as_slice(), err.bytes())
+    print_part(rt, "err", wanted.err.as_slice(), err.bytes())?;
+    Ok(false)
 }
 
 /// Whether both texts are as expected.
