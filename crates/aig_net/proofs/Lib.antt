@@ -2,7 +2,8 @@ pub mod Closings
 pub mod Costs
 mod Executing
 mod Follows
-mod GateLemmas
+pub mod GateLemmas
+pub mod Likeness
 pub mod Listed
 pub mod Literals
 pub mod Looping

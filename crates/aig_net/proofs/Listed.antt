@@ -121,22 +121,6 @@ listed-last c (suc n) f =
 
 -- ---- truth values
 
-pub and-true : (a b : Bool) → (a && b) ≡ true → (a ≡ true) × (b ≡ true)
-and-true true b e = (refl, e)
-and-true false b e = absurd (cc)
-
-pub true-and : (a b : Bool) → a ≡ true → b ≡ true → (a && b) ≡ true
-true-and true b e h = h
-true-and false b e h = absurd (cc)
-
-pub not-true : (a : Bool) → not a ≡ true → a ≡ false
-not-true true e = absurd (cc)
-not-true false e = refl
-
-pub true-not : (a : Bool) → a ≡ false → not a ≡ true
-true-not true e = absurd (cc)
-true-not false e = refl
-
 pub or-true : (a b : Bool) → not (not a && not b) ≡ true → (a ≡ true) ⊎ (b ≡ true)
 or-true true b e = inl refl
 or-true false true e = inr refl
@@ -161,7 +145,3 @@ pub kept-or : (a b : Bool) → (a ≡ true → b ≡ true) → not (not (not a) 
 kept-or true true h = refl
 kept-or true false h = absurd (let e : false ≡ true = h refl in cc)
 kept-or false b h = refl
-
-pub not_true : (b : Bool) → (b ≡ true → ⊥) → b ≡ false
-not_true true none = absurd (none refl)
-not_true false none = refl

@@ -1,6 +1,7 @@
 -- Literals: their two kinds, their values and bounds, and those that stand under others.
-use Rattle.std.proofs.Common.{◌+◌, ◌≡◌, ℕ, suc, ◌*◌, ◌/◌, ◌%◌, ◌<◌, ◌⊎◌, Bool, true, false, not, cond, inl, inr, refl, sym, ap, ◌∙◌, subst, arith}
+use Rattle.std.proofs.Common.{◌+◌, ◌≡◌, ℕ, suc, ◌*◌, ◌/◌, ◌%◌, ◌<◌, ◌⊎◌, true, false, not, cond, inl, inr, refl, sym, ap, ◌∙◌, subst, arith}
 use Rattle.std.proofs.lemmas.Bool.{cases_eq}
+use Rattle.hy_base.proofs.Truths.{not-not}
 use Rattle.aig_net.specs.Nets.{is_even, opposite, under, Valuation, literal_value, Below}
 
 pub twice-half : (x : ℕ) → (2 * x) / 2 ≡ x
@@ -40,10 +41,6 @@ under-even f x = rw (even-rest x, twice-half x) refl
 
 pub under-odd : (f : ℕ → ℕ) (x : ℕ) → under f (suc (2 * x)) ≡ opposite (f x)
 under-odd f x = rw (odd-rest x, odd-half x) refl
-
-pub not-not : (b : Bool) → not (not b) ≡ b
-not-not true = refl
-not-not false = refl
 
 pub value-opposite : (v : Valuation) (l : ℕ) →
     literal_value v (opposite l) ≡ not (literal_value v l)

@@ -30,7 +30,7 @@ made-last first old ands new ws w ls l all one = record {
       ∙ sym (all-literals first old ws (w ∷ []));
 }
 
-last-listed : {B : Type 0} (n : ℕ) (f : ℕ → B) → listed 0 (n + 1) f ≡ listed 0 n f ++ f n ∷ []
+pub last-listed : {B : Type 0} (n : ℕ) (f : ℕ → B) → listed 0 (n + 1) f ≡ listed 0 n f ++ f n ∷ []
 last-listed n f =
     let up : n + 1 ≡ suc n = omega arith in
     let plain : 0 + n ≡ n = omega arith in

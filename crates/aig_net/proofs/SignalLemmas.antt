@@ -1,14 +1,11 @@
 -- One more signal, and signals looked through one after the other.
-use Rattle.std.proofs.Common.{◌≡◌, ℕ, ◌+◌, ◌<◌, Bool, true, false, cond, not, ◌&&◌, nat_eq, nat_lt, List, [], ◌∷◌, ◌++◌, length, get_or, drop, Some, None, is_some, inl, inr, subst, refl, sym, ap, ◌∙◌, IsTrue}
+use Rattle.std.proofs.Common.{◌≡◌, ℕ, ◌+◌, ◌<◌, Bool, true, false, cond, not, ◌&&◌, nat_eq, nat_lt, List, [], ◌∷◌, ◌++◌, length, get_or, drop, Some, None, is_some, refl, sym, ap, ◌∙◌, IsTrue}
 use Rattle.std.proofs.lemmas.List.{drop_more}
-use Rattle.std.proofs.lemmas.Bool.{cases_eq, ne_eqb}
+use Rattle.std.proofs.lemmas.Bool.{and_parts, not-true}
 use Rattle.std.proofs.lemmas.Bool.Decides.{Decides-ltb}
+use Rattle.hy_base.proofs.Truths.{turned-test}
 use Rattle.aig_net.specs.declared.signals.Signal.{Signal}
 use Rattle.aig_net.specs.Signals.{is_for, literal_of, has_signal, are_signals}
-
-both : (a b : Bool) → (a && b) ≡ true → (a ≡ true) × (b ≡ true)
-both true b e = (refl, e)
-both false b e = absurd (cc)
 
 -- what is not there, and is not the last, is not there with the last
 has-more : (signals : List Signal) (s : Signal) (name var : ℕ) →
@@ -35,16 +32,9 @@ has-parts t signals name var none = at (is_for name var t) none
     at true e = absurd (cc)
     at false e = (refl, e)
 
-nat_eq-turned : (a b : ℕ) → nat_eq a b ≡ nat_eq b a
-nat_eq-turned a b =
-    elim (cases_eq a b) [
-      | inl e ↦ let P : ℕ → Type 0 = λ x. nat_eq a x ≡ nat_eq x a in subst P e refl
-      | inr apart ↦ ne_eqb a b apart ∙ sym (ne_eqb b a (λ e. apart (sym e)))
-    ]
-
 is-for-turned : (s t : Signal) → is_for s.name s.var t ≡ is_for t.name t.var s
-is-for-turned s t = ap (λ b. b && nat_eq t.var s.var) (nat_eq-turned t.name s.name)
-    ∙ ap (λ b. nat_eq s.name t.name && b) (nat_eq-turned t.var s.var)
+is-for-turned s t = ap (λ b. b && nat_eq t.var s.var) (turned-test t.name s.name)
+    ∙ ap (λ b. nat_eq s.name t.name && b) (turned-test t.var s.var)
 
 pub are_more : (signals : List Signal) (s : Signal) → IsTrue (are_signals signals) → s.name < 64 →
     has_signal signals s.name s.var ≡ false → IsTrue (are_signals (signals ++ s ∷ []))
@@ -52,21 +42,17 @@ are_more [] s good small none =
     ap (λ b. b && not (has_signal [] s.name s.var) && are_signals [])
     ((Decides-ltb s.name 64).1 small)
 are_more (t ∷ signals) s good small none =
-    let (here, rest) = both (nat_lt t.name 64 && not (has_signal signals t.name t.var))
+    let (here, rest) = and_parts (nat_lt t.name 64 && not (has_signal signals t.name t.var))
     (are_signals signals) good in
-    let (low, apart) = both (nat_lt t.name 64) (not (has_signal signals t.name t.var)) here in
+    let (low, apart) = and_parts (nat_lt t.name 64) (not (has_signal signals t.name t.var)) here in
     let (other, new) = has-parts t signals s.name s.var none in
     let still : has_signal (signals ++ s ∷ []) t.name t.var ≡ false =
-    has-more signals s t.name t.var (turned (has_signal signals t.name t.var) apart)
+    has-more signals s t.name t.var (not-true (has_signal signals t.name t.var) apart)
     (sym (is-for-turned s t) ∙ other) in
     ap (λ b. b && not (has_signal (signals ++ s ∷ []) t.name t.var) && are_signals
     (signals ++ s ∷ [])) low
     ∙ ap (λ b. not b && are_signals (signals ++ s ∷ [])) still
     ∙ are_more signals s rest small new
-  where
-    turned : (b : Bool) → not b ≡ true → b ≡ false
-    turned true e = absurd (cc)
-    turned false e = refl
 
 pub literal_more : (signals : List Signal) (d : Signal) (i name var : ℕ) → i < length signals →
     literal_of (drop i signals) name var ≡ cond (is_for name var (get_or signals i d))

@@ -1,11 +1,12 @@
 -- Where no and depends on itself, all are taken.
-use Rattle.std.proofs.Common.{◌≡◌, ◌≢◌, ℕ, zero, suc, ◌+◌, ◌-◌, ◌<◌, ◌≤◌, ◌⊎◌, true, false, min, inl, inr, refl, sym, ◌∙◌, subst, arith, Option, Some, None, List, [], ◌∷◌, ◌++◌, length, get_or, ap, length-append, append-nil}
+use Rattle.std.proofs.Common.{◌≡◌, ℕ, zero, suc, ◌+◌, ◌-◌, ◌<◌, ◌≤◌, ◌⊎◌, true, false, min, inl, inr, refl, sym, ◌∙◌, subst, arith, Option, Some, None, List, [], ◌∷◌, ◌++◌, length, get_or, length-append, append-nil}
 use Rattle.std.specs.Prelude.{option_to_list}
-use Rattle.std.proofs.lemmas.Bool.{cases_eq, cases_lt}
+use Rattle.std.proofs.lemmas.Bool.{cases_lt, and_parts, and_from, or_left, or_right, or_cases, not-true, not_from_false, cases_Bool}
+use Rattle.hy_base.proofs.Places.{two-equal}
 use Rattle.aig_order.specs.declared.gate.Gate.{Gate}
 use Rattle.aig_order.specs.Firsts.{holds}
 use Rattle.aig_order.specs.Gates.{uses, waits, is_next, next_gate, taken, order, IsOrder, IsComplete, depends}
-use Rattle.aig_order.proofs.Firsts.{and-both, both-and, not-true, not-false, below-none, some-any, any-some, place-holds, either, or-first, or-second, or-either}
+use Rattle.aig_order.proofs.Firsts.{below-none, some-any, any-some, place-holds}
 use Rattle.aig_order.proofs.Orders.{taken-order, distinct}
 
 -- ---- of more numbers than there are below n, two are equal
@@ -13,42 +14,18 @@ use Rattle.aig_order.proofs.Orders.{taken-order, distinct}
 abbrev squeezed : ℕ → ℕ → ℕ
 squeezed v x = x - min 1 (x - v)
 
-some-equal : (f : ℕ → ℕ) (v n : ℕ) → ((i : ℕ) × (i < n) × (f i ≡ v)) ⊎ ((i : ℕ) → i < n → f i ≢ v)
-some-equal f v zero = inr (λ i lt e. omega arith)
-some-equal f v (suc n) =
-    elim (cases_eq (f n) v) [
-      | inl same ↦ inl (n, omega arith, same)
-      | inr apart ↦
-          elim (some-equal f v n) [
-            | inl (i, lt, e) ↦ inl (i, omega arith, e)
-            | inr none ↦ inr (λ i lt e. elim (cases_eq i n) [ inl is ↦ apart (ap f (sym is) ∙ e) | inr other ↦ none i (omega arith) e ])
-          ]
-    ]
-
-pub two-equal : (n : ℕ) (f : ℕ → ℕ) → ((i : ℕ) → i ≤ n → f i < n) → (i : ℕ) × (j : ℕ) × (i < j) × (j ≤ n) × (f i ≡ f j)
-two-equal zero f small = absurd (omega (arith, small 0 (omega arith)))
-two-equal (suc n) f small =
-    elim (some-equal f (f (suc n)) (suc n)) [
-      | inl (i, lt, e) ↦ (i, suc n, lt, omega arith, e)
-      | inr none ↦
-          let apart : (i : ℕ) → i ≤ n → f i ≢ f (suc n) = λ i le. none i (omega arith) in
-          let last : f (suc n) < suc n = small (suc n) (omega arith) in
-          let (i, j, lt, le, e) = two-equal n (λ i. squeezed (f (suc n)) (f i)) (λ i le. omega (arith, small i (omega arith), apart i le)) in
-          (i, j, lt, omega arith, omega (arith, e, apart i (omega arith), apart j le))
-    ]
-
 module _ (gates : List Gate) where
   -- ---- dependence by few ands between
 
   more : (d k j : ℕ) → depends gates d k j ≡ true → depends gates (suc d) k j ≡ true
-  more zero k j e = or-first _ _ e
+  more zero k j e = or_left _ _ e
   more (suc d) k j e =
-      elim (or-either (uses gates k j) _ e) [
-        | inl here ↦ or-first _ _ here
+      elim (or_cases (uses gates k j) _ e) [
+        | inl here ↦ or_left _ _ here
         | inr rest ↦
             let (i, lt, both) = any-some (length gates) _ rest in
-            let parts = and-both (uses gates k i) (depends gates d i j) both in
-            or-second (uses gates k j) _ (some-any (length gates) _ i lt (both-and _ _ parts.0 (more d i j parts.1)))
+            let parts = and_parts (uses gates k i) (depends gates d i j) both in
+            or_right (uses gates k j) _ (some-any (length gates) _ i lt (and_from _ _ parts.0 (more d i j parts.1)))
       ]
 
   pub raised : (c d k j : ℕ) → depends gates d k j ≡ true → depends gates (c + d) k j ≡ true
@@ -64,7 +41,7 @@ module _ (gates : List Gate) where
       let q : suc i ≡ j = omega arith in
       subst P q (steps i (omega arith))
   along f top steps small (suc d) i j e le =
-      or-second (uses gates (f i) (f j)) _ (some-any (length gates) _ (f (suc i)) (small (suc i) (omega arith)) (both-and _ _ (steps i (omega arith)) (along f top steps small d (suc i) j (omega arith) le)))
+      or_right (uses gates (f i) (f j)) _ (some-any (length gates) _ (f (suc i)) (small (suc i) (omega arith)) (and_from _ _ (steps i (omega arith)) (along f top steps small d (suc i) j (omega arith) le)))
 
   -- ---- what is taken grows, or nothing can be taken any more
 
@@ -120,13 +97,13 @@ module _ (gates : List Gate) where
     next-used : (x : Left list) → (y : Left list) × (uses gates x.k y.k ≡ true)
     next-used x =
         let no_next : is_next gates list x.k ≡ false = below-none (length gates) (is_next gates list) stuck x.k x.small in
-        elim (either (waits gates list x.k)) [
+        elim (cases_Bool (waits gates list x.k)) [
           | inl waiting ↦
               let (j, lt, both) = any-some (length gates) _ waiting in
-              let parts = and-both (uses gates x.k j) _ both in
+              let parts = and_parts (uses gates x.k j) _ both in
               (record { k = j; small = lt; missing = not-true _ parts.1 }, parts.0)
           | inr idle ↦
-              let next : is_next gates list x.k ≡ true = both-and _ _ (not-false _ x.missing) (not-false _ idle) in
+              let next : is_next gates list x.k ≡ true = and_from _ _ (not_from_false _ x.missing) (not_from_false _ idle) in
               absurd (cc)
         ]
 
@@ -147,7 +124,7 @@ module _ (gates : List Gate) where
 
   pub complete : ((k : ℕ) → k < length gates → depends gates (length gates) k k ≡ false) → IsComplete gates (order gates)
   complete none k lt =
-      elim (either (holds k (order gates))) [
+      elim (cases_Bool (holds k (order gates))) [
         | inl found ↦ found
         | inr missing ↦
             elim (grows (length gates)) [

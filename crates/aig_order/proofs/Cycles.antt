@@ -1,21 +1,22 @@
 -- What an and depends on, it depends on by few others.
 use Rattle.std.proofs.Common.{◌≡◌, ℕ, zero, suc, ◌+◌, ◌-◌, ◌<◌, ◌≤◌, true, inl, inr, refl, sym, ◌∙◌, subst, arith, List, length, ap}
 use Rattle.std.specs.Prelude.{IsTrue, ◌↔◌}
-use Rattle.std.proofs.lemmas.Bool.{cases_eq, cases_lt}
+use Rattle.std.proofs.lemmas.Bool.{cases_eq, cases_lt, and_parts, or_cases}
+use Rattle.hy_base.proofs.Places.{two-equal}
 use Rattle.aig_order.specs.declared.gate.Gate.{Gate}
 use Rattle.aig_order.specs.Gates.{uses, Depends, at_once, through, depends}
-use Rattle.aig_order.proofs.Firsts.{and-both, any-some, or-either}
-use Rattle.aig_order.proofs.AllTaken.{two-equal, along, raised}
+use Rattle.aig_order.proofs.Firsts.{any-some}
+use Rattle.aig_order.proofs.AllTaken.{along, raised}
 
 module _ (gates : List Gate) where
   from-test : (d k j : ℕ) → k < length gates → j < length gates → depends gates d k j ≡ true → Depends gates k j
   from-test zero k j small inside e = at_once k j small inside e
   from-test (suc d) k j small inside e =
-      elim (or-either (uses gates k j) _ e) [
+      elim (or_cases (uses gates k j) _ e) [
         | inl here ↦ at_once k j small inside here
         | inr rest ↦
             let (i, lt, both) = any-some (length gates) _ rest in
-            let parts = and-both (uses gates k i) (depends gates d i j) both in
+            let parts = and_parts (uses gates k i) (depends gates d i j) both in
             through k i j small lt parts.0 (from-test d i j lt inside parts.1)
       ]
 

@@ -1,39 +1,7 @@
 -- What is found first, and tests of the numbers below one.
-use Rattle.std.proofs.Common.{◌≡◌, ℕ, zero, suc, ◌<◌, ◌⊎◌, Bool, true, false, not, ◌&&◌, ◌||◌, nat_eq, inl, inr, refl, sym, ◌∙◌, ap, subst, arith, ◌≤◌, Option, Some, None, List, [], ◌∷◌, ◌++◌, length, get_or}
-use Rattle.std.proofs.lemmas.Bool.{cases_eq, eqb-true, eq-eqb}
+use Rattle.std.proofs.Common.{◌≡◌, ℕ, zero, suc, ◌<◌, ◌⊎◌, Bool, true, false, nat_eq, inl, inr, refl, sym, ◌∙◌, ap, subst, arith, ◌≤◌, Option, Some, None, List, [], ◌∷◌, ◌++◌, length, get_or}
+use Rattle.std.proofs.lemmas.Bool.{cases_eq, eqb-true, eq-eqb, or_left, or_right, or_cases}
 use Rattle.aig_order.specs.Firsts.{when, otherwise, first_some, first_below, any_below, holds}
-
-pub and-both : (a b : Bool) → (a && b) ≡ true → (a ≡ true) × (b ≡ true)
-and-both true b e = (refl, e)
-and-both false b e = absurd (cc)
-
-pub both-and : (a b : Bool) → a ≡ true → b ≡ true → (a && b) ≡ true
-both-and true b e f = f
-both-and false b e f = absurd (cc)
-
-pub or-first : (a b : Bool) → a ≡ true → (a || b) ≡ true
-or-first true b e = refl
-or-first false b e = absurd (cc)
-
-pub or-second : (a b : Bool) → b ≡ true → (a || b) ≡ true
-or-second true b e = refl
-or-second false b e = e
-
-pub or-either : (a b : Bool) → (a || b) ≡ true → (a ≡ true) ⊎ (b ≡ true)
-or-either true b e = inl refl
-or-either false b e = inr e
-
-pub not-true : (b : Bool) → not b ≡ true → b ≡ false
-not-true true e = absurd (cc)
-not-true false e = refl
-
-pub not-false : (b : Bool) → b ≡ false → not b ≡ true
-not-false true e = absurd (cc)
-not-false false e = refl
-
-pub either : (b : Bool) → (b ≡ true) ⊎ (b ≡ false)
-either true = inl refl
-either false = inr refl
 
 module _ {A : Type 0} (f : ℕ → Option A) where
   none-step : (n : ℕ) (o : Option A) → first_some n f ≡ o → otherwise o (f n) ≡ None → (o ≡ None) × (f n ≡ None)
@@ -83,7 +51,7 @@ below-none n test e j lt = when-none _ _ (first-none (λ k. when (test k) k) n e
 pub any-some : (n : ℕ) (test : ℕ → Bool) → any_below n test ≡ true → (j : ℕ) × (j < n) × (test j ≡ true)
 any-some zero test e = absurd (cc)
 any-some (suc n) test e =
-    elim (or-either (any_below n test) (test n) e) [
+    elim (or_cases (any_below n test) (test n) e) [
       | inl more ↦ let (j, lt, t) = any-some n test more in (j, omega arith, t)
       | inr here ↦ (n, omega arith, here)
     ]
@@ -92,34 +60,26 @@ pub some-any : (n : ℕ) (test : ℕ → Bool) (j : ℕ) → j < n → test j �
 some-any zero test j lt t = absurd (omega arith)
 some-any (suc n) test j lt t =
     elim (cases_eq j n) [
-      | inl same ↦ let P : ℕ → Type 0 = λ q. test q ≡ true in or-second (any_below n test) (test n) (subst P same t)
-      | inr apart ↦ or-first _ _ (some-any n test j (omega arith) t)
+      | inl same ↦ let P : ℕ → Type 0 = λ q. test q ≡ true in or_right (any_below n test) (test n) (subst P same t)
+      | inr apart ↦ or_left _ _ (some-any n test j (omega arith) t)
     ]
 
 pub holds-place : (v : ℕ) (list : List ℕ) → holds v list ≡ true → (q : ℕ) × (q < length list) × (get_or list q 0 ≡ v)
 holds-place v [] e = absurd (cc)
 holds-place v (x ∷ xs) e =
-    elim (or-either (nat_eq v x) (holds v xs) e) [
+    elim (or_cases (nat_eq v x) (holds v xs) e) [
       | inl here ↦ (zero, omega arith, sym (eqb-true v x here))
       | inr more ↦ let (q, lt, is) = holds-place v xs more in (suc q, omega arith, is)
     ]
 
 pub place-holds : (v : ℕ) (list : List ℕ) (q : ℕ) → q < length list → get_or list q 0 ≡ v → holds v list ≡ true
 place-holds v [] q lt e = absurd (omega arith)
-place-holds v (x ∷ xs) zero lt e = or-first (nat_eq v x) (holds v xs) (eq-eqb v x (sym e))
-place-holds v (x ∷ xs) (suc q) lt e = or-second (nat_eq v x) (holds v xs) (place-holds v xs q (omega arith) e)
+place-holds v (x ∷ xs) zero lt e = or_left (nat_eq v x) (holds v xs) (eq-eqb v x (sym e))
+place-holds v (x ∷ xs) (suc q) lt e = or_right (nat_eq v x) (holds v xs) (place-holds v xs q (omega arith) e)
 
 pub none-both : {A : Type 0} (a b : Option A) → otherwise a b ≡ None → (a ≡ None) × (b ≡ None)
 none-both (Some x) b e = absurd (cc)
 none-both None b e = (refl, e)
-
-pub or-none : (a b : Bool) → (a || b) ≡ false → (a ≡ false) × (b ≡ false)
-or-none true b e = absurd (cc)
-or-none false b e = (refl, e)
-
-pub not-not : (b : Bool) → not b ≡ false → b ≡ true
-not-not true e = refl
-not-not false e = absurd (cc)
 
 -- what is found is found among more, too
 pub first-more : {A : Type 0} (find : ℕ → Option A) (m n : ℕ) (a : A) → m ≤ n → first_some m find ≡ Some a → first_some n find ≡ Some a
@@ -137,22 +97,16 @@ first-here find n e = ap (λ o. otherwise o (find n)) e
 pub holds-left : (v : ℕ) (xs ys : List ℕ) → holds v xs ≡ true → holds v (xs ++ ys) ≡ true
 holds-left v [] ys e = absurd (cc)
 holds-left v (x ∷ xs) ys e =
-    elim (or-either (nat_eq v x) (holds v xs) e) [ inl here ↦ or-first _ _ here | inr more ↦ or-second (nat_eq v x) _ (holds-left v xs ys more) ]
+    elim (or_cases (nat_eq v x) (holds v xs) e) [ inl here ↦ or_left _ _ here | inr more ↦ or_right (nat_eq v x) _ (holds-left v xs ys more) ]
 
 pub holds-right : (v : ℕ) (xs ys : List ℕ) → holds v ys ≡ true → holds v (xs ++ ys) ≡ true
 holds-right v [] ys e = e
-holds-right v (x ∷ xs) ys e = or-second (nat_eq v x) _ (holds-right v xs ys e)
+holds-right v (x ∷ xs) ys e = or_right (nat_eq v x) _ (holds-right v xs ys e)
 
 pub holds-append : (v : ℕ) (xs ys : List ℕ) → holds v (xs ++ ys) ≡ true → (holds v xs ≡ true) ⊎ (holds v ys ≡ true)
 holds-append v [] ys e = inr e
 holds-append v (x ∷ xs) ys e =
-    elim (or-either (nat_eq v x) _ e) [
-      | inl here ↦ inl (or-first _ _ here)
-      | inr rest ↦ elim (holds-append v xs ys rest) [ inl a ↦ inl (or-second (nat_eq v x) _ a) | inr b ↦ inr b ]
+    elim (or_cases (nat_eq v x) _ e) [
+      | inl here ↦ inl (or_left _ _ here)
+      | inr rest ↦ elim (holds-append v xs ys rest) [ inl a ↦ inl (or_right (nat_eq v x) _ a) | inr b ↦ inr b ]
     ]
-
-pub bool-same : (a b : Bool) → (a ≡ true → b ≡ true) → (b ≡ true → a ≡ true) → a ≡ b
-bool-same true true f g = refl
-bool-same true false f g = sym (f refl)
-bool-same false true f g = g refl
-bool-same false false f g = refl

@@ -5,11 +5,12 @@ use Rattle.std.specs.BinaryHeap.{IsUpperBound}
 use Rattle.std.specs.Ordering.{nat_cmp}
 use Rattle.std.proofs.lemmas.Bool.{eqb-true, eq-eqb}
 use Rattle.std.proofs.lemmas.List.Sorted.{list_any-IsPermutation, le_from_greatest}
+use Rattle.hy_base.proofs.Truths.{same-truth}
 use Rattle.aig_order.specs.Takings.{has}
-use Rattle.aig_order.proofs.Firsts.{holds-place, bool-same}
+use Rattle.aig_order.proofs.Firsts.{holds-place}
 
 same-key : (j k key : ℕ) → j < 2 ^ 32 → k < 2 ^ 32 → key ≡ 4294967295 - k → nat_eq (4294967295 - j) key ≡ nat_eq j k
-same-key j k key low small is = bool-same _ _
+same-key j k key low small is = same-truth _ _
     (λ e. eq-eqb j k (omega (arith, eqb-true _ _ e, is)))
     (λ e. eq-eqb _ _ (omega (arith, eqb-true j k e, is)))
 

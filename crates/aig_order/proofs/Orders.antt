@@ -1,13 +1,13 @@
 -- The order of the ands: each uses earlier ones, and none on a cycle is in it.
 use Rattle.std.proofs.Common.{◌≡◌, ℕ, zero, suc, ◌<◌, true, false, not, inl, inr, refl, sym, ◌∙◌, subst, arith, Option, Some, None, List, [], ◌∷◌, ◌++◌, length, get_or, take, length-append, append-nil}
 use Rattle.std.specs.Prelude.{option_to_list, IsTrue}
-use Rattle.std.proofs.lemmas.Bool.{cases_lt}
+use Rattle.std.proofs.lemmas.Bool.{cases_lt, and_parts, and_from, not-true, not_from_false, cases_Bool}
 use Rattle.std.proofs.lemmas.List.{take-append-le, get_or_append_left, get_or-take, length-take-le}
 use Rattle.std.proofs.Math.Seq.{take-append_seam, get_or-append_seam}
 use Rattle.aig_order.specs.declared.gate.Gate.{Gate}
 use Rattle.aig_order.specs.Firsts.{holds}
 use Rattle.aig_order.specs.Gates.{uses, waits, is_next, next_gate, taken, IsOrder, Depends, at_once, through, depends}
-use Rattle.aig_order.proofs.Firsts.{and-both, both-and, not-true, not-false, below-found, some-any, holds-place, place-holds, either}
+use Rattle.aig_order.proofs.Firsts.{below-found, some-any, holds-place, place-holds}
 
 module _ (gates : List Gate) where
   abbrev Stands : List ℕ → ℕ → Type 0
@@ -46,15 +46,15 @@ module _ (gates : List Gate) where
     pub before-used : (p j : ℕ) → p < length list → j < length gates → IsTrue (uses gates (get_or list p 0) j) → (q : ℕ) × (q < p) × (get_or list q 0 ≡ j)
     before-used p j lt inside used =
         let here = good p lt in
-        let parts = and-both (not (holds (get_or list p 0) (take p list))) _ here.1 in
+        let parts = and_parts (not (holds (get_or list p 0) (take p list))) _ here.1 in
         let idle : waits gates (take p list) (get_or list p 0) ≡ false = not-true _ parts.1 in
-        elim (either (holds j (take p list))) [
+        elim (cases_Bool (holds j (take p list))) [
           | inl found ↦
               let (q, less, is) = holds-place j (take p list) found in
               let small : q < p = omega (arith, less, length-take-le p list (omega arith)) in
               (q, small, sym (get_or-take p list q 0 small) ∙ is)
           | inr missing ↦
-              let waiting : waits gates (take p list) (get_or list p 0) ≡ true = some-any (length gates) _ j inside (both-and _ _ used (not-false _ missing)) in
+              let waiting : waits gates (take p list) (get_or list p 0) ≡ true = some-any (length gates) _ j inside (and_from _ _ used (not_from_false _ missing)) in
               absurd (cc)
         ]
 
@@ -70,7 +70,7 @@ module _ (gates : List Gate) where
 
     apart : (p q : ℕ) → q < p → p < length list → get_or list q 0 ≡ get_or list p 0 → ⊥
     apart p q small less same =
-        let parts = and-both (not (holds (get_or list p 0) (take p list))) _ (good p less).1 in
+        let parts = and_parts (not (holds (get_or list p 0) (take p list))) _ (good p less).1 in
         let absent : holds (get_or list p 0) (take p list) ≡ false = not-true _ parts.0 in
         let present : holds (get_or list p 0) (take p list) ≡ true = place-holds _ (take p list) q (omega (arith, length-take-le p list (omega arith))) (get_or-take p list q 0 small ∙ same) in
         cc

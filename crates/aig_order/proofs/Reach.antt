@@ -1,16 +1,15 @@
 -- What one depends on is what is found, step by step.
 use Rattle.std.proofs.Common.{◌≡◌, ◌≢◌, ℕ, ◌+◌, ◌/◌, ◌<◌, ◌≤◌, ◌⊎◌, Bool, true, false, nat_eq, inl, inr, refl, sym, ◌∙◌, ap, subst, arith, Option, Some, None, List, [], ◌∷◌, ◌++◌, length, get_or, set, length-append}
 use Rattle.std.specs.Prelude.{slice_get, slice_index_or, IsTrue, ◌↔◌}
-use Rattle.std.proofs.lemmas.Bool.{cases_eq, cases_lt, eqb-true, eq-eqb}
+use Rattle.std.proofs.lemmas.Bool.{cases_eq, cases_lt, eqb-true, eq-eqb, or_left, or_right, or_cases}
 use Rattle.std.proofs.lemmas.List.{get_or-set_same, get_or-set_other, length-set, get_or_append_left}
 use Rattle.std.proofs.lemmas.Option.{get_or_from_slice_get}
 use Rattle.std.proofs.Math.Seq.{get_or-append_seam}
+use Rattle.hy_base.proofs.Places.{two-equal}
 use Rattle.aig_order.specs.declared.gate.Gate.{Gate}
 use Rattle.aig_order.specs.Gates.{gate_at, uses, Depends, at_once, through}
 use Rattle.aig_order.specs.Takings.{AreDefiners}
 use Rattle.aig_order.specs.Reaching.{IsVisited, AreVisited}
-use Rattle.aig_order.proofs.Firsts.{or-either, or-first, or-second}
-use Rattle.aig_order.proofs.AllTaken.{two-equal}
 
 pub read-at : {A : Type 0} (xs : List A) (i : ℕ) (x d : A) → slice_get xs i ≡ Some x → x ≡ get_or xs i d
 read-at xs i x d e = sym (get_or_from_slice_get xs i x d e)
@@ -25,9 +24,9 @@ sides gates top definers k a b seen mid_seen new_seen found mid_found new_found 
   mid_found = mid_found;
   first = one;
   second = two;
-  used_left = λ j e. let (lt, is) = are.right _ j (sym left ∙ e) in (lt, or-first _ _ (eq-eqb _ _ (sym is)));
-  used_right = λ j e. let (lt, is) = are.right _ j (sym right ∙ e) in (lt, or-second (nat_eq ((gate_at gates k).left / 2) _) _ (eq-eqb _ _ (sym is)));
-  all = λ j lt used. elim (or-either (nat_eq ((gate_at gates k).left / 2) ((gate_at gates j).lhs / 2)) _ used) [
+  used_left = λ j e. let (lt, is) = are.right _ j (sym left ∙ e) in (lt, or_left _ _ (eq-eqb _ _ (sym is)));
+  used_right = λ j e. let (lt, is) = are.right _ j (sym right ∙ e) in (lt, or_right (nat_eq ((gate_at gates k).left / 2) _) _ (eq-eqb _ _ (sym is)));
+  all = λ j lt used. elim (or_cases (nat_eq ((gate_at gates k).left / 2) ((gate_at gates j).lhs / 2)) _ used) [
     | inl l ↦ inl (left ∙ ap (λ v. slice_index_or definers v None) (eqb-true _ _ l) ∙ are.all j lt)
     | inr r ↦ inr (right ∙ ap (λ v. slice_index_or definers v None) (eqb-true _ _ r) ∙ are.all j lt)
   ];

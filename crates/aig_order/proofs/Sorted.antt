@@ -2,12 +2,12 @@
 use Rattle.std.proofs.Common.{◌≡◌, ℕ, zero, suc, ◌+◌, ◌/◌, ◌<◌, ◌≤◌, ◌⊎◌, Bool, true, false, not, ◌&&◌, nat_eq, inl, inr, refl, sym, ◌∙◌, ap, arith, Some, None, List, [], ◌∷◌, ◌++◌, length}
 use Rattle.std.specs.Prelude.{option_to_list}
 use Rattle.std.specs.List.{range_with_len}
-use Rattle.std.proofs.lemmas.Bool.{cases_eq, eqb-true}
+use Rattle.std.proofs.lemmas.Bool.{cases_eq, eqb-true, and_parts, and_from, or_cases, not-true, not_from_false, cases_Bool}
 use Rattle.std.proofs.lemmas.List.FromFn.{length-range_with_len, get_or-range_with_len}
 use Rattle.aig_order.specs.Firsts.{when, otherwise, first_below, holds}
 use Rattle.aig_order.specs.declared.gate.Gate.{Gate}
 use Rattle.aig_order.specs.Gates.{gate_at, uses, waits, is_next, next_gate, taken, order, AreSorted}
-use Rattle.aig_order.proofs.Firsts.{either, and-both, both-and, not-true, not-false, or-either, any-some, holds-place, place-holds}
+use Rattle.aig_order.proofs.Firsts.{any-some, holds-place, place-holds}
 
 pub first-empty : (n : ℕ) (test : ℕ → Bool) → ((j : ℕ) → j < n → test j ≡ false) → first_below n test ≡ None
 first-empty zero test none = refl
@@ -31,7 +31,7 @@ holds-range : (m j : ℕ) → j < m → holds j (range_with_len 0 m) ≡ true
 holds-range m j lt = place-holds j (range_with_len 0 m) j (omega (arith, length-range_with_len 0 m)) (get_or-range_with_len 0 m j 0 lt ∙ (omega arith))
 
 range-lacks : (m : ℕ) → holds m (range_with_len 0 m) ≡ false
-range-lacks m = step (either (holds m (range_with_len 0 m)))
+range-lacks m = step (cases_Bool (holds m (range_with_len 0 m)))
   where
     step : (holds m (range_with_len 0 m) ≡ true) ⊎ (holds m (range_with_len 0 m) ≡ false) → holds m (range_with_len 0 m) ≡ false
     step (inl found) =
@@ -44,18 +44,18 @@ module _ (first : ℕ) (gates : List Gate) (sorted : AreSorted first gates) wher
   uses-lower : (k j : ℕ) → k < length gates → j < length gates → uses gates k j ≡ true → j < k
   uses-lower k j small inside e =
       let (own, left, right) = sorted k small in
-      elim (or-either (nat_eq ((gate_at gates k).left / 2) ((gate_at gates j).lhs / 2)) _ e) [
+      elim (or_cases (nat_eq ((gate_at gates k).left / 2) ((gate_at gates j).lhs / 2)) _ e) [
         | inl l ↦ omega (arith, left, eqb-true _ _ l, (sorted j inside).0)
         | inr r ↦ omega (arith, right, eqb-true _ _ r, (sorted j inside).0)
       ]
 
   idle : (m : ℕ) → m < length gates → waits gates (range_with_len 0 m) m ≡ false
-  idle m lt = step (either (waits gates (range_with_len 0 m) m))
+  idle m lt = step (cases_Bool (waits gates (range_with_len 0 m) m))
     where
       step : (waits gates (range_with_len 0 m) m ≡ true) ⊎ (waits gates (range_with_len 0 m) m ≡ false) → waits gates (range_with_len 0 m) m ≡ false
       step (inl waiting) =
           let (j, inside, both) = any-some (length gates) _ waiting in
-          let parts = and-both (uses gates m j) _ both in
+          let parts = and_parts (uses gates m j) _ both in
           let missing : holds j (range_with_len 0 m) ≡ false = not-true _ parts.1 in
           let found : holds j (range_with_len 0 m) ≡ true = holds-range m j (uses-lower m j lt inside parts.0) in
           absurd (cc)
@@ -66,7 +66,7 @@ module _ (first : ℕ) (gates : List Gate) (sorted : AreSorted first gates) wher
   past false b e = absurd (cc)
 
   next-is : (m : ℕ) → m < length gates → next_gate gates (range_with_len 0 m) ≡ Some m
-  next-is m lt = first-is (length gates) (is_next gates (range_with_len 0 m)) m lt (both-and _ _ (not-false _ (range-lacks m)) (not-false _ (idle m lt))) (λ j less. past (holds j (range_with_len 0 m)) _ (holds-range m j less))
+  next-is m lt = first-is (length gates) (is_next gates (range_with_len 0 m)) m lt (and_from _ _ (not_from_false _ (range-lacks m)) (not_from_false _ (idle m lt))) (λ j less. past (holds j (range_with_len 0 m)) _ (holds-range m j less))
 
   taken-range : (m : ℕ) → m ≤ length gates → taken gates m ≡ range_with_len 0 m
   taken-range zero le = refl

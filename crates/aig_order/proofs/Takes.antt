@@ -1,13 +1,14 @@
 -- One and after the other is taken.
 use Rattle.std.proofs.Common.{◌≡◌, ℕ, ◌+◌, ◌/◌, ◌<◌, ◌≤◌, ◌^◌, ◌⊎◌, Bool, true, false, not, ◌&&◌, ◌||◌, nat_eq, inl, inr, refl, sym, ◌∙◌, ap, subst, arith, Option, Some, None, List, [], ◌∷◌, ◌++◌, length, get_or, set, append-nil}
 use Rattle.std.specs.Prelude.{slice_index_or, slice_set, IfSome, option_to_list}
-use Rattle.std.proofs.lemmas.Bool.{cases_eq, eqb-true, eq-eqb}
+use Rattle.std.proofs.lemmas.Bool.{cases_eq, eqb-true, eq-eqb, and_parts, and_from, or_left, or_right, or_cases, not-true, not_from_false, cases_Bool}
 use Rattle.std.proofs.lemmas.List.{get_or-set_same, get_or-set_other, length-set}
+use Rattle.hy_base.proofs.Truths.{same-truth}
 use Rattle.aig_order.specs.declared.gate.Gate.{Gate}
 use Rattle.aig_order.specs.Firsts.{holds}
 use Rattle.aig_order.specs.Gates.{gate_at, uses, waits, is_next, next_gate, with_next}
 use Rattle.aig_order.specs.Takings.{has, AreApart, AreDefiners, AreUsers, AreMarked, AreTaken, AreReadied, IsLeast, HasUser, is_untaken, is_open, IsHeldAnswer, IsReadied}
-use Rattle.aig_order.proofs.Firsts.{either, and-both, both-and, not-true, not-false, or-either, or-first, or-second, any-some, some-any, holds-place, holds-left, holds-right, holds-append, bool-same}
+use Rattle.aig_order.proofs.Firsts.{any-some, some-any, holds-place, holds-left, holds-right, holds-append}
 use Rattle.aig_order.proofs.Sorted.{first-is, first-empty}
 
 -- ---- which and defines a variable
@@ -62,26 +63,23 @@ has-added None k j old new small is e = absurd (cc)
 has-added (Some i) k j old new small is e =
     let same : j ≡ i = cc in
     let here : get_or new j [] ≡ get_or old i [] ++ k ∷ [] = ap (λ (l : List (List ℕ)). get_or l j []) is ∙ ap (λ n. get_or (set old i (get_or old i [] ++ k ∷ [])) n []) same ∙ get_or-set_same old i (get_or old i [] ++ k ∷ []) [] small in
-    ap (holds k) here ∙ holds-right k (get_or old i []) (k ∷ []) (or-first _ _ (eq-eqb k k refl))
-
-user-long : (o : Option ℕ) (k : ℕ) (old new : List (List ℕ)) → HasUser o k old new → length new ≡ length old
-user-long None k old new is = ap length is
-user-long (Some i) k old new is = ap length is ∙ length-set old i (get_or old i [] ++ k ∷ [])
+    ap (holds k) here ∙ holds-right k (get_or old i []) (k ∷ []) (or_left _ _ (eq-eqb k k refl))
 
 pub users_long : (o : Option ℕ) (k : ℕ) (old new : List (List ℕ)) → HasUser o k old new → length new ≡ length old
-users_long o k old new is = user-long o k old new is
+users_long None k old new is = ap length is
+users_long (Some i) k old new is = ap length is ∙ length-set old i (get_or old i [] ++ k ∷ [])
 
 pub users_more : (gates : List Gate) (top k : ℕ) (definers : List (Option ℕ)) (old mid new : List (List ℕ)) (a b : Option ℕ) → AreDefiners gates top (length gates) definers → AreUsers gates k old → k < length gates → a ≡ slice_index_or definers ((gate_at gates k).left / 2) None → b ≡ slice_index_or definers ((gate_at gates k).right / 2) None → HasUser a k old mid → HasUser b k mid new → AreUsers gates (k + 1) new
 users_more gates top k definers old mid new a b are users lt left right one two =
     let fits_a : IfSome a (λ j. j < length old) = definer_small gates top (length gates) definers _ (length old) a are left (omega (arith, users.long)) in
-    let fits_b : IfSome b (λ j. j < length mid) = definer_small gates top (length gates) definers _ (length mid) b are right (omega (arith, users.long, user-long a k old mid one)) in
+    let fits_b : IfSome b (λ j. j < length mid) = definer_small gates top (length gates) definers _ (length mid) b are right (omega (arith, users.long, users_long a k old mid one)) in
     record {
-      long = user-long b k mid new two ∙ user-long a k old mid one ∙ users.long;
+      long = users_long b k mid new two ∙ users_long a k old mid one ∙ users.long;
       all = λ u j less inside used. elim (cases_eq u k) [
         | inl same ↦
             let uses_k : uses gates k j ≡ true = ap (λ n. uses gates n j) (sym same) ∙ used in
             ap (λ n. holds n (slice_index_or new j [])) same
-            ∙ elim (or-either (nat_eq ((gate_at gates k).left / 2) ((gate_at gates j).lhs / 2)) _ uses_k) [
+            ∙ elim (or_cases (nat_eq ((gate_at gates k).left / 2) ((gate_at gates j).lhs / 2)) _ uses_k) [
               | inl l ↦ has-kept b k mid new fits_b two k j (has-added a k j old mid fits_a one (left ∙ ap (λ v. slice_index_or definers v None) (eqb-true _ _ l) ∙ are.all j inside))
               | inr r ↦ has-added b k j mid new fits_b two (right ∙ ap (λ v. slice_index_or definers v None) (eqb-true _ _ r) ∙ are.all j inside)
             ]
@@ -100,21 +98,21 @@ module _ (gates : List Gate) (top : ℕ) (definers : List (Option ℕ)) (are : A
   waits-open v j lt is t = ap (is_untaken marks) (ap (λ n. slice_index_or definers n None) is ∙ are.all j lt) ∙ ap not (marked j lt) ∙ t
 
   pub waits_is : (k : ℕ) → (is_open definers marks (gate_at gates k).left || is_open definers marks (gate_at gates k).right) ≡ waits gates list k
-  waits_is k = bool-same _ _ to from
+  waits_is k = same-truth _ _ to from
     where
       to : (is_open definers marks (gate_at gates k).left || is_open definers marks (gate_at gates k).right) ≡ true → waits gates list k ≡ true
-      to e = elim (or-either (is_open definers marks (gate_at gates k).left) _ e) [
-        | inl l ↦ let (j, lt, is, t) = open-waits _ _ refl l in some-any (length gates) (λ j. uses gates k j && not (holds j list)) j lt (both-and _ _ (or-first _ _ (eq-eqb _ _ (sym is))) t)
-        | inr r ↦ let (j, lt, is, t) = open-waits _ _ refl r in some-any (length gates) (λ j. uses gates k j && not (holds j list)) j lt (both-and _ _ (or-second (nat_eq ((gate_at gates k).left / 2) _) _ (eq-eqb _ _ (sym is))) t)
+      to e = elim (or_cases (is_open definers marks (gate_at gates k).left) _ e) [
+        | inl l ↦ let (j, lt, is, t) = open-waits _ _ refl l in some-any (length gates) (λ j. uses gates k j && not (holds j list)) j lt (and_from _ _ (or_left _ _ (eq-eqb _ _ (sym is))) t)
+        | inr r ↦ let (j, lt, is, t) = open-waits _ _ refl r in some-any (length gates) (λ j. uses gates k j && not (holds j list)) j lt (and_from _ _ (or_right (nat_eq ((gate_at gates k).left / 2) _) _ (eq-eqb _ _ (sym is))) t)
       ]
 
       from : waits gates list k ≡ true → (is_open definers marks (gate_at gates k).left || is_open definers marks (gate_at gates k).right) ≡ true
       from e =
           let (j, lt, both) = any-some (length gates) (λ j. uses gates k j && not (holds j list)) e in
-          let parts = and-both (uses gates k j) _ both in
-          elim (or-either (nat_eq ((gate_at gates k).left / 2) ((gate_at gates j).lhs / 2)) _ parts.0) [
-            | inl l ↦ or-first _ _ (waits-open _ j lt (eqb-true _ _ l) parts.1)
-            | inr r ↦ or-second (is_open definers marks (gate_at gates k).left) _ (waits-open _ j lt (eqb-true _ _ r) parts.1)
+          let parts = and_parts (uses gates k j) _ both in
+          elim (or_cases (nat_eq ((gate_at gates k).left / 2) ((gate_at gates j).lhs / 2)) _ parts.0) [
+            | inl l ↦ or_left _ _ (waits-open _ j lt (eqb-true _ _ l) parts.1)
+            | inr r ↦ or_right (is_open definers marks (gate_at gates k).left) _ (waits-open _ j lt (eqb-true _ _ r) parts.1)
           ]
 
 -- ---- the least that is ready
@@ -128,11 +126,11 @@ rest_all marks old = record { within = λ j lt e. e; rest = λ j lt e f. e }
 
 module _ (marks : List Bool) (old now new : List ℕ) (k : ℕ) (is : IsRest marks old now) (popped : (j : ℕ) → j < 2 ^ 32 → has now j ≡ (nat_eq j k || has new j)) where
   popped-within : (j : ℕ) → j < 2 ^ 32 → has new j ≡ true → has old j ≡ true
-  popped-within j lt e = is.within j lt (popped j lt ∙ or-second (nat_eq j k) _ e)
+  popped-within j lt e = is.within j lt (popped j lt ∙ or_right (nat_eq j k) _ e)
 
   popped-rest : (j : ℕ) → j < 2 ^ 32 → has old j ≡ true → slice_index_or marks j false ≡ false → (j ≡ k → ⊥) → has new j ≡ true
   popped-rest j lt e fresh apart =
-      elim (or-either (nat_eq j k) (has new j) (sym (popped j lt) ∙ is.rest j lt e fresh)) [ inl same ↦ absurd (apart (eqb-true j k same)) | inr found ↦ found ]
+      elim (or_cases (nat_eq j k) (has new j) (sym (popped j lt) ∙ is.rest j lt e fresh)) [ inl same ↦ absurd (apart (eqb-true j k same)) | inr found ↦ found ]
 
   -- one that is taken is passed over
   pub rest_passed : slice_index_or marks k false ≡ true → IsRest marks old new
@@ -142,7 +140,7 @@ module _ (marks : List Bool) (old now new : List ℕ) (k : ℕ) (is : IsRest mar
   pub rest_least : k < 2 ^ 32 → slice_index_or marks k false ≡ false → ((j : ℕ) → j < 2 ^ 32 → has now j ≡ true → k ≤ j) → IsLeast marks old new k
   rest_least small fresh least = record {
     small = small;
-    ready = is.within k small (popped k small ∙ or-first _ _ (eq-eqb k k refl));
+    ready = is.within k small (popped k small ∙ or_left _ _ (eq-eqb k k refl));
     fresh = fresh;
     least = λ j lt e free. least j lt (is.rest j lt e free);
     within = popped-within;
@@ -151,19 +149,19 @@ module _ (marks : List Bool) (old now new : List ℕ) (k : ℕ) (is : IsRest mar
 
 pub rest_none : (marks : List Bool) (old new : List ℕ) → IsRest marks old new → ((j : ℕ) → has new j ≡ false) → (j : ℕ) → j < 2 ^ 32 → has old j ≡ true → slice_index_or marks j false ≡ true
 rest_none marks old new is none j lt e =
-    elim (either (slice_index_or marks j false)) [ inl marked ↦ marked | inr free ↦ let found = is.rest j lt e free in let no_one = none j in absurd (cc) ]
+    elim (cases_Bool (slice_index_or marks j false)) [ inl marked ↦ marked | inr free ↦ let found = is.rest j lt e free in let no_one = none j in absurd (cc) ]
 
 -- ---- the next and
 
 module _ (gates : List Gate) (few : length gates ≤ 1048576) (list : List ℕ) (marks : List Bool) (ready : List ℕ) (are : AreTaken gates list marks ready) where
   next-free : (k : ℕ) → k < length gates → is_next gates list k ≡ true → slice_index_or marks k false ≡ false
-  next-free k lt e = are.marked k lt ∙ not-true _ (and-both (not (holds k list)) _ e).0
+  next-free k lt e = are.marked k lt ∙ not-true _ (and_parts (not (holds k list)) _ e).0
 
   pub next_some : (new : List ℕ) (k : ℕ) → IsLeast marks ready new k → (k < length gates) × (next_gate gates list ≡ Some k)
   next_some new k is =
       let (lt, idle) = are.sound k is.small is.ready in
-      let here : is_next gates list k ≡ true = both-and _ _ (not-false _ (sym (are.marked k lt) ∙ is.fresh)) (not-false _ idle) in
-      (lt, first-is (length gates) (is_next gates list) k lt here (λ j less. lower j less (either (is_next gates list j))))
+      let here : is_next gates list k ≡ true = and_from _ _ (not_from_false _ (sym (are.marked k lt) ∙ is.fresh)) (not_from_false _ idle) in
+      (lt, first-is (length gates) (is_next gates list) k lt here (λ j less. lower j less (cases_Bool (is_next gates list j))))
     where
       lower : (j : ℕ) → j < k → (is_next gates list j ≡ true) ⊎ (is_next gates list j ≡ false) → is_next gates list j ≡ false
       lower j less (inl next) =
@@ -173,7 +171,7 @@ module _ (gates : List Gate) (few : length gates ≤ 1048576) (list : List ℕ) 
       lower j less (inr other) = other
 
   pub next_none : ((j : ℕ) → j < 2 ^ 32 → has ready j ≡ true → slice_index_or marks j false ≡ true) → next_gate gates list ≡ None
-  next_none all = first-empty (length gates) (is_next gates list) (λ j lt. clear j lt (either (is_next gates list j)))
+  next_none all = first-empty (length gates) (is_next gates list) (λ j lt. clear j lt (cases_Bool (is_next gates list j)))
     where
       clear : (j : ℕ) → j < length gates → (is_next gates list j ≡ true) ⊎ (is_next gates list j ≡ false) → is_next gates list j ≡ false
       clear j lt (inl next) = let free = next-free j lt next in let marked = all j (omega arith) (are.full j lt next) in absurd (cc)
@@ -191,14 +189,14 @@ module _ (gates : List Gate) (few : length gates ≤ 1048576) (list : List ℕ) 
 -- ---- taking it
 
 waits-less : (gates : List Gate) (list : List ℕ) (k j : ℕ) → waits gates list j ≡ false → waits gates (list ++ k ∷ []) j ≡ false
-waits-less gates list k j idle = step (either (waits gates (list ++ k ∷ []) j))
+waits-less gates list k j idle = step (cases_Bool (waits gates (list ++ k ∷ []) j))
   where
     step : (waits gates (list ++ k ∷ []) j ≡ true) ⊎ (waits gates (list ++ k ∷ []) j ≡ false) → waits gates (list ++ k ∷ []) j ≡ false
     step (inl waiting) =
         let (i, lt, both) = any-some (length gates) (λ i. uses gates j i && not (holds i (list ++ k ∷ []))) waiting in
-        let parts = and-both (uses gates j i) _ both in
-        let before : not (holds i list) ≡ true = not-false _ (missing i (not-true _ parts.1) (either (holds i list))) in
-        let waited : waits gates list j ≡ true = some-any (length gates) (λ i. uses gates j i && not (holds i list)) i lt (both-and _ _ parts.0 before) in
+        let parts = and_parts (uses gates j i) _ both in
+        let before : not (holds i list) ≡ true = not_from_false _ (missing i (not-true _ parts.1) (cases_Bool (holds i list))) in
+        let waited : waits gates list j ≡ true = some-any (length gates) (λ i. uses gates j i && not (holds i list)) i lt (and_from _ _ parts.0 before) in
         absurd (cc)
       where
         missing : (i : ℕ) → holds i (list ++ k ∷ []) ≡ false → (holds i list ≡ true) ⊎ (holds i list ≡ false) → holds i list ≡ false
@@ -210,17 +208,17 @@ waits-less gates list k j idle = step (either (waits gates (list ++ k ∷ []) j)
 freed : (gates : List Gate) (list : List ℕ) (k j : ℕ) → waits gates list j ≡ true → waits gates (list ++ k ∷ []) j ≡ false → uses gates j k ≡ true
 freed gates list k j waiting idle =
     let (i, lt, both) = any-some (length gates) (λ i. uses gates j i && not (holds i list)) waiting in
-    let parts = and-both (uses gates j i) _ both in
-    step i lt parts.0 parts.1 (either (holds i (list ++ k ∷ [])))
+    let parts = and_parts (uses gates j i) _ both in
+    step i lt parts.0 parts.1 (cases_Bool (holds i (list ++ k ∷ [])))
   where
     step : (i : ℕ) → i < length gates → uses gates j i ≡ true → not (holds i list) ≡ true → (holds i (list ++ k ∷ []) ≡ true) ⊎ (holds i (list ++ k ∷ []) ≡ false) → uses gates j k ≡ true
     step i lt used missing (inl found) =
         elim (holds-append i list (k ∷ []) found) [
           | inl before ↦ let no_one = not-true _ missing in absurd (cc)
-          | inr here ↦ elim (or-either (nat_eq i k) false here) [ inl same ↦ ap (uses gates j) (sym (eqb-true i k same)) ∙ used | inr no_one ↦ absurd (cc) ]
+          | inr here ↦ elim (or_cases (nat_eq i k) false here) [ inl same ↦ ap (uses gates j) (sym (eqb-true i k same)) ∙ used | inr no_one ↦ absurd (cc) ]
         ]
     step i lt used missing (inr absent) =
-        let waited : waits gates (list ++ k ∷ []) j ≡ true = some-any (length gates) (λ i. uses gates j i && not (holds i (list ++ k ∷ []))) i lt (both-and _ _ used (not-false _ absent)) in
+        let waited : waits gates (list ++ k ∷ []) j ≡ true = some-any (length gates) (λ i. uses gates j i && not (holds i (list ++ k ∷ []))) i lt (and_from _ _ used (not_from_false _ absent)) in
         absurd (cc)
 
 module _ (gates : List Gate) (list : List ℕ) (marks : List Bool) (ready now : List ℕ) (k : ℕ) (lt : k < length gates) (few : length gates ≤ 1048576) (are : AreTaken gates list marks ready) (rest : IsLeast marks ready now k) where
@@ -229,27 +227,27 @@ module _ (gates : List Gate) (list : List ℕ) (marks : List Bool) (ready now : 
     long = ap length set_one ∙ length-set marks k true ∙ are.long;
     marked = λ j inside. ap (λ (l : List Bool). get_or l j false) set_one ∙ marked-now j inside (cases_eq j k);
     sound = λ j small e. let (inside, idle) = are.sound j small (rest.within j small e) in (inside, waits-less gates list k j idle);
-    full = λ j inside e. found j inside e (either (waits gates list j));
+    full = λ j inside e. found j inside e (cases_Bool (waits gates list j));
   })
     where
       marked-now : (j : ℕ) → j < length gates → (j ≡ k) ⊎ (j ≡ k → ⊥) → get_or (set marks k true) j false ≡ holds j (list ++ k ∷ [])
       marked-now j inside (inl same) =
-          ap (λ n. get_or (set marks k true) n false) same ∙ get_or-set_same marks k true false (omega (arith, are.long)) ∙ sym (holds-right j list (k ∷ []) (or-first _ _ (eq-eqb j k same)))
+          ap (λ n. get_or (set marks k true) n false) same ∙ get_or-set_same marks k true false (omega (arith, are.long)) ∙ sym (holds-right j list (k ∷ []) (or_left _ _ (eq-eqb j k same)))
       marked-now j inside (inr apart) =
           get_or-set_other marks k j true false apart ∙ are.marked j inside
-          ∙ bool-same _ _ (holds-left j list (k ∷ [])) (λ e. elim (holds-append j list (k ∷ []) e) [ inl before ↦ before | inr here ↦ elim (or-either (nat_eq j k) false here) [ inl same ↦ absurd (apart (eqb-true j k same)) | inr no_one ↦ absurd (cc) ] ])
+          ∙ same-truth _ _ (holds-left j list (k ∷ [])) (λ e. elim (holds-append j list (k ∷ []) e) [ inl before ↦ before | inr here ↦ elim (or_cases (nat_eq j k) false here) [ inl same ↦ absurd (apart (eqb-true j k same)) | inr no_one ↦ absurd (cc) ] ])
 
       found : (j : ℕ) → j < length gates → is_next gates (list ++ k ∷ []) j ≡ true → (waits gates list j ≡ true) ⊎ (waits gates list j ≡ false) → (has now j ≡ true) ⊎ ((q : ℕ) × (0 ≤ q) × (q < length users) × (get_or users q 0 ≡ j))
       found j inside e (inl waiting) =
-          let parts = and-both (not (holds j (list ++ k ∷ []))) _ e in
+          let parts = and_parts (not (holds j (list ++ k ∷ []))) _ e in
           let (q, less, is) = holds-place j users (all j inside (freed gates list k j waiting (not-true _ parts.1))) in
           inr (q, omega arith, less, is)
       found j inside e (inr idle) =
-          let parts = and-both (not (holds j (list ++ k ∷ []))) _ e in
+          let parts = and_parts (not (holds j (list ++ k ∷ []))) _ e in
           let gone : holds j (list ++ k ∷ []) ≡ false = not-true _ parts.0 in
-          let before : holds j list ≡ false = absent j gone (either (holds j list)) in
-          let next : is_next gates list j ≡ true = both-and _ _ (not-false _ before) (not-false _ idle) in
-          let apart : j ≡ k → ⊥ = λ same. let here : holds j (list ++ k ∷ []) ≡ true = holds-right j list (k ∷ []) (or-first _ _ (eq-eqb j k same)) in cc in
+          let before : holds j list ≡ false = absent j gone (cases_Bool (holds j list)) in
+          let next : is_next gates list j ≡ true = and_from _ _ (not_from_false _ before) (not_from_false _ idle) in
+          let apart : j ≡ k → ⊥ = λ same. let here : holds j (list ++ k ∷ []) ≡ true = holds-right j list (k ∷ []) (or_left _ _ (eq-eqb j k same)) in cc in
           inl (rest.rest j (omega arith) (are.full j inside next) (are.marked j inside ∙ before) apart)
         where
           absent : (j : ℕ) → holds j (list ++ k ∷ []) ≡ false → (holds j list ≡ true) ⊎ (holds j list ≡ false) → holds j list ≡ false
@@ -262,14 +260,14 @@ module _ (gates : List Gate) (users : List ℕ) (p : ℕ) (list : List ℕ) (mar
   take_ready new small few idle pushed = record {
     long = are.long;
     marked = are.marked;
-    sound = λ j lt e. elim (or-either (nat_eq j (get_or users p 0)) (has ready j) (sym (pushed j lt) ∙ e)) [
+    sound = λ j lt e. elim (or_cases (nat_eq j (get_or users p 0)) (has ready j) (sym (pushed j lt) ∙ e)) [
       | inl same ↦ let q : get_or users p 0 ≡ j = sym (eqb-true j _ same) in (omega arith, ap (waits gates list) (sym q) ∙ idle)
       | inr before ↦ are.sound j lt before
     ];
     full = λ j lt e. elim (are.full j lt e) [
-      | inl there ↦ inl (pushed j (omega arith) ∙ or-second (nat_eq j _) _ there)
+      | inl there ↦ inl (pushed j (omega arith) ∙ or_right (nat_eq j _) _ there)
       | inr (q, le, less, is) ↦ elim (cases_eq q p) [
-        | inl same ↦ inl (pushed j (omega arith) ∙ or-first _ _ (eq-eqb j _ (sym is ∙ ap (λ n. get_or users n 0) same)))
+        | inl same ↦ inl (pushed j (omega arith) ∙ or_left _ _ (eq-eqb j _ (sym is ∙ ap (λ n. get_or users n 0) same)))
         | inr other ↦ inr (q, omega arith, less, is)
       ]
     ];
@@ -287,7 +285,7 @@ module _ (gates : List Gate) (users : List ℕ) (p : ℕ) (list : List ℕ) (mar
         | inl same ↦
             let here : get_or users p 0 ≡ j = ap (λ n. get_or users n 0) (sym same) ∙ is in
             elim why [
-              | inl waiting ↦ let parts = and-both (not (holds j list)) _ e in let idle = not-true _ parts.1 in let also : waits gates list j ≡ true = ap (waits gates list) (sym here) ∙ waiting in absurd (cc)
+              | inl waiting ↦ let parts = and_parts (not (holds j list)) _ e in let idle = not-true _ parts.1 in let also : waits gates list j ≡ true = ap (waits gates list) (sym here) ∙ waiting in absurd (cc)
               | inr past ↦ absurd (omega arith)
             ]
         | inr other ↦ inr (q, omega arith, less, is)
@@ -325,13 +323,13 @@ start_readied gates k true old new lt few waiting same sound full = record {
   ];
 }
 start_readied gates k false old new lt few idle pushed sound full = record {
-  sound = λ j low e. elim (or-either (nat_eq j k) (has old j) (sym (pushed j low) ∙ e)) [
+  sound = λ j low e. elim (or_cases (nat_eq j k) (has old j) (sym (pushed j low) ∙ e)) [
     | inl same ↦ let is : j ≡ k = eqb-true j k same in (omega arith, ap (waits gates []) is ∙ sym idle)
     | inr before ↦ sound j low before
   ];
   full = λ j less free. elim (cases_eq j k) [
-    | inl is ↦ pushed j (omega arith) ∙ or-first _ _ (eq-eqb j k is)
-    | inr other ↦ pushed j (omega arith) ∙ or-second (nat_eq j k) _ (full j (omega arith) free)
+    | inl is ↦ pushed j (omega arith) ∙ or_left _ _ (eq-eqb j k is)
+    | inr other ↦ pushed j (omega arith) ∙ or_right (nat_eq j k) _ (full j (omega arith) free)
   ];
 }
 

@@ -2,7 +2,7 @@
 use Rattle.std.proofs.Common.{◌≡◌, ℕ, suc, ◌+◌, ◌*◌, ◌/◌, ◌<◌, ◌≤◌, ◌⊎◌, true, false, cond, not, ◌&&◌, nat_eq, inl, inr, refl, sym, ◌∙◌, ap, subst, arith, Some, None, List, [], ◌∷◌, map, length, drop}
 use Rattle.std.specs.Prelude.{nat_le, slice_index}
 use Rattle.std.specs.List.{range_with_len, list_any, concat}
-use Rattle.std.proofs.lemmas.Bool.{cases_eq, cases_lt, eq-eqb, eqb-true, leb-true}
+use Rattle.std.proofs.lemmas.Bool.{cases_eq, cases_lt, eq-eqb, eqb-true, leb-true, and_parts, or_left, cases_Bool, or_parts}
 use Rattle.std.proofs.lemmas.List.{length-map, get_or-map, drop-drop}
 use Rattle.aiger_body.specs.declared.error.AigKind.TheVariants.{Cycle}
 use Rattle.aiger_body.specs.declared.header.Header.{Header}
@@ -19,7 +19,7 @@ use Rattle.aig_order.specs.Takings.{AreApart}
 use Rattle.aiger_body.specs.Deltas.{IsBehind, IsNumberAt}
 use Rattle.aiger_body.specs.Passes.{line_content}
 use Rattle.aiger_body.specs.Bodies.{IsTail, IsWhole}
-use Rattle.aig_order.proofs.Firsts.{either, and-both, or-first, or-none, some-any, when-none, none-both, first-more, first-here}
+use Rattle.aig_order.proofs.Firsts.{some-any, when-none, none-both, first-more, first-here}
 use Rattle.aiger_body.proofs.Sections.{in-section}
 use Rattle.aiger_body.proofs.Known.{row-of, long, line-clear, line-right, none-first, gate-at, gates-long}
 use Rattle.aig_order.proofs.Cycles.{depends-right}
@@ -59,9 +59,9 @@ module _ (h : Header) (bytes : List ℕ) (fits : Fits h) (clear : first_some (co
     lows (l ∷ []) e = absurd (cc)
     lows (l ∷ a ∷ []) e = absurd (cc)
     lows (l ∷ a ∷ b ∷ []) e =
-        let both = and-both (is_plain h l) _ e in
-        let rest = and-both (is_literal h a) _ both.1 in
-        (omega (arith, leb-true l (2 * h.top + 1) (and-both (is_literal h l) _ both.0).0), omega (arith, leb-true a (2 * h.top + 1) rest.0), omega (arith, leb-true b (2 * h.top + 1) rest.1))
+        let both = and_parts (is_plain h l) _ e in
+        let rest = and_parts (is_literal h a) _ both.1 in
+        (omega (arith, leb-true l (2 * h.top + 1) (and_parts (is_literal h l) _ both.0).0), omega (arith, leb-true a (2 * h.top + 1) rest.0), omega (arith, leb-true b (2 * h.top + 1) rest.1))
     lows (l ∷ a ∷ b ∷ c ∷ r) e = absurd (cc)
 
     -- a variable that is defined again would be a fault
@@ -72,14 +72,14 @@ module _ (h : Header) (bytes : List ℕ) (fits : Fits h) (clear : first_some (co
         let again : (not h.binary && list_any (defined_before h bytes (at j)) (defined (section h bytes (at j)) (row h bytes (at j)))) ≡ false = when-none _ _ none in
         let here : list_any (defined_before h bytes (at j)) (defined (section h bytes (at j)) (row h bytes (at j))) ≡ false = sym (ap (λ b. not b && list_any (defined_before h bytes (at j)) (defined (section h bytes (at j)) (row h bytes (at j)))) form) ∙ again in
         let one : list_any (defined_before h bytes (at j)) (defined Gates (row h bytes (at j))) ≡ false = ap (λ s. list_any (defined_before h bytes (at j)) (defined s (row h bytes (at j)))) (sym of) ∙ here in
-        ap (λ (g : Gate). defined_before h bytes (at j) (g.lhs / 2)) (gate-is j lt) ∙ (or-none _ false one).0
+        ap (λ (g : Gate). defined_before h bytes (at j) (g.lhs / 2)) (gate-is j lt) ∙ (or_parts _ false one).0
 
     defines : (k j : ℕ) → k < j → j < length gates → (gate_at gates k).lhs / 2 ≡ (gate_at gates j).lhs / 2 → ⊥
     defines k j less lt same =
         let inside : k < length gates = omega arith in
         let (of, small) = in-section (plan h bytes) Gates k refl (omega (arith, inside, many)) in
         let value : (gate_at gates j).lhs / 2 ≡ first_number (row h bytes (at k)) / 2 = sym same ∙ ap (λ (g : Gate). g.lhs / 2) (gate-is k inside) in
-        let here : holds ((gate_at gates j).lhs / 2) (defined (section h bytes (at k)) (row h bytes (at k))) ≡ true = ap (λ s. holds ((gate_at gates j).lhs / 2) (defined s (row h bytes (at k)))) of ∙ or-first _ _ (eq-eqb _ _ value) in
+        let here : holds ((gate_at gates j).lhs / 2) (defined (section h bytes (at k)) (row h bytes (at k))) ≡ true = ap (λ s. holds ((gate_at gates j).lhs / 2) (defined s (row h bytes (at k)))) of ∙ or_left _ _ (eq-eqb _ _ value) in
         let found : defined_before h bytes (at j) ((gate_at gates j).lhs / 2) ≡ true = some-any (at j) (λ i. holds ((gate_at gates j).lhs / 2) (defined (section h bytes i) (row h bytes i))) (at k) (omega arith) here in
         let no_one = fresh j lt in
         absurd (cc)
@@ -113,10 +113,10 @@ module _ (h : Header) (bytes : List ℕ) (fits : Fits h) (clear : first_some (co
         is k lt = gate-at h bytes form k (omega (arith, lt, gates-long h bytes form))
 
   pub apart : is_header h ≡ true → AreApart gates h.top
-  apart large = elim (either h.binary) [ inl form ↦ binary-apart form large | inr form ↦ ascii-apart form ]
+  apart large = elim (cases_Bool h.binary) [ inl form ↦ binary-apart form large | inr form ↦ ascii-apart form ]
 
   pub few : length gates ≤ 1048576
-  few = elim (either h.binary) [
+  few = elim (cases_Bool h.binary) [
     | inl form ↦ omega (arith, gates-long h bytes form, fits.sum, fits.top)
     | inr form ↦
         let ands : slice_index (plan h bytes) (number_in Gates) ≡ h.ands = ap (λ b. cond b 0 h.ands) form in
@@ -130,7 +130,7 @@ module _ (h : Header) (bytes : List ℕ) where
   ands = (content h bytes).gates
 
   pub none_cyclic : ((k : ℕ) → k < length ands → ¬ Depends ands k k) → first_some (length ands) (of_cycle h bytes) ≡ None
-  none_cyclic none = none-first h bytes (length ands) (of_cycle h bytes) (λ k lt. ap (λ b. when b (fault Cycle (line_start bytes (before (plan h bytes) Gates + k)))) (free k lt (either (depends ands (length ands) k k))))
+  none_cyclic none = none-first h bytes (length ands) (of_cycle h bytes) (λ k lt. ap (λ b. when b (fault Cycle (line_start bytes (before (plan h bytes) Gates + k)))) (free k lt (cases_Bool (depends ands (length ands) k k))))
     where
       free : (k : ℕ) → k < length ands → (depends ands (length ands) k k ≡ true) ⊎ (depends ands (length ands) k k ≡ false) → depends ands (length ands) k k ≡ false
       free k lt (inl round) = absurd (none k lt ((depends-right ands k k lt lt).1 round))
@@ -141,7 +141,7 @@ module _ (h : Header) (bytes : List ℕ) where
   whole_long list same many =
       let good = taken-order ands (length ands) in
       let full_many : length (order ands) ≡ length ands = ap length (sym same) ∙ many in
-      let all : IsComplete ands (order ands) = λ k lt. found k lt full_many (either (holds k (order ands))) in
+      let all : IsComplete ands (order ands) = λ k lt. found k lt full_many (cases_Bool (holds k (order ands))) in
       record {
         same = same;
         all = (let P : List ℕ → Type 0 = λ l. IsComplete ands l in subst P (sym same) all);
@@ -164,7 +164,7 @@ module _ (h : Header) (bytes : List ℕ) where
   pub cycle_found : (k : ℕ) → k < length ands → Depends ands k k → ((j : ℕ) → j < k → ¬ Depends ands j j) → first_some (length ands) (of_cycle h bytes) ≡ Some (fault Cycle (line_start bytes (before (plan h bytes) Gates + k)))
   cycle_found k lt round none =
       let here : of_cycle h bytes k ≡ Some (fault Cycle (line_start bytes (before (plan h bytes) Gates + k))) = ap (λ b. when b (fault Cycle (line_start bytes (before (plan h bytes) Gates + k)))) ((depends-right ands k k lt lt).0 round) in
-      let earlier : first_some k (of_cycle h bytes) ≡ None = none-first h bytes k (of_cycle h bytes) (λ j less. ap (λ b. when b (fault Cycle (line_start bytes (before (plan h bytes) Gates + j)))) (free j less (either (depends ands (length ands) j j)))) in
+      let earlier : first_some k (of_cycle h bytes) ≡ None = none-first h bytes k (of_cycle h bytes) (λ j less. ap (λ b. when b (fault Cycle (line_start bytes (before (plan h bytes) Gates + j)))) (free j less (cases_Bool (depends ands (length ands) j j)))) in
       first-more (of_cycle h bytes) (suc k) (length ands) _ (omega arith) (first-here (of_cycle h bytes) k earlier ∙ here)
     where
       free : (j : ℕ) → j < k → (depends ands (length ands) j j ≡ true) ⊎ (depends ands (length ands) j j ≡ false) → depends ands (length ands) j j ≡ false

@@ -1,5 +1,6 @@
 -- The outcome, stage after stage.
 use Rattle.std.proofs.Common.{◌≡◌, ℕ, ◌*◌, true, false, cond, inl, inr, refl, sym, ◌∙◌, ap, subst, length, List, Option, Some, None}
+use Rattle.std.proofs.lemmas.Bool.{cases_Bool}
 use Rattle.aig_net.specs.declared.parts.NetParts.{NetParts}
 use Rattle.aiger_body.specs.declared.error.AigerError.{AigerError}
 use Rattle.aiger_body.specs.declared.error.AigerError.TheVariants.{Bad, Limit as PastLimit, Memory}
@@ -9,7 +10,6 @@ use Rattle.aiger_body.specs.Files.{counted, content, is_header}
 use Rattle.aiger_body.specs.Symbols.{symbol_lines}
 use Rattle.aiger_body.specs.Outcomes.{Outcome, Refusal, outcome, judged, circuit, after_header, numbers, of_line, of_number, of_uses, of_cycle, of_symbol}
 use Rattle.aiger_body.specs.Answers.{Tells, Refuses, IsHeaderRead}
-use Rattle.aig_order.proofs.Firsts.{either}
 use Rattle.aiger_body.proofs.Stages.{outcome_headed, tells_nothing}
 use Rattle.aiger_body.proofs.Known.{binary-uses}
 
@@ -53,7 +53,7 @@ module _ (h : Header) (bytes : List ℕ) where
   -- a fault in what lines use
   pub uses_tells : (e : AigerError) → is_header h ≡ true → in_lines ≡ None → Tells in_uses e → Tells (otherwise in_lines (otherwise in_numbers in_uses)) e
   uses_tells e large clear tells =
-      elim (either h.binary) [
+      elim (cases_Bool h.binary) [
         | inl form ↦ tells_nothing in_uses _ e (binary-uses h bytes form large clear) tells
         | inr form ↦ tells_later in_lines _ e clear (tells_later in_numbers in_uses e (no_numbers form) tells)
       ]

@@ -1,10 +1,10 @@
 -- The numbers of the binary ands: where they stand, and what they are worth.
-use Rattle.std.proofs.Common.{◌≡◌, ℕ, zero, suc, ◌+◌, ◌-◌, ◌*◌, ◌%◌, ◌^◌, ◌<◌, ◌≤◌, ◌⊎◌, Bool, true, false, not, ◌&&◌, List, [], ◌∷◌, ◌++◌, map, length, get_or, take, drop, refl, sym, ◌∙◌, ap, subst, arith, inl, inr, Some, None, length-append}
+use Rattle.std.proofs.Common.{◌≡◌, ℕ, zero, suc, ◌+◌, ◌-◌, ◌*◌, ◌%◌, ◌^◌, ◌<◌, ◌≤◌, Bool, true, false, not, ◌&&◌, List, [], ◌∷◌, ◌++◌, map, length, get_or, take, drop, refl, sym, ◌∙◌, ap, subst, arith, inl, inr, Some, None, length-append}
 use Rattle.std.specs.Prelude.{nat_le, nat_lt, slice_index}
 use Rattle.std.specs.List.{concat, range_with_len}
 use Rattle.std.proofs.Math.Nat.{pow-succ', pow-le-pow_right}
 use Rattle.std.proofs.Math.Seq.{drop-cons}
-use Rattle.std.proofs.lemmas.Bool.{le-leb, leb-true, lt-ltb, cases_lt}
+use Rattle.std.proofs.lemmas.Bool.{le-leb, lt-ltb, cases_lt, lt-leb}
 use Rattle.std.proofs.lemmas.List.{length-drop}
 use Rattle.aiger_body.specs.declared.error.AigKind.TheVariants.{Delta, Truncated}
 use Rattle.aiger_body.specs.declared.header.Header.{Header}
@@ -15,7 +15,6 @@ use Rattle.aiger_body.specs.Files.{ends_number, value_of, behind, groups, group_
 use Rattle.aiger_body.specs.Outcomes.{fault, of_number, least, greatest}
 use Rattle.aiger_body.specs.Deltas.{IsBehind, IsNumberAt}
 use Rattle.aiger_body.proofs.Pieces.{pieces-concat}
-use Rattle.aig_order.proofs.Firsts.{either}
 use Rattle.aig_order.proofs.Sorted.{range-more}
 use Rattle.aiger_body.proofs.Cutting.{first-at}
 
@@ -65,13 +64,6 @@ module _ (h : Header) (bytes : List ℕ) (j : ℕ) where
 
   pub number_clear : long ≡ false → is_ended ends_number piece ≡ true → inside ≡ true → of_number h bytes j ≡ None
   number_clear e f g = behind-cut e f ∙ ap (λ b. when (not b) (fault Delta (group_start h bytes j))) g
-
-not-le : (a b : ℕ) → b < a → nat_le a b ≡ false
-not-le a b lt = step (either (nat_le a b))
-  where
-    step : (nat_le a b ≡ true) ⊎ (nat_le a b ≡ false) → nat_le a b ≡ false
-    step (inl le) = absurd (omega (arith, leb-true a b le, lt))
-    step (inr other) = other
 
 -- ---- how long a number is that is done by its tenth byte
 
@@ -155,13 +147,13 @@ module _ (h : Header) (bytes : List ℕ) (j : ℕ) (group : List ℕ) (same : gr
   module _ (short : false ≡ nat_le 128 (slice_index group 9)) (done : true ≡ is_ended ends_number group) (value : ℕ) (is : value ≡ value_of group) where
     pub too_small : value < least j → of_number h bytes j ≡ Some (fault Delta (group_start h bytes j))
     too_small lt =
-        let under : nat_le (least j) (delta h bytes j) ≡ false = not-le _ _ (omega (arith, lt, is, group_value)) in
+        let under : nat_le (least j) (delta h bytes j) ≡ false = lt-leb _ _ (omega (arith, lt, is, group_value)) in
         outside_fault h bytes j (group_long false short) (group_ended true done) (ap (λ b. b && nat_le (delta h bytes j) (greatest h bytes j)) under)
 
     pub too_large : least j ≤ value → greatest h bytes j < value → of_number h bytes j ≡ Some (fault Delta (group_start h bytes j))
     too_large le lt =
         let under : nat_le (least j) (delta h bytes j) ≡ true = le-leb _ _ (omega (arith, le, is, group_value)) in
-        let over : nat_le (delta h bytes j) (greatest h bytes j) ≡ false = not-le _ _ (omega (arith, lt, is, group_value)) in
+        let over : nat_le (delta h bytes j) (greatest h bytes j) ≡ false = lt-leb _ _ (omega (arith, lt, is, group_value)) in
         outside_fault h bytes j (group_long false short) (group_ended true done) (ap (λ b. b && nat_le (delta h bytes j) (greatest h bytes j)) under ∙ over)
 
     pub just_right : least j ≤ value → value ≤ greatest h bytes j → of_number h bytes j ≡ None

@@ -2,7 +2,7 @@
 use Rattle.std.proofs.Common.{◌≡◌, ℕ, zero, suc, ◌+◌, ◌<◌, ◌≤◌, ◌^◌, Bool, true, false, cond, List, [], ◌∷◌, ◌++◌, length, get_or, take, drop, refl, sym, ◌∙◌, ap, subst, arith, Option, Some, None, min, inl, inr}
 use Rattle.std.specs.Prelude.{not, nat_le, nat_lt, nat_eq, slice_index, IfSome}
 use Rattle.std.specs.List.{slice_split}
-use Rattle.std.proofs.lemmas.Bool.{leb-true, lt-ltb, eqb-true, cases_lt}
+use Rattle.std.proofs.lemmas.Bool.{leb-true, lt-ltb, eqb-true, cases_lt, cases_Bool, not-false}
 use Rattle.std.proofs.lemmas.List.{take_all, drop_all}
 use Rattle.aiger_body.specs.declared.header.Header.{Header}
 use Rattle.aig_order.specs.Firsts.{when}
@@ -12,7 +12,7 @@ use Rattle.aiger_body.specs.Outcomes.{of_header, fault}
 use Rattle.aiger_body.specs.declared.error.AigKind.TheVariants.{Header as HeaderFault}
 use Rattle.aiger_body.specs.Answers.{IsShort, Fits}
 use Rattle.aiger_body.proofs.Numbers.{number_small}
-use Rattle.aig_order.proofs.Firsts.{either, when-none, none-both, not-not}
+use Rattle.aig_order.proofs.Firsts.{when-none, none-both}
 
 -- each number below 10 to the power of 10
 pub AreSmall : List ℕ → Type 0
@@ -101,17 +101,17 @@ pub fits_of : (h : Header) → of_header h ≡ None → IsShort h → Fits h
 fits_of h clear short =
     let (right, low) = none-both (when (not (is_header h)) (fault HeaderFault 0)) _ clear in
     let top : h.top ≤ 1048576 = not-less-is 1048576 h.top (when-none _ _ low) in
-    record { short = short; top = top; sum = sum-of h (not-not (is_header h) (when-none _ _ right)) }
+    record { short = short; top = top; sum = sum-of h (not-false (is_header h) (when-none _ _ right)) }
   where
     not-less-is : (a b : ℕ) → nat_lt a b ≡ false → b ≤ a
     not-less-is a b e = elim (cases_lt a b) [ inl lt ↦ let yes_lt : nat_lt a b ≡ true = lt-ltb a b lt in absurd (cc) | inr le ↦ le ]
 
     sum-of : (h : Header) → is_header h ≡ true → h.inputs + h.latches + h.ands ≤ h.top
-    sum-of h e = elim (either h.binary) [
+    sum-of h e = elim (cases_Bool h.binary) [
       | inl form ↦ omega (arith, eqb-true _ _ (sym (ap (λ b. cond b (nat_eq h.top (h.inputs + h.latches + h.ands)) (nat_le (h.inputs + h.latches + h.ands) h.top)) form) ∙ e))
       | inr form ↦ omega (arith, leb-true _ _ (sym (ap (λ b. cond b (nat_eq h.top (h.inputs + h.latches + h.ands)) (nat_le (h.inputs + h.latches + h.ands) h.top)) form) ∙ e))
     ]
 
 -- and is large enough
 pub large_of : (h : Header) → of_header h ≡ None → is_header h ≡ true
-large_of h clear = not-not (is_header h) (when-none _ _ (none-both (when (not (is_header h)) (fault HeaderFault 0)) _ clear).0)
+large_of h clear = not-false (is_header h) (when-none _ _ (none-both (when (not (is_header h)) (fault HeaderFault 0)) _ clear).0)

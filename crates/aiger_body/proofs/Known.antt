@@ -2,9 +2,10 @@
 use Rattle.std.proofs.Common.{◌≡◌, ℕ, zero, suc, ◌+◌, ◌-◌, ◌*◌, ◌/◌, ◌<◌, ◌≤◌, Bool, true, false, cond, not, ◌||◌, nat_eq, inl, inr, refl, sym, ◌∙◌, ap, subst, arith, Option, Some, None, List, [], ◌∷◌, ◌++◌, map, length, get_or, take, drop, length-append}
 use Rattle.std.specs.Prelude.{nat_le, slice_index, slice_index_or, sum}
 use Rattle.std.specs.List.{range_with_len, list_any}
-use Rattle.std.proofs.lemmas.Bool.{cases_eq, cases_lt, eq-eqb, eqb-true, leb-true}
-use Rattle.std.proofs.lemmas.List.{length-map, get_or-map, get_or_append_left, get_or-append-add}
+use Rattle.std.proofs.lemmas.Bool.{cases_eq, cases_lt, eq-eqb, eqb-true, leb-true, and_parts, or_left, or_right, or_cases, not-false}
+use Rattle.std.proofs.lemmas.List.{length-map, get_or-map, get_or_append_left, get_or-append-add, map-append}
 use Rattle.std.proofs.lemmas.List.FromFn.{length-map-range_with_len, get_or-map-range_with_len}
+use Rattle.hy_base.proofs.Truths.{same-truth}
 use Rattle.aiger_body.specs.declared.error.AigKind.TheVariants.{Undefined}
 use Rattle.aiger_body.specs.declared.header.Header.{Header}
 use Rattle.aiger_body.specs.declared.section.Section.{Section}
@@ -18,16 +19,12 @@ use Rattle.aiger_body.specs.Circuits.{is_defined}
 use Rattle.aiger_body.specs.Outcomes.{of_line, of_uses, is_undefined, fault}
 use Rattle.aiger_body.specs.Passes.{AllRead}
 use Rattle.aiger_body.specs.Uses.{is_marked, AreKnown}
-use Rattle.aig_order.proofs.Firsts.{and-both, or-either, or-first, or-second, not-not, none-both, when-none, first-none, any-some, some-any, place-holds, holds-place, holds-left, holds-right, holds-append, bool-same}
+use Rattle.aig_order.proofs.Firsts.{none-both, when-none, first-none, any-some, some-any, place-holds, holds-place, holds-left, holds-right, holds-append}
 use Rattle.aiger_body.proofs.Sections.{in-section, line-of}
 
 pub map-twice : {A B : Type 0} {C : Type 0} (f : A → B) (g : B → C) (xs : List A) → map g (map f xs) ≡ map (λ x. g (f x)) xs
 map-twice f g [] = refl
 map-twice f g (x ∷ xs) = ap (λ l. g (f x) ∷ l) (map-twice f g xs)
-
-pub map-joined : {A B : Type 0} (f : A → B) (xs ys : List A) → map f (xs ++ ys) ≡ map f xs ++ map f ys
-map-joined f [] ys = refl
-map-joined f (x ∷ xs) ys = ap (λ l. f x ∷ l) (map-joined f xs ys)
 
 -- ---- the literals that a right line uses
 
@@ -48,8 +45,8 @@ module _ (h : Header) where
   latch-low : (r : List ℕ) → is_latch h r ≡ true → AllLow (take 1 (drop 1 r))
   latch-low [] e = absurd (cc)
   latch-low (l ∷ []) e = absurd (cc)
-  latch-low (l ∷ n ∷ []) e = more-low n [] (and-both (is_plain h l) _ e).1 none-low
-  latch-low (l ∷ n ∷ r ∷ []) e = more-low n [] (and-both (is_literal h n) _ (and-both (is_plain h l) _ e).1).0 none-low
+  latch-low (l ∷ n ∷ []) e = more-low n [] (and_parts (is_plain h l) _ e).1 none-low
+  latch-low (l ∷ n ∷ r ∷ []) e = more-low n [] (and_parts (is_literal h n) _ (and_parts (is_plain h l) _ e).1).0 none-low
   latch-low (l ∷ n ∷ r ∷ s ∷ t) e = absurd (cc)
 
   use-low : (r : List ℕ) → is_use h r ≡ true → AllLow r
@@ -62,7 +59,7 @@ module _ (h : Header) where
   gate-low (l ∷ []) e = absurd (cc)
   gate-low (l ∷ a ∷ []) e = absurd (cc)
   gate-low (l ∷ a ∷ b ∷ []) e =
-      let rest = and-both (is_literal h a) _ (and-both (is_plain h l) _ e).1 in
+      let rest = and_parts (is_literal h a) _ (and_parts (is_plain h l) _ e).1 in
       more-low a (b ∷ []) rest.0 (more-low b [] rest.1 none-low)
   gate-low (l ∷ a ∷ b ∷ c ∷ r) e = absurd (cc)
 
@@ -151,15 +148,15 @@ module _ (h : Header) (bytes : List ℕ) where
     pub defined-below : (l : ℕ) → l / 2 ≤ h.inputs + h.latches + h.ands → is_defined (content h bytes) l ≡ true
     defined-below l le =
         elim (cases_eq (l / 2) 0) [
-          | inl constant ↦ or-first _ _ (eq-eqb (l / 2) 0 constant)
+          | inl constant ↦ or_left _ _ (eq-eqb (l / 2) 0 constant)
           | inr other ↦
               elim (cases_lt (h.inputs + h.latches) (l / 2)) [
                 | inl high ↦
                     let k = l / 2 - (1 + h.inputs + h.latches) in
                     let is : 1 + h.inputs + h.latches + k ≡ l / 2 = omega arith in
                     let P : ℕ → Type 0 = λ v. holds v (map (λ g. g.lhs / 2) (content h bytes).gates) ≡ true in
-                    or-second (nat_eq (l / 2) 0) _ (holds-right (l / 2) (own_variables (content h bytes)) _ (subst P is (gate-holds k (omega arith))))
-                | inr low ↦ or-second (nat_eq (l / 2) 0) _ (holds-left (l / 2) (own_variables (content h bytes)) _ (own-holds (l / 2) (omega arith) low))
+                    or_right (nat_eq (l / 2) 0) _ (holds-right (l / 2) (own_variables (content h bytes)) _ (subst P is (gate-holds k (omega arith))))
+                | inr low ↦ or_right (nat_eq (l / 2) 0) _ (holds-left (l / 2) (own_variables (content h bytes)) _ (own-holds (l / 2) (omega arith) low))
               ]
         ]
 
@@ -178,7 +175,7 @@ module _ (h : Header) (bytes : List ℕ) where
       ap (λ is. map (λ l. l / 2) (is ++ map own_literal (content h bytes).latches) ++ map (λ (g : Gate). g.lhs / 2) (content h bytes).gates) inputs
       ∙ ap (λ gs. map (λ l. l / 2) (map first_number (section_rows h bytes Inputs) ++ map own_literal (content h bytes).latches) ++ map (λ (g : Gate). g.lhs / 2) gs) gates
       ∙ ap (λ l. l ++ map (λ (g : Gate). g.lhs / 2) (map gate_of (section_rows h bytes Gates)))
-      (map-joined (λ l. l / 2) (map first_number (section_rows h bytes Inputs)) (map own_literal (map latch_of (section_rows h bytes Latches)))
+      (map-append (λ l. l / 2) (map first_number (section_rows h bytes Inputs)) (map own_literal (map latch_of (section_rows h bytes Latches)))
       ∙ ap (λ l. l ++ map (λ l. l / 2) (map own_literal (map latch_of (section_rows h bytes Latches)))) (map-twice first_number (λ l. l / 2) (section_rows h bytes Inputs))
       ∙ ap (λ l. firsts Inputs ++ l) (ap (map (λ l. l / 2)) (map-twice latch_of own_literal (section_rows h bytes Latches)) ∙ map-twice first_number (λ l. l / 2) (section_rows h bytes Latches)))
       ∙ ap (λ l. (firsts Inputs ++ firsts Latches) ++ l) (map-twice gate_of (λ (g : Gate). g.lhs / 2) (section_rows h bytes Gates))
@@ -189,7 +186,7 @@ module _ (h : Header) (bytes : List ℕ) where
       (get_or-map (λ r. first_number r / 2) (section_rows h bytes s) j [] 0 (omega (arith, lt, long s)) ∙ ap (λ r. first_number r / 2) (row-of s j lt) ∙ sym is)
 
   only : (v x : ℕ) → holds v (x ∷ []) ≡ true → v ≡ x
-  only v x e = elim (or-either (nat_eq v x) false e) [ inl same ↦ eqb-true v x same | inr no_one ↦ absurd (cc) ]
+  only v x e = elim (or_cases (nat_eq v x) false e) [ inl same ↦ eqb-true v x same | inr no_one ↦ absurd (cc) ]
 
   line-holds : (s : Section) (j v : ℕ) → j < slice_index (plan h bytes) (number_in s) → holds v (defined s (row h bytes (before (plan h bytes) s + j))) ≡ true → holds v all_firsts ≡ true
   line-holds Inputs j v lt e = holds-left v (firsts Inputs ++ firsts Latches) _ (holds-left v (firsts Inputs) _ (first-holds Inputs j v lt (only v _ e)))
@@ -219,7 +216,7 @@ module _ (h : Header) (bytes : List ℕ) where
       let (of, small) = in-section (plan h bytes) s j refl inside in
       let k = before (plan h bytes) s + j in
       let value : first_number (row h bytes k) / 2 ≡ v = ap (λ r. first_number r / 2) (sym (row-of s j inside)) ∙ sym (get_or-map (λ r. first_number r / 2) (section_rows h bytes s) j [] 0 (omega (arith, inside, long s))) ∙ is in
-      let here : defines v k ≡ true = ap (λ t. holds v (defined t (row h bytes k))) of ∙ ap (holds v) (shape (row h bytes k)) ∙ or-first _ _ (eq-eqb v _ (sym value)) in
+      let here : defines v k ≡ true = ap (λ t. holds v (defined t (row h bytes k))) of ∙ ap (holds v) (shape (row h bytes k)) ∙ or_left _ _ (eq-eqb v _ (sym value)) in
       some-any (counted h bytes) (defines v) k small here
 
   from-firsts : (v : ℕ) → holds v all_firsts ≡ true → defined_before h bytes (counted h bytes) v ≡ true
@@ -232,7 +229,7 @@ module _ (h : Header) (bytes : List ℕ) where
   pub known : (lines : Lines) → h.binary ≡ false → AllRead h bytes lines → AreKnown h bytes lines.marks
   known lines form all = record {
     clear = all.clear;
-    each = λ v le. (all.marks form).each v le ∙ bool-same _ _ (to-firsts v) (from-firsts v) ∙ ap (holds v) (sym (all-are form));
+    each = λ v le. (all.marks form).each v le ∙ same-truth _ _ (to-firsts v) (from-firsts v) ∙ ap (holds v) (sym (all-are form));
   }
 
   -- ---- what a line uses
@@ -241,7 +238,7 @@ module _ (h : Header) (bytes : List ℕ) where
   line-clear clear k lt = first-none (of_line h bytes) (counted h bytes) clear k lt
 
   pub line-right : first_some (counted h bytes) (of_line h bytes) ≡ None → (k : ℕ) → k < counted h bytes → is_right h (section h bytes k) (row h bytes k) ≡ true
-  line-right clear k lt = not-not _ (when-none _ _ (none-both _ _ (none-both _ _ (line-clear clear k lt)).1).0)
+  line-right clear k lt = not-false _ (when-none _ _ (none-both _ _ (none-both _ _ (line-clear clear k lt)).1).0)
 
   pub uses-are : (marks : List Bool) (k : ℕ) → AreKnown h bytes marks → is_right h (section h bytes k) (row h bytes k) ≡ true → list_any (λ l. not (is_marked marks l)) (used (section h bytes k) (row h bytes k)) ≡ list_any (is_undefined h bytes) (used (section h bytes k) (row h bytes k))
   uses-are marks k known right = any-same _ _ (used (section h bytes k) (row h bytes k)) (λ i lt. ap (λ b. not (nat_eq (get_or (used (section h bytes k) (row h bytes k)) i 0 / 2) 0 || b)) (known.each _ (used-low h (section h bytes k) (row h bytes k) right i)))

@@ -13,6 +13,5 @@ pub mod Sections
 pub mod Kept
 pub mod Groups
 pub mod Known
-pub mod LawLemmas
 pub mod Apart
 pub mod Composing

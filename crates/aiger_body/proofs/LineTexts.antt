@@ -4,10 +4,10 @@ use Rattle.std.specs.Prelude.{decimal, bytes_eq, nat_le, flat_map}
 use Rattle.std.specs.List.{All, slice_split, join_with_byte}
 use Rattle.std.specs.Str.Parse.{digits_value}
 use Rattle.std.proofs.lemmas.List.Splits.{join_with_byte-slice_split}
-use Rattle.std.proofs.lemmas.Bool.{eqb-true}
+use Rattle.std.proofs.lemmas.Bool.{eqb-true, cases_Bool}
+use Rattle.hy_base.proofs.Truths.{same-bytes}
 use Rattle.aiger_body.specs.Texts.{is_feed, is_return, is_space, is_ended, pieces, without_end, line_text, number_of, with_number, all_numbers, or_empty, numbers_of}
 use Rattle.aiger_body.specs.Spelled.{AreShort, spelled, line_of, end_of}
-use Rattle.aig_order.proofs.Firsts.{either, and-both}
 use Rattle.aiger_body.proofs.Pieces.{Free, pieces-cons}
 use Rattle.aiger_body.proofs.Spelling.{numbers-spelled, no-digit}
 
@@ -40,7 +40,7 @@ pub spelled-free : (c : ℕ) → c < 32 → (row : List ℕ) → AreShort row �
 spelled-free c low [] short = tt
 spelled-free c low (n ∷ []) (lt, short) = all-free c (decimal n) (no-digit n lt c (omega arith))
 spelled-free c low (n ∷ m ∷ row) (lt, short) =
-    free-append (λ x. nat_eq x c) (decimal n) (32 ∷ spelled (m ∷ row)) (all-free c (decimal n) (no-digit n lt c (omega arith))) (space (either (nat_eq 32 c)), spelled-free c low (m ∷ row) short)
+    free-append (λ x. nat_eq x c) (decimal n) (32 ∷ spelled (m ∷ row)) (all-free c (decimal n) (no-digit n lt c (omega arith))) (space (cases_Bool (nat_eq 32 c)), spelled-free c low (m ∷ row) short)
   where
     space : (nat_eq 32 c ≡ true) ⊎ (nat_eq 32 c ≡ false) → nat_eq 32 c ≡ false
     space (inl same) = absurd (omega (arith, eqb-true 32 c same))
@@ -64,14 +64,6 @@ line-read carriage n row short =
 
 -- ---- and what says them is spelled so
 
-pub bytes-true : (xs ys : List ℕ) → bytes_eq xs ys ≡ true → xs ≡ ys
-bytes-true [] [] e = refl
-bytes-true [] (y ∷ ys) e = absurd (cc)
-bytes-true (x ∷ xs) [] e = absurd (cc)
-bytes-true (x ∷ xs) (y ∷ ys) e =
-    let both = and-both (nat_eq x y) (bytes_eq xs ys) e in
-    ap (λ b. b ∷ xs) (eqb-true x y both.0) ∙ ap (λ l. y ∷ l) (bytes-true xs ys both.1)
-
 number-word : (word : List ℕ) (n : ℕ) → number_of word ≡ Some n → decimal n ≡ word
 number-word word n e = step (nat_le (length word) 10) (bytes_eq (decimal (digits_value 10 word)) word) refl e
   where
@@ -79,7 +71,7 @@ number-word word n e = step (nat_le (length word) 10) (bytes_eq (decimal (digits
     step true true same e =
         let value : digits_value 10 word ≡ n = cc in
         let P : ℕ → Type 0 = λ v. decimal v ≡ word in
-        subst P value (bytes-true _ _ same)
+        subst P value (same-bytes _ _ same)
     step true false same e = absurd (cc)
     step false b same e = absurd (cc)
 
@@ -111,7 +103,7 @@ line-spelled line n row end e =
     let inner = without_end is_feed line in
     let cut : line ≡ inner ++ 10 ∷ [] = is ∙ ap (λ b. inner ++ b ∷ []) ten in
     let said : without_end is_return inner ≡ spelled (n ∷ row) = text-of _ n row e in
-    elim (either (is_ended is_return inner)) [
+    elim (cases_Bool (is_ended is_return inner)) [
       | inl back ↦
           let (y, return, was) = last-of is_return inner back in
           let thirteen : y ≡ 13 = eqb-true y 13 return in

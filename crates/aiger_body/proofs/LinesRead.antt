@@ -2,8 +2,9 @@
 use Rattle.std.proofs.Common.{◌≡◌, ℕ, suc, ◌+◌, ◌*◌, ◌<◌, ◌≤◌, ◌^◌, ◌⊎◌, Bool, true, false, not, ◌&&◌, ◌||◌, nat_eq, List, [], ◌∷◌, ◌++◌, map, length, get_or, set, refl, sym, ◌∙◌, ap, subst, arith, inl, inr, Option, Some, None}
 use Rattle.std.specs.Prelude.{slice_index, slice_index_or, slice_set, option_to_list, IfSome}
 use Rattle.std.specs.List.{list_any, range_with_len}
-use Rattle.std.proofs.lemmas.Bool.{cases_eq, eqb-true, eq-eqb}
+use Rattle.std.proofs.lemmas.Bool.{cases_eq, eqb-true, eq-eqb, or_right, cases_Bool}
 use Rattle.std.proofs.lemmas.List.{get_or-set_same, get_or-set_other, length-set}
+use Rattle.hy_base.proofs.Truths.{or-false}
 use Rattle.aiger_body.specs.declared.error.AigKind.TheVariants.{Truncated, Literal, Redefined}
 use Rattle.aiger_body.specs.declared.header.Header.{Header}
 use Rattle.aiger_body.specs.declared.section.Section.{Section}
@@ -16,7 +17,6 @@ use Rattle.aiger_body.specs.Outcomes.{fault, of_line}
 use Rattle.aiger_body.specs.Keeping.{HasWords, keep, keep_all}
 use Rattle.aiger_body.specs.Passes.{AreMarks, IsMarkAnswer, IsRow, rows_from}
 use Rattle.aiger_body.specs.Answers.{Fits}
-use Rattle.aig_order.proofs.Firsts.{either, or-second}
 use Rattle.aiger_body.proofs.Rows.{defined_small, right_words, first_small}
 use Rattle.aig_order.proofs.Sorted.{range-more}
 
@@ -48,15 +48,11 @@ module _ (h : Header) (bytes : List ℕ) (k : ℕ) (ended : is_ended is_feed (li
 
 -- ---- marks
 
-or-none-second : (a : Bool) → (a || false) ≡ a
-or-none-second true = refl
-or-none-second false = refl
-
 module _ (h : Header) (bytes : List ℕ) (k : ℕ) (old : List Bool) (marks : AreMarks h bytes k old) where
   pub marked_none : (new : List Bool) → new ≡ old → [] ≡ defined (section h bytes k) (row h bytes k) → AreMarks h bytes (suc k) new
   marked_none new same none = record {
     long = ap length same ∙ marks.long;
-    each = λ v le. ap (λ (l : List Bool). get_or l v false) same ∙ marks.each v le ∙ sym (or-none-second (defined_before h bytes k v)) ∙ ap (λ d. defined_before h bytes k v || holds v d) none;
+    each = λ v le. ap (λ (l : List Bool). get_or l v false) same ∙ marks.each v le ∙ sym (or-false (defined_before h bytes k v)) ∙ ap (λ d. defined_before h bytes k v || holds v d) none;
   }
 
   pub marked_one : (new : List Bool) (v : ℕ) → v ≤ h.top → new ≡ slice_set old v true → v ∷ [] ≡ defined (section h bytes k) (row h bytes k) → AreMarks h bytes (suc k) new
@@ -67,16 +63,16 @@ module _ (h : Header) (bytes : List ℕ) (k : ℕ) (old : List Bool) (marks : Ar
           let here : holds u (v ∷ []) ≡ true = ap (λ b. b || false) (eq-eqb u v same) in
           let inside : v < length old = omega (arith, marks.long) in
           ap (λ (l : List Bool). get_or l u false) is ∙ ap (λ w. get_or (set old v true) w false) same ∙ get_or-set_same old v true false inside
-          ∙ sym (or-second (defined_before h bytes k u) _ here) ∙ ap (λ d. defined_before h bytes k u || holds u d) one
+          ∙ sym (or_right (defined_before h bytes k u) _ here) ∙ ap (λ d. defined_before h bytes k u || holds u d) one
       | inr apart ↦
           let other : holds u (v ∷ []) ≡ false = ap (λ b. b || false) (unequal u v apart) in
           ap (λ (l : List Bool). get_or l u false) is ∙ get_or-set_other old v u true false apart ∙ marks.each u le
-          ∙ sym (or-none-second (defined_before h bytes k u)) ∙ ap (λ b. defined_before h bytes k u || b) (sym other) ∙ ap (λ d. defined_before h bytes k u || holds u d) one
+          ∙ sym (or-false (defined_before h bytes k u)) ∙ ap (λ b. defined_before h bytes k u || b) (sym other) ∙ ap (λ d. defined_before h bytes k u || holds u d) one
     ];
   }
     where
       unequal : (a b : ℕ) → (a ≡ b → ⊥) → nat_eq a b ≡ false
-      unequal a b apart = step (either (nat_eq a b))
+      unequal a b apart = step (cases_Bool (nat_eq a b))
         where
           step : (nat_eq a b ≡ true) ⊎ (nat_eq a b ≡ false) → nat_eq a b ≡ false
           step (inl same) = absurd (apart (eqb-true a b same))
@@ -84,7 +80,7 @@ module _ (h : Header) (bytes : List ℕ) (k : ℕ) (old : List Bool) (marks : Ar
 
   -- whether the variable that the line defines was defined before
   pub again_is : (v : ℕ) (b : Bool) → v ≤ h.top → slice_index_or old v false ≡ b → v ∷ [] ≡ defined (section h bytes k) (row h bytes k) → list_any (defined_before h bytes k) (defined (section h bytes k) (row h bytes k)) ≡ b
-  again_is v b small is one = ap (list_any (defined_before h bytes k)) (sym one) ∙ or-none-second (defined_before h bytes k v) ∙ sym (marks.each v small) ∙ is
+  again_is v b small is one = ap (list_any (defined_before h bytes k)) (sym one) ∙ or-false (defined_before h bytes k v) ∙ sym (marks.each v small) ∙ is
 
   -- a line of the ASCII form that is right
   pub mark_clear : (o : Option ℕ) (new : List Bool) → is_ended is_feed (line bytes k) ≡ true → is_right h (section h bytes k) (row h bytes k) ≡ true → h.binary ≡ false → IfSome o (λ v. v < h.top + 1) → option_to_list o ≡ defined (section h bytes k) (row h bytes k) → IsMarkAnswer o old new true → (of_line h bytes k ≡ None) × AreMarks h bytes (suc k) new
@@ -128,14 +124,14 @@ module _ {h : Header} {bytes : List ℕ} {s : Section} {k next : ℕ} {said : Li
 
   pub again_fault : (old new : List Bool) → (h.binary ≡ false → AreMarks h bytes k old) → (h.binary ≡ true → false ≡ true) → (h.binary ≡ false → IsMarkAnswer o old new false) → of_line h bytes k ≡ Some (fault Redefined (line_start bytes k))
   again_fault old new are never answer =
-      elim (either h.binary) [
+      elim (cases_Bool h.binary) [
         | inl form ↦ let no_form = never form in absurd (cc)
         | inr form ↦ mark_fault h bytes k old (are form) o new r.is.ended r.is.right form variable_small said_defined (answer form)
       ]
 
   pub read_clear : (old new : List Bool) → (h.binary ≡ false → AreMarks h bytes k old) → (h.binary ≡ false → IsMarkAnswer o old new true) → of_line h bytes k ≡ None
   read_clear old new are answer =
-      elim (either h.binary) [
+      elim (cases_Bool h.binary) [
         | inl form ↦ binary_clear h bytes k r.is.ended r.is.right form
         | inr form ↦ (mark_clear h bytes k old (are form) o new r.is.ended r.is.right form variable_small said_defined (answer form)).0
       ]

@@ -4,16 +4,14 @@ use Rattle.std.specs.Prelude.{decimal, bytes_eq, nat_le, IfNone, IfSome}
 use Rattle.std.specs.Char.{digit_value}
 use Rattle.std.specs.Str.Parse.{AllDigits, digits_value, digits_value_after}
 use Rattle.std.proofs.Math.Nat.{pow-succ', pow-le-pow_right, mul-le-mul_right, mul_assoc}
-use Rattle.std.proofs.lemmas.Bool.{le-leb, leb-true, cases_lt}
+use Rattle.std.proofs.lemmas.Bool.{le-leb, leb-true, cases_lt, and_parts, and_from, cases_Bool}
 use Rattle.std.proofs.lemmas.List.{take-append-le, take_all, length-take-le}
 use Rattle.std.proofs.Math.Seq.{take-length}
 use Rattle.std.proofs.lemmas.Fmt.{decimal_is_IsNumeral, decimal-digits_value, length-decimal-le}
 use Rattle.std.proofs.lemmas.Str.Parse.{IsNumeralModel}
 use Rattle.std.proofs.lemmas.Int.Digits.{digits_value-lt}
+use Rattle.hy_base.proofs.Truths.{same-bytes, bytes-themselves}
 use Rattle.aiger_body.specs.Texts.{number_of, with_number, all_numbers, or_empty}
-use Rattle.aig_order.proofs.Firsts.{and-both, both-and, either}
-use Rattle.aiger_body.proofs.LineTexts.{bytes-true}
-use Rattle.aiger_body.proofs.Spelling.{bytes-same}
 
 own : IsNumeralModel (AllDigits 10) (digits_value 10)
 own = record { to = λ ds h. h; from = λ ds h. h; same = λ ds h. refl }
@@ -36,8 +34,8 @@ word_short word le = omega (arith, value-small word 0, pow-le-pow_right {n = 10}
 pub number_digits : (word : List ℕ) → length word ≤ 10 → 0 < length word → AllDigits 10 word → (get_or word 0 0 ≡ 48 → length word ≡ 1) → number_of word ≡ Some (digits_value 10 word)
 number_digits word le some all lead =
     let same : decimal (digits_value 10 word) ≡ word = decimal-digits_value own word all some lead (word_short word le) in
-    let eq : bytes_eq (decimal (digits_value 10 word)) word ≡ true = ap (λ d. bytes_eq d word) same ∙ bytes-same word in
-    ap (λ b. cond b (Some (digits_value 10 word)) None) (both-and (nat_le (length word) 10) _ (le-leb _ _ le) eq)
+    let eq : bytes_eq (decimal (digits_value 10 word)) word ≡ true = ap (λ d. bytes_eq d word) same ∙ bytes-themselves word in
+    ap (λ b. cond b (Some (digits_value 10 word)) None) (and_from (nat_le (length word) 10) _ (le-leb _ _ le) eq)
 
 -- a word that is a number
 pub record IsNumber (word : List ℕ) : Type 0 where
@@ -58,15 +56,15 @@ lead-free (c ∷ cs) same all short long zero_first =
 test-is : (word : List ℕ) (b : Bool) → (nat_le (length word) 10 && bytes_eq (decimal (digits_value 10 word)) word) ≡ b → (b ≡ true) ⊎ (b ≡ false) → (n : ℕ) → cond b (Some (digits_value 10 word)) None ≡ Some n → IsNumber word
 test-is word b is (inr no_number) n e = absurd (cc)
 test-is word b is (inl number) n e =
-    let (le, eq) = and-both (nat_le (length word) 10) _ (is ∙ number) in
+    let (le, eq) = and_parts (nat_le (length word) 10) _ (is ∙ number) in
     let short : length word ≤ 10 = leb-true (length word) 10 le in
-    let same : decimal (digits_value 10 word) ≡ word = bytes-true _ _ eq in
+    let same : decimal (digits_value 10 word) ≡ word = same-bytes _ _ eq in
     let numeral = (decimal_is_IsNumeral (digits_value 10 word) (word_short word short)).0 in
     let all : AllDigits 10 word = subst (AllDigits 10) same numeral.1 in
     record { short = short; some = omega (arith, numeral.0, ap length same); digits = all; lead = lead-free word same all short }
 
 pub number_is : (word : List ℕ) (n : ℕ) → number_of word ≡ Some n → IsNumber word
-number_is word n e = test-is word _ refl (either _) n e
+number_is word n e = test-is word _ refl (cases_Bool _) n e
 
 none-or : (word : List ℕ) (o : Option ℕ) → number_of word ≡ o → (IsNumber word → ⊥) → o ≡ None
 none-or word None is not_number = refl

@@ -1,7 +1,7 @@
 -- Rows of counted lines: which are right, how large their numbers are, and which variable they define.
 use Rattle.std.proofs.Common.{◌≡◌, ℕ, zero, suc, ◌+◌, ◌*◌, ◌/◌, ◌<◌, ◌≤◌, ◌^◌, Bool, true, false, cond, nat_eq, List, [], ◌∷◌, ◌++◌, map, length, get_or, take, drop, refl, sym, ◌∙◌, ap, subst, arith, inl, inr, Option, Some, None}
 use Rattle.std.specs.Prelude.{slice_index, slice_index_or, option_to_list, IfSome}
-use Rattle.std.proofs.lemmas.Bool.{leb-true, eqb-true}
+use Rattle.std.proofs.lemmas.Bool.{leb-true, eqb-true, and_parts, or_cases}
 use Rattle.aiger_body.specs.declared.header.Header.{Header}
 use Rattle.aiger_body.specs.declared.section.Section.{Section}
 use Rattle.aiger_body.specs.declared.section.Section.TheVariants.{Inputs, Latches, Outputs, Bads, Constraints, Sizes, Justices, Fairs, Gates}
@@ -9,7 +9,6 @@ use Rattle.aiger_body.specs.Texts.{line_text, numbers_of, or_empty, with_number}
 use Rattle.aiger_body.specs.Files.{is_literal, is_plain, is_reset, is_right, is_input, is_latch, is_use, is_gate, with_own, defined, rows, row, line, lines, section}
 use Rattle.aiger_body.specs.Answers.{Fits}
 use Rattle.aiger_body.specs.Keeping.{AreWords, HasWords}
-use Rattle.aig_order.proofs.Firsts.{and-both, or-either}
 use Rattle.aiger_body.proofs.Numbers.{no_number}
 use Rattle.aiger_body.proofs.Headers.{numbers_small}
 
@@ -111,7 +110,7 @@ module _ (h : Header) (fits : Fits h) where
   literal-small l e = omega (arith, leb-true l (2 * h.top + 1) e, fits.top)
 
   plain-small : (l : ℕ) → is_plain h l ≡ true → l < 2 ^ 32
-  plain-small l e = literal-small l (and-both (is_literal h l) _ e).0
+  plain-small l e = literal-small l (and_parts (is_literal h l) _ e).0
 
   one : (l : ℕ) → l < 2 ^ 32 → AreWords (l ∷ [])
   one l lt zero = lt
@@ -133,18 +132,18 @@ module _ (h : Header) (fits : Fits h) where
 
   reset-small : (l r : ℕ) → l < 2 ^ 32 → is_reset l r ≡ true → r < 2 ^ 32
   reset-small l r lt e =
-      elim (or-either (nat_eq r 0) _ e) [
+      elim (or_cases (nat_eq r 0) _ e) [
         | inl a ↦ omega (arith, eqb-true r 0 a)
-        | inr b ↦ elim (or-either (nat_eq r 1) _ b) [ inl c ↦ omega (arith, eqb-true r 1 c) | inr d ↦ omega (arith, eqb-true r l d) ]
+        | inr b ↦ elim (or_cases (nat_eq r 1) _ b) [ inl c ↦ omega (arith, eqb-true r 1 c) | inr d ↦ omega (arith, eqb-true r l d) ]
       ]
 
   latch-words : (r : List ℕ) → is_latch h r ≡ true → AreWords r
   latch-words [] e = absurd (cc)
   latch-words (l ∷ []) e = absurd (cc)
-  latch-words (l ∷ n ∷ []) e = let both = and-both (is_plain h l) _ e in more l (n ∷ []) (plain-small l both.0) (one n (literal-small n both.1))
+  latch-words (l ∷ n ∷ []) e = let both = and_parts (is_plain h l) _ e in more l (n ∷ []) (plain-small l both.0) (one n (literal-small n both.1))
   latch-words (l ∷ n ∷ r ∷ []) e =
-      let both = and-both (is_plain h l) _ e in
-      let rest = and-both (is_literal h n) _ both.1 in
+      let both = and_parts (is_plain h l) _ e in
+      let rest = and_parts (is_literal h n) _ both.1 in
       more l (n ∷ r ∷ []) (plain-small l both.0) (more n (r ∷ []) (literal-small n rest.0) (one r (reset-small l r (plain-small l both.0) rest.1)))
   latch-words (l ∷ n ∷ r ∷ s ∷ t) e = absurd (cc)
 
@@ -153,8 +152,8 @@ module _ (h : Header) (fits : Fits h) where
   gate-words (l ∷ []) e = absurd (cc)
   gate-words (l ∷ a ∷ []) e = absurd (cc)
   gate-words (l ∷ a ∷ b ∷ []) e =
-      let both = and-both (is_plain h l) _ e in
-      let rest = and-both (is_literal h a) _ both.1 in
+      let both = and_parts (is_plain h l) _ e in
+      let rest = and_parts (is_literal h a) _ both.1 in
       more l (a ∷ b ∷ []) (plain-small l both.0) (more a (b ∷ []) (literal-small a rest.0) (one b (literal-small b rest.1)))
   gate-words (l ∷ a ∷ b ∷ c ∷ r) e = absurd (cc)
 
@@ -172,7 +171,7 @@ module _ (h : Header) (fits : Fits h) where
   -- ---- which variable is defined
 
   plain-first : (l : ℕ) → is_plain h l ≡ true → l / 2 ≤ h.top
-  plain-first l e = omega (arith, leb-true l (2 * h.top + 1) (and-both (is_literal h l) _ e).0)
+  plain-first l e = omega (arith, leb-true l (2 * h.top + 1) (and_parts (is_literal h l) _ e).0)
 
   input-first : (r : List ℕ) → is_input h r ≡ true → slice_index r 0 / 2 ≤ h.top
   input-first [] e = absurd (cc)
@@ -182,15 +181,15 @@ module _ (h : Header) (fits : Fits h) where
   latch-first : (r : List ℕ) → is_latch h r ≡ true → slice_index r 0 / 2 ≤ h.top
   latch-first [] e = absurd (cc)
   latch-first (l ∷ []) e = absurd (cc)
-  latch-first (l ∷ n ∷ []) e = plain-first l (and-both (is_plain h l) _ e).0
-  latch-first (l ∷ n ∷ r ∷ []) e = plain-first l (and-both (is_plain h l) _ e).0
+  latch-first (l ∷ n ∷ []) e = plain-first l (and_parts (is_plain h l) _ e).0
+  latch-first (l ∷ n ∷ r ∷ []) e = plain-first l (and_parts (is_plain h l) _ e).0
   latch-first (l ∷ n ∷ r ∷ s ∷ t) e = absurd (cc)
 
   gate-first : (r : List ℕ) → is_gate h r ≡ true → slice_index r 0 / 2 ≤ h.top
   gate-first [] e = absurd (cc)
   gate-first (l ∷ []) e = absurd (cc)
   gate-first (l ∷ a ∷ []) e = absurd (cc)
-  gate-first (l ∷ a ∷ b ∷ []) e = plain-first l (and-both (is_plain h l) _ e).0
+  gate-first (l ∷ a ∷ b ∷ []) e = plain-first l (and_parts (is_plain h l) _ e).0
   gate-first (l ∷ a ∷ b ∷ c ∷ r) e = absurd (cc)
 
   same-variable : (o : Option ℕ) (v : ℕ) → option_to_list o ≡ v ∷ [] → v ≤ h.top → IfSome o (λ u. u < h.top + 1)

@@ -1,20 +1,12 @@
 -- Which section a counted line is of.
-use Rattle.std.proofs.Common.{◌≡◌, ℕ, zero, suc, ◌+◌, ◌-◌, ◌<◌, ◌≤◌, ◌⊎◌, true, false, cond, inl, inr, refl, sym, ◌∙◌, ap, subst, arith, List, [], ◌∷◌, length, take}
+use Rattle.std.proofs.Common.{◌≡◌, ℕ, zero, suc, ◌+◌, ◌-◌, ◌<◌, ◌≤◌, true, false, cond, inl, inr, refl, sym, ◌∙◌, ap, subst, arith, List, [], ◌∷◌, length, take}
 use Rattle.std.specs.Prelude.{nat_lt, slice_index, slice_index_or, sum}
-use Rattle.std.proofs.lemmas.Bool.{lt-ltb, ltb-true, cases_lt}
+use Rattle.std.proofs.lemmas.Bool.{lt-ltb, cases_lt, le-ltb}
 use Rattle.std.proofs.lemmas.List.Sums.{sum_by-cons}
 use Rattle.aiger_body.specs.declared.header.Header.{Header}
 use Rattle.aiger_body.specs.declared.section.Section.{Section}
 use Rattle.aiger_body.specs.declared.section.Section.TheVariants.{Inputs, Latches, Outputs, Bads, Constraints, Sizes, Justices, Fairs, Gates}
 use Rattle.aiger_body.specs.Files.{all_sections, number_in, section_from, section, plan, counted, before}
-use Rattle.aig_order.proofs.Firsts.{either}
-
-not-less : (a b : ℕ) → b ≤ a → nat_lt a b ≡ false
-not-less a b le = step (either (nat_lt a b))
-  where
-    step : (nat_lt a b ≡ true) ⊎ (nat_lt a b ≡ false) → nat_lt a b ≡ false
-    step (inl less) = absurd (omega (arith, ltb-true a b less, le))
-    step (inr other) = other
 
 pub section-at : (cs : List ℕ) (sections : List Section) (i j : ℕ) → i < length cs → i < length sections → j < slice_index cs i → section_from cs sections (sum (take i cs) + j) ≡ slice_index_or sections i Gates
 section-at [] sections i j lt also less = absurd (omega arith)
@@ -24,7 +16,7 @@ section-at (n ∷ cs) (s ∷ sections) zero j lt also less =
     ap (λ b. cond b s (section_from cs sections (0 + j - n))) inside
 section-at (n ∷ cs) (s ∷ sections) (suc i) j lt also less =
     let head : sum (n ∷ take i cs) + j ≡ n + (sum (take i cs) + j) = omega (arith, sum_by-cons (λ x. x) n (take i cs)) in
-    let outside : nat_lt (n + (sum (take i cs) + j)) n ≡ false = not-less _ _ (omega arith) in
+    let outside : nat_lt (n + (sum (take i cs) + j)) n ≡ false = le-ltb _ _ (omega arith) in
     let rest : n + (sum (take i cs) + j) - n ≡ sum (take i cs) + j = omega arith in
     ap (section_from (n ∷ cs) (s ∷ sections)) head ∙ ap (λ b. cond b s (section_from cs sections (n + (sum (take i cs) + j) - n))) outside ∙ ap (section_from cs sections) rest ∙ section-at cs sections i j (omega arith) (omega arith) less
 
@@ -79,7 +71,7 @@ line-in (n ∷ cs) (s ∷ sections) k same lt =
           let inside : nat_lt k n ≡ true = lt-ltb k n here in
           record { i = 0; j = k; inside = omega arith; small = here; place = omega arith; is = ap (λ b. cond b s (section_from cs sections (k - n))) inside }
       | inr past ↦
-          let outside : nat_lt k n ≡ false = not-less k n past in
+          let outside : nat_lt k n ≡ false = le-ltb k n past in
           let more = line-in cs sections (k - n) (omega arith) (omega (arith, lt, past, sum_by-cons (λ x. x) n cs)) in
           record {
             i = suc more.i;
@@ -91,20 +83,17 @@ line-in (n ∷ cs) (s ∷ sections) k same lt =
           }
     ]
 
-numbered : (i : ℕ) → i < 9 → number_in (slice_index_or all_sections i Gates) ≡ i
-numbered zero lt = refl
-numbered (suc zero) lt = refl
-numbered (suc (suc zero)) lt = refl
-numbered (suc (suc (suc zero))) lt = refl
-numbered (suc (suc (suc (suc zero)))) lt = refl
-numbered (suc (suc (suc (suc (suc zero))))) lt = refl
-numbered (suc (suc (suc (suc (suc (suc zero)))))) lt = refl
-numbered (suc (suc (suc (suc (suc (suc (suc zero))))))) lt = refl
-numbered (suc (suc (suc (suc (suc (suc (suc (suc zero)))))))) lt = refl
-numbered (suc (suc (suc (suc (suc (suc (suc (suc (suc i))))))))) lt = absurd (omega arith)
-
 pub number-of : (i : ℕ) → i < 9 → number_in (slice_index_or all_sections i Gates) ≡ i
-number-of i lt = numbered i lt
+number-of zero lt = refl
+number-of (suc zero) lt = refl
+number-of (suc (suc zero)) lt = refl
+number-of (suc (suc (suc zero))) lt = refl
+number-of (suc (suc (suc (suc zero)))) lt = refl
+number-of (suc (suc (suc (suc (suc zero))))) lt = refl
+number-of (suc (suc (suc (suc (suc (suc zero)))))) lt = refl
+number-of (suc (suc (suc (suc (suc (suc (suc zero))))))) lt = refl
+number-of (suc (suc (suc (suc (suc (suc (suc (suc zero)))))))) lt = refl
+number-of (suc (suc (suc (suc (suc (suc (suc (suc (suc i))))))))) lt = absurd (omega arith)
 
 -- a counted line by its section and its place there
 pub record IsOf (h : Header) (bytes : List ℕ) (k : ℕ) : Type 0 where
@@ -117,7 +106,7 @@ pub record IsOf (h : Header) (bytes : List ℕ) (k : ℕ) : Type 0 where
 pub line-of : (h : Header) (bytes : List ℕ) (k : ℕ) → k < counted h bytes → IsOf h bytes k
 line-of h bytes k lt =
     let at = line-in (plan h bytes) all_sections k refl lt in
-    let number : number_in (slice_index_or all_sections at.i Gates) ≡ at.i = numbered at.i at.inside in
+    let number : number_in (slice_index_or all_sections at.i Gates) ≡ at.i = number-of at.i at.inside in
     record {
       s = slice_index_or all_sections at.i Gates;
       j = at.j;

@@ -1,5 +1,5 @@
 -- Printed lines read back.
-use Rattle.std.proofs.Common.{◌≡◌, ℕ, ◌^◌, ◌<◌, Bool, true, false, cond, ◌&&◌, nat_eq, List, [], ◌∷◌, refl, sym, ◌∙◌, ap, subst, inl, inr, map, length, get_or, arith, Some, None, ◌⊎◌, rules}
+use Rattle.std.proofs.Common.{◌≡◌, ℕ, ◌^◌, ◌<◌, Bool, true, false, cond, ◌&&◌, nat_eq, List, [], ◌∷◌, refl, sym, ◌∙◌, ap, subst, inl, inr, map, length, get_or, arith, Some, None, ◌⊎◌}
 use Rattle.std.specs.Prelude.{decimal, bytes_eq, nat_le}
 use Rattle.std.specs.List.{All, slice_split}
 use Rattle.std.specs.Str.Parse.{digits_value}
@@ -7,14 +7,10 @@ use Rattle.std.proofs.lemmas.Fmt.{decimal_is_IsNumeral, length-decimal-le}
 use Rattle.std.proofs.lemmas.Str.Parse.{digit_at}
 use Rattle.std.proofs.lemmas.List.Splits.{slice_split_at, slice_split_none}
 use Rattle.std.proofs.lemmas.List.Elements.{All-from_get_or}
-use Rattle.std.proofs.lemmas.Bool.{eqb-true, le-leb}
+use Rattle.std.proofs.lemmas.Bool.{eqb-true, le-leb, and_from, cases_Bool}
+use Rattle.hy_base.proofs.Truths.{bytes-themselves}
 use Rattle.aiger_body.specs.Texts.{is_space, number_of, with_number, all_numbers, or_empty, numbers_of}
 use Rattle.aiger_body.specs.Spelled.{AreShort, spelled}
-use Rattle.aig_order.proofs.Firsts.{either, both-and}
-
-pub bytes-same : (xs : List ℕ) → bytes_eq xs xs ≡ true
-bytes-same [] = refl
-bytes-same (x ∷ xs) = both-and (nat_eq x x) (bytes_eq xs xs) (search rules) (bytes-same xs)
 
 wide : (n : ℕ) → n < 10 ^ 10 → n < 2 ^ 64
 wide n lt = omega (arith, lt)
@@ -25,14 +21,14 @@ number-decimal n lt =
     let short : nat_le (length (decimal n)) 10 ≡ true = le-leb _ _ (length-decimal-le 10 n (omega arith) lt (wide n lt)) in
     let P : ℕ → Type 0 = λ v. cond (nat_le (length (decimal n)) 10 && bytes_eq (decimal v) (decimal n)) (Some v) None ≡ Some n in
     let Q : Bool → Type 0 = λ b. cond b (Some n) None ≡ Some n in
-    subst P (sym value) (subst Q (sym (both-and _ _ short (bytes-same (decimal n)))) refl)
+    subst P (sym value) (subst Q (sym (and_from _ _ short (bytes-themselves (decimal n)))) refl)
 
 -- digits are none of space, return and feed
 pub no-digit : (n : ℕ) → n < 10 ^ 10 → (c : ℕ) → c < 48 → All (λ x. nat_eq x c ≡ false) (decimal n)
 no-digit n lt c low = All-from_get_or (λ x. nat_eq x c ≡ false) (decimal n) 0 each
   where
     each : (i : ℕ) → i < length (decimal n) → nat_eq (get_or (decimal n) i 0) c ≡ false
-    each i inside = other (either (nat_eq (get_or (decimal n) i 0) c))
+    each i inside = other (cases_Bool (nat_eq (get_or (decimal n) i 0) c))
       where
         other : (nat_eq (get_or (decimal n) i 0) c ≡ true) ⊎ (nat_eq (get_or (decimal n) i 0) c ≡ false) → nat_eq (get_or (decimal n) i 0) c ≡ false
         other (inl same) =

@@ -1,14 +1,13 @@
 -- Numbers in groups of 7 bits, and the ands of the binary form in them.
-use Rattle.std.proofs.Common.{◌≡◌, ℕ, zero, suc, ◌+◌, ◌-◌, ◌*◌, ◌/◌, ◌%◌, ◌^◌, ◌<◌, ◌≤◌, ◌⊎◌, true, false, cond, inl, inr, refl, sym, ◌∙◌, ap, arith, List, [], ◌∷◌, ◌++◌, flat_map, length, get_or, drop, append_assoc}
+use Rattle.std.proofs.Common.{◌≡◌, ℕ, zero, suc, ◌+◌, ◌-◌, ◌*◌, ◌/◌, ◌%◌, ◌^◌, ◌<◌, ◌≤◌, true, false, cond, inl, inr, refl, sym, ◌∙◌, ap, arith, List, [], ◌∷◌, ◌++◌, flat_map, length, get_or, drop, append_assoc}
 use Rattle.std.specs.Prelude.{nat_lt, nat_le, slice_index}
 use Rattle.std.specs.List.{range_with_len}
 use Rattle.std.proofs.Math.Nat.{pow-succ'}
-use Rattle.std.proofs.lemmas.Bool.{lt-ltb, ltb-true, cases_lt}
+use Rattle.std.proofs.lemmas.Bool.{lt-ltb, ltb-true, cases_lt, cases_Bool, le-ltb}
 use Rattle.std.proofs.lemmas.List.{get_or_past}
 use Rattle.std.proofs.lemmas.Grind.{flat_map-append}
 use Rattle.aig_net.specs.declared.parts.NetParts.{NetParts}
 use Rattle.aig_net.specs.Nets.{first_and, and_at}
-use Rattle.aig_order.proofs.Firsts.{either}
 use Rattle.aiger_body.specs.Texts.{pieces, grown, is_ended}
 use Rattle.aiger_body.specs.Files.{ends_number, value_of}
 use Rattle.aiger_print.specs.Printed.{groups_of, deltas_of}
@@ -24,13 +23,6 @@ groups-more m n = refl
 high : (n : ℕ) → nat_lt n 128 ≡ false → 128 ≤ n
 high n e = elim (cases_lt n 128) [ inl lt ↦ let small : nat_lt n 128 ≡ true = lt-ltb n 128 lt in absurd (cc) | inr le ↦ le ]
 
-not-less : (a b : ℕ) → b ≤ a → nat_lt a b ≡ false
-not-less a b le = step (either (nat_lt a b))
-  where
-    step : (nat_lt a b ≡ true) ⊎ (nat_lt a b ≡ false) → nat_lt a b ≡ false
-    step (inl less) = absurd (omega (arith, ltb-true a b less, le))
-    step (inr other) = other
-
 seventh : (m n : ℕ) → n < 128 ^ suc (suc m) → n / 128 < 128 ^ suc m
 seventh m n lt = omega (arith, lt, pow-succ' 128 (suc m))
 
@@ -43,7 +35,7 @@ group-large m n e = groups-more m n ∙ ap (λ b. cond b (n ∷ []) ((128 + n % 
 
 pub group_value : (m n : ℕ) → n < 128 ^ suc m → value_of (groups_of m n) ≡ n
 group_value zero n lt = ap value_of (groups-zero n) ∙ (omega (arith, lt))
-group_value (suc m) n lt = elim (either (nat_lt n 128)) [
+group_value (suc m) n lt = elim (cases_Bool (nat_lt n 128)) [
   | inl small ↦ ap value_of (group-small (suc m) n small) ∙ (omega (arith, ltb-true n 128 small))
   | inr large ↦ ap value_of (group-large m n large) ∙ (omega (arith, group_value m (n / 128) (seventh m n lt)))
 ]
@@ -52,10 +44,10 @@ pub group_piece : (m n : ℕ) (rest : List ℕ) → n < 128 ^ suc m → pieces e
 group_piece zero n rest lt =
     let small : nat_lt n 128 ≡ true = lt-ltb n 128 (omega (arith, lt)) in
     ap (λ l. pieces ends_number (l ++ rest)) (groups-zero n) ∙ ap (λ b. grown b n (pieces ends_number rest)) small ∙ ap (λ l. l ∷ pieces ends_number rest) (sym (groups-zero n))
-group_piece (suc m) n rest lt = elim (either (nat_lt n 128)) [
+group_piece (suc m) n rest lt = elim (cases_Bool (nat_lt n 128)) [
   | inl small ↦ ap (λ l. pieces ends_number (l ++ rest)) (group-small (suc m) n small) ∙ ap (λ b. grown b n (pieces ends_number rest)) small ∙ ap (λ l. l ∷ pieces ends_number rest) (sym (group-small (suc m) n small))
   | inr large ↦
-      let big : nat_lt (128 + n % 128) 128 ≡ false = not-less _ _ (omega arith) in
+      let big : nat_lt (128 + n % 128) 128 ≡ false = le-ltb _ _ (omega arith) in
       ap (λ l. pieces ends_number (l ++ rest)) (group-large m n large)
       ∙ ap (λ b. grown b (128 + n % 128) (pieces ends_number (groups_of m (n / 128) ++ rest))) big
       ∙ ap (grown false (128 + n % 128)) (group_piece m (n / 128) rest (seventh m n lt))
@@ -64,7 +56,7 @@ group_piece (suc m) n rest lt = elim (either (nat_lt n 128)) [
 
 pub group_ended : (m n : ℕ) → n < 128 ^ suc m → is_ended ends_number (groups_of m n) ≡ true
 group_ended zero n lt = ap (is_ended ends_number) (groups-zero n) ∙ lt-ltb n 128 (omega (arith, lt))
-group_ended (suc m) n lt = elim (either (nat_lt n 128)) [
+group_ended (suc m) n lt = elim (cases_Bool (nat_lt n 128)) [
   | inl small ↦ ap (is_ended ends_number) (group-small (suc m) n small) ∙ small
   | inr large ↦ ap (is_ended ends_number) (group-large m n large) ∙ onto (groups_of m (n / 128)) (group_ended m (n / 128) (seventh m n lt))
 ]
@@ -75,7 +67,7 @@ group_ended (suc m) n lt = elim (either (nat_lt n 128)) [
 
 group-short : (m n k : ℕ) → n < 128 ^ suc k → length (groups_of m n) ≤ suc k
 group-short zero n k lt = omega (arith, ap length (groups-zero n))
-group-short (suc m) n k lt = elim (either (nat_lt n 128)) [
+group-short (suc m) n k lt = elim (cases_Bool (nat_lt n 128)) [
   | inl small ↦ omega (arith, ap length (group-small (suc m) n small))
   | inr large ↦ more k lt (high n large) (ap length (group-large m n large)) (group-short m (n / 128))
 ]

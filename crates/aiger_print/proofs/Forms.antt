@@ -3,6 +3,7 @@ use Rattle.std.proofs.Common.{◌≡◌, ℕ, ◌+◌, Bool, true, false, cond, 
 use Rattle.std.specs.Prelude.{slice_index_or, codes}
 use Rattle.std.specs.List.{range_with_len}
 use Rattle.std.proofs.lemmas.Grind.{flat_map-append}
+use Rattle.std.proofs.lemmas.List.Folds.{flat_map-map}
 use Rattle.aig_net.specs.declared.parts.NetParts.{NetParts}
 use Rattle.aig_net.specs.Nets.{literal_at}
 use Rattle.aiger_body.specs.declared.header.Header.{Header}
@@ -11,7 +12,7 @@ use Rattle.aiger_body.specs.declared.section.Section.TheVariants.{Inputs, Latche
 use Rattle.aiger_body.specs.Files.{all_sections, counts}
 use Rattle.aiger_body.specs.Spelled.{line_of}
 use Rattle.aiger_print.specs.Printed.{header_row, input_row, latch_row, and_row, lines_of, literal_lines, names_text, deltas_of, aag_text, aig_text}
-use Rattle.aiger_print.proofs.Stacks.{stacked, flat_mapped, by_place, joined}
+use Rattle.aiger_print.proofs.Stacks.{stacked, by_place, joined}
 
 abbrev pub own_header : Bool → NetParts → Header
 own_header b net = record {
@@ -63,14 +64,14 @@ text_of b net = (word_of b ++ line_of (header_row net)) ++ (flat_map line_of (ro
 -- ---- the text that is printed is this one
 
 section-text : (row : ℕ → List ℕ) (n : ℕ) (more : List (List ℕ)) → flat_map line_of (map row (range_with_len 0 n) ++ more) ≡ lines_of row n ++ flat_map line_of more
-section-text row n more = flat_map-append line_of (map row (range_with_len 0 n)) more ∙ ap (λ l. l ++ flat_map line_of more) (flat_mapped row line_of (range_with_len 0 n))
+section-text row n more = flat_map-append line_of (map row (range_with_len 0 n)) more ∙ ap (λ l. l ++ flat_map line_of more) (flat_map-map line_of row (range_with_len 0 n))
 
 literal-text : (literals : List ℕ) (more : List (List ℕ)) → flat_map line_of (map (λ j. literal_at literals j ∷ []) (range_with_len 0 (length literals)) ++ more) ≡ literal_lines literals ++ flat_map line_of more
 literal-text literals more =
     section-text (λ j. literal_at literals j ∷ []) (length literals) more
     ∙ ap (λ l. l ++ flat_map line_of more)
-    (sym (flat_mapped (λ l. l ∷ []) line_of (map (literal_at literals) (range_with_len 0 (length literals))) ∙ again)
-    ∙ ap (λ xs. flat_map line_of (map (λ l. l ∷ []) xs)) (by_place literals) ∙ flat_mapped (λ l. l ∷ []) line_of literals)
+    (sym (flat_map-map line_of (λ l. l ∷ []) (map (literal_at literals) (range_with_len 0 (length literals))) ∙ again)
+    ∙ ap (λ xs. flat_map line_of (map (λ l. l ∷ []) xs)) (by_place literals) ∙ flat_map-map line_of (λ l. l ∷ []) literals)
   where
     again : flat_map (λ l. line_of (l ∷ [])) (map (literal_at literals) (range_with_len 0 (length literals))) ≡ lines_of (λ j. literal_at literals j ∷ []) (length literals)
     again = flat_mapped-of (range_with_len 0 (length literals))

@@ -1,15 +1,10 @@
 -- Texts of numbers in order, by one more at the end.
-use Rattle.std.proofs.Common.{◌≡◌, ℕ, zero, suc, ◌+◌, ◌<◌, List, [], ◌∷◌, ◌++◌, length, get_or, drop, flat_map, sym, ◌∙◌, ap, arith, append_assoc, append-nil}
+use Rattle.std.proofs.Common.{◌≡◌, ℕ, suc, ◌+◌, ◌<◌, List, [], ◌∷◌, ◌++◌, length, get_or, drop, flat_map, sym, ◌∙◌, ap, arith, append_assoc, append-nil}
 use Rattle.std.specs.Prelude.{decimal}
 use Rattle.std.specs.List.{range_with_len}
 use Rattle.std.proofs.lemmas.Grind.{flat_map-append}
+use Rattle.hy_base.proofs.Places.{range-more}
 use Rattle.aiger_body.specs.Spelled.{spelled, line_of}
-
-pub range_more : (a n : ℕ) → range_with_len a (suc n) ≡ range_with_len a n ++ (a + n) ∷ []
-range_more a zero = (let q : a ≡ a + 0 = omega arith in ap (λ x. x ∷ []) q)
-range_more a (suc n) =
-    let q : a + 1 + n ≡ a + suc n = omega arith in
-    ap (λ l. a ∷ l) (range_more (a + 1) n) ∙ ap (λ x. a ∷ range_with_len (a + 1) n ++ x ∷ []) q
 
 pub listed_more : (bs : List ℕ) (f : ℕ → List ℕ) (n : ℕ) → (bs ++ flat_map f (range_with_len 0 n)) ++ f n ≡ bs ++ flat_map f (range_with_len 0 (n + 1))
 listed_more bs f n =
@@ -19,7 +14,7 @@ listed_more bs f n =
     ∙ ap (λ l. bs ++ (flat_map f (range_with_len 0 n) ++ l)) (sym (append-nil (f n)))
     ∙ ap (λ l. bs ++ l) (sym (flat_map-append f (range_with_len 0 n) (n ∷ [])))
     ∙ ap (λ x. bs ++ flat_map f (range_with_len 0 n ++ x ∷ [])) (sym plain)
-    ∙ ap (λ l. bs ++ flat_map f l) (sym (range_more 0 n))
+    ∙ ap (λ l. bs ++ flat_map f l) (sym (range-more 0 n))
     ∙ ap (λ m. bs ++ flat_map f (range_with_len 0 m)) next
 
 -- the first number, and each later one behind a space

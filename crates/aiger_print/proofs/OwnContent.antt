@@ -1,9 +1,10 @@
 -- The content that a printed net has, and its net.
-use Rattle.std.proofs.Common.{◌≡◌, ℕ, zero, suc, ◌+◌, ◌-◌, ◌*◌, ◌/◌, ◌<◌, ◌⊎◌, true, false, nat_eq, max, min, inl, inr, refl, sym, ◌∙◌, ap, subst, arith, List, [], ◌∷◌, ◌++◌, map, length}
+use Rattle.std.proofs.Common.{◌≡◌, ℕ, zero, suc, ◌+◌, ◌-◌, ◌*◌, ◌/◌, ◌<◌, true, nat_eq, max, min, inl, inr, refl, sym, ◌∙◌, ap, subst, arith, List, [], ◌∷◌, ◌++◌, map, length}
 use Rattle.std.specs.List.{range_with_len, position_or_len}
-use Rattle.std.proofs.lemmas.Bool.{cases_eq, eqb-true, eq-eqb}
+use Rattle.std.proofs.lemmas.Bool.{cases_eq, eq-eqb, or_left, or_right, ne_eqb}
 use Rattle.std.proofs.lemmas.List.FromFn.{length-range_with_len, get_or-range_with_len, length-map-range_with_len, get_or-map-range_with_len, fill_by_all}
 use Rattle.std.proofs.lemmas.List.Sums.{position_or_len_is}
+use Rattle.std.proofs.lemmas.List.{map-append}
 use Rattle.aig_net.specs.declared.parts.And.{And}
 use Rattle.aig_net.specs.declared.parts.Reset.TheVariants.{Zero}
 use Rattle.aig_net.specs.declared.parts.NetParts.{NetParts}
@@ -11,14 +12,14 @@ use Rattle.aig_net.specs.Nets.{IsNet, Below, AllBelow, variables, first_and, lat
 use Rattle.aig_order.specs.declared.gate.Gate.{Gate}
 use Rattle.aig_order.specs.Firsts.{holds}
 use Rattle.aig_order.specs.Gates.{gate_at, no_gate, order, AreSorted, Depends}
-use Rattle.aig_order.proofs.Firsts.{either, or-first, or-second, place-holds}
+use Rattle.aig_order.proofs.Firsts.{place-holds}
 use Rattle.aig_order.proofs.Sorted.{sorted-order}
 use Rattle.aig_order.proofs.Orders.{taken-order, cyclic-absent}
 use Rattle.aiger_body.specs.declared.content.Content.{Content}
 use Rattle.aiger_body.specs.declared.content.Latch.{Latch}
 use Rattle.aiger_body.specs.Files.{own_literal, own_variables, variables_of}
 use Rattle.aiger_body.specs.Circuits.{is_defined, in_order, renumbered, and_of, Names, net_of}
-use Rattle.aiger_body.proofs.Known.{map-joined, map-twice}
+use Rattle.aiger_body.proofs.Known.{map-twice}
 use Rattle.aiger_read.proofs.Parts.{same_parts}
 
 abbrev pub own_latch : NetParts → ℕ → Latch
@@ -58,17 +59,10 @@ range-append a (suc m) n =
     let r : suc (m + n) ≡ suc m + n = omega arith in
     ap (λ b. a ∷ range_with_len (a + 1) m ++ range_with_len b n) q ∙ ap (λ l. a ∷ l) (range-append (a + 1) m n) ∙ ap (range_with_len a) r
 
-unequal : (a b : ℕ) → (a ≡ b → ⊥) → nat_eq a b ≡ false
-unequal a b apart = step (either (nat_eq a b))
-  where
-    step : (nat_eq a b ≡ true) ⊎ (nat_eq a b ≡ false) → nat_eq a b ≡ false
-    step (inl same) = absurd (apart (eqb-true a b same))
-    step (inr other) = other
-
 place-range : (n v : ℕ) → v < n → position_or_len (nat_eq v) (range_with_len 0 n) ≡ v
 place-range n v lt =
     position_or_len_is (nat_eq v) (range_with_len 0 n) v 0 (omega (arith, length-range_with_len 0 n))
-    (λ k less. unequal v _ (λ e. omega (arith, get_or-range_with_len 0 n k 0 (omega arith))))
+    (λ k less. ne_eqb v _ (λ e. omega (arith, get_or-range_with_len 0 n k 0 (omega arith))))
     (λ inside. eq-eqb v _ (omega (arith, get_or-range_with_len 0 n v 0 lt)))
 
 module _ (net : NetParts) (is : IsNet net) where
@@ -100,7 +94,7 @@ module _ (net : NetParts) (is : IsNet net) where
 
   own-is : own_variables c ≡ range_with_len 1 (net.inputs + length net.latches)
   own-is =
-      map-joined (λ l. l / 2) c.inputs (map own_literal c.latches)
+      map-append (λ l. l / 2) c.inputs (map own_literal c.latches)
       ∙ ap (λ l. l ++ map (λ l. l / 2) (map own_literal c.latches)) (map-twice (λ j. 2 * suc j) (λ l. l / 2) (range_with_len 0 net.inputs) ∙ shifted (λ j. 2 * suc j / 2) 0 1 net.inputs (λ j lt. omega arith))
       ∙ ap (λ l. range_with_len 1 net.inputs ++ l) (ap (map (λ l. l / 2)) (map-twice (own_latch net) own_literal (range_with_len 0 (length net.latches))) ∙ map-twice (λ j. 2 * latch_variable net j) (λ l. l / 2) (range_with_len 0 (length net.latches)) ∙ shifted (λ j. 2 * latch_variable net j / 2) 0 (1 + net.inputs) (length net.latches) (λ j lt. omega arith))
       ∙ range-append 1 net.inputs (length net.latches)
@@ -133,8 +127,8 @@ module _ (net : NetParts) (is : IsNet net) where
   -- what is used is defined
   pub defined : (l : ℕ) → Below (variables net) l → is_defined c l ≡ true
   defined l lt = elim (cases_eq (l / 2) 0) [
-    | inl constant ↦ or-first _ _ (eq-eqb (l / 2) 0 constant)
-    | inr other ↦ or-second (nat_eq (l / 2) 0) _ (ap (holds (l / 2)) all-are ∙ place-holds (l / 2) (range_with_len 1 (net.inputs + length net.latches + length net.ands)) (l / 2 - 1) (omega (arith, lt, length-range_with_len 1 (net.inputs + length net.latches + length net.ands))) (get_or-range_with_len 1 (net.inputs + length net.latches + length net.ands) (l / 2 - 1) 0 (omega arith) ∙ (omega arith)))
+    | inl constant ↦ or_left _ _ (eq-eqb (l / 2) 0 constant)
+    | inr other ↦ or_right (nat_eq (l / 2) 0) _ (ap (holds (l / 2)) all-are ∙ place-holds (l / 2) (range_with_len 1 (net.inputs + length net.latches + length net.ands)) (l / 2 - 1) (omega (arith, lt, length-range_with_len 1 (net.inputs + length net.latches + length net.ands))) (get_or-range_with_len 1 (net.inputs + length net.latches + length net.ands) (l / 2 - 1) 0 (omega arith) ∙ (omega arith)))
   ]
     where
       gates-are : map (λ (g : Gate). g.lhs / 2) c.gates ≡ range_with_len (1 + (net.inputs + length net.latches)) (length net.ands)

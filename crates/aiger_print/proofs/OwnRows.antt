@@ -1,12 +1,11 @@
 -- The rows of a net are right, and each number in them is short.
 use Rattle.std.proofs.Common.{◌≡◌, ℕ, suc, ◌+◌, ◌*◌, ◌%◌, ◌<◌, ◌≤◌, ◌^◌, Bool, true, false, cond, nat_eq, ◌∷◌, length, refl, ap, arith}
 use Rattle.std.specs.Prelude.{slice_index}
-use Rattle.std.proofs.lemmas.Bool.{eq-eqb, le-leb, lt-ltb}
+use Rattle.std.proofs.lemmas.Bool.{eq-eqb, le-leb, lt-ltb, and_from, or_right}
 use Rattle.aig_net.specs.declared.parts.NetParts.{NetParts}
 use Rattle.aig_net.specs.declared.parts.Reset.{Reset}
 use Rattle.aig_net.specs.declared.parts.Reset.TheVariants.{Zero, One, Free}
 use Rattle.aig_net.specs.Nets.{IsNet, Below, variables, first_and, latch_variable, literal_at, reset_at}
-use Rattle.aig_order.proofs.Firsts.{both-and, or-second}
 use Rattle.aiger_body.specs.declared.header.Header.{Header}
 use Rattle.aiger_body.specs.declared.section.Section.{Section}
 use Rattle.aiger_body.specs.declared.section.Section.TheVariants.{Inputs, Latches, Outputs, Bads, Constraints, Sizes, Justices, Fairs, Gates}
@@ -35,8 +34,8 @@ module _ (b : Bool) (net : NetParts) (is : IsNet net) (few : net.inputs + length
 
   plain-right : (v : ℕ) → 0 < v → v ≤ h.top → is_plain h (2 * v) ≡ true
   plain-right v low high =
-      both-and _ _ (le-leb (2 * v) (2 * h.top + 1) (omega arith))
-      (both-and _ _ (lt-ltb 0 (2 * v) (omega arith)) (eq-eqb (2 * v % 2) 0 (omega arith)))
+      and_from _ _ (le-leb (2 * v) (2 * h.top + 1) (omega arith))
+      (and_from _ _ (lt-ltb 0 (2 * v) (omega arith)) (eq-eqb (2 * v % 2) 0 (omega arith)))
 
   -- ---- short
 
@@ -66,10 +65,10 @@ module _ (b : Bool) (net : NetParts) (is : IsNet net) (few : net.inputs + length
   -- ---- right
 
   reset-right : (own : ℕ) (r : Reset) (next : ℕ) → is_plain h own ≡ true → is_literal h next ≡ true → is_right h Latches (own ∷ next ∷ reset_row own r) ≡ true
-  reset-right own Zero next plain literal = both-and _ _ plain literal
-  reset-right own One next plain literal = both-and _ _ plain (both-and _ _ literal refl)
+  reset-right own Zero next plain literal = and_from _ _ plain literal
+  reset-right own One next plain literal = and_from _ _ plain (and_from _ _ literal refl)
   reset-right own Free next plain literal =
-      both-and _ _ plain (both-and _ _ literal (or-second (nat_eq own 0) _ (or-second (nat_eq own 1) _ (eq-eqb own own refl))))
+      and_from _ _ plain (and_from _ _ literal (or_right (nat_eq own 0) _ (or_right (nat_eq own 1) _ (eq-eqb own own refl))))
 
   pub right_printed : (s : Section) (j : ℕ) → j < slice_index (plan_of b net) (number_in s) → is_right h s (printed false net s j) ≡ true
   right_printed Inputs j lt = plain-right (suc j) (omega arith) (omega (arith, none-left b net.inputs j lt))
@@ -83,7 +82,7 @@ module _ (b : Bool) (net : NetParts) (is : IsNet net) (few : net.inputs + length
   right_printed Gates j lt =
       let less = none-left b (length net.ands) j lt in
       let (l, r) = is.ordered j less in
-      both-and _ _ (plain-right (first_and net + j) (omega arith) (omega arith)) (both-and _ _ (literal-right _ (omega (arith, l, less))) (literal-right _ (omega (arith, r, less))))
+      and_from _ _ (plain-right (first_and net + j) (omega arith) (omega arith)) (and_from _ _ (literal-right _ (omega (arith, l, less))) (literal-right _ (omega (arith, r, less))))
 
 -- in the binary form a latch's own literal is put before its row
 pub own_printed : (b : Bool) (net : NetParts) (s : Section) (j : ℕ) → with_own (own_header b net) (before (plan_of b net) s + j) s (printed b net s j) ≡ printed false net s j

@@ -2,13 +2,11 @@
 use Rattle.std.proofs.Common.{◌≡◌, ℕ, zero, suc, ◌+◌, ◌*◌, ◌^◌, ◌<◌, ◌≤◌, ◌⊎◌, Bool, true, false, cond, not, ◌&&◌, ◌||◌, nat_eq, inl, inr, refl, sym, ◌∙◌, ap, arith, Some, List, [], ◌∷◌, ◌++◌, map, flat_map, length, get_or, take, drop, append_assoc}
 use Rattle.std.specs.Prelude.{slice_index_or, decimal, bytes_eq, codes}
 use Rattle.std.specs.List.{range_with_len, position_or_len, list_any}
-use Rattle.std.proofs.lemmas.Bool.{eqb-true, eq-eqb, lt-ltb}
+use Rattle.std.proofs.lemmas.Bool.{eqb-true, eq-eqb, lt-ltb, and_parts, and_from, not-true, cases_Bool, or_parts}
 use Rattle.std.proofs.lemmas.List.{take-append-le}
 use Rattle.std.proofs.lemmas.List.Concat.{flat_map-cons}
 use Rattle.std.proofs.Math.Seq.{take-length}
 use Rattle.aig_net.specs.Nets as nets
-use Rattle.aig_net.specs.Nets.{ends_in}
-use Rattle.aig_order.proofs.Firsts.{either, and-both, both-and, not-true, or-none}
 use Rattle.aiger_body.specs.Texts.{pieces, is_ended, is_feed, is_return, is_space, line_text, number_of}
 use Rattle.aiger_body.specs.Symbols.{Symbol, symbol_with, symbol_of, is_name, begins_comment}
 use Rattle.aiger_body.proofs.Pieces.{Free, pieces-cons, ended}
@@ -171,14 +169,14 @@ pub record IsOwn (s : Symbol) : Type 0 where
 
 none-free : (name : List ℕ) → list_any (nat_eq 10) name ≡ false → Free is_feed name
 none-free [] e = tt
-none-free (b ∷ name) e = let both = or-none (nat_eq 10 b) _ e in (turned (either (nat_eq b 10)) both.0, none-free name both.1)
+none-free (b ∷ name) e = let both = or_parts (nat_eq 10 b) _ e in (turned (cases_Bool (nat_eq b 10)) both.0, none-free name both.1)
   where
     turned : (nat_eq b 10 ≡ true) ⊎ (nat_eq b 10 ≡ false) → nat_eq 10 b ≡ false → nat_eq b 10 ≡ false
     turned (inl same) other = absurd (let again : nat_eq 10 b ≡ true = eq-eqb 10 b (sym (eqb-true b 10 same)) in cc)
     turned (inr other) also = other
 
 kind-apart : (s : Symbol) → IsOwn s → (c : ℕ) → c < 105 → nat_eq s.kind c ≡ false
-kind-apart s own c lt = step (either (nat_eq s.kind c))
+kind-apart s own c lt = step (cases_Bool (nat_eq s.kind c))
   where
     step : (nat_eq s.kind c ≡ true) ⊎ (nat_eq s.kind c ≡ false) → nat_eq s.kind c ≡ false
     step (inr other) = other
@@ -204,10 +202,10 @@ module _ (s : Symbol) (own : IsOwn s) where
   digits-free c lt = all-free c (decimal s.number) (no-digit s.number own.small c lt)
 
   pub words_free : Free is_feed (words_of s)
-  words_free = free-append is_feed (s.kind ∷ decimal s.number) (32 ∷ s.name) (kind-apart s own 10 (omega arith), digits-free 10 (omega arith)) (refl, none-free s.name (not-true _ (and-both _ _ own.named).0))
+  words_free = free-append is_feed (s.kind ∷ decimal s.number) (32 ∷ s.name) (kind-apart s own 10 (omega arith), digits-free 10 (omega arith)) (refl, none-free s.name (not-true _ (and_parts _ _ own.named).0))
 
   pub name_ended : is_ended is_return s.name ≡ false
-  name_ended = sym (ends-same s.name) ∙ not-true _ (and-both (not (list_any (nat_eq 10) s.name)) _ own.named).1
+  name_ended = sym (ends-same s.name) ∙ not-true _ (and_parts (not (list_any (nat_eq 10) s.name)) _ own.named).1
 
   words-ended : is_ended is_return (words_of s) ≡ false
   words-ended = ended-append is_return (s.kind ∷ decimal s.number) 32 s.name ∙ behind-space s.name own.some ∙ name_ended
@@ -243,4 +241,4 @@ module _ (s : Symbol) (own : IsOwn s) where
   line_ended = ended is_feed (words_of s) 10 refl
 
   pub name_right : is_name s.name ≡ true
-  name_right = both-and _ _ (lt-ltb 0 (length s.name) own.some) (ap not name_ended)
+  name_right = and_from _ _ (lt-ltb 0 (length s.name) own.some) (ap not name_ended)

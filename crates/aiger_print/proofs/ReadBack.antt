@@ -1,11 +1,10 @@
 -- A printed text is that of its net.
 use Rattle.std.proofs.Common.{◌≡◌, ℕ, ◌+◌, ◌≤◌, Bool, true, false, not, ◌∙◌, ap, arith, Option, None, List, length, ◌⊎◌, inl, inr}
 use Rattle.std.specs.Prelude.{nat_lt}
-use Rattle.std.proofs.lemmas.Bool.{ltb-true}
+use Rattle.std.proofs.lemmas.Bool.{ltb-true, cases_Bool}
 use Rattle.aig_net.specs.declared.parts.NetParts.{NetParts}
 use Rattle.aig_net.specs.Nets.{IsNet}
 use Rattle.aig_order.specs.Firsts.{when, otherwise, first_some}
-use Rattle.aig_order.proofs.Firsts.{either}
 use Rattle.aiger_body.specs.declared.error.AigKind.TheVariants.{Header as HeaderFault}
 use Rattle.aiger_body.specs.declared.header.Header.{Header}
 use Rattle.aiger_body.specs.declared.content.Content.{Content}
@@ -25,7 +24,7 @@ module _ (b : Bool) (net : NetParts) (is : IsNet net) (few : net.inputs + length
   h = own_header b net
 
   within : nat_lt 1048576 h.top ≡ false
-  within = step (either (nat_lt 1048576 h.top))
+  within = step (cases_Bool (nat_lt 1048576 h.top))
     where
       step : (nat_lt 1048576 h.top ≡ true) ⊎ (nat_lt 1048576 h.top ≡ false) → nat_lt 1048576 h.top ≡ false
       step (inr other) = other

@@ -1,11 +1,10 @@
 -- Rows of sections, one section after the other.
-use Rattle.std.proofs.Common.{◌≡◌, ℕ, zero, suc, ◌+◌, ◌<◌, List, [], ◌∷◌, ◌++◌, map, flat_map, length, get_or, take, refl, sym, ◌∙◌, ap, arith, length-append, append_assoc, append-nil}
+use Rattle.std.proofs.Common.{◌≡◌, ℕ, zero, suc, ◌+◌, ◌<◌, List, [], ◌∷◌, ◌++◌, map, length, get_or, take, refl, sym, ◌∙◌, ap, arith, length-append, append_assoc, append-nil}
 use Rattle.std.specs.Prelude.{slice_index, slice_index_or, sum}
 use Rattle.std.specs.List.{range_with_len}
 use Rattle.std.proofs.lemmas.List.{get_or_append_left, get_or-append-add}
 use Rattle.std.proofs.lemmas.List.Sums.{sum_by-cons}
 use Rattle.std.proofs.lemmas.List.FromFn.{length-map-range_with_len, get_or-map-range_with_len, fill_by_all}
-use Rattle.std.proofs.lemmas.Grind.{flat_map-append}
 
 -- row j of section i, for each j below the count of the section
 abbrev pub stacked : (ℕ → ℕ → List ℕ) → ℕ → List ℕ → List (List ℕ)
@@ -34,18 +33,9 @@ stacked_at row i (n ∷ cs) (suc q) j lt less =
     ∙ stacked_at row (suc i) cs q j (omega arith) less
     ∙ ap (λ m. row m j) next
 
-pub flat_mapped : {A : Type 0} (f : A → List ℕ) (g : List ℕ → List ℕ) (xs : List A) → flat_map g (map f xs) ≡ flat_map (λ x. g (f x)) xs
-flat_mapped f g [] = refl
-flat_mapped f g (x ∷ xs) =
-    flat_map-append g (f x ∷ []) (map f xs) ∙ ap (λ l. flat_map g (f x ∷ []) ++ l) (flat_mapped f g xs) ∙ sym (flat_map-append (λ y. g (f y)) (x ∷ []) xs)
-
 -- a list by its places
 pub by_place : (xs : List ℕ) → map (λ j. slice_index_or xs j 0) (range_with_len 0 (length xs)) ≡ xs
 by_place xs = sym (fill_by_all (λ j. slice_index_or xs j 0) xs (length xs) 0 refl (λ k lt. refl))
-
-pub mapped_twice : {A B C : Type 0} (f : A → B) (g : B → C) (xs : List A) → map g (map f xs) ≡ map (λ x. g (f x)) xs
-mapped_twice f g [] = refl
-mapped_twice f g (x ∷ xs) = ap (λ l. g (f x) ∷ l) (mapped_twice f g xs)
 
 -- the same values at the same places
 pub same_range : {A : Type 0} (f g : ℕ → A) (b c n : ℕ) → ((j : ℕ) → j < n → f (b + j) ≡ g (c + j)) → map f (range_with_len b n) ≡ map g (range_with_len c n)

@@ -2,7 +2,7 @@
 use Rattle.std.proofs.Common.{◌≡◌, ℕ, suc, ◌+◌, ◌-◌, ◌*◌, ◌/◌, ◌%◌, ◌^◌, ◌<◌, ◌≤◌, ◌⊎◌, Bool, true, false, cond, not, ◌||◌, nat_eq, inl, inr, refl, sym, ◌∙◌, ap, subst, arith, None, List, [], ◌∷◌, ◌++◌, map, flat_map, length, drop}
 use Rattle.std.specs.Prelude.{slice_index, nat_le}
 use Rattle.std.specs.List.{range_with_len, list_any, concat}
-use Rattle.std.proofs.lemmas.Bool.{le-leb, eq-eqb, eqb-true, cases_lt}
+use Rattle.std.proofs.lemmas.Bool.{le-leb, eq-eqb, cases_lt, and_from, cases_Bool, ne_eqb}
 use Rattle.aig_net.specs.declared.parts.NetParts.{NetParts}
 use Rattle.aig_net.specs.declared.parts.Reset.{Reset}
 use Rattle.aig_net.specs.declared.parts.Reset.TheVariants.{Zero, One, Free}
@@ -10,7 +10,6 @@ use Rattle.aig_net.specs.Nets.{IsNet, Below, variables, first_and, latch_variabl
 use Rattle.aig_order.specs.declared.gate.Gate.{Gate}
 use Rattle.aig_order.specs.Firsts.{when, first_some}
 use Rattle.aig_order.specs.Gates.{Depends, depends}
-use Rattle.aig_order.proofs.Firsts.{either, both-and}
 use Rattle.aig_order.proofs.Cycles.{depends-right}
 use Rattle.aiger_body.specs.declared.error.AigKind.TheVariants.{Cycle}
 use Rattle.aiger_body.specs.declared.header.Header.{Header}
@@ -23,29 +22,22 @@ use Rattle.aiger_body.specs.Files.{number_in, before, plan, counted, line_start,
 use Rattle.aiger_body.specs.Circuits.{is_defined}
 use Rattle.aiger_body.specs.Outcomes.{fault, of_uses, of_cycle, of_number, numbers, is_undefined, least, greatest}
 use Rattle.aiger_body.proofs.Groups.{number_clear}
-use Rattle.aiger_body.proofs.Known.{none-first, use-clear}
+use Rattle.aiger_body.proofs.Known.{none-first, use-clear, map-twice}
 use Rattle.aiger_body.proofs.Pieces.{pieces-concat}
 use Rattle.aiger_body.proofs.Sections.{line-of}
 use Rattle.aiger_print.specs.Printed.{groups_of, reset_row, latch_row, deltas_of, names_text}
-use Rattle.aiger_print.proofs.Stacks.{mapped_twice, same_range, by_place}
+use Rattle.aiger_print.proofs.Stacks.{same_range, by_place}
 use Rattle.aiger_print.proofs.Forms.{own_header, printed, plan_of, text_of}
 use Rattle.aiger_print.proofs.OwnContent.{own_latch, own_gate, content_of, defined, acyclic}
 use Rattle.aiger_print.proofs.OwnRows.{none-left}
 use Rattle.aiger_print.proofs.Deltas.{first_delta, second_delta, groups_from, group_value, group_ended, group_done, all_pieces, first_group, second_group, behind_groups}
 use Rattle.aiger_print.proofs.TextRows.{section_rows_are, row_is, behind_is}
 
-unequal : (a b : ℕ) → (a ≡ b → ⊥) → nat_eq a b ≡ false
-unequal a b apart = step (either (nat_eq a b))
-  where
-    step : (nat_eq a b ≡ true) ⊎ (nat_eq a b ≡ false) → nat_eq a b ≡ false
-    step (inl same) = absurd (apart (eqb-true a b same))
-    step (inr other) = other
-
 reset-back : (own next : ℕ) (r : Reset) → 1 < own → reset_of (own ∷ next ∷ reset_row own r) ≡ r
 reset-back own next Zero low = refl
 reset-back own next One low = refl
 reset-back own next Free low =
-    ap (λ b. cond b Zero (cond (nat_eq own 1) One Free)) (unequal own 0 (λ e. omega arith)) ∙ ap (λ b. cond b One Free) (unequal own 1 (λ e. omega arith))
+    ap (λ b. cond b Zero (cond (nat_eq own 1) One Free)) (ne_eqb own 0 (λ e. omega arith)) ∙ ap (λ b. cond b One Free) (ne_eqb own 1 (λ e. omega arith))
 
 latch-back : (net : NetParts) (j : ℕ) → latch_of (latch_row false net j) ≡ own_latch net j
 latch-back net j =
@@ -64,7 +56,7 @@ module _ (b : Bool) (net : NetParts) (is : IsNet net) (few : net.inputs + length
   rows-mapped : {A : Type 0} (f : List ℕ → A) (g : ℕ → A) (s : Section) (n : ℕ) → slice_index (plan_of b net) (number_in s) ≡ n → ((j : ℕ) → f (printed false net s j) ≡ g j) → map f (section_rows h bytes s) ≡ map g (range_with_len 0 n)
   rows-mapped f g s n many each =
       ap (map f) (section_rows_are b net is few bytes e small s)
-      ∙ mapped_twice (printed false net s) f (range_with_len 0 (slice_index (plan_of b net) (number_in s)))
+      ∙ map-twice (printed false net s) f (range_with_len 0 (slice_index (plan_of b net) (number_in s)))
       ∙ ap (λ m. map (λ j. f (printed false net s j)) (range_with_len 0 m)) many
       ∙ same_range (λ j. f (printed false net s j)) g 0 0 n (λ j lt. each (0 + j))
 
@@ -99,7 +91,7 @@ module _ (b : Bool) (net : NetParts) (is : IsNet net) (few : net.inputs + length
     number-right : (j n : ℕ) → piece_at (groups h bytes) j ≡ groups_of 9 n → n < 128 ^ 4 → least j ≤ delta h bytes j → delta h bytes j ≤ greatest h bytes j → of_number h bytes j ≡ None
     number-right j n at lt low high_enough =
         number_clear h bytes j (ap (λ p. nat_le 128 (slice_index p 9)) at ∙ group_done n lt) (ap (is_ended ends_number) at ∙ group_ended 9 n (omega (arith, lt)))
-        (both-and _ _ (le-leb _ _ low) (le-leb _ _ high_enough))
+        (and_from _ _ (le-leb _ _ low) (le-leb _ _ high_enough))
 
     even-right : (k : ℕ) → k < length net.ands → of_number h bytes (2 * k) ≡ None
     even-right k lt =
@@ -140,14 +132,14 @@ module _ (b : Bool) (net : NetParts) (is : IsNet net) (few : net.inputs + length
             ∙ ap (make (2 * (first_and net + j)) (and_at net.ands j).left) right_same
 
   pub numbers_clear : first_some (numbers h) (of_number h bytes) ≡ None
-  numbers_clear = elim (either b) [
+  numbers_clear = elim (cases_Bool b) [
     | inl form ↦ ap (λ x. first_some (cond x (2 * length net.ands) 0) (of_number h bytes)) form ∙ none-first h bytes (2 * length net.ands) (of_number h bytes) (number-none form)
     | inr form ↦ ap (λ x. first_some (cond x (2 * length net.ands) 0) (of_number h bytes)) form
   ]
 
   -- what stands behind the ands
   pub tail_is : tail h bytes ≡ names_text net
-  tail_is = elim (either b) [
+  tail_is = elim (cases_Bool b) [
     | inl form ↦
         ap (λ x. cond x (concat (drop (2 * length net.ands) (groups h bytes))) (behind h bytes)) form
         ∙ ap (λ gs. concat (drop (2 * length net.ands) gs)) (groups-are form)
@@ -162,13 +154,13 @@ module _ (b : Bool) (net : NetParts) (is : IsNet net) (few : net.inputs + length
   -- ---- the content
 
   inputs-are : (content h bytes).inputs ≡ (content_of net).inputs
-  inputs-are = elim (either b) [
+  inputs-are = elim (cases_Bool b) [
     | inl form ↦ ap (λ x. cond x (map (λ k. 2 * k) (range_with_len 1 net.inputs)) (map first_number (section_rows h bytes Inputs))) form ∙ same_range (λ k. 2 * k) (λ j. 2 * suc j) 1 0 net.inputs (λ j lt. omega arith)
     | inr form ↦ ap (λ x. cond x (map (λ k. 2 * k) (range_with_len 1 net.inputs)) (map first_number (section_rows h bytes Inputs))) form ∙ rows-mapped first_number (λ j. 2 * suc j) Inputs net.inputs (ap (λ x. cond x 0 net.inputs) form) (λ j. refl)
   ]
 
   gates-are : (content h bytes).gates ≡ (content_of net).gates
-  gates-are = elim (either b) [
+  gates-are = elim (cases_Bool b) [
     | inl form ↦ ap (λ x. cond x (map (binary_gate h bytes) (range_with_len 0 (length net.ands))) (map gate_of (section_rows h bytes Gates))) form ∙ binary-gates form
     | inr form ↦ ap (λ x. cond x (map (binary_gate h bytes) (range_with_len 0 (length net.ands))) (map gate_of (section_rows h bytes Gates))) form ∙ rows-mapped gate_of (own_gate net) Gates (length net.ands) (ap (λ x. cond x 0 (length net.ands)) form) (λ j. refl)
   ]
@@ -211,7 +203,7 @@ module _ (b : Bool) (net : NetParts) (is : IsNet net) (few : net.inputs + length
       use-clear h bytes k (ap (λ t. list_any (is_undefined h bytes) (used t (row h bytes k))) of.is ∙ ap (λ n. list_any (is_undefined h bytes) (used of.s (row h bytes n))) of.place ∙ ap (λ r. list_any (is_undefined h bytes) (used of.s r)) (row_is b net is few bytes e small of.s of.j of.small) ∙ used-known of.s of.j of.small))
 
   pub cycles_clear : first_some (length (content h bytes).gates) (of_cycle h bytes) ≡ None
-  cycles_clear = none-first h bytes (length (content h bytes).gates) (of_cycle h bytes) (λ k lt. ap (λ x. when x (fault Cycle (line_start bytes (before (plan h bytes) Gates + k)))) (free k lt (either (depends (content h bytes).gates (length (content h bytes).gates) k k))))
+  cycles_clear = none-first h bytes (length (content h bytes).gates) (of_cycle h bytes) (λ k lt. ap (λ x. when x (fault Cycle (line_start bytes (before (plan h bytes) Gates + k)))) (free k lt (cases_Bool (depends (content h bytes).gates (length (content h bytes).gates) k k))))
     where
       free : (k : ℕ) → k < length (content h bytes).gates → (depends (content h bytes).gates (length (content h bytes).gates) k k ≡ true) ⊎ (depends (content h bytes).gates (length (content h bytes).gates) k k ≡ false) → depends (content h bytes).gates (length (content h bytes).gates) k k ≡ false
       free k lt (inr no_round) = no_round

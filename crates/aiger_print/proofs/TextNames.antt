@@ -1,7 +1,7 @@
 -- The names of a printed text are those of the net, and no symbol line is at fault.
 use Rattle.std.proofs.Common.{◌≡◌, ℕ, zero, suc, ◌+◌, ◌*◌, ◌^◌, ◌<◌, ◌≤◌, ◌⊎◌, Bool, true, false, cond, not, ◌&&◌, nat_eq, inl, inr, sym, ◌∙◌, ap, arith, Some, None, List, [], ◌++◌, map, flat_map, length, get_or, length-append, append_assoc}
 use Rattle.std.specs.Prelude.{nat_lt, unwrap_or}
-use Rattle.std.proofs.lemmas.Bool.{cases_eq, eqb-true, eq-eqb, lt-ltb}
+use Rattle.std.proofs.lemmas.Bool.{cases_eq, eqb-true, eq-eqb, lt-ltb, and_parts, and_from, not_from_false, cases_Bool}
 use Rattle.std.proofs.lemmas.List.{length-map, get_or-map, get_or_append_left, get_or-append-add}
 use Rattle.std.proofs.lemmas.List.FromFn.{fill_by_all}
 use Rattle.std.proofs.lemmas.Grind.{flat_map-append}
@@ -9,7 +9,7 @@ use Rattle.aig_net.specs.declared.parts.NetParts.{NetParts}
 use Rattle.aig_net.specs.Nets as nets
 use Rattle.aig_net.specs.Nets.{IsNet, AreNames}
 use Rattle.aig_order.specs.Firsts.{when, first_some}
-use Rattle.aig_order.proofs.Firsts.{either, and-both, both-and, any-some, not-false}
+use Rattle.aig_order.proofs.Firsts.{any-some}
 use Rattle.aig_order.proofs.Sorted.{first-empty}
 use Rattle.aiger_body.specs.declared.error.AigKind.TheVariants.{Symbol as SymbolFault}
 use Rattle.aiger_body.specs.declared.header.Header.{Header}
@@ -110,14 +110,14 @@ module _ (b : Bool) (net : NetParts) (is : IsNet net) (few : net.inputs + length
       (every_append (λ s. 108 * 2 ^ 40 ≤ key s) (given 108 0 net.latch_names) (given 111 0 net.output_names) (high-keys 108 (108 * 2 ^ 40) net.latch_names (omega arith)) (high-keys 111 (108 * 2 ^ 40) net.output_names (omega arith)))
 
   fresh : (k : ℕ) → k < length all → is_repeated h bytes k ≡ false
-  fresh k lt = step (either (is_repeated h bytes k))
+  fresh k lt = step (cases_Bool (is_repeated h bytes k))
     where
       step : (is_repeated h bytes k ≡ true) ⊎ (is_repeated h bytes k ≡ false) → is_repeated h bytes k ≡ false
       step (inr other) = other
       step (inl again) =
           let (j, less, same) = any-some k (λ j. names_same (symbol h bytes j) (symbol h bytes k)) again in
           let both_known : names_same (Some (at all j)) (Some (at all k)) ≡ true = ap (λ o. names_same o (Some (at all k))) (sym (symbol-at j (omega arith))) ∙ ap (names_same (symbol h bytes j)) (sym (symbol-at k lt)) ∙ same in
-          let both = and-both (nat_eq (at all j).kind (at all k).kind) _ both_known in
+          let both = and_parts (nat_eq (at all j).kind (at all k).kind) _ both_known in
           absurd (omega (arith, rising_at all j k rising less lt, ap (λ x. x * 2 ^ 40) (eqb-true _ _ both.0), eqb-true _ _ both.1))
 
   -- ---- each line is a symbol of what is there
@@ -130,10 +130,10 @@ module _ (b : Bool) (net : NetParts) (is : IsNet net) (few : net.inputs + length
   good-line : (k : ℕ) → k < length all → is_good_symbol h bytes k ≡ true
   good-line k lt =
       let own = every_at IsOwn all k every-own lt in
-      both-and (is_ended is_feed (piece_at (tail_lines h bytes) k) && is_symbol h (symbol h bytes k)) _
-      (both-and (is_ended is_feed (piece_at (tail_lines h bytes) k)) _ (ap (is_ended is_feed) (line-at k lt) ∙ line_ended (at all k) own)
-      (ap (is_symbol h) (symbol-at k lt) ∙ both-and _ _ (counted-of (at all k) (every_at IsOf all k every-of lt)) (name_right (at all k) own)))
-      (not-false _ (fresh k lt))
+      and_from (is_ended is_feed (piece_at (tail_lines h bytes) k) && is_symbol h (symbol h bytes k)) _
+      (and_from (is_ended is_feed (piece_at (tail_lines h bytes) k)) _ (ap (is_ended is_feed) (line-at k lt) ∙ line_ended (at all k) own)
+      (ap (is_symbol h) (symbol-at k lt) ∙ and_from _ _ (counted-of (at all k) (every_at IsOf all k every-of lt)) (name_right (at all k) own)))
+      (not_from_false _ (fresh k lt))
 
   pub symbols_clear : first_some (symbol_lines h bytes) (of_symbol h bytes) ≡ None
   symbols_clear =
@@ -147,7 +147,7 @@ module _ (b : Bool) (net : NetParts) (is : IsNet net) (few : net.inputs + length
   below-value letter n name zero le each (inr (k, lt, m)) = absurd (omega arith)
   below-value letter n name (suc K) le each some =
       ap (λ o. name_in letter n o (name_below h bytes letter n K)) (symbol-at K (omega arith))
-      ∙ elim (either (nat_eq (at all K).kind letter && nat_eq (at all K).number n)) [
+      ∙ elim (cases_Bool (nat_eq (at all K).kind letter && nat_eq (at all K).number n)) [
         | inl here ↦ ap (λ x. cond x (at all K).name (name_below h bytes letter n K)) here ∙ each K (omega arith) here
         | inr other ↦ ap (λ x. cond x (at all K).name (name_below h bytes letter n K)) other ∙ below-value letter n name K (omega arith) (λ k lt. each k (omega arith)) (earlier other some)
       ]
@@ -167,7 +167,7 @@ module _ (b : Bool) (net : NetParts) (is : IsNet net) (few : net.inputs + length
     where
       right : (n k : ℕ) → k < length all → (nat_eq (at all k).kind letter && nat_eq (at all k).number n) ≡ true → (at all k).name ≡ get_or list n []
       right n k lt m =
-          let both = and-both (nat_eq (at all k).kind letter) _ m in
+          let both = and_parts (nat_eq (at all k).kind letter) _ m in
           let g = only (at all k) (every_at IsOf all k every-of lt) (eqb-true _ _ both.0) in
           let same : g.j ≡ n = omega (arith, g.number, eqb-true _ _ both.1) in
           g.name ∙ ap (λ j. get_or list j []) same
@@ -177,7 +177,7 @@ module _ (b : Bool) (net : NetParts) (is : IsNet net) (few : net.inputs + length
         | inl none ↦ inl none
         | inr has ↦
             let (inside, same) = there has.k has.inside in
-            inr (offset + has.k, inside, both-and _ _ (eq-eqb _ _ (ap (λ (s : Symbol). s.kind) same ∙ has.kind)) (eq-eqb _ _ (ap (λ (s : Symbol). s.number) same ∙ has.number ∙ (omega arith))))
+            inr (offset + has.k, inside, and_from _ _ (eq-eqb _ _ (ap (λ (s : Symbol). s.kind) same ∙ has.kind)) (eq-eqb _ _ (ap (λ (s : Symbol). s.number) same ∙ has.number ∙ (omega arith))))
       ]
 
   abbrev I : List Symbol

@@ -2,13 +2,13 @@
 use Rattle.std.proofs.Common.{◌≡◌, ℕ, zero, suc, ◌+◌, ◌<◌, ◌≤◌, ◌^◌, ◌⊎◌, Bool, true, false, cond, not, ◌&&◌, ◌||◌, nat_eq, inl, inr, refl, sym, ◌∙◌, ap, subst, arith, Some, None, List, [], ◌∷◌, ◌++◌, map, flat_map, length, get_or, drop, length-append, append_assoc}
 use Rattle.std.specs.Prelude.{slice_index, slice_index_or, sum}
 use Rattle.std.specs.List.{range_with_len, list_any, concat}
-use Rattle.std.proofs.lemmas.Bool.{eqb-true, eq-eqb}
+use Rattle.std.proofs.lemmas.Bool.{eqb-true, eq-eqb, or_left, or_right, or_cases, cases_Bool}
 use Rattle.std.proofs.lemmas.List.{length-map, get_or-map, get_or_append_left}
 use Rattle.std.proofs.lemmas.Grind.{flat_map-append}
 use Rattle.aig_net.specs.declared.parts.NetParts.{NetParts}
 use Rattle.aig_net.specs.Nets.{IsNet}
 use Rattle.aig_order.specs.Firsts.{when, otherwise, first_some, holds}
-use Rattle.aig_order.proofs.Firsts.{either, any-some, or-either, or-first, or-second}
+use Rattle.aig_order.proofs.Firsts.{any-some}
 use Rattle.aiger_body.specs.declared.error.AigKind.TheVariants.{Truncated, Literal, Redefined}
 use Rattle.aiger_body.specs.declared.header.Header.{Header}
 use Rattle.aiger_body.specs.declared.section.Section.{Section}
@@ -54,7 +54,7 @@ word-free : (b : Bool) (c : ℕ) → c < 32 → Free (λ x. nat_eq x c) (word_of
 word-free true c low = (other 97 (omega arith), (other 105 (omega arith), (other 103 (omega arith), (other 32 (omega arith), tt))))
   where
     other : (n : ℕ) → c < n → nat_eq n c ≡ false
-    other n lt = step (either (nat_eq n c))
+    other n lt = step (cases_Bool (nat_eq n c))
       where
         step : (nat_eq n c ≡ true) ⊎ (nat_eq n c ≡ false) → nat_eq n c ≡ false
         step (inl same) = absurd (omega (arith, eqb-true n c same, lt))
@@ -62,7 +62,7 @@ word-free true c low = (other 97 (omega arith), (other 105 (omega arith), (other
 word-free false c low = (other 97 (omega arith), (other 97 (omega arith), (other 103 (omega arith), (other 32 (omega arith), tt))))
   where
     other : (n : ℕ) → c < n → nat_eq n c ≡ false
-    other n lt = step (either (nat_eq n c))
+    other n lt = step (cases_Bool (nat_eq n c))
       where
         step : (nat_eq n c ≡ true) ⊎ (nat_eq n c ≡ false) → nat_eq n c ≡ false
         step (inl same) = absurd (omega (arith, eqb-true n c same, lt))
@@ -188,7 +188,7 @@ module _ (b : Bool) (net : NetParts) (is : IsNet net) (few : net.inputs + length
   others = length net.outputs + length net.constraints + length net.fairs
 
   one-of : (v x : ℕ) → holds v (x ∷ []) ≡ true → v ≡ x
-  one-of v x e = elim (or-either (nat_eq v x) false e) [ inl same ↦ eqb-true v x same | inr no_one ↦ absurd (cc) ]
+  one-of v x e = elim (or_cases (nat_eq v x) false e) [ inl same ↦ eqb-true v x same | inr no_one ↦ absurd (cc) ]
 
   placed : b ≡ false → (s : Section) (j v : ℕ) → j < slice_index (plan_of b net) (number_in s) → holds v (variables_at s j) ≡ true →
       ((v ≡ suc (before (plan_of b net) s + j)) × (before (plan_of b net) s + j < net.inputs + length net.latches)) ⊎ ((v + others ≡ suc (before (plan_of b net) s + j)) × (net.inputs + length net.latches + others ≤ before (plan_of b net) s + j))
@@ -230,16 +230,16 @@ module _ (b : Bool) (net : NetParts) (is : IsNet net) (few : net.inputs + length
         where
           none-in : (vs : List ℕ) → ((v : ℕ) → holds v vs ≡ true → defined_before h bytes k v ≡ true → ⊥) → list_any (defined_before h bytes k) vs ≡ false
           none-in [] no_one = refl
-          none-in (v ∷ vs) no_one = elim (either (defined_before h bytes k v)) [
+          none-in (v ∷ vs) no_one = elim (cases_Bool (defined_before h bytes k v)) [
             | inl found ↦ absurd (no_one v (head-holds v vs) found)
             | inr free ↦ ap (λ x. x || list_any (defined_before h bytes k) vs) free ∙ none-in vs (λ u there. no_one u (tail-holds u v vs there))
           ]
             where
               head-holds : (v : ℕ) (vs : List ℕ) → holds v (v ∷ vs) ≡ true
-              head-holds v vs = or-first _ _ (eq-eqb v v refl)
+              head-holds v vs = or_left _ _ (eq-eqb v v refl)
 
               tail-holds : (u v : ℕ) (vs : List ℕ) → holds u vs ≡ true → holds u (v ∷ vs) ≡ true
-              tail-holds u v vs there = or-second (nat_eq u v) _ there
+              tail-holds u v vs there = or_right (nat_eq u v) _ there
 
   -- ---- no line is at fault
 
@@ -259,7 +259,7 @@ module _ (b : Bool) (net : NetParts) (is : IsNet net) (few : net.inputs + length
       ap (λ t. is_right h t (row h bytes k)) of.is ∙ ap (λ n. is_right h of.s (row h bytes n)) of.place ∙ ap (is_right h of.s) (row_is of.s of.j of.small) ∙ right_printed b net is few of.s of.j of.small
 
   again-none : (k : ℕ) → k < counted h bytes → (not h.binary && list_any (defined_before h bytes k) (defined (section h bytes k) (row h bytes k))) ≡ false
-  again-none k lt = elim (either b) [
+  again-none k lt = elim (cases_Bool b) [
     | inl binary ↦ ap (λ x. not x && list_any (defined_before h bytes k) (defined (section h bytes k) (row h bytes k))) binary
     | inr ascii ↦ ap (λ x. not b && x) (fresh ascii k lt) ∙ and-no (not b)
   ]

@@ -3,7 +3,7 @@ use Rattle.std.proofs.Common.{◌≡◌, ℕ, suc, ◌+◌, ◌-◌, ◌*◌, �
 use Rattle.std.specs.Prelude.{IsTrue, slice_index, slice_index_or}
 use Rattle.std.specs.List.{range_with_len, list_any}
 use Rattle.std.proofs.lemmas.List.{length-map, get_or-map}
-use Rattle.std.proofs.lemmas.Bool.{cases_lt}
+use Rattle.std.proofs.lemmas.Bool.{cases_lt, cases_Bool, or_parts, not-false}
 use Rattle.aiger_body.specs.declared.header.Header.{Header}
 use Rattle.aiger_body.specs.declared.section.Section.{Section}
 use Rattle.aiger_body.specs.declared.section.Section.TheVariants.{Inputs, Latches, Outputs, Constraints, Fairs, Gates}
@@ -11,7 +11,7 @@ use Rattle.aig_order.specs.declared.gate.Gate.{Gate}
 use Rattle.aiger_body.specs.declared.content.Latch.{Latch}
 use Rattle.aig_order.specs.Firsts.{first_some}
 use Rattle.aig_order.specs.Gates.{gate_at, no_gate, Depends, depends}
-use Rattle.aig_order.proofs.Firsts.{either, or-none, not-not, when-none, none-both, first-none}
+use Rattle.aig_order.proofs.Firsts.{when-none, none-both, first-none}
 use Rattle.aig_order.proofs.Cycles.{depends-right}
 use Rattle.aiger_body.specs.Texts.{grown, is_ended, is_feed, pieces}
 use Rattle.aiger_body.specs.Files.{number_in, before, plan, counted, lines, line, section, section_rows, row, is_right, used, first_number, gate_of, latch_of, binary_gate, content}
@@ -54,7 +54,7 @@ gate-shape h (l ∷ a ∷ b ∷ d ∷ r) e = absurd (cc)
 module _ (h : Header) (bytes : List ℕ) (clear : first_some (counted h bytes) (of_line h bytes) ≡ None) where
   -- each counted line has a byte
   line-ended : (k : ℕ) → k < counted h bytes → is_ended is_feed (line bytes k) ≡ true
-  line-ended k lt = not-not _ (when-none _ _ (none-both _ _ (line-clear h bytes clear k lt)).0)
+  line-ended k lt = not-false _ (when-none _ _ (none-both _ _ (line-clear h bytes clear k lt)).0)
 
   pieces-few : (ends : ℕ → Bool) (text : List ℕ) → length (pieces ends text) ≤ length text
   pieces-few ends [] = omega arith
@@ -85,7 +85,7 @@ module _ (h : Header) (bytes : List ℕ) (clear : first_some (counted h bytes) (
         subst P is (line-right h bytes clear _ inside, line-uses _ inside)
 
     known : (l : ℕ) (more : List ℕ) → list_any (is_undefined h bytes) (l ∷ more) ≡ false → IsTrue (is_defined (content h bytes) l)
-    known l more e = not-not _ (or-none (is_undefined h bytes l) _ e).0
+    known l more e = not-false _ (or_parts (is_undefined h bytes l) _ e).0
 
     firsts : (s : Section) → ((r : List ℕ) → is_right h s r ≡ true → used s r ≡ first_number r ∷ []) → AllDefined (content h bytes) (map first_number (section_rows h bytes s))
     firsts s shape j lt =
@@ -115,10 +115,10 @@ module _ (h : Header) (bytes : List ℕ) (clear : first_some (counted h bytes) (
         let r = row h bytes (before (plan h bytes) Gates + k) in
         let both : list_any (is_undefined h bytes) (slice_index r 1 ∷ slice_index r 2 ∷ []) ≡ false = subst P (gate-shape h r right) uses in
         let at : gate_at (map gate_of (section_rows h bytes Gates)) k ≡ gate_of r = get_or-map gate_of (section_rows h bytes Gates) k [] no_gate (omega (arith, lt, long h bytes Gates)) ∙ ap gate_of (row-of h bytes Gates k lt) in
-        subst SidesDefined (sym at) (known _ (slice_index r 2 ∷ []) both, known _ [] (or-none (is_undefined h bytes (slice_index r 1)) _ both).1)
+        subst SidesDefined (sym at) (known _ (slice_index r 2 ∷ []) both, known _ [] (or_parts (is_undefined h bytes (slice_index r 1)) _ both).1)
 
     gates-defined : (k : ℕ) → k < length (content h bytes).gates → SidesDefined (gate_at (content h bytes).gates k)
-    gates-defined = by-form (either h.binary)
+    gates-defined = by-form (cases_Bool h.binary)
       where
         by-form : (h.binary ≡ true) ⊎ (h.binary ≡ false) → (k : ℕ) → k < length (content h bytes).gates → SidesDefined (gate_at (content h bytes).gates k)
         by-form (inl form) k lt =
@@ -151,7 +151,7 @@ module _ (h : Header) (bytes : List ℕ) (clear : first_some (counted h bytes) (
 
 module _ (h : Header) (bytes : List ℕ) where
   pub inputs_many : length (content h bytes).inputs ≡ h.inputs
-  inputs_many = by-form (either h.binary)
+  inputs_many = by-form (cases_Bool h.binary)
     where
       by-form : (h.binary ≡ true) ⊎ (h.binary ≡ false) → length (content h bytes).inputs ≡ h.inputs
       by-form (inl form) = inputs-long h bytes form
@@ -163,7 +163,7 @@ module _ (h : Header) (bytes : List ℕ) where
   latches_many = length-map (section_rows h bytes Latches) latch_of ∙ long h bytes Latches
 
   pub gates_many : length (content h bytes).gates ≡ h.ands
-  gates_many = by-form (either h.binary)
+  gates_many = by-form (cases_Bool h.binary)
     where
       by-form : (h.binary ≡ true) ⊎ (h.binary ≡ false) → length (content h bytes).gates ≡ h.ands
       by-form (inl form) = gates-long h bytes form

@@ -1,12 +1,12 @@
 -- One symbol line after the other: what is named behind it.
 use Rattle.std.proofs.Common.{◌≡◌, ℕ, zero, suc, ◌+◌, ◌<◌, ◌⊎◌, Bool, true, false, not, ◌&&◌, ◌||◌, nat_eq, inl, inr, refl, sym, ◌∙◌, ap, subst, arith, cond, List, [], length, Option, Some, None}
 use Rattle.std.specs.Prelude.{slice_index_or, slice_set, nat_lt}
-use Rattle.std.proofs.lemmas.Bool.{cases_eq, eqb-true, eq-eqb, ltb-true}
+use Rattle.std.proofs.lemmas.Bool.{cases_eq, eqb-true, eq-eqb, ltb-true, and_parts, cases_Bool}
 use Rattle.std.proofs.lemmas.List.{get_or-set_same, get_or-set_other, length-set}
 use Rattle.aiger_body.specs.declared.error.AigKind.TheVariants.{Symbol as SymbolFault}
 use Rattle.aiger_body.specs.declared.header.Header.{Header}
 use Rattle.aig_order.specs.Firsts.{when, first_some, any_below}
-use Rattle.aig_order.proofs.Firsts.{either, and-both, first-here}
+use Rattle.aig_order.proofs.Firsts.{first-here}
 use Rattle.aiger_body.specs.Texts.{piece_at, place, is_ended, is_feed, line_text}
 use Rattle.aiger_body.specs.Files.{tail_start}
 use Rattle.aiger_body.specs.Symbols.{Symbol, symbol_of, is_symbol, is_name, names_same, tail_lines, symbol, is_repeated, is_good_symbol, name_in, name_below, begins_comment, count_of}
@@ -66,7 +66,7 @@ module _ (h : Header) (bytes : List ℕ) (k : ℕ) (r : Reading) (are : AreRead 
   count-of None s is e = absurd (cc)
   count-of (Some t) s is e =
       let same : t ≡ s = cc in
-      let both = and-both (nat_lt t.number (count_of h t.kind)) _ e in
+      let both = and_parts (nat_lt t.number (count_of h t.kind)) _ e in
       let P : Symbol → Type 0 = λ x. (x.number < count_of h x.kind) × (is_name x.name ≡ true) in
       subst P same (ltb-true _ _ both.0, both.1)
 
@@ -96,7 +96,7 @@ module _ (h : Header) (bytes : List ℕ) (k : ℕ) (r : Reading) (are : AreRead 
     here = ap (λ l. symbol_of (line_text l)) (sym is) ∙ kept.said
 
     symbol-good : is_symbol h (symbol_of (line_text line)) ≡ true
-    symbol-good = (and-both (is_ended is_feed line) _ (and-both (is_ended is_feed line && is_symbol h (symbol_of (line_text line))) _ kept.kept).0).1
+    symbol-good = (and_parts (is_ended is_feed line) _ (and_parts (is_ended is_feed line && is_symbol h (symbol_of (line_text line))) _ kept.kept).0).1
 
     small : s.number < count_of h s.kind
     small = (count-of (symbol_of (line_text line)) s kept.said symbol-good).0
@@ -109,7 +109,7 @@ module _ (h : Header) (bytes : List ℕ) (k : ℕ) (r : Reading) (are : AreRead 
       where
         step : (b : Bool) → (nat_eq s.kind letter && nat_eq s.number n) ≡ b → slice_index_or (slice_set r.named (place_of h s) true) (start_of h letter + n) false ≡ (any_below k (names_number h bytes letter n) || (nat_eq s.kind letter && nat_eq s.number n))
         step true e =
-            let both = and-both (nat_eq s.kind letter) _ e in
+            let both = and_parts (nat_eq s.kind letter) _ e in
             let at : start_of h letter + n ≡ place_of h s = omega (arith, ap (start_of h) (eqb-true _ _ both.0), eqb-true _ _ both.1) in
             let inside : place_of h s < length r.named = omega (arith, place_small h s.kind s.number small, are.long.named) in
             ap (λ i. slice_index_or (slice_set r.named (place_of h s) true) i false) at
@@ -154,7 +154,7 @@ module _ (h : Header) (bytes : List ℕ) (k : ℕ) (r : Reading) (are : AreRead 
         ]
           where
             unequal : (a b : ℕ) → (a ≡ b → ⊥) → nat_eq a b ≡ false
-            unequal a b apart = from (either (nat_eq a b))
+            unequal a b apart = from (cases_Bool (nat_eq a b))
               where
                 from : (nat_eq a b ≡ true) ⊎ (nat_eq a b ≡ false) → nat_eq a b ≡ false
                 from (inl same) = absurd (apart (eqb-true a b same))

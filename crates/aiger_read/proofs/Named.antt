@@ -2,12 +2,12 @@
 use Rattle.std.proofs.Common.{◌≡◌, ℕ, zero, suc, ◌+◌, ◌<◌, ◌≤◌, ◌⊎◌, Bool, true, false, not, ◌&&◌, ◌||◌, nat_eq, inl, inr, refl, sym, ◌∙◌, ap, subst, arith, cond, List, [], ◌∷◌, length, drop, Option, Some, None}
 use Rattle.std.specs.Prelude.{IsTrue, nat_lt}
 use Rattle.std.specs.List.{list_any, position_or_len, after_first, before_first}
-use Rattle.std.proofs.lemmas.Bool.{eqb-true, eq-eqb}
+use Rattle.std.proofs.lemmas.Bool.{eqb-true, eq-eqb, and_parts, and_from, not_from_false, cases_Bool, not-false}
 use Rattle.std.proofs.lemmas.List.FromFn.{length-map-range_with_len, get_or-map-range_with_len}
 use Rattle.aig_net.specs.Nets as nets
 use Rattle.aig_net.specs.Nets.{AreNames, ends_in}
 use Rattle.aig_order.specs.Firsts.{first_some}
-use Rattle.aig_order.proofs.Firsts.{either, and-both, both-and, not-false, not-not, when-none, first-none}
+use Rattle.aig_order.proofs.Firsts.{when-none, first-none}
 use Rattle.aiger_body.specs.declared.header.Header.{Header}
 use Rattle.aiger_body.specs.Texts.{grown, pieces, piece_at, is_ended, is_feed, is_return, is_space, without_end, line_text, number_of}
 use Rattle.aiger_body.specs.Files.{tail}
@@ -59,7 +59,7 @@ drop-free (suc n) (b ∷ text) (here, free) = drop-free n text free
 
 free-none : (text : List ℕ) → Free is_feed text → list_any (nat_eq 10) text ≡ false
 free-none [] free = refl
-free-none (b ∷ text) (here, free) = ap (λ x. x || list_any (nat_eq 10) text) (turned (either (nat_eq 10 b))) ∙ free-none text free
+free-none (b ∷ text) (here, free) = ap (λ x. x || list_any (nat_eq 10) text) (turned (cases_Bool (nat_eq 10 b))) ∙ free-none text free
   where
     turned : (nat_eq 10 b ≡ true) ⊎ (nat_eq 10 b ≡ false) → nat_eq 10 b ≡ false
     turned (inl same) = absurd (let again : nat_eq b 10 ≡ true = eq-eqb b 10 (sym (eqb-true 10 b same)) in cc)
@@ -86,15 +86,15 @@ text-free (kind ∷ text) s (here, free) e = step (number_of (before_first is_sp
 module _ (h : Header) (bytes : List ℕ) (clear : first_some (symbol_lines h bytes) (of_symbol h bytes) ≡ None) where
   line-good : (k : ℕ) → k < symbol_lines h bytes → is_symbol h (symbol h bytes k) ≡ true
   line-good k lt =
-      let good : is_good_symbol h bytes k ≡ true = not-not _ (when-none _ _ (first-none (of_symbol h bytes) (symbol_lines h bytes) clear k lt)) in
-      (and-both (is_ended is_feed (piece_at (tail_lines h bytes) k)) _ (and-both (is_ended is_feed (piece_at (tail_lines h bytes) k) && is_symbol h (symbol h bytes k)) _ good).0).1
+      let good : is_good_symbol h bytes k ≡ true = not-false _ (when-none _ _ (first-none (of_symbol h bytes) (symbol_lines h bytes) clear k lt)) in
+      (and_parts (is_ended is_feed (piece_at (tail_lines h bytes) k)) _ (and_parts (is_ended is_feed (piece_at (tail_lines h bytes) k) && is_symbol h (symbol h bytes k)) _ good).0).1
 
   symbol-name : (k : ℕ) (o : Option Symbol) → k < symbol_lines h bytes → symbol h bytes k ≡ o → (letter n : ℕ) (other : List ℕ) → nets.is_name other ≡ true → nets.is_name (name_in letter n o other) ≡ true
   symbol-name k None lt is letter n other good = good
   symbol-name k (Some s) lt is letter n other good = step (nat_eq s.kind letter && nat_eq s.number n)
     where
       named : is_name s.name ≡ true
-      named = (and-both (nat_lt s.number (count_of h s.kind)) _ (ap (is_symbol h) (sym is) ∙ line-good k lt)).1
+      named = (and_parts (nat_lt s.number (count_of h s.kind)) _ (ap (is_symbol h) (sym is) ∙ line-good k lt)).1
 
       free : Free is_feed s.name
       free = text-free (line_text (piece_at (tail_lines h bytes) k)) s (without-free is_return (without_end is_feed (piece_at (tail_lines h bytes) k)) (pieces-free (tail h bytes) k)) is
@@ -102,8 +102,8 @@ module _ (h : Header) (bytes : List ℕ) (clear : first_some (symbol_lines h byt
       step : (b : Bool) → nets.is_name (cond b s.name other) ≡ true
       step false = good
       step true =
-          both-and _ _ (not-false _ (free-none s.name free))
-          (ap not (ends-same s.name) ∙ (and-both (nat_lt 0 (length s.name)) _ named).1)
+          and_from _ _ (not_from_false _ (free-none s.name free))
+          (ap not (ends-same s.name) ∙ (and_parts (nat_lt 0 (length s.name)) _ named).1)
 
   below-good : (letter n k : ℕ) → k ≤ symbol_lines h bytes → nets.is_name (name_below h bytes letter n k) ≡ true
   below-good letter n zero le = refl

@@ -2,15 +2,14 @@
 use Rattle.std.proofs.Common.{◌≡◌, ℕ, zero, suc, ◌+◌, ◌<◌, not, nat_eq, inl, inr, refl, sym, ◌∙◌, ap, arith, cond, List, length, get_or, drop, replicate}
 use Rattle.std.specs.Prelude.{slice_index, slice_index_or, slice_set}
 use Rattle.std.specs.List.{position_or_len}
-use Rattle.std.proofs.lemmas.Bool.{eqb-true, eq-eqb}
+use Rattle.std.proofs.lemmas.Bool.{eqb-true, eq-eqb, cases_Bool}
 use Rattle.std.proofs.lemmas.List.{get_or-set_same, get_or-set_other}
 use Rattle.std.proofs.Math.Seq.{drop-cons}
-use Rattle.aig_order.proofs.Firsts.{either}
 
 -- one more number is placed
 pub placed_more : (xs places : List ℕ) (count place n : ℕ) → place < length xs → n ≡ suc place → slice_index xs place < length places → ((v : ℕ) → slice_index_or places v count ≡ n + position_or_len (nat_eq v) (drop n xs)) → (v : ℕ) → slice_index_or (slice_set places (slice_index xs place) place) v count ≡ place + position_or_len (nat_eq v) (drop place xs)
 placed_more xs places count place n inside next small before v =
-    elim (either (nat_eq v x)) [
+    elim (cases_Bool (nat_eq v x)) [
       | inl same ↦
           ap (λ i. slice_index_or (slice_set places x place) i count) (eqb-true v x same)
           ∙ get_or-set_same places x place count small

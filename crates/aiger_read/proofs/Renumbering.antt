@@ -2,7 +2,7 @@
 use Rattle.std.proofs.Common.{◌≡◌, ℕ, zero, suc, ◌+◌, ◌*◌, ◌/◌, ◌%◌, ◌<◌, ◌≤◌, ◌⊎◌, Bool, true, false, cond, not, nat_eq, max, min, inl, inr, sym, ◌∙◌, ap, subst, arith, List, [], ◌∷◌, ◌++◌, map, length, get_or, length-append}
 use Rattle.std.specs.Prelude.{IsTrue}
 use Rattle.std.specs.List.{position_or_len}
-use Rattle.std.proofs.lemmas.Bool.{cases_lt, eq-eqb}
+use Rattle.std.proofs.lemmas.Bool.{cases_lt, eq-eqb, or_left, or_right, or_cases, cases_Bool}
 use Rattle.std.proofs.lemmas.List.{length-map, get_or-map, get_or_append_left, get_or-append-add}
 use Rattle.aig_net.specs.declared.parts.And.{And}
 use Rattle.aig_net.specs.declared.parts.NetParts.{NetParts}
@@ -10,7 +10,7 @@ use Rattle.aig_net.specs.Nets.{Below, AllBelow, AreOrdered, AreTurned, AreNames,
 use Rattle.aig_order.specs.declared.gate.Gate.{Gate}
 use Rattle.aig_order.specs.Firsts.{holds}
 use Rattle.aig_order.specs.Gates.{gate_at, no_gate, uses, order}
-use Rattle.aig_order.proofs.Firsts.{either, or-either, or-first, or-second, holds-place, holds-append}
+use Rattle.aig_order.proofs.Firsts.{holds-place, holds-append}
 use Rattle.aig_order.proofs.Orders.{taken-order, before-used}
 use Rattle.aig_order.proofs.LawLemmas.{complete}
 use Rattle.aiger_body.specs.declared.content.Content.{Content}
@@ -22,7 +22,7 @@ use Rattle.aiger_body.specs.Circuits.{is_defined, AllDefined, no_latch, IsCircui
 
 place-low : (v : ℕ) (list : List ℕ) (p : ℕ) → p < length list → get_or list p 0 ≡ v → position_or_len (nat_eq v) list ≤ p
 place-low v [] p lt e = absurd (omega arith)
-place-low v (x ∷ xs) p lt e = step p lt e (either (nat_eq v x)) (λ q less is. place-low v xs q less is)
+place-low v (x ∷ xs) p lt e = step p lt e (cases_Bool (nat_eq v x)) (λ q less is. place-low v xs q less is)
   where
     step : (p : ℕ) → p < length (x ∷ xs) → get_or (x ∷ xs) p 0 ≡ v → (nat_eq v x ≡ true) ⊎ (nat_eq v x ≡ false) → ((q : ℕ) → q < length xs → get_or xs q 0 ≡ v → position_or_len (nat_eq v) xs ≤ q) → position_or_len (nat_eq v) (x ∷ xs) ≤ p
     step p lt e (inl here) more = let P : Bool → Type 0 = λ b. cond (not b) (1 + position_or_len (nat_eq v) xs) 0 ≤ p in subst P (sym here) (omega arith)
@@ -59,11 +59,11 @@ module _ (c : Content) (right : IsCircuit c) (names : Names) where
 
   front-or-gate : (l : ℕ) → is_defined c l ≡ true → (holds (l / 2) front ≡ true) ⊎ ((k : ℕ) × (k < length c.gates) × ((gate_at c.gates k).lhs / 2 ≡ l / 2))
   front-or-gate l e =
-      elim (or-either (nat_eq (l / 2) 0) _ e) [
-        | inl constant ↦ inl (or-first _ _ constant)
+      elim (or_cases (nat_eq (l / 2) 0) _ e) [
+        | inl constant ↦ inl (or_left _ _ constant)
         | inr more ↦
             elim (holds-append (l / 2) (own_variables c) (map (λ g. g.lhs / 2) c.gates) more) [
-              | inl own ↦ inl (or-second (nat_eq (l / 2) 0) _ own)
+              | inl own ↦ inl (or_right (nat_eq (l / 2) 0) _ own)
               | inr gate ↦ inr (gate-place (l / 2) c.gates gate)
             ]
       ]
@@ -133,8 +133,8 @@ module _ (c : Content) (right : IsCircuit c) (names : Names) where
       let k = get_or (order c.gates) j 0 in
       let small : k < length c.gates = (taken-order c.gates (length c.gates) j inside).0 in
       let (l, r) = right.gates k small in
-      let left_low : position_or_len (nat_eq ((gate_at c.gates k).left / 2)) (in_order c) < length front + j = placed-before j (gate_at c.gates k).left inside l (λ i is. or-first _ _ (eq-eqb _ _ (sym is))) in
-      let right_low : position_or_len (nat_eq ((gate_at c.gates k).right / 2)) (in_order c) < length front + j = placed-before j (gate_at c.gates k).right inside r (λ i is. or-second (nat_eq ((gate_at c.gates k).left / 2) _) _ (eq-eqb _ _ (sym is))) in
+      let left_low : position_or_len (nat_eq ((gate_at c.gates k).left / 2)) (in_order c) < length front + j = placed-before j (gate_at c.gates k).left inside l (λ i is. or_left _ _ (eq-eqb _ _ (sym is))) in
+      let right_low : position_or_len (nat_eq ((gate_at c.gates k).right / 2)) (in_order c) < length front + j = placed-before j (gate_at c.gates k).right inside r (λ i is. or_right (nat_eq ((gate_at c.gates k).left / 2) _) _ (eq-eqb _ _ (sym is))) in
       let P : And → Type 0 = λ a. Below (first_and net + j) a.left × Below (first_and net + j) a.right in
       let at = get_or-map (λ k. and_of c (gate_at c.gates k)) (order c.gates) j 0 no_and inside in
       subst P (sym at) (sides _ (renumbered c (gate_at c.gates k).left) (renumbered c (gate_at c.gates k).right)

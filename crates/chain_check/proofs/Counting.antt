@@ -1,44 +1,16 @@
 -- There are at most b to the power n rows of n values below b.
-use Rattle.std.proofs.Common.{◌≡◌, ◌≢◌, ℕ, zero, suc, ◌+◌, ◌-◌, ◌*◌, ◌^◌, ◌/◌, ◌%◌, ◌<◌, ◌≤◌, ◌⊎◌, min, List, [], ◌∷◌, length, get_or, inl, inr, refl, sym, ap, ◌∙◌, subst, arith}
+use Rattle.std.proofs.Common.{◌≡◌, ℕ, ◌+◌, ◌-◌, ◌*◌, ◌^◌, ◌/◌, ◌%◌, ◌<◌, ◌≤◌, min, List, [], ◌∷◌, length, get_or, inl, inr, refl, sym, ap, ◌∙◌, subst, arith}
 use Rattle.std.specs.List.{Contains}
 use Rattle.std.proofs.Math.Arith.{digits_lt, digits_div, digits_mod}
 use Rattle.std.proofs.Math.Nat.{pow-zero, pow-succ', mul_comm}
-use Rattle.std.proofs.lemmas.Bool.{cases_eq, cases_lt}
+use Rattle.std.proofs.lemmas.Bool.{cases_lt}
 use Rattle.std.proofs.lemmas.List.Elements.{Contains-append_right, Contains-get_or}
+use Rattle.hy_base.proofs.Places.{two-equal}
 use Rattle.chain_check.specs.Rows.{IsRow, AreRows, IsWithoutRepeats}
 
 -- x, or one less above v
 abbrev squeezed : ℕ → ℕ → ℕ
 squeezed v x = x - min 1 (x - v)
-
--- the value at a place below n, or at none
-met-or-not : (n : ℕ) (f : ℕ → ℕ) (v : ℕ) → ((i : ℕ) × (i < n) × (f i ≡ v)) ⊎
-    ((i : ℕ) → i < n → f i ≢ v)
-met-or-not zero f v = inr (λ i lt. absurd (omega arith))
-met-or-not (suc n) f v =
-    elim (cases_eq (f n) v) [
-      | inl e ↦ inl (n, omega arith, e)
-      | inr apart ↦ elim (met-or-not n f v) [
-        | inl (i, lt, e) ↦ inl (i, omega arith, e)
-        | inr none ↦ inr (λ i lt. elim (cases_eq i n) [
-          | inl same ↦ let P : ℕ → Type 0 = λ q. f q ≢ v in subst P (sym same) apart
-          | inr less ↦ none i (omega arith)
-        ])
-      ]
-    ]
-
-pub two-equal : (n : ℕ) (f : ℕ → ℕ) → ((i : ℕ) → i ≤ n → f i < n) → (i : ℕ) × (j : ℕ) × (i < j) ×
-    (j ≤ n) × (f i ≡ f j)
-two-equal zero f small = absurd (omega (arith, small 0 (omega arith)))
-two-equal (suc n) f small =
-    elim (met-or-not (suc n) f (f (suc n))) [
-      | inl (i, lt, e) ↦ (i, suc n, lt, omega arith, e)
-      | inr none ↦
-          let last : f (suc n) < suc n = small (suc n) (omega arith) in
-          let (i, j, lt, le, e) = two-equal n (λ i. squeezed (f (suc n)) (f i))
-          (λ i le. omega (arith, small i (omega arith), none i (omega arith))) in
-          (i, j, lt, omega arith, omega (arith, e, none i (omega arith), none j (omega arith)))
-    ]
 
 -- a row as a number
 abbrev pub number_of : ℕ → List ℕ → ℕ

@@ -2,6 +2,8 @@
 use Rattle.std.proofs.Common.{◌≡◌, ◌≢◌, ℕ, zero, suc, ◌+◌, ◌-◌, ◌*◌, ◌/◌, ◌%◌, ◌<◌, ◌≤◌, ◌⊎◌, Bool, true, false, not, cond, List, [], ◌++◌, length, get_or, inl, inr, refl, sym, ap, ◌∙◌, subst, arith, length-append}
 use Rattle.std.proofs.lemmas.Bool.{cases_eq}
 use Rattle.std.proofs.lemmas.List.{get_or_append_left, get_or-append_right}
+use Rattle.std.proofs.lemmas.Nat.{mod-mul-add, div-mul-add}
+use Rattle.hy_base.proofs.Places.{below-row}
 use Rattle.aig_net.specs.Nets.{Net, Valuation, literal_value, latch_variable, variables}
 use Rattle.aig_net.specs.Executions.{Word}
 use Rattle.aig_net.specs.Wires.{listed}
@@ -18,7 +20,7 @@ use Rattle.cnf_frames.proofs.Meanings.{path_of}
 use Rattle.cnf_frames.proofs.Distinct.{Marked, parts-met}
 use Rattle.cnf_frames.proofs.Likeness.{path-alike}
 use Rattle.cnf_frames.proofs.Pairs.{pairs-more}
-use Rattle.cnf_frames.proofs.Choosing.{row-of, column-of, chosen, chosen-path, chosen-extra, in-frames}
+use Rattle.cnf_frames.proofs.Choosing.{chosen, chosen-path, chosen-extra}
 
 -- ---- pairs of frames
 
@@ -141,7 +143,7 @@ module _ (safe : SafeNet) (good : IsSafe safe) (facts : List Fact)
   a-path : (i v : ℕ) → i ≤ suc k → v < V → W i v ≡ path i v
   unfolding a
   a-path i v le lt =
-      chosen-path V D path mark i v lt (in-frames V (k + 2) i v (omega arith) lt)
+      chosen-path V D path mark i v lt (below-row V v i (k + 2) lt (omega arith))
 
   a-mark : (i q j : ℕ) → i ≤ k → q < k - i → j < L → a (pair_start safe.net k i q + j)
       ≡ differs (path i (latch_variable safe.net j)) (path (suc i + q) (latch_variable safe.net j))
@@ -151,8 +153,8 @@ module _ (safe : SafeNet) (good : IsSafe safe) (facts : List Fact)
       let at : pair_start safe.net k i q + j ≡ D + (p * L + j) = omega arith in
       ap (chosen V D path mark) at ∙ chosen-extra V D path mark (p * L + j)
       ∙ ap (λ y. differ_at (get_or (pairs k (suc k)) y (pair 0 0)) ((p * L + j) % L))
-      (row-of L p j lt)
-      ∙ ap (differ_at (get_or (pairs k (suc k)) p (pair 0 0))) (column-of L p j lt)
+      (div-mul-add p L j lt)
+      ∙ ap (differ_at (get_or (pairs k (suc k)) p (pair 0 0))) (mod-mul-add p L j lt)
       ∙ ap (λ y. differ_at y j) (pair-at k (suc k) i q (omega arith) few)
 
   latch-same : (i j : ℕ) → i ≤ suc k → j < L →

@@ -1,7 +1,7 @@
 -- The clauses of frames say that an assignment is a path.
 use Rattle.std.proofs.Common.{◌≡◌, ℕ, suc, ◌+◌, ◌*◌, ◌<◌, ◌↔◌, Bool, true, false, not, List, ◌++◌, length, inl, inr, sym, ap, subst, arith}
 use Rattle.std.specs.Prelude.{neg_ℤ}
-use Rattle.std.proofs.lemmas.Bool.{cases_eq}
+use Rattle.std.proofs.lemmas.Bool.{cases_eq, not-true}
 use Rattle.aig_net.specs.declared.parts.Reset.{Reset}
 use Rattle.aig_net.specs.declared.parts.Reset.TheVariants.{Zero}
 use Rattle.aig_net.specs.Nets.{Net, ResetTo, literal_value, literal_at, reset_at, and_at, latch_variable, and_value, first_and, variables, IsRight, IsStart, IsStep, AllTrue}
@@ -11,7 +11,7 @@ use Rattle.live_safe.specs.declared.safe_net.SafeNet.{SafeNet}
 use Rattle.live_safe.specs.Paths.{IsPath, IsBadPath}
 use Rattle.chain_check.specs.Clauses.{Clause}
 use Rattle.cnf_frames.specs.Queries.{for_each, in_frame, alone, latch_in, gate_clauses, frame_gates, constraint_clauses, latch_clauses, frame_step, frames, start_clauses, bad_in, base_clauses}
-use Rattle.cnf_frames.proofs.Values.{Assignment, AllMet, not-true, met-append, met-each, each-met}
+use Rattle.cnf_frames.proofs.Values.{Assignment, AllMet, met-append, met-each, each-met}
 use Rattle.cnf_frames.proofs.Meanings.{Means, path_of, frame-means, alone-met, opposite-met, and-met, next-met}
 
 module _ (net : Net) (a : Assignment) where

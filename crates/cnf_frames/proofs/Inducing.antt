@@ -1,6 +1,7 @@
 -- Where neither the base queries up to k nor the step query at k have an answer, no path reaches bad.
-use Rattle.std.proofs.Common.{◌≡◌, ℕ, zero, suc, ◌+◌, ◌-◌, ◌<◌, ◌≤◌, Bool, true, false, cond, nat_lt, List, IsTrue, inl, inr, refl, sym, ap, ◌∙◌, subst, arith}
-use Rattle.std.proofs.lemmas.Bool.{cases_eq, cases_lt}
+use Rattle.std.proofs.Common.{◌≡◌, ℕ, zero, suc, ◌+◌, ◌-◌, ◌<◌, ◌≤◌, Bool, true, cond, nat_lt, List, IsTrue, inl, inr, sym, ap, ◌∙◌, subst, arith}
+use Rattle.std.proofs.lemmas.Bool.{cases_eq, cases_lt, false_from_ne_true}
+use Rattle.hy_base.proofs.Truths.{cond-below, cond-above}
 use Rattle.aig_net.specs.Nets.{ResetTo, Valuation, literal_value, reset_at, latch_variable, IsRight, IsStart, IsStep, AllTrue}
 use Rattle.aig_net.specs.Executions.{Word}
 use Rattle.live_safe.specs.declared.safe_net.SafeNet.{SafeNet}
@@ -8,7 +9,6 @@ use Rattle.live_safe.specs.Paths.{IsBadPath}
 use Rattle.cnf_frames.specs.declared.facts.Fact.{Fact}
 use Rattle.cnf_frames.specs.Facts.{AllHold, IsInductive}
 use Rattle.cnf_frames.specs.QueryPaths.{SameState, IsStepPath}
-use Rattle.cnf_frames.proofs.Conditions.{lt-cond, le-cond}
 
 module _ (safe : SafeNet) where
   -- a path that goes on from p as from q
@@ -17,10 +17,10 @@ module _ (safe : SafeNet) where
     shorter i = cond (nat_lt i p) (path i) (path (i + d))
 
     early : (i : ℕ) → i < p → shorter i ≡ path i
-    early i lt = lt-cond i p (path i) (path (i + d)) lt
+    early i lt = cond-below i p (path i) (path (i + d)) lt
 
     late : (i : ℕ) → p ≤ i → shorter i ≡ path (i + d)
-    late i from = le-cond i p (path i) (path (i + d)) from
+    late i from = cond-above i p (path i) (path (i + d)) from
 
     each : (P : ℕ → Valuation → Type 0) → ((i : ℕ) → i < p → P i (path i)) → ((i : ℕ) → p ≤ i → P i (path (i + d))) → (i : ℕ) → P i (shorter i)
     each P before after i =
@@ -92,10 +92,6 @@ module _ (safe : SafeNet) where
     known n path bad (suc i) le =
         inductive.stays (path i) (path (suc i)) (bad.along.right i (omega arith)) (bad.along.kept i (omega arith)) (bad.along.goes i (omega arith)) (known n path bad i (omega arith))
 
-    is-false : (b : Bool) → (b ≡ true → ⊥) → b ≡ false
-    is-false true n = absurd (n refl)
-    is-false false n = refl
-
     module _ (k : ℕ) (base : (i : ℕ) → i ≤ k → (path : Word) → ¬ IsBadPath safe i path) (step : (path : Word) → ¬ IsStepPath safe facts k path) where
       -- a path of n steps, where none of fewer steps is bad, is long, and its end answers the step query
       last-part : (n : ℕ) (path : Word) → ((i : ℕ) → i < n → (path : Word) → ¬ IsBadPath safe i path) → k < n → IsBadPath safe n path → IsStepPath safe facts k (λ i. path (i + (n - suc k)))
@@ -108,7 +104,7 @@ module _ (safe : SafeNet) where
               goes = λ i lt. let e : suc i + o ≡ suc (i + o) = omega arith in let T : Valuation → Type 0 = IsStep safe.net (path (i + o)) in subst T (ap path (sym e)) (bad.along.goes (i + o) (omega arith));
             };
             known = λ i le. known n path bad (i + o) (omega arith);
-            good = λ i le. is-false _ (λ is. none (i + o) (omega arith) path (cut n path bad (i + o) (omega arith) is));
+            good = λ i le. false_from_ne_true _ (λ is. none (i + o) (omega arith) path (cut n path bad (i + o) (omega arith) is));
             apart = λ i j lt le same.
                 let e : j + o ≡ i + o + (j - i) = omega arith in
                 let S : ℕ → Type 0 = λ x. SameState safe.net (path (i + o)) (path x) in

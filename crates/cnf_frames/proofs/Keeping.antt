@@ -1,6 +1,7 @@
 -- The clauses of a keep query say that an assignment is a step after which a fact of the group fails.
 use Rattle.std.proofs.Common.{◌≡◌, ℕ, ◌+◌, ◌*◌, ◌<◌, ◌↔◌, Bool, true, false, List, ◌++◌, length, refl, sym, ◌∙◌}
 use Rattle.std.proofs.lemmas.List.Elements.{Contains-get_or}
+use Rattle.std.proofs.lemmas.Bool.{true_from_ne_false, false_from_ne_true}
 use Rattle.aig_net.specs.Nets.{Net, Valuation, variables}
 use Rattle.live_safe.specs.Paths.{IsPath}
 use Rattle.chain_check.specs.Clauses.{Clause}
@@ -22,14 +23,6 @@ opposite-fails net v (One j) h e = let clash : true ≡ false = sym e ∙ h in (
 opposite-fails net v (Same i j) h e = h e
 opposite-fails net v (Differ i j) h e = e h
 
-is-true : (b : Bool) → (b ≡ false → ⊥) → b ≡ true
-is-true true n = refl
-is-true false n = absurd (n refl)
-
-is-false : (b : Bool) → (b ≡ true → ⊥) → b ≡ false
-is-false true n = absurd (n refl)
-is-false false n = refl
-
 is-same : (a b : Bool) → ((a ≡ b → ⊥) → ⊥) → a ≡ b
 is-same true true n = refl
 is-same true false n = absurd (n (λ e. cc))
@@ -38,8 +31,8 @@ is-same false false n = refl
 
 pub fails-opposite : (net : Net) (v : Valuation) (fact : Fact) → ¬ FactHolds net v fact →
     FactHolds net v (opposite_fact fact)
-fails-opposite net v (Zero j) n = is-true _ n
-fails-opposite net v (One j) n = is-false _ n
+fails-opposite net v (Zero j) n = true_from_ne_false _ n
+fails-opposite net v (One j) n = false_from_ne_true _ n
 fails-opposite net v (Same i j) n = n
 fails-opposite net v (Differ i j) n = is-same _ _ n
 

@@ -3,6 +3,7 @@ use Rattle.std.proofs.Common.{◌≡◌, ℕ, ◌+◌, ◌*◌, ◌<◌, ◌≤�
 use Rattle.std.proofs.lemmas.Bool.Decides.{Decides-eqb}
 use Rattle.std.proofs.lemmas.List.{get_or_default}
 use Rattle.std.proofs.lemmas.List.Elements.{Contains-get_or}
+use Rattle.hy_base.proofs.Places.{below-row}
 use Rattle.aig_net.specs.Nets.{Net, IsNet, latch_variable, variables}
 use Rattle.aig_net.specs.Executions.{Word}
 use Rattle.cnf_frames.specs.declared.facts.Fact.{Fact}
@@ -14,7 +15,7 @@ use Rattle.cnf_frames.proofs.Values.{Assignment, AllMet}
 use Rattle.cnf_frames.proofs.Meanings.{path_of}
 use Rattle.cnf_frames.proofs.Keeping.{fails-opposite, keep-met}
 use Rattle.cnf_frames.proofs.Likeness.{path-alike}
-use Rattle.cnf_frames.proofs.Choosing.{chosen, chosen-path, chosen-extra, in-frames}
+use Rattle.cnf_frames.proofs.Choosing.{chosen, chosen-path, chosen-extra}
 use Rattle.cnf_frames.proofs.DistinctChosen.{fact-alike}
 use Rattle.cnf_frames.proofs.Groups.{opposite-in}
 
@@ -45,7 +46,7 @@ module _ (net : Net) (good : IsNet net) (facts group : List Fact)
   a-path : (i v : ℕ) → i ≤ 1 → v < V → W i v ≡ path i v
   unfolding a
   a-path i v le lt = chosen-path V (2 * V) path (λ i. nat_eq i place) i v lt
-      (in-frames V 2 i v (omega arith) lt)
+      (below-row V v i 2 lt (omega arith))
 
   a-mark : (i : ℕ) → a (2 * V + i) ≡ nat_eq i place
   unfolding a

@@ -1,5 +1,4 @@
 pub mod Adding
-pub mod Conditions
 pub mod Inducing
 pub mod Listing
 pub mod States

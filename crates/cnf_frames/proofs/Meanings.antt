@@ -1,12 +1,14 @@
 -- What the few clauses say that queries are made of.
 use Rattle.std.proofs.Common.{◌≡◌, ◌≢◌, ℕ, suc, ◌+◌, ◌*◌, ◌↔◌, Bool, true, false, not, ◌&&◌, ◌||◌, List, [], ◌∷◌, inl, inr, refl, sym, ap, ◌∙◌, subst}
 use Rattle.std.specs.Prelude.{ℤ, neg_ℤ}
+use Rattle.std.proofs.lemmas.Bool.{not-true, not_from_false}
+use Rattle.hy_base.proofs.Truths.{not-not, or-false, implied}
 use Rattle.aig_net.specs.Nets.{literal_value}
 use Rattle.aig_net.specs.Executions.{Word}
-use Rattle.aig_net.proofs.Literals.{parity, twice-half, odd-half, even-rest, odd-rest, not-not}
+use Rattle.aig_net.proofs.Literals.{parity, twice-half, odd-half, even-rest, odd-rest}
 use Rattle.chain_check.specs.Clauses.{Clause}
 use Rattle.cnf_frames.specs.Queries.{in_frame, further, alone, and_clauses, next_clauses, same_clauses, differ_clauses, guarded}
-use Rattle.cnf_frames.proofs.Values.{Assignment, number_value, clause_value, AllMet, not-true, true-not}
+use Rattle.cnf_frames.proofs.Values.{Assignment, number_value, clause_value, AllMet}
 
 -- the literal has the value, and its opposite the other one
 pub record Means (a : Assignment) (l : ℤ) (b : Bool) : Type 0 where
@@ -31,10 +33,6 @@ frame-means a V j l =
 
 pub further-means : (a : Assignment) (d : ℕ) → Means a (further d) (a d)
 further-means a d = record { is = refl; other = refl }
-
-or-false : (b : Bool) → (b || false) ≡ b
-or-false true = refl
-or-false false = refl
 
 one-value : (a : Assignment) (l : ℤ) (x : Bool) → number_value a l ≡ x →
     clause_value a (l ∷ []) ≡ x
@@ -99,10 +97,6 @@ guard-true : (d c : Bool) → d ≡ true → (not d || c) ≡ true → c ≡ tru
 guard-true true c e h = h
 guard-true false c e h = absurd (cc)
 
-true-guard : (d c : Bool) → (d ≡ true → c ≡ true) → (not d || c) ≡ true
-true-guard true c f = f refl
-true-guard false c f = refl
-
 -- ---- clauses
 
 module _ (a : Assignment) where
@@ -115,7 +109,7 @@ module _ (a : Assignment) where
   pub opposite-met : (l : ℤ) (x : Bool) → Means a l x → AllMet a (alone (neg_ℤ l)) ↔ (x ≡ false)
   opposite-met l x m = (
     λ (h, _). not-true _ (sym (one-value a (neg_ℤ l) (not x) m.other) ∙ h),
-    λ h. (one-value a (neg_ℤ l) (not x) m.other ∙ true-not x h, tt),
+    λ h. (one-value a (neg_ℤ l) (not x) m.other ∙ not_from_false x h, tt),
   )
 
   pub and-met : (l m n : ℤ) (x y z : Bool) → Means a l x → Means a m y → Means a n z →
@@ -161,5 +155,5 @@ module _ (a : Assignment) where
   guarded-met d (c ∷ cs) =
       let rest = guarded-met d cs in (
         λ (h, more) e. (guard-true (a d) (clause_value a c) e h, rest.0 more e),
-        λ f. (true-guard (a d) (clause_value a c) (λ e. (f e).0), rest.1 (λ e. (f e).1)),
+        λ f. (implied (a d) (clause_value a c) (λ e. (f e).0), rest.1 (λ e. (f e).1)),
       )

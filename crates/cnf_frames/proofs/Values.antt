@@ -1,8 +1,8 @@
 -- Truth values of literals, clauses and lists of clauses, as tests.
-use Rattle.std.proofs.Common.{◌≡◌, ℕ, zero, suc, ◌+◌, ◌-◌, ◌<◌, ◌⊎◌, ◌↔◌, Bool, true, false, not, ◌||◌, List, [], ◌∷◌, ◌++◌, inl, inr, refl, sym, ap, ◌∙◌, subst, arith}
+use Rattle.std.proofs.Common.{◌≡◌, ℕ, zero, suc, ◌+◌, ◌-◌, ◌<◌, ◌↔◌, Bool, true, false, not, ◌||◌, List, [], ◌∷◌, ◌++◌, inl, inr, refl, sym, ap, ◌∙◌, subst, arith}
 use Rattle.std.specs.Prelude.{ℤ, pos, negsuc}
 use Rattle.std.specs.List.{Contains}
-use Rattle.std.proofs.lemmas.Bool.{cases_eq}
+use Rattle.std.proofs.lemmas.Bool.{cases_eq, or_cases, or_left, or_right, not-true, not_from_false}
 use Rattle.std.proofs.lemmas.List.Elements.{Contains-append_left, Contains-append_right}
 use Rattle.aig_net.specs.Nets.{row}
 use Rattle.aig_net.specs.Wires.{listed}
@@ -29,26 +29,6 @@ AllMet a (c ∷ cs) = (clause_value a c ≡ true) × AllMet a cs
 
 -- ---- tests and what they say
 
-pub or-true : (a b : Bool) → (a || b) ≡ true → (a ≡ true) ⊎ (b ≡ true)
-or-true true b e = inl refl
-or-true false b e = inr e
-
-pub true-or-left : (a b : Bool) → a ≡ true → (a || b) ≡ true
-true-or-left true b e = refl
-true-or-left false b e = absurd (cc)
-
-pub true-or-right : (a b : Bool) → b ≡ true → (a || b) ≡ true
-true-or-right true b e = refl
-true-or-right false b e = e
-
-pub not-true : (b : Bool) → not b ≡ true → b ≡ false
-not-true true e = absurd (cc)
-not-true false e = refl
-
-pub true-not : (b : Bool) → b ≡ false → not b ≡ true
-true-not true e = absurd (cc)
-true-not false e = refl
-
 value-made : (values : List Bool) (l : ℤ) → number_value (row values) l ≡ true →
     IsMadeTrue values l
 value-made values (pos zero) h = h
@@ -61,12 +41,12 @@ made-value : (values : List Bool) (l : ℤ) → IsMadeTrue values l →
 made-value values (pos zero) h = h
 made-value values (pos (suc x)) h = let e : x ≡ suc x - 1 = omega arith in ap (row values) e ∙ h
 made-value values (negsuc x) h = let e : x ≡ suc x - 1 = omega arith in
-    true-not _ (ap (row values) e ∙ h)
+    not_from_false _ (ap (row values) e ∙ h)
 
 clause-satisfied : (values : List Bool) (c : Clause) → clause_value (row values) c ≡ true →
     Satisfies values c
 clause-satisfied values [] h = absurd (cc)
-clause-satisfied values (l ∷ ls) h = elim (or-true _ _ h) [
+clause-satisfied values (l ∷ ls) h = elim (or_cases _ _ h) [
   | inl here ↦ (l, (0, omega arith, refl), value-made values l here)
   | inr later ↦ let (m, there, made) = clause-satisfied values ls later in
       (m, Contains-append_right (l ∷ []) ls m there, made)
@@ -76,9 +56,9 @@ one-true : (a : Assignment) (c : Clause) (l : ℤ) → Contains c l → number_v
     clause_value a c ≡ true
 one-true a [] l (k, lt, e) h = absurd (omega arith)
 one-true a (m ∷ ms) l (zero, lt, e) h =
-    true-or-left _ _ (let P : ℤ → Type 0 = λ l. number_value a l ≡ true in subst P (sym e) h)
+    or_left _ _ (let P : ℤ → Type 0 = λ l. number_value a l ≡ true in subst P (sym e) h)
 one-true a (m ∷ ms) l (suc k, lt, e) h =
-    true-or-right _ _ (one-true a ms l (k, omega arith, e) h)
+    or_right _ _ (one-true a ms l (k, omega arith, e) h)
 
 pub met-satisfied : (values : List Bool) (cs : List Clause) → AllMet (row values) cs →
     SatisfiesAll values cs
@@ -174,9 +154,9 @@ pub some-value : (a : Assignment) (f : ℕ → ℤ) (n : ℕ) →
 some-value a f zero h = absurd (cc)
 some-value a f (suc n) h =
     let e = clause-append a (for_each (λ i. f i ∷ []) n) (f n ∷ []) in
-    elim (or-true _ _ (sym e ∙ h)) [
+    elim (or_cases _ _ (sym e ∙ h)) [
       | inl before ↦ let (i, lt, is) = some-value a f n before in (i, omega arith, is)
-      | inr here ↦ elim (or-true _ _ here) [ inl is ↦ (n, omega arith, is) | inr no' ↦ absurd (cc) ]
+      | inr here ↦ elim (or_cases _ _ here) [ inl is ↦ (n, omega arith, is) | inr no' ↦ absurd (cc) ]
     ]
 
 pub value-some : (a : Assignment) (f : ℕ → ℤ) (n i : ℕ) → i < n → number_value a (f i) ≡ true →

@@ -1,10 +1,10 @@
 -- The leaders of a list are one list.
 use Rattle.std.proofs.Common.{◌≡◌, ◌<◌, ◌⊎◌, List, [], ◌∷◌, inl, inr, refl, sym, ap, ◌∙◌, arith}
 use Rattle.std.specs.List.{Contains}
+use Rattle.hy_base.proofs.Members.{contains-here, contains-later, contains-cases, contains-none}
 use Rattle.hy_formula.specs.Quantifiers.{Each}
+use Rattle.hy_formula.proofs.Each.{each-at}
 use Rattle.dominance.specs.Leaders.{Numbered, IsAscending, AreLeaders}
-use Rattle.dominance.proofs.Elements.{contains-here, contains-later, contains-cases, contains-none}
-use Rattle.dominance.proofs.Elements.{each-at}
 
 not-below : {A : Type 0} (x : Numbered A) (xs : List (Numbered A))
     → Each (λ (y : Numbered A). x.number < y.number) xs → (y : Numbered A) → y.number ≡ x.number

@@ -1,22 +1,24 @@
 -- Rows that answer each joint letter, as atom after atom is taken in.
-use Rattle.std.proofs.Common.{◌≡◌, ◌⊎◌, ℕ, zero, suc, ◌+◌, ◌*◌, ◌<◌, ◌≤◌, Bool, true, false, not, ◌&&◌, ◌||◌, nat_eq, cond, List, [], ◌∷◌, ◌++◌, length, take, map, inl, inr, refl, sym, ap, ◌∙◌, subst, arith, get_or}
+use Rattle.std.proofs.Common.{◌≡◌, ◌⊎◌, ℕ, ◌+◌, ◌*◌, ◌<◌, Bool, true, false, not, ◌&&◌, ◌||◌, nat_eq, cond, List, [], ◌∷◌, ◌++◌, length, take, map, inl, inr, refl, sym, ap, ◌∙◌, subst, arith, get_or}
 use Rattle.std.specs.Prelude.{replicate}
 use Rattle.std.specs.List.{Contains, list_any}
 use Rattle.std.specs.FinSet.{empty, contains, insert, contains-empty}
 use Rattle.std.specs.Ordering.{nat_cmp}
-use Rattle.std.proofs.lemmas.Bool.{cases_lt, eqb-true, eq-eqb, ltb-true}
+use Rattle.std.proofs.lemmas.Bool.{cases_lt, eqb-true, eq-eqb, ltb-true, and_parts, and_right}
 use Rattle.std.proofs.lemmas.List.{take_more, get_or_append_left, get_or-set_same, get_or-set_other, length-set, get_or-take, get_or-replicate, get_or_past, map-append}
 use Rattle.std.proofs.lemmas.List.Folds.{list_any-append}
 use Rattle.std.proofs.lemmas.List.Elements.{Contains-append_left, Contains-append_right, Contains-append_cases}
+use Rattle.hy_base.proofs.Members.{map-of, map-from, contains-here, contains-later, contains-cases, contains-none}
+use Rattle.hy_base.proofs.Truths.{and-false}
 use Rattle.hy_bits.specs.BinaryLaws.{contains-insert_same, contains-insert_other}
 use Rattle.hy_formula.specs.Quantifiers.{Each}
 use Rattle.hy_formula.specs.Trees as tree
 use Rattle.hy_formula.specs.Trees.{Tree, vars_below}
 use Rattle.hy_formula.specs.declared.atom.Atom.{Atom}
+use Rattle.hy_formula.proofs.Each.{each-at, each-append}
 use Rattle.fin_monitor.specs.Codes.{IndexedAtom, plain_atom, is_atom, with_atom, with_atoms, code_of, one_if, joint_letter}
 use Rattle.fin_monitor.specs.Machines.{Machine, IsMonitor}
 use Rattle.dominance.specs.Choices.{Row, says, with_name, is_asked, IsAnswer, AreRows, row_code}
-use Rattle.dominance.proofs.Elements.{contains-here, contains-later, contains-cases, contains-none, each-append, each-at}
 
 -- ---- doubling
 
@@ -38,10 +40,6 @@ doubled-more f old made new k x y lt is at of more =
     append-through (x ∷ xs) b c = ap (λ l. x ∷ l) (append-through xs b c)
 
 -- ---- atoms below the number of variables
-
-and-both : (a b : Bool) → (a && b) ≡ true → (a ≡ true) × (b ≡ true)
-and-both true true e = (refl, refl)
-and-both _ _ e = absurd (cc)
 
 abbrev pub AreBelow : ℕ → List IndexedAtom → Type 0
 AreBelow n atoms = Each (λ (a : IndexedAtom). a.variable < n) atoms
@@ -68,19 +66,19 @@ module _ (n : ℕ) where
   atoms-below (tree.finally f) known b h = atoms-below f known b h
   atoms-below (tree.globally f) known b h = atoms-below f known b h
   atoms-below (tree.and f g) known b h = let (x, y) =
-      and-both (vars_below n f) (vars_below n g) b in atoms-below g _ y (atoms-below f known x h)
-  atoms-below (tree.or f g) known b h = let (x, y) = and-both (vars_below n f) (vars_below n g) b in
+      and_parts (vars_below n f) (vars_below n g) b in atoms-below g _ y (atoms-below f known x h)
+  atoms-below (tree.or f g) known b h = let (x, y) = and_parts (vars_below n f) (vars_below n g) b in
       atoms-below g _ y (atoms-below f known x h)
   atoms-below (tree.implies f g) known b h = let (x, y) =
-      and-both (vars_below n f) (vars_below n g) b in atoms-below g _ y (atoms-below f known x h)
+      and_parts (vars_below n f) (vars_below n g) b in atoms-below g _ y (atoms-below f known x h)
   atoms-below (tree.iff f g) known b h = let (x, y) =
-      and-both (vars_below n f) (vars_below n g) b in atoms-below g _ y (atoms-below f known x h)
+      and_parts (vars_below n f) (vars_below n g) b in atoms-below g _ y (atoms-below f known x h)
   atoms-below (tree.until f g) known b h = let (x, y) =
-      and-both (vars_below n f) (vars_below n g) b in atoms-below g _ y (atoms-below f known x h)
+      and_parts (vars_below n f) (vars_below n g) b in atoms-below g _ y (atoms-below f known x h)
   atoms-below (tree.release f g) known b h = let (x, y) =
-      and-both (vars_below n f) (vars_below n g) b in atoms-below g _ y (atoms-below f known x h)
+      and_parts (vars_below n f) (vars_below n g) b in atoms-below g _ y (atoms-below f known x h)
   atoms-below (tree.weak f g) known b h = let (x, y) =
-      and-both (vars_below n f) (vars_below n g) b in atoms-below g _ y (atoms-below f known x h)
+      and_parts (vars_below n f) (vars_below n g) b in atoms-below g _ y (atoms-below f known x h)
 
 pub machine-below : (m : Machine) → IsMonitor m → AreBelow m.variables m.atoms
 machine-below m is = let P : List IndexedAtom → Type 0 = AreBelow m.variables in
@@ -150,18 +148,10 @@ pub asked-place : (atoms : List IndexedAtom) (place name : ℕ)
 asked-place atoms place name =
     ap (λ b. list_any (is_atom name place) atoms && not b) (eq-eqb place place refl)
     ∙ and-false (list_any (is_atom name place) atoms)
-  where
-    and-false : (b : Bool) → (b && false) ≡ false
-    and-false true = refl
-    and-false false = refl
 
 and-of : (b c d : Bool) → b ≡ true → c ≡ d → c ≡ (b && d)
 and-of true c d e f = f
 and-of false c d e f = absurd (cc)
-
-no-of : (b c : Bool) → c ≡ false → (b && c) ≡ false
-no-of true c e = e
-no-of false c e = refl
 
 module _ (row : Row) (name variable : ℕ) where
   says-now : variable < length row → says (with_name name variable row) name variable ≡ true
@@ -213,23 +203,6 @@ rows-same atoms a place rows are at = record {
       | inr other ↦ asked-other atoms a place name variable other
     ]
 
-contains-map : {A B : Type 0} (f : A → B) (xs : List A) (x : A) → Contains xs x
-    → Contains (map f xs) (f x)
-contains-map f [] x c = absurd (contains-none x c)
-contains-map {A} {B} f (y ∷ ys) x c = elim (contains-cases y x ys c) [
-  | inl e ↦ let P : A → Type 0 = λ z. Contains (map f (y ∷ ys)) (f z) in
-      subst P e (contains-here (f y) (map f ys))
-  | inr later ↦ contains-later (f y) (f x) (map f ys) (contains-map f ys x later)
-]
-
-from-map : {A B : Type 0} (f : A → B) (xs : List A) (z : B) → Contains (map f xs) z → (x : A)
-    × Contains xs x × (f x ≡ z)
-from-map f [] z c = absurd (contains-none z c)
-from-map f (y ∷ ys) z c = elim (contains-cases (f y) z (map f ys) c) [
-  | inl e ↦ (y, contains-here y ys, e)
-  | inr later ↦ let (x, d, e) = from-map f ys z later in (x, contains-later y x ys d, e)
-]
-
 -- another atom doubles the rows
 pub rows-double : (atoms : List IndexedAtom) (a : IndexedAtom) (place : ℕ) (rows : List Row)
     → AreRows atoms place rows → nat_eq a.variable place ≡ false → a.variable < 4
@@ -241,7 +214,7 @@ rows-double atoms a place rows are apart lt =
         → length row ≡ 4
     long row c = elim (Contains-append_cases rows (map (with_name a.name a.variable) rows) row c) [
       | inl old ↦ are.long row old
-      | inr new ↦ let (r, d, e) = from-map (with_name a.name a.variable) rows row new in
+      | inr new ↦ let (r, d, e) = map-from (with_name a.name a.variable) rows row new in
           ap (λ (q : Row). length q) (sym e) ∙ length-set r a.variable _ ∙ are.long r d
     ]
 
@@ -251,7 +224,7 @@ rows-double atoms a place rows are apart lt =
         elim (Contains-append_cases rows (map (with_name a.name a.variable) rows) row c) [
           | inl old ↦ are.silent row old name
           | inr new ↦
-              let (r, d, e) = from-map (with_name a.name a.variable) rows row new in
+              let (r, d, e) = map-from (with_name a.name a.variable) rows row new in
               let four = are.long r d in
               ap (λ (q : Row). says q name place) (sym e)
               ∙ says-other r a.name a.variable name place
@@ -274,7 +247,7 @@ rows-double atoms a place rows are apart lt =
             let inside : a.variable < length row = omega arith in (
               with_name a.name a.variable row,
               Contains-append_right rows
-                  (map (with_name a.name a.variable) rows) _ (contains-map
+                  (map (with_name a.name a.variable) rows) _ (map-of
                   (with_name a.name a.variable) rows row c),
               λ name variable. elim (same-atom a name variable) [
                 | inl (e, f) ↦
@@ -305,7 +278,7 @@ rows-double atoms a place rows are apart lt =
                     let Q : ℕ → Type 0 = λ n. P n a.variable in
                     let R : ℕ → Type 0 = P name in
                     subst R (sym f)
-                    (subst Q (sym e) (h a.name a.variable ∙ no-of _ _ is ∙ sym (no-of _ _ is)))
+                    (subst Q (sym e) (h a.name a.variable ∙ and_right _ _ is ∙ sym (and_right _ _ is)))
                 | inr other ↦ h name variable
                     ∙ ap (λ b. b && letter name variable)
                     (sym (asked-other atoms a place name variable other))
@@ -384,12 +357,6 @@ answer-code m is place letter row h =
 
 -- ---- atoms one after another
 
-pub taken-all : {A : Type 0} (xs : List A) (k : ℕ) → length xs ≤ k → take k xs ≡ xs
-taken-all [] zero le = refl
-taken-all [] (suc k) le = refl
-taken-all (x ∷ xs) zero le = absurd (omega arith)
-taken-all (x ∷ xs) (suc k) le = ap (λ l. x ∷ l) (taken-all xs k (omega arith))
-
 module _ (atoms : List Atom) (k : ℕ) (a : Atom) (lt : k < length atoms)
     (is : a ≡ get_or atoms k a) where
   pub atom-taken : map plain_atom (take (k + 1) atoms) ≡ map plain_atom (take k atoms)
@@ -402,6 +369,6 @@ module _ (atoms : List Atom) (k : ℕ) (a : Atom) (lt : k < length atoms)
   atom-small m mon same =
       let P : List IndexedAtom → Type 0 = λ l. Contains l (plain_atom a) in
       let lt = atom-below m.variables m.atoms (machine-below m mon) (plain_atom a)
-      (subst P same (contains-map plain_atom atoms a (k, lt, sym is))) in
+      (subst P same (map-of plain_atom atoms a (k, lt, sym is))) in
       let few = mon.few in
       omega arith

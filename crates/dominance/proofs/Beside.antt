@@ -9,15 +9,16 @@ use Rattle.std.proofs.lemmas.List.{get_or-map, length-map, get_or_past}
 use Rattle.std.proofs.Math.Seq.{get_or-append_seam}
 use Rattle.hy_bits.specs.Letter.{Letter}
 use Rattle.hy_formula.specs.Quantifiers.{Each}
+use Rattle.hy_formula.proofs.Each.{each-append}
 use Rattle.hy_finite.specs.declared.lengths.Lengths.{Lengths}
 use Rattle.hy_finite.specs.declared.lengths.Lengths.TheVariants.{Min, Pad}
 use Rattle.hy_finite.specs.Traces.{Trace, of_two, judged, trace_words, Meets}
+use Rattle.hy_finite.proofs.JudgedLength.{of_two-turned, of_two-some}
 use Rattle.fin_monitor.specs.Codes.{IndexedAtom, code_of, one_if, part_of}
 use Rattle.fin_monitor.specs.Machines.{Machine, IsMonitor, is_accepting, code_at}
 use Rattle.fin_monitor.proofs.CodeBits.{code-or}
 use Rattle.dominance.specs.Dominance.{IsTrace}
 use Rattle.dominance.specs.Runs.{joint, ended, judged_state}
-use Rattle.dominance.proofs.Elements.{each-append}
 use Rattle.dominance.proofs.Asking.{codes-agree}
 use Rattle.dominance.proofs.Standing.{ended-before, ended-past}
 use Rattle.dominance.proofs.Meaning.{meets-state}
@@ -29,16 +30,12 @@ two-swap : (rule : Lengths) (a b c : ℕ)
 two-swap Min a b c = omega arith
 two-swap Pad a b c = omega arith
 
-two-turn : (rule : Lengths) (a b : ℕ) → of_two rule a b ≡ of_two rule b a
-two-turn Min a b = omega arith
-two-turn Pad a b = omega arith
-
 judged-beside : (rule : Lengths) (before after : List Trace) (x : Trace)
     → 0 < length (before ++ after) → judged rule (before ++ x ∷ after)
     ≡ of_two rule (length x) (judged rule (before ++ after))
 judged-beside rule [] [] x some = absurd (omega arith)
 judged-beside rule [] (a ∷ ls) x some = refl
-judged-beside rule (b ∷ []) [] x some = two-turn rule (length b) (length x)
+judged-beside rule (b ∷ []) [] x some = of_two-turned rule (length b) (length x)
 judged-beside rule (b ∷ []) (a ∷ ls) x some =
     two-swap rule (length x) (length b) (judged rule (a ∷ ls))
 judged-beside rule (b ∷ c ∷ cs) after x some =
@@ -53,10 +50,6 @@ judged-some Min (u ∷ v ∷ vs) (lt, h) some = let ih = judged-some Min (v ∷ 
     omega arith
 judged-some Pad (u ∷ v ∷ vs) (lt, h) some = let ih = judged-some Pad (v ∷ vs) h (omega arith) in
     omega arith
-
-two-some : (rule : Lengths) (a b : ℕ) → 0 < a → 0 < b → 0 < of_two rule a b
-two-some Min a b p q = omega arith
-two-some Pad a b p q = omega arith
 
 abbrev AreShort : ℕ → List Trace → Type 0
 AreShort l us = Each (λ (u : Trace). length u ≤ l) us
@@ -214,7 +207,7 @@ module _ (m : Machine) (is : IsMonitor m) (rule : Lengths) (before after : List 
           meets-state m is rule (before ++ x ∷ after)
           (joint (map (part_of m.atoms (length before)) x) (ended code n))
           (of_two rule (length (map (part_of m.atoms (length before)) x)) n)
-          (two-some rule _ n (omega (arith, len, is_x)) positive) e
+          (of_two-some rule _ n (omega (arith, len, is_x)) positive) e
           (λ i lt. ap (λ z. bit_or z (ended code n i)) (column-at x i)
           ∙ ap (bit_or (part_of m.atoms (length before) (get_or x i empty)))
           (ended-right rule refl (length (map (part_of m.atoms (length before)) x)) i lt)

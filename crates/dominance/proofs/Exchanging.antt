@@ -14,6 +14,7 @@ use Rattle.hy_finite.specs.declared.lengths.Lengths.{Lengths}
 use Rattle.hy_finite.specs.declared.lengths.Lengths.TheVariants.{Min, Pad}
 use Rattle.hy_finite.specs.Traces.{Trace, of_two, trace_words, Meets, fit}
 use Rattle.hy_finite.proofs.Agreeing.{fitted, length-fit}
+use Rattle.hy_finite.proofs.JudgedLength.{of_two-turned, of_two-some}
 use Rattle.fin_monitor.specs.Codes.{IndexedAtom, is_atom, code_of, joint_letter}
 use Rattle.fin_monitor.specs.Machines.{Machine, IsMonitor, is_accepting}
 use Rattle.dominance.specs.Dominance.{IsTrace, IsSymmetric}
@@ -30,14 +31,6 @@ abbrev pub IsSymmetricEven : Lengths → Tree → Type 0
 IsSymmetricEven rule body = (t u : Trace) → IsTrace t → length t ≡ length u
     → Meets rule body (t ∷ u ∷ []) → Meets rule body (u ∷ t ∷ [])
 
-two-turned : (rule : Lengths) (a b : ℕ) → of_two rule a b ≡ of_two rule b a
-two-turned Min a b = omega arith
-two-turned Pad a b = omega arith
-
-two-some : (rule : Lengths) (a b : ℕ) → 0 < a → 0 < b → 0 < of_two rule a b
-two-some Min a b p q = omega arith
-two-some Pad a b p q = omega arith
-
 two-same : (rule : Lengths) (a b : ℕ) → a ≡ b → a ≡ of_two rule a b
 two-same Min a b e = omega arith
 two-same Pad a b e = omega arith
@@ -52,9 +45,9 @@ even-symmetric rule n body two e =
         → Meets rule body (u ∷ t ∷ [])
     back t u is_t is_u meets =
         let l : ℕ = of_two rule (length t) (length u) in
-        let some = two-some rule (length t) (length u) is_t is_u in
-        let some' = two-some rule (length u) (length t) is_u is_t in
-        let turn = two-turned rule (length u) (length t) in
+        let some = of_two-some rule (length t) (length u) is_t is_u in
+        let some' = of_two-some rule (length u) (length t) is_u is_t in
+        let turn = of_two-turned rule (length u) (length t) in
         let f = fitted rule body (t ∷ u ∷ []) some in
         let g = fitted rule body (u ∷ t ∷ []) some' in
         let lt = length-fit l t in
@@ -230,7 +223,7 @@ module _ (m : Machine) (is : IsMonitor m) (two : m.variables ≡ 2) where
               let second = meets-state m is rule (u ∷ t ∷ [])
               (word_code (λ i. exchanged
               (λ name variable. trace_words (t ∷ u ∷ []) name variable i))) (length t) some
-              (two-same rule (length t) (length u) long ∙ two-turned rule (length t) (length u))
+              (two-same rule (length t) (length u) long ∙ of_two-turned rule (length t) (length u))
               (λ i lt. by-atom _ _ (λ name variable below asked. turn t u i name variable below)) in
               second.0 (sym
               (exchanging (λ i name variable. trace_words (t ∷ u ∷ []) name variable i)

@@ -1,8 +1,8 @@
 -- The items of a numbered list.
 use Rattle.std.proofs.Common.{ℕ, List, [], ◌∷◌, inl, inr, subst}
 use Rattle.std.specs.List.{Contains}
+use Rattle.hy_base.proofs.Members.{contains-here, contains-later, contains-cases, contains-none}
 use Rattle.dominance.specs.Leaders.{Numbered, numbered, items}
-use Rattle.dominance.proofs.Elements.{contains-here, contains-later, contains-cases, contains-none}
 
 pub items-from : {A : Type 0} (kept : List (Numbered A)) (t : A) → Contains (items kept) t → (k : ℕ)
     × Contains kept (numbered k t)

@@ -1,12 +1,14 @@
 -- What the arrivals leave kept are the leaders.
 use Rattle.std.proofs.Common.{◌≡◌, ℕ, suc, ◌<◌, Bool, true, false, not, cond, List, [], ◌∷◌, ◌++◌, length, inl, inr, refl, sym, ap, ◌∙◌, subst, arith, length-append, append_assoc, append-nil}
 use Rattle.std.specs.List.{Contains, list_any, filter}
-use Rattle.std.proofs.lemmas.Bool.{cases_lt}
+use Rattle.std.proofs.lemmas.Bool.{cases_lt, cases_Bool}
 use Rattle.std.proofs.lemmas.List.Elements.{Contains-push_cases, Contains-append_left, Contains-push}
+use Rattle.hy_base.proofs.Members.{contains-none, filter-from, filter-of, any-from, any-of}
+use Rattle.hy_base.proofs.Truths.{not-of}
 use Rattle.hy_formula.specs.Quantifiers.{Each}
+use Rattle.hy_formula.proofs.Each.{each-filter, each-from, each-append}
 use Rattle.dominance.specs.Leaders.{IsAt, IsLeader, Numbered, numbered, IsAscending, AreLeaders, kept_by, TestKept, kept_with, kept_from, leaders, Tests}
-use Rattle.dominance.proofs.Elements.{contains-none}
-use Rattle.dominance.proofs.Elements.{at-one, at-push_old, at-push_new, at-push_cases, false-or-true, not-true, true-not, filter-from, filter-of, any-from, any-of, each-filter, each-from, each-append}
+use Rattle.dominance.proofs.Elements.{at-one, at-push_old, at-push_new, at-push_cases, not-true}
 
 ascending-filter : {A : Type 0} (p : Numbered A → Bool) (kept : List (Numbered A))
     → IsAscending kept → IsAscending (filter p kept)
@@ -15,7 +17,7 @@ ascending-filter {A} p (x ∷ xs) (here, h) = step (ascending-filter p xs h) (p 
   where
     step : IsAscending (filter p xs) → (b : Bool)
         → IsAscending (cond b (x ∷ filter p xs) (filter p xs))
-    step more true = (each-filter p (λ (y : Numbered A). x.number < y.number) xs here, more)
+    step more true = (each-filter (λ (y : Numbered A). x.number < y.number) p xs here, more)
     step more false = more
 
 ascending-push : {A : Type 0} (kept : List (Numbered A)) (x : Numbered A) → IsAscending kept
@@ -112,8 +114,7 @@ module _ {A : Type 0} (Over : A → A → Type 0) (itself : (t : A) → Over t t
                 ascending-push (filter (λ (y : Numbered A). not (under y)) kept)
                 (numbered (length list) t)
                 (ascending-filter (λ (y : Numbered A). not (under y)) kept is.ascending)
-                (each-filter (λ (y : Numbered A). not (under y)) (λ y. y.number < length list) kept
-                (each-from (λ y. y.number < length list) kept
+                (each-filter (λ y. y.number < length list) (λ (y : Numbered A). not (under y)) kept (each-from (λ y. y.number < length list) kept
                 (λ x c. ((is.exact x.number x.item).0 c).there.0)))
 
             sound : (x : Numbered A)
@@ -156,7 +157,7 @@ module _ {A : Type 0} (Over : A → A → Type 0) (itself : (t : A) → Over t t
                       (numbered (length list) t ∷ []) (numbered k u)
                       (filter-of (λ (y : Numbered A). not (under y)) kept (numbered k u)
                       ((is.exact k u).1 was)
-                      (true-not (under (numbered k u))
+                      (not-of (under (numbered k u))
                       (λ o. none-over k u old
                       (below ((tests.under_right (numbered k u) ((is.exact k u).1 was)).0 o)))))
                   | inr (same, e) ↦
@@ -176,7 +177,7 @@ module _ {A : Type 0} (Over : A → A → Type 0) (itself : (t : A) → Over t t
                 elim (at-push_cases list t k u at) [
                   | inl old ↦
                       let (x, c, o) = is.covers k u old in
-                      elim (false-or-true (under x)) [
+                      elim (cases_Bool (under x)) [
                         | inl gone ↦ (
                           numbered (length list) t,
                           Contains-push _ _,

@@ -1,5 +1,5 @@
 -- What the state after the codes of a tuple says of the body.
-use Rattle.std.proofs.Common.{◌≡◌, ◌↔◌, ℕ, zero, suc, ◌<◌, true, List, [], ◌∷◌, map, get_or, length, ap, ◌∙◌, refl, arith}
+use Rattle.std.proofs.Common.{◌≡◌, ◌↔◌, ℕ, zero, suc, ◌<◌, true, List, [], ◌∷◌, map, get_or, ap, ◌∙◌, refl, arith}
 use Rattle.std.specs.FinSet.{empty, contains}
 use Rattle.hy_bits.specs.Letter.{Letter}
 use Rattle.hy_formula.specs.Trees.{Tree}
@@ -37,12 +37,6 @@ pub codes-of : {A : Type 0} (f : A → ℕ) (n : ℕ) → 0 < n → ((x : A) →
 codes-of f n some h [] i = some
 codes-of f n some h (x ∷ xs) zero = h x
 codes-of f n some h (x ∷ xs) (suc i) = codes-of f n some h xs i
-
-pub other-default : {A : Type 0} (xs : List A) (i : ℕ) (d e : A) → i < length xs
-    → get_or xs i d ≡ get_or xs i e
-other-default [] i d e lt = absurd (omega arith)
-other-default (x ∷ xs) zero d e lt = refl
-other-default (x ∷ xs) (suc i) d e lt = other-default xs i d e (omega arith)
 
 -- the code of one letter is that of a tuple of one trace
 pub one-code : (m : Machine) (t : Trace) (i : ℕ) (letter : Letter) → letter ≡ get_or t i empty

@@ -1,8 +1,8 @@
 -- Nodes that are added last, and the choices that lead to a node.
-use Rattle.std.proofs.Common.{◌≡◌, ℕ, ◌+◌, ◌<◌, ◌≤◌, Bool, true, false, not, ◌&&◌, nat_eq, if◌then◌else◌, List, [], ◌∷◌, ◌++◌, length, inl, inr, refl, sym, ap, ◌∙◌, subst, arith, length-append, append_assoc}
+use Rattle.std.proofs.Common.{◌≡◌, ℕ, ◌+◌, ◌<◌, ◌≤◌, Bool, true, false, not, ◌&&◌, nat_eq, if◌then◌else◌, List, [], ◌∷◌, ◌++◌, length, inl, inr, sym, ap, ◌∙◌, subst, arith, length-append, append_assoc}
 use Rattle.std.specs.Prelude.{reverse}
 use Rattle.std.specs.List.{Contains}
-use Rattle.std.proofs.lemmas.Bool.{cases_lt, eqb-true}
+use Rattle.std.proofs.lemmas.Bool.{cases_lt, eqb-true, and_parts}
 use Rattle.std.proofs.lemmas.List.{get_or_append_left, reverse-append}
 use Rattle.std.proofs.lemmas.List.Elements.{Contains-append_left}
 use Rattle.std.proofs.Math.Seq.{get_or-append_seam}
@@ -13,15 +13,11 @@ use Rattle.dominance.specs.declared.reached.Link.{Link}
 use Rattle.dominance.specs.Runs.{Pairing, IsInside, start_node, next_node}
 use Rattle.dominance.specs.Trails.{node_at, link_at, AreLinked, FollowsBy, AreReached, Grows, led, LeadsOn}
 
-both : (a b : Bool) → (a && b) ≡ true → (a ≡ true) × (b ≡ true)
-both true true e = (refl, refl)
-both _ _ e = absurd (cc)
-
 -- nodes that are compared as equal are equal
 pub equal-nodes : (x y : Node) → ghosts.eq x y ≡ true → x ≡ y
 equal-nodes x y e =
-    let (at, rest) = both (nat_eq x.at y.at) (nat_eq x.upper y.upper && nat_eq x.lower y.lower) e in
-    let (upper, lower) = both (nat_eq x.upper y.upper) (nat_eq x.lower y.lower) rest in
+    let (at, rest) = and_parts (nat_eq x.at y.at) (nat_eq x.upper y.upper && nat_eq x.lower y.lower) e in
+    let (upper, lower) = and_parts (nat_eq x.upper y.upper) (nat_eq x.lower y.lower) rest in
     ap (λ k. record { at = k; upper = x.upper; lower = x.lower }) (eqb-true _ _ at)
     ∙ ap (λ k. record { at = y.at; upper = k; lower = x.lower }) (eqb-true _ _ upper)
     ∙ ap (λ k. record { at = y.at; upper = y.upper; lower = k }) (eqb-true _ _ lower)

@@ -2,12 +2,13 @@
 use Rattle.std.proofs.Common.{◌≡◌, ◌↔◌, ℕ, zero, suc, ◌+◌, ◌-◌, ◌<◌, ◌≤◌, min, max, Bool, true, false, not, ◌&&◌, nat_eq, List, [], ◌∷◌, ◌++◌, length, take, drop, map, Option, Some, None, inl, inr, refl, sym, ap, ◌∙◌, subst, arith, get_or, length-append}
 use Rattle.std.specs.List.{Contains}
 use Rattle.std.specs.FinSet.{empty, contains}
-use Rattle.std.proofs.lemmas.Bool.{cases_lt, eqb-true, eq-eqb}
-use Rattle.std.proofs.lemmas.List.{get_or-map, length-map, get_or_append_left}
+use Rattle.std.proofs.lemmas.Bool.{cases_lt, eqb-true, eq-eqb, false_from_ne_true}
+use Rattle.std.proofs.lemmas.List.{get_or-map, length-map, get_or_append_left, get_or-append-add}
 use Rattle.std.proofs.Math.Seq.{get_or-append_seam}
 use Rattle.hy_bits.specs.Letter.{Letter}
 use Rattle.hy_formula.specs.Quantifiers.{Each}
 use Rattle.hy_formula.specs.Trees.{Tree}
+use Rattle.hy_formula.proofs.Each.{each-append}
 use Rattle.hy_finite.specs.declared.lengths.Lengths.{Lengths}
 use Rattle.hy_finite.specs.declared.lengths.Lengths.TheVariants.{Min, Pad}
 use Rattle.hy_finite.specs.Traces.{Trace, judged, trace_words, Meets}
@@ -16,7 +17,7 @@ use Rattle.fin_monitor.specs.Machines.{Machine, IsMonitor, is_accepting}
 use Rattle.dominance.specs.Dominance.{IsTrace, Dominates, DominatesAt, with_at, Refutes}
 use Rattle.dominance.specs.Choices.{Row, says, AreRows, row_code, word_of, words_from, other_words}
 use Rattle.dominance.specs.Runs.{Pairing, state_on, joint, ended, judged_state, codes_by, chosen, told_from, Differ, IsFound}
-use Rattle.dominance.proofs.Elements.{each-append, each-below}
+use Rattle.dominance.proofs.Elements.{each-below}
 use Rattle.dominance.proofs.Asking.{codes-agree, answer-code, row-says, machine-below, atom-below}
 use Rattle.dominance.proofs.Beside.{rest_code, beside-right}
 
@@ -41,10 +42,6 @@ told-second Pad a b = omega arith
 told-none : (rule : Lengths) (a b : ℕ) → rule ≡ Min → told_from rule a b ≡ 0
 told-none Min a b e = refl
 told-none Pad a b e = absurd (cc)
-
-is-false : (b : Bool) → ¬ (b ≡ true) → b ≡ false
-is-false true n = absurd (n refl)
-is-false false n = refl
 
 module _ (m : Machine) (is : IsMonitor m) (rule : Lengths) (rows : List Row) (t u : Trace)
     (some_t : 1 ≤ length t) (some_u : 1 ≤ length u) where
@@ -80,7 +77,7 @@ module _ (m : Machine) (is : IsMonitor m) (rule : Lengths) (rows : List Row) (t 
       let low = beside-right m is rule before after some traces code n told refl right u some_u
       (λ _. omega (arith, second, lu)) (told-none rule ct cu) in
       none choice (λ i. omega (arith, below i, length-map rows (row_code m))) n (omega arith)
-      (record { upper = up.1 meets; lower = is-false _ (λ e. fails (low.0 e)) })
+      (record { upper = up.1 meets; lower = false_from_ne_true _ (λ e. fails (low.0 e)) })
 
   -- where nothing is found at a place, the one dominates the other there
   pub none-dominates : (place : ℕ) → AreRows m.atoms place rows → 2 ≤ m.variables
@@ -143,13 +140,6 @@ long-traces : (l : ℕ) → 0 < l → (us : List Trace) → Each (λ (w : Trace)
 long-traces l some [] h = tt
 long-traces l some (u ∷ us) (e, h) = (omega arith, long-traces l some us h)
 
-append-right : {A : Type 0} (xs ys : List A) (k : ℕ) (d : A)
-    → get_or (xs ++ ys) (length xs + k) d ≡ get_or ys k d
-append-right [] ys k d = ap (λ i. get_or ys i d) (let e : 0 + k ≡ k = omega arith in e)
-append-right (x ∷ xs) ys k d =
-    ap (λ i. get_or (x ∷ (xs ++ ys)) i d)
-    (let e : suc (length xs) + k ≡ suc (length xs + k) = omega arith in e) ∙ append-right xs ys k d
-
 take-left : {A : Type 0} (xs ys : List A) → take (length xs) (xs ++ ys) ≡ xs
 take-left [] ys = refl
 take-left (x ∷ xs) ys = ap (λ l. x ∷ l) (take-left xs ys)
@@ -209,7 +199,7 @@ module _ (m : Machine) (is : IsMonitor m) (rule : Lengths) (rows : List Row) (t 
           let e : v ≡ length before + suc (v - (place + 1)) = omega (arith, at, more) in
           let f : place + 1 + (v - (place + 1)) ≡ v = omega (arith, more) in
           ap (λ k. get_or (before ++ [] ∷ after) k []) e
-          ∙ append-right before ([] ∷ after) (suc (v - (place + 1))) []
+          ∙ get_or-append-add before ([] ∷ after) (suc (v - (place + 1))) []
           ∙ words-at rows path (place + 1) (m.variables - (place + 1)) (v - (place + 1))
           (omega (arith, more, lt)) ∙ ap (word_of rows path) f
       | inr le ↦ absurd (apart (omega arith))

@@ -3,11 +3,11 @@ use Rattle.std.proofs.Common.{◌≡◌, ℕ, ◌+◌, ◌↔◌, Bool, List, []
 use Rattle.std.specs.List.{Contains}
 use Rattle.hy_formula.specs.Trees.{Tree}
 use Rattle.hy_formula.specs.Quantifiers.{Each, IsTuple}
+use Rattle.hy_formula.proofs.Each.{each-from, each-at, each-append}
 use Rattle.hy_finite.specs.Traces.{Trace, Meets, Violates}
 use Rattle.hy_finite.specs.declared.lengths.Lengths.{Lengths}
 use Rattle.dominance.specs.Leaders.{Numbered, numbered, items, AreLeaders, kept_by, TestKept, leaders, Tests}
 use Rattle.dominance.specs.Dominance.{IsTrace, Dominates}
-use Rattle.dominance.proofs.Elements.{each-from, each-at, each-append}
 use Rattle.dominance.proofs.Items.{items-from, items-of}
 use Rattle.dominance.proofs.Leaderships.{are-leaders, kept-apart, kept-step}
 

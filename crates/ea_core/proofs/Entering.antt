@@ -3,13 +3,12 @@ use Rattle.std.proofs.Common.{◌≡◌, ℕ, ◌+◌, ◌<◌, ◌≤◌, List,
 use Rattle.std.specs.List.{All}
 use Rattle.std.proofs.Math.Seq.{get_or-append_seam}
 use Rattle.std.proofs.lemmas.Bool.{cases_lt}
-use Rattle.std.proofs.lemmas.List.{map-append, take_more, length-map, length-take-le, get_or_append_left}
+use Rattle.std.proofs.lemmas.List.{map-append, take_more, length-map, length-take-le, get_or_append_left, take_all}
 use Rattle.std.proofs.lemmas.List.Elements.{All-push, All-nil, All-more, All-weaker, All-get_or}
 use Rattle.std.proofs.lemmas.Option.{slice_get_within, get_or_from_slice_get}
 use Rattle.rank_check.specs.declared.ranks.Ranks.{Ranks}
 use Rattle.rank_check.specs.Ranking.{rank_of}
 use Rattle.ltl_tableau.specs.Branches.{Branch}
-use Rattle.ltl_tableau.proofs.Exploring.{take-whole}
 use Rattle.ea_core.specs.declared.rank_proof.ProofBranch.{ProofBranch}
 use Rattle.ea_core.specs.Proofs.{branch_of, IsAscending}
 use Rattle.ea_core.specs.Shown.{AreEntries}
@@ -43,7 +42,7 @@ entries-more list ranks entries new i b e at same rank ascends are made =
 
 pub entries-all : (list : List Branch) (ranks : Ranks) (entries : List ProofBranch) (i : ℕ) → length list ≤ i → AreEntries (take i list) ranks entries → AreEntries list ranks entries
 entries-all list ranks entries i le are =
-    let R : List Branch → Type 0 = λ bs. AreEntries bs ranks entries in subst R (take-whole list i le) are
+    let R : List Branch → Type 0 = λ bs. AreEntries bs ranks entries in subst R (take_all i list le) are
 
 -- all ranks are below one number more
 pub ranks-more : (entries : List ProofBranch) (i count new : ℕ) (e : ProofBranch) → i < length entries → e ≡ get_or entries i e
@@ -55,7 +54,7 @@ ranks-more entries i count new e lt at below le here =
     (subst Q at here)
 
 pub ranks-all : (entries : List ProofBranch) (i count : ℕ) → length entries ≤ i → All (λ b. b.rank < count) (take i entries) → All (λ b. b.rank < count) entries
-ranks-all entries i count le below = let R : List ProofBranch → Type 0 = All (λ b. b.rank < count) in subst R (take-whole entries i le) below
+ranks-all entries i count le below = let R : List ProofBranch → Type 0 = All (λ b. b.rank < count) in subst R (take_all i entries le) below
 
 -- a number that all ranks are below is above each of them
 pub rank-below : (entries : List ProofBranch) (i n : ℕ) (e : ProofBranch) → i < length entries → e ≡ get_or entries i e

@@ -8,6 +8,8 @@ use Rattle.std.proofs.lemmas.Bool.{cases_order, false≢true}
 use Rattle.std.proofs.lemmas.List.Elements.{filter-append}
 use Rattle.std.proofs.lemmas.List.FromFn.{length-range_with_len, get_or-range_with_len}
 use Rattle.std.proofs.lemmas.List.Kept.{IsStrictlyIncreasing-filter}
+use Rattle.hy_base.proofs.Places.{range-more}
+use Rattle.hy_base.proofs.Truths.{same-truth}
 use Rattle.hy_bits.specs.Sets.{AreBelow}
 use Rattle.ltl_tableau.specs.Branches.{Members, Has}
 use Rattle.ltl_tableau.specs.Tasks.{set_of}
@@ -16,12 +18,6 @@ use Rattle.ltl_tableau.proofs.Sets.{has-new, has-old, has-cases, has-none}
 -- the numbers below n of a set
 abbrev pub numbers_of : Members → ℕ → List ℕ
 numbers_of s n = filter (contains s) (range_with_len 0 n)
-
--- what one more number adds
-range-more : (a n : ℕ) → range_with_len a (suc n) ≡ range_with_len a n ++ (a + n) ∷ []
-range-more a zero = ap (λ k. k ∷ []) (omega arith)
-range-more a (suc n) =
-    ap (λ xs. a ∷ xs) (range-more (a + 1) n) ∙ ap (λ k. a ∷ (range_with_len (a + 1) n ++ k ∷ [])) (omega arith)
 
 numbers-next : (s : Members) (n : ℕ) → numbers_of s (n + 1) ≡ numbers_of s n ++ cond (contains s n) (n ∷ []) []
 numbers-next s n =
@@ -69,17 +65,11 @@ module _ (p : ℕ → Bool) where
   passes-has a (suc n) q le lt is =
       passes-step a q (filter p (range_with_len (a + 1) n)) is (λ past. passes-has (a + 1) n q (omega arith) (omega arith) is) (p a) refl (from-on a q le)
 
-both-ways : (a b : Bool) → (a ≡ true → b ≡ true) → (b ≡ true → a ≡ true) → a ≡ b
-both-ways true true f g = refl
-both-ways true false f g = absurd (false≢true (f refl))
-both-ways false true f g = absurd (false≢true (g refl))
-both-ways false false f g = refl
-
 -- The list has the numbers of the set, ascending.
 pub numbers-set : (s : Members) (n : ℕ) (list : List ℕ) → AreBelow n s → list ≡ numbers_of s n → set_of list ≡ s
 numbers-set s n list below e =
     ap set_of e ∙ same_set nat_cmp_total nat_cmp-IsAntisymmetric (set_of (numbers_of s n)) s (λ q.
-    both-ways _ _ (has-passes (contains s) 0 n q) (λ is. passes-has (contains s) 0 n q (omega arith) (omega (arith, below q is)) is))
+    same-truth _ _ (has-passes (contains s) 0 n q) (λ is. passes-has (contains s) 0 n q (omega arith) (omega (arith, below q is)) is))
 
 pub numbers-ascend : (s : Members) (n : ℕ) (list : List ℕ) → list ≡ numbers_of s n → IsStrictlyIncreasing list
 numbers-ascend s n list e =

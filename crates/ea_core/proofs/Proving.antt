@@ -1,9 +1,10 @@
 -- Ranks that pass are a rank proof of a plan.
-use Rattle.std.proofs.Common.{◌≡◌, ℕ, zero, suc, ◌<◌, Bool, true, false, nat_lt, cond, List, [], ◌∷◌, length, map, get_or, Option, Some, None, inl, inr, refl, sym, ap, ◌∙◌, subst, arith}
+use Rattle.std.proofs.Common.{◌≡◌, ℕ, ◌<◌, Bool, true, false, nat_lt, cond, List, [], length, map, get_or, Option, Some, None, inl, inr, refl, sym, ap, ◌∙◌, subst, arith}
 use Rattle.std.specs.List.{Contains}
 use Rattle.std.proofs.lemmas.Bool.{cases_lt, lt-ltb, false≢true}
 use Rattle.std.proofs.lemmas.List.{get_or-map, length-map, get_or_past}
-use Rattle.std.proofs.lemmas.List.Elements.{Contains-append_right, All-contains}
+use Rattle.std.proofs.lemmas.List.Elements.{All-contains}
+use Rattle.hy_base.proofs.Members.{map-from}
 use Rattle.hy_lasso.proofs.LassoWords.{decided-lassos}
 use Rattle.hy_lasso.specs.Words.{lasso_words}
 use Rattle.rank_check.specs.declared.ranks.Ranks.{Ranks}
@@ -18,25 +19,13 @@ use Rattle.ltl_tableau.specs.Walks.{no_branch}
 use Rattle.ltl_tableau.proofs.GraphWalking.{rank-proof}
 use Rattle.ltl_tableau.proofs.TasksTogether.{never-together}
 use Rattle.ea_reduce.specs.Plans.{PlainPlan, plan_tasks}
+use Rattle.ea_reduce.proofs.Same.{mapped-at}
 use Rattle.ea_core.specs.declared.rank_proof.RankProof.{RankProof}
 use Rattle.ea_core.specs.declared.rank_proof.ProofBranch.{ProofBranch}
 use Rattle.ea_core.specs.declared.decision.Decision.TheVariants.{Unsat}
 use Rattle.ea_core.specs.Proofs.{plan_nodes, plan_roots, branch_of, ranked_of, plain_proof, IsUntilNode, IsProofOf}
 use Rattle.ea_core.specs.Shown.{if_until, until_reason, Shows}
 use Rattle.ea_core.specs.Solved.{Solves}
-
--- what a mapped list has
-has-map : {A B : Type 0} (f : A → B) (xs : List A) (y : B) → Contains (map f xs) y → (x : A) × Contains xs x × (f x ≡ y)
-has-map f [] y (k, lt, e) = absurd (omega arith)
-has-map f (x ∷ xs) y (zero, lt, e) = (x, (0, omega arith, refl), e)
-has-map f (x ∷ xs) y (suc k, lt, e) =
-    let (z, there, is) = has-map f xs y (k, omega arith, e) in
-    (z, Contains-append_right (x ∷ []) xs z there, is)
-
-mapped-default : {A B : Type 0} (f : A → B) (xs : List A) (k : ℕ) (d : A) (e : B) → f d ≡ e → get_or (map f xs) k e ≡ f (get_or xs k d)
-mapped-default f [] k d e same = sym same
-mapped-default f (x ∷ xs) zero d e same = refl
-mapped-default f (x ∷ xs) (suc k) d e same = mapped-default f xs k d e same
 
 -- ---- a reason that is no until is left out
 
@@ -113,7 +102,7 @@ module _ (plan : PlainPlan) (list : List Branch) (graph : Shape) (tableau : IsTa
         count = length-map proof.branches ranked_of ∙ count;
         branches = λ v lt. ap (λ (e : Ranked). e.branch) (at-entry v lt) ∙ at-branch v lt;
         ranked = λ v lt. shows.entries.ranked v no_entry_kept lt ∙ ap (λ (e : Ranked). Some e.rank) (sym (at-entry v lt));
-        reasons = λ r. mapped-default (member_reason (length nodes)) ranks.reasons r None None refl;
+        reasons = λ r. mapped-at (member_reason (length nodes)) ranks.reasons r None None refl;
       }
 
   full : IsRankProof nodes (plan_roots plan) fuller
@@ -125,7 +114,7 @@ module _ (plan : PlainPlan) (list : List Branch) (graph : Shape) (tableau : IsTa
       elim (cases_lt r (length proof.reasons)) [
         | inl lt ↦ subst P (sym (shows.reasons r lt)) (until-explains nodes (plain_proof proof).entries r (reason_of ranks r) (subst P (has-ranks.reasons r) (full.explained r)))
         | inr past ↦ subst P (sym (get_or_past proof.reasons r None past)) (λ d e c c' is is' edge.
-            let (b, there, same) = has-map ranked_of proof.branches d c in
+            let (b, there, same) = map-from ranked_of proof.branches d c in
             let lt = All-contains (λ x. x.rank < length proof.reasons) proof.branches b shows.below there in
             let rank : b.rank ≡ d.rank = ap (λ (x : Ranked). x.rank) same in
             omega arith)

@@ -6,13 +6,13 @@ use Rattle.std.proofs.Math.Nat.{mod-eq_of_lt}
 use Rattle.std.proofs.lemmas.List.{length-map}
 use Rattle.std.proofs.lemmas.List.Elements.{All-from_get_or}
 use Rattle.std.proofs.lemmas.List.FromFn.{length-map-range_with_len, get_or-map-range_with_len}
+use Rattle.hy_base.proofs.Truths.{cond-below, cond-above}
 use Rattle.hy_bits.specs.Letter.{Letter}
 use Rattle.hy_formula.specs.Temporal.{Words}
 use Rattle.hy_formula.specs.Lassos.{Lasso}
 use Rattle.hy_lasso.specs.Words.{lasso_words}
-use Rattle.hy_lasso.proofs.LassoWords.{cond-below, cond-above}
 use Rattle.rank_check.specs.Graphs as graphs
-use Rattle.rank_check.specs.Graphs.{Shape, place_of}
+use Rattle.rank_check.specs.Graphs.{Shape}
 use Rattle.ltl_closure.specs.Nodes.{Node, node_at}
 use Rattle.ltl_closure.specs.Jobs.{AreMappedBelow}
 use Rattle.ltl_tableau.specs.Branches.{Branch}

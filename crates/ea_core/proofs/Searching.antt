@@ -4,7 +4,6 @@ use Rattle.hy_formula.specs.Trees.{Tree, vars_below}
 use Rattle.hy_formula.specs.Classes.{class_of}
 use Rattle.hy_formula.specs.declared.classes.Class.TheVariants.{Other}
 use Rattle.hy_formula.specs.declared.prefix.Quant.{Quant}
-use Rattle.hy_formula.proofs.Tuples.{contains-cases, contains-none}
 use Rattle.hy_lasso.proofs.Negating.{decided-satisfies}
 use Rattle.ltl_tableau.specs.Branches.{Branch}
 use Rattle.ltl_tableau.specs.Reached.{IsTableau}
@@ -26,8 +25,9 @@ use Rattle.ea_reduce.specs.Refused.{HasFewMaps}
 use Rattle.ea_core.proofs.Refusing.{equivalence-searches}
 use Rattle.std.proofs.lemmas.Bool.{cases_lt}
 use Rattle.std.proofs.lemmas.List.Elements.{Contains-get_or}
+use Rattle.hy_base.proofs.Members.{contains-cases, contains-none}
+use Rattle.hy_base.proofs.Places.{two-equal}
 use Rattle.ltl_tableau.proofs.Exploring.{place-of}
-use Rattle.ltl_tableau.proofs.Pigeons.{two-equal}
 use Rattle.ltl_tableau.specs.Reached.{branch_at}
 use Rattle.ltl_tableau.specs.Walks.{no_branch}
 

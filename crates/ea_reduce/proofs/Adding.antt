@@ -1,5 +1,5 @@
 -- Lists that are made for one number after another.
-use Rattle.std.proofs.Common.{◌≡◌, ℕ, zero, suc, ◌+◌, ◌<◌, length, get_or, refl, sym, List, [], ◌∷◌, ◌++◌, map, take, Some, ap, ◌∙◌, arith, append-nil}
+use Rattle.std.proofs.Common.{◌≡◌, ℕ, suc, ◌+◌, ◌<◌, length, get_or, refl, sym, List, [], ◌∷◌, ◌++◌, map, take, Some, ap, ◌∙◌, arith, append-nil}
 use Rattle.std.specs.List.{flat_map, range_with_len, slice_get}
 use Rattle.std.proofs.lemmas.List.{map-append, take_more}
 use Rattle.std.proofs.lemmas.Option.{slice_get_within, slice_get_read, get_or_from_slice_get}
@@ -7,11 +7,7 @@ use Rattle.std.specs.FinSet.{empty}
 use Rattle.hy_bits.specs.Letter.{Letter}
 use Rattle.ea_reduce.specs.Joints.{column}
 use Rattle.std.proofs.lemmas.List.Concat.{flat_map-append}
-
-range-more : (a n : ℕ) → range_with_len a (suc n) ≡ range_with_len a n ++ (a + n) ∷ []
-range-more a zero = ap (λ k. k ∷ []) (omega arith)
-range-more a (suc n) =
-    ap (λ xs. a ∷ xs) (range-more (a + 1) n) ∙ ap (λ k. a ∷ (range_with_len (a + 1) n ++ k ∷ [])) (omega arith)
+use Rattle.hy_base.proofs.Places.{range-more}
 
 pub range-next : {A : Type 0} (f : ℕ → List A) (n : ℕ) → flat_map f (range_with_len 0 (n + 1)) ≡ flat_map f (range_with_len 0 n) ++ f n
 range-next f n =

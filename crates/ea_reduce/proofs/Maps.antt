@@ -7,10 +7,11 @@ use Rattle.hy_formula.specs.Trees.{Tree, vars_below}
 use Rattle.hy_formula.specs.declared.prefix.Quant.{Quant}
 use Rattle.hy_formula.specs.declared.prefix.Quant.TheVariants.{Exists, Forall}
 use Rattle.hy_formula.specs.Quantifiers.{Each}
+use Rattle.hy_formula.proofs.Each.{each-map, each-like}
 use Rattle.ltl_closure.specs.Jobs.{variable_in}
 use Rattle.ea_reduce.specs.Plans.{existentials, maps_of, instances}
 use Rattle.ea_reduce.specs.Refused.{most_maps}
-use Rattle.ea_reduce.proofs.Each.{each-map, each-range, each-like, each-all}
+use Rattle.ea_reduce.proofs.Each.{each-range, each-all}
 
 -- as many lists of one length
 length-range : {A : Type 0} (f : ℕ → List A) (c : ℕ) → ((k : ℕ) → length (f k) ≡ c) → (a n : ℕ) → length (flat_map f (range_with_len a n)) ≡ n * c

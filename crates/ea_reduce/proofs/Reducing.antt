@@ -1,7 +1,7 @@
 -- Tuples that fulfil a plan, and lists that satisfy its formulas.
 use Rattle.std.proofs.Common.{◌≡◌, ◌≢◌, ℕ, zero, suc, ◌+◌, ◌<◌, ◌≤◌, Bool, true, false, List, [], ◌∷◌, ◌++◌, length, get_or, map, inl, inr, refl, sym, ap, ◌∙◌, subst, arith, IsTrue, length-append, append-nil, zero-add}
 use Rattle.std.specs.List.{Contains}
-use Rattle.std.proofs.lemmas.List.{length-map, get_or_append_left, get_or-append_right}
+use Rattle.std.proofs.lemmas.List.{length-map, get_or_append_left, get_or-append_right, get_or_default}
 use Rattle.std.proofs.lemmas.List.Elements.{Contains-get_or}
 use Rattle.hy_bits.specs.Letter.{Letter}
 use Rattle.hy_formula.specs.Trees.{Tree, vars_below}
@@ -15,14 +15,14 @@ use Rattle.hy_formula.specs.declared.prefix.Quant.{Quant}
 use Rattle.hy_formula.specs.declared.prefix.Quant.TheVariants.{Exists, Forall}
 use Rattle.hy_formula.specs.Quantifiers.{Quantified, Each, repeated, turned}
 use Rattle.hy_formula.proofs.Shapes.{exists-shape, forall-shape, exists_forall-shape}
-use Rattle.hy_lasso.specs.Words.{no_lasso, lasso_words, AreLassos, picked, Meets, IsSatisfiable}
-use Rattle.hy_lasso.proofs.LassoWords.{any-default}
-use Rattle.hy_lasso.proofs.Negating.{negation}
+use Rattle.hy_formula.proofs.Each.{each-append, each-map, each-unmap, each-place}
+use Rattle.hy_lasso.specs.Words.{no_lasso, lasso_words, picked, Meets, IsSatisfiable}
+use Rattle.hy_lasso.proofs.Negating.{negation, are-lassos}
 use Rattle.ltl_closure.specs.Jobs.{tasks_by, AllHold}
 use Rattle.ea_reduce.specs.Plans.{PlainPlan, existentials, maps_of, lassos_for, reduction, implication, plan_tasks}
 use Rattle.ea_reduce.specs.Fulfilled.{Fulfils, IsFulfillable, IsModel, Separates, IsOfOneKind}
 use Rattle.ea_reduce.specs.Joints.{AreShortened}
-use Rattle.ea_reduce.proofs.Each.{each-map, each-unmap, each-range, each-in_range, each-append, each-place, each-both}
+use Rattle.ea_reduce.proofs.Each.{each-range, each-in_range, each-both}
 use Rattle.ea_reduce.proofs.Maps.{IsAsLong, are-as_long}
 use Rattle.ea_reduce.proofs.Jobs.{HoldsUnder, all-under, each-under, hold-append, hold-left, hold-right}
 use Rattle.ea_reduce.proofs.Same.{under-picked, shortened-words}
@@ -47,7 +47,7 @@ module _ (tuple : List (Lasso Letter)) (vars : ℕ) (count : length tuple ≡ va
   quantified Body next (Forall ∷ prefix) le all = λ x (k, lt, e).
       let y = get_or tuple k no_lasso in
       let Q : Lasso Letter → Type 0 = λ z. Quantified (Contains tuple) (λ t. Body (z ∷ t)) prefix in
-      subst Q (any-default tuple k lt no_lasso x ∙ e)
+      subst Q (get_or_default tuple k no_lasso x lt ∙ e)
       (quantified (λ t. Body (y ∷ t)) next prefix le
       (each-unmap (λ m. Body (picked tuple m)) (λ m. k ∷ m) (maps_of vars next prefix)
       (each-in_range (λ m. Body (picked tuple m)) (λ j. map (λ m. j ∷ m) (maps_of vars next prefix)) 0 vars all k (omega arith) (omega arith))))
@@ -92,12 +92,6 @@ padded : (list : List (Lasso Letter)) → 0 < length list → (xs : List (Lasso 
 padded list some [] h =
     (get_or list 0 no_lasso ∷ [], refl, (Contains-get_or list 0 no_lasso some, tt), λ j lt. absurd (omega arith))
 padded list some (x ∷ xs) h = (x ∷ xs, refl, h, λ j lt. refl)
-
-members-lassos : (list : List (Lasso Letter)) → AreLassos list → (tuple : List (Lasso Letter)) → Each (Contains list) tuple → AreLassos tuple
-members-lassos list are [] m v lt = absurd (omega arith)
-members-lassos list are (x ∷ xs) ((k, lt', e), m) zero lt =
-    let P : Lasso Letter → Type 0 = λ l. 0 < length l.cycle in subst P e (subst P (any-default list k lt' no_lasso x) (are k lt'))
-members-lassos list are (x ∷ xs) (_, m) (suc v) lt = members-lassos list are xs m v (omega arith)
 
 -- ---- prefixes
 
@@ -219,7 +213,7 @@ module _ (prefix : List Quant) (body : Tree) (bound : IsTrue (vars_below (length
         tuple,
         record {
           count = full;
-          lassos = members-lassos list are tuple members;
+          lassos = are-lassos list are tuple members;
           hold =
               hold-append endless (lasso_words tuple) (tasks_by body true (maps_of vars 0 prefix)) []
               (said body true prefix bound tuple vars 0
@@ -276,7 +270,7 @@ module _ (first : List Quant) (body : Tree) (second : List Quant) (other : Tree)
         tuple,
         record {
           count = full;
-          lassos = members-lassos list are tuple members;
+          lassos = are-lassos list are tuple members;
           hold =
               hold-append endless (lasso_words tuple) (tasks_by body true (maps_of all 0 first)) (tasks_by other false (maps_of all next more) ++ [])
               (said body true first bound tuple all 0 (holds tuple all 0 full members

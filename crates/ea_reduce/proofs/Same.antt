@@ -1,48 +1,26 @@
 -- A body under a map says of a tuple what it says of the lassos that the map picks.
-use Rattle.std.proofs.Common.{◌≡◌, ℕ, zero, suc, ◌<◌, ◌↔◌, Bool, List, [], ◌∷◌, ◌++◌, length, get_or, map, inl, inr, refl, sym, ap, ◌∙◌, subst, arith, IsTrue, length-append, ◌+◌}
+use Rattle.std.proofs.Common.{◌≡◌, ℕ, zero, suc, ◌<◌, ◌↔◌, Bool, List, [], ◌∷◌, ◌++◌, length, get_or, map, inl, inr, refl, sym, ap, ◌∙◌, subst, arith, IsTrue, length-append, ◌+◌, ap₂}
 use Rattle.std.specs.FinSet.{contains}
 use Rattle.std.proofs.Math.Path.{fun_ext}
-use Rattle.std.proofs.lemmas.Bool.{and_parts, ltb-true, cases_lt}
-use Rattle.std.proofs.lemmas.List.{get_or_past, get_or_append_left}
+use Rattle.std.proofs.lemmas.Bool.{cases_lt}
+use Rattle.std.proofs.lemmas.List.{get_or_past, get_or_append_left, get_or_default}
 use Rattle.std.proofs.Math.Seq.{get_or-append_seam}
 use Rattle.hy_bits.specs.Letter.{Letter}
-use Rattle.hy_formula.specs.Trees.{Tree, always, never, atom, not, next, finally, globally, and, or, implies, iff, until, release, weak, vars_below}
+use Rattle.hy_formula.specs.Trees.{Tree, and, vars_below}
 use Rattle.hy_formula.specs.Temporal.{endless, Words, SatisfiesAt}
 use Rattle.hy_formula.specs.Normals.{Signed}
-use Rattle.hy_formula.specs.Renamed.{renamed, with_variables}
+use Rattle.hy_formula.specs.Renamed.{with_variables}
 use Rattle.hy_formula.specs.Lassos.{Lasso}
-use Rattle.hy_formula.proofs.Renaming.{renamed-same}
+use Rattle.hy_formula.proofs.Renaming.{renamed-same, renamed-alike}
 use Rattle.hy_lasso.specs.Words.{no_lasso, letter_at, lasso_words, picked, Meets}
-use Rattle.hy_lasso.proofs.LassoWords.{any-default}
 use Rattle.ltl_closure.specs.Jobs.{variable_in}
 use Rattle.hy_lasso.specs.NormalForms.{IsNormal}
 use Rattle.ea_reduce.specs.declared.joint.Joint.{Joint}
 use Rattle.ea_reduce.specs.Joints.{AreShortened, lasso_of, lassos_from}
 use Rattle.ea_reduce.proofs.Jobs.{HoldsUnder}
 
-both : {A B C : Type 0} (F : A → B → C) {a a' : A} {b b' : B} → a ≡ a' → b ≡ b' → F a b ≡ F a' b'
-both F {a' = a'} {b = b} p q = ap (λ x. F x b) p ∙ ap (λ y. F a' y) q
-
--- Variables are renamed alike where they are below n.
-module _ (n : ℕ) (g h : ℕ → ℕ) (alike : (v : ℕ) → v < n → g v ≡ h v) where
-  pub renamed-alike : (f : Tree) → IsTrue (vars_below n f) → renamed g f ≡ renamed h f
-  renamed-alike always b = refl
-  renamed-alike never b = refl
-  renamed-alike (atom a v) b = ap (atom a) (alike v (ltb-true v n b))
-  renamed-alike (not f) b = ap not (renamed-alike f b)
-  renamed-alike (next f) b = ap next (renamed-alike f b)
-  renamed-alike (finally f) b = ap finally (renamed-alike f b)
-  renamed-alike (globally f) b = ap globally (renamed-alike f b)
-  renamed-alike (and f k) b = let (x, y) = and_parts _ _ b in both and (renamed-alike f x) (renamed-alike k y)
-  renamed-alike (or f k) b = let (x, y) = and_parts _ _ b in both or (renamed-alike f x) (renamed-alike k y)
-  renamed-alike (implies f k) b = let (x, y) = and_parts _ _ b in both implies (renamed-alike f x) (renamed-alike k y)
-  renamed-alike (iff f k) b = let (x, y) = and_parts _ _ b in both iff (renamed-alike f x) (renamed-alike k y)
-  renamed-alike (until f k) b = let (x, y) = and_parts _ _ b in both until (renamed-alike f x) (renamed-alike k y)
-  renamed-alike (release f k) b = let (x, y) = and_parts _ _ b in both release (renamed-alike f x) (renamed-alike k y)
-  renamed-alike (weak f k) b = let (x, y) = and_parts _ _ b in both weak (renamed-alike f x) (renamed-alike k y)
-
 -- what stands at a place of a mapped list, and past its end
-mapped-at : {A B : Type 0} (f : A → B) (xs : List A) (k : ℕ) (d : A) (e : B) → f d ≡ e → get_or (map f xs) k e ≡ f (get_or xs k d)
+pub mapped-at : {A B : Type 0} (f : A → B) (xs : List A) (k : ℕ) (d : A) (e : B) → f d ≡ e → get_or (map f xs) k e ≡ f (get_or xs k d)
 mapped-at f [] k d e same = sym same
 mapped-at f (x ∷ xs) zero d e same = refl
 mapped-at f (x ∷ xs) (suc k) d e same = mapped-at f xs k d e same
@@ -60,7 +38,7 @@ module _ (tuple : List (Lasso Letter)) (m : List ℕ) where
       → SatisfiesAt endless (with_variables (variable_in m) (lasso_words tuple)) f ≡ SatisfiesAt endless (lasso_words (picked tuple m)) f
   under-map f b =
       sym (renamed-same endless (lasso_words tuple) (variable_in m) f)
-      ∙ ap (SatisfiesAt endless (lasso_words tuple)) (renamed-alike (length m) (variable_in m) spread (λ v lt. any-default m v lt 0 (length tuple)) f b)
+      ∙ ap (SatisfiesAt endless (lasso_words tuple)) (renamed-alike (length m) (variable_in m) spread (λ v lt. get_or_default m v 0 (length tuple) lt) f b)
       ∙ renamed-same endless (lasso_words tuple) spread f
       ∙ ap (λ (w : Words). SatisfiesAt endless w f) picked-words
 
@@ -119,4 +97,4 @@ lassos-more joint v n = let one : n + 1 ≡ suc n = omega arith in ap (lassos_fr
 
 -- a lasso by its parts
 pub lasso-parts : (l : Lasso Letter) (stem cycle : List Letter) → l.stem ≡ stem → l.cycle ≡ cycle → l ≡ record { stem = stem; cycle = cycle }
-lasso-parts l stem cycle p q = both (λ (s c : List Letter). record { stem = s; cycle = c }) p q
+lasso-parts l stem cycle p q = ap₂ (λ (s c : List Letter). record { stem = s; cycle = c }) p q

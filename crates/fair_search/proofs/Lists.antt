@@ -1,7 +1,7 @@
 -- The last element of a list, and what holds of an answer.
 use Rattle.std.proofs.Common.{◌≡◌, ℕ, ◌+◌, ◌-◌, ◌<◌, ◌≤◌, List, [], ◌∷◌, ◌++◌, length, get_or, take, Some, Result, Ok, Err, inl, inr, sym, ap, ◌∙◌, arith}
 use Rattle.std.specs.List.{Contains, slice_get}
-use Rattle.std.specs.Result.{OnOk, IfOk}
+use Rattle.std.specs.Result.{IfOk}
 use Rattle.std.proofs.Math.ListN.{length-append}
 use Rattle.std.proofs.Math.Seq.{get_or-append_seam}
 use Rattle.std.proofs.lemmas.Bool.{cases_eq}
@@ -24,11 +24,6 @@ pub without_last : (xs front : List ℕ) (x : ℕ) → xs ≡ front ++ x ∷ []
 without_last xs front x e =
     (λ i. take (length (e i) - 1) (e i)) ∙ take_at front (x ∷ []) _
     (omega (arith, length-append front (x ∷ [])))
-
--- what follows where the answer is not an error
-pub ok-then : {T E : Type 0} (r : Result T E) {P Q : Type 0} → (P → Q) → OnOk r P → OnOk r Q
-ok-then (Ok x) f there = f there
-ok-then (Err e) f there = tt
 
 pub ok-each : {T E : Type 0} (r : Result T E) {P Q : T → Type 0} → ((x : T) → P x → Q x) → IfOk r P
     → IfOk r Q

@@ -13,6 +13,7 @@ use Rattle.fair_search.specs.declared.pass.Place.TheVariants.{New, Open, Done}
 use Rattle.fair_search.specs.declared.pass.Pass.{Pass}
 use Rattle.fair_search.specs.Paths.{Leads}
 use Rattle.fair_search.specs.Passing.{place_of, is_seen, degree_of, looks_of, IsUp, NoStart, SettledAt, IsSettled, ExplainsDone, IsPass}
+use Rattle.fair_search.proofs.Merging.{open≢new}
 
 -- a list that rises, with a greater number last
 pub up-push : (xs : List ℕ) (n : ℕ) → IsUp xs → ((x : ℕ) → Contains xs x → x < n)
@@ -28,9 +29,6 @@ up-push xs n rises below i j lt there =
           let in_j : j < length xs = omega (arith, length-append xs (n ∷ [])) in
           omega (arith, first, get_or-append xs (n ∷ []) 0 j in_j, rises i j lt in_j)
     ]
-
-open≢new : (i : ℕ) → Open i ≡ New → ⊥
-open≢new i e = cc
 
 done≢new : (i : ℕ) → Done i ≡ New → ⊥
 done≢new i e = cc

@@ -7,10 +7,11 @@ use Rattle.std.proofs.Math.ListN.{length-append}
 use Rattle.std.proofs.Math.Nat.{mul-le-mul_right, zero-mod}
 use Rattle.std.proofs.lemmas.Nat.{mod-mul-add, div-add-mod'}
 use Rattle.std.proofs.lemmas.Bool.{cases_eq, cases_lt, cases_Bool, eqb-true, eq-eqb, true≢false, lt-ltb, le-ltb, cond-true, cond-false, false_from_ne_true}
-use Rattle.std.proofs.lemmas.List.{get_or_default, get_or_past, length-drop, get_or-drop, get_or-take, take_more, length-take, take-append-drop}
+use Rattle.std.proofs.lemmas.List.{get_or_default, get_or_past, length-drop, get_or-drop, get_or-take, take_more, length-take}
 use Rattle.std.proofs.lemmas.List.Elements.{Contains-get_or, Contains-push, Contains-append_left, Contains-append_right, Contains-push_cases}
 use Rattle.std.proofs.lemmas.Map.Keys.{IsDistinct-push}
 use Rattle.std.proofs.lemmas.Map.Made.{length-le_from_is_member}
+use Rattle.hy_base.proofs.Members.{from-take}
 use Rattle.rank_check.specs.declared.graph.Node.{Node}
 use Rattle.rank_check.specs.Graphs.{Shape, members_of, node_of, no_node, IsEdge, Postpones, place_of, IsWalk, IsFair}
 use Rattle.fair_search.specs.declared.pass.Pass.{Pass}
@@ -333,12 +334,6 @@ tour_begins g nodes untils' s some = record {
   paid = ([], tt, (λ x there. absurd (omega (arith, there.1))), omega arith);
 }
 
--- an element of a front is one of the list
-from_take : (xs : List ℕ) (i x : ℕ) → Contains (take i xs) x → Contains xs x
-from_take xs i x there =
-    let P : List ℕ → Type 0 = λ ys. Contains ys x in
-    subst P (take-append-drop i xs) (Contains-append_left (take i xs) (drop i xs) x there)
-
 module _ (g : Shape) (nodes untils' : List ℕ) (i : ℕ) (cycle : List ℕ) (at before after : ℕ)
     (is : IsTour g nodes untils' i cycle at before after) where
   module _ (lt : i < length untils') (u : ℕ) (at_u : get_or untils' i 0 ≡ u) where
@@ -444,7 +439,7 @@ module _ (g : Shape) (nodes untils' : List ℕ) (i : ℕ) (cycle : List ℕ) (at
           let P : List ℕ → ℕ → Type 0 = λ xs x. Contains xs x in
           let few = few_untils g root (met ++ u ∷ []) distinct'
           (λ x there. let Q : List ℕ → Type 0 = λ xs. Contains xs x in subst Q same
-          (from_take untils' (i + 1) x (all' x there))) in
+          (from-take untils' (i + 1) x (all' x there))) in
           cost_within (edges g) (length met) (untils g) before after last paid cost
           (omega (arith, few, length-append met (u ∷ [])))
 
@@ -455,7 +450,7 @@ module _ (g : Shape) (nodes untils' : List ℕ) (i : ℕ) (cycle : List ℕ) (at
       let (met, distinct, all, paid) = is.paid in
       let few = few_untils g root met distinct
       (λ x there. let Q : List ℕ → Type 0 = λ xs. Contains xs x in subst Q same
-      (from_take untils' i x (all x there))) in
+      (from-take untils' i x (all x there))) in
       omega (arith, paid, mul-le-mul_right (edges g) few)
 
   module _ (all : length untils' ≤ i) (same : untils' ≡ (node_of g (get_or nodes 0 0)).postponed)

@@ -3,41 +3,26 @@ use Rattle.std.proofs.Common.{◌≡◌, true, List, [], ◌∷◌, ◌++◌, ma
 use Rattle.std.specs.List.{Contains}
 use Rattle.std.specs.FinSet.{union, is_subset}
 use Rattle.std.proofs.lemmas.List.Elements.{Contains-append_left, Contains-append_right, Contains-append_cases}
-use Rattle.hy_formula.proofs.Tuples.{contains-here, contains-later, contains-cases, contains-none}
+use Rattle.std.proofs.lemmas.Bool.{and_parts, and_from}
+use Rattle.hy_base.proofs.Members.{map-from, map-of, contains-here, contains-later, contains-cases, contains-none}
 use Rattle.fin_monitor.specs.Duties.{Duty, both, joined, within, Same, Covers, AreAlike}
-use Rattle.fin_monitor.proofs.Sets.{both-true, and-true, subset-itself, subset-through, same-set, union-within}
+use Rattle.fin_monitor.proofs.Sets.{subset-itself, subset-through, same-set, union-within}
 
 pub within-itself : (d : Duty) → within d d ≡ true
-within-itself d = and-true _ _ (subset-itself d.strong) (subset-itself d.weak)
+within-itself d = and_from _ _ (subset-itself d.strong) (subset-itself d.weak)
 
 pub within-through : (d e f : Duty) → within d e ≡ true → within e f ≡ true → within d f ≡ true
 within-through d e f p q =
-    let (a, b) = both-true (is_subset d.strong e.strong) (is_subset d.weak e.weak) p in
-    let (x, y) = both-true (is_subset e.strong f.strong) (is_subset e.weak f.weak) q in
-    and-true _ _ (subset-through d.strong e.strong f.strong a x) (subset-through d.weak e.weak f.weak b y)
+    let (a, b) = and_parts (is_subset d.strong e.strong) (is_subset d.weak e.weak) p in
+    let (x, y) = and_parts (is_subset e.strong f.strong) (is_subset e.weak f.weak) q in
+    and_from _ _ (subset-through d.strong e.strong f.strong a x) (subset-through d.weak e.weak f.weak b y)
 
 pub within-both : (d e : Duty) → within d e ≡ true → within e d ≡ true → d ≡ e
 within-both d e p q =
-    let (a, b) = both-true (is_subset d.strong e.strong) (is_subset d.weak e.weak) p in
-    let (x, y) = both-true (is_subset e.strong d.strong) (is_subset e.weak d.weak) q in
+    let (a, b) = and_parts (is_subset d.strong e.strong) (is_subset d.weak e.weak) p in
+    let (x, y) = and_parts (is_subset e.strong d.strong) (is_subset e.weak d.weak) q in
     ap (λ s. let made : Duty = record { strong = s; weak = d.weak } in made) (same-set d.strong e.strong a x)
     ∙ ap (λ w. let made : Duty = record { strong = e.strong; weak = w } in made) (same-set d.weak e.weak b y)
-
-map-from : {A B : Type 0} (f : A → B) (xs : List A) (b : B) → Contains (map f xs) b → (x : A) × Contains xs x × (f x ≡ b)
-map-from f [] b c = absurd (contains-none b c)
-map-from f (x ∷ xs) b c =
-    elim (contains-cases (f x) b (map f xs) c) [
-      | inl e ↦ (x, contains-here x xs, e)
-      | inr more ↦ let (y, cy, e) = map-from f xs b more in (y, contains-later x y xs cy, e)
-    ]
-
-map-of : {A B : Type 0} (f : A → B) (xs : List A) (x : A) → Contains xs x → Contains (map f xs) (f x)
-map-of f [] x c = absurd (contains-none x c)
-map-of {A} {B} f (y ∷ ys) x c =
-    elim (contains-cases y x ys c) [
-      | inl e ↦ let P : A → Type 0 = λ z. Contains (f y ∷ map f ys) (f z) in subst P e (contains-here (f y) (map f ys))
-      | inr more ↦ contains-later (f y) (f x) (map f ys) (map-of f ys x more)
-    ]
 
 pub covers-itself : (xs : List Duty) → Covers xs xs
 covers-itself xs d c = (d, c, within-itself d)
@@ -84,9 +69,9 @@ joined-of (z ∷ zs) ys x y c d =
 
 pub both-within : (x y z w : Duty) → within x z ≡ true → within y w ≡ true → within (both x y) (both z w) ≡ true
 both-within x y z w p q =
-    let (a, b) = both-true (is_subset x.strong z.strong) (is_subset x.weak z.weak) p in
-    let (c, d) = both-true (is_subset y.strong w.strong) (is_subset y.weak w.weak) q in
-    and-true (is_subset (union x.strong y.strong) (union z.strong w.strong)) (is_subset (union x.weak y.weak) (union z.weak w.weak))
+    let (a, b) = and_parts (is_subset x.strong z.strong) (is_subset x.weak z.weak) p in
+    let (c, d) = and_parts (is_subset y.strong w.strong) (is_subset y.weak w.weak) q in
+    and_from (is_subset (union x.strong y.strong) (union z.strong w.strong)) (is_subset (union x.weak y.weak) (union z.weak w.weak))
     (union-within x.strong y.strong z.strong w.strong a c) (union-within x.weak y.weak z.weak w.weak b d)
 
 pub covers-joined : (xs xs' ys ys' : List Duty) → Covers xs xs' → Covers ys ys' → Covers (joined xs ys) (joined xs' ys')

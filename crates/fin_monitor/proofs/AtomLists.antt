@@ -1,8 +1,9 @@
 -- The atoms of bodies in lists.
-use Rattle.std.proofs.Common.{◌≡◌, ◌^◌, ◌<◌, ◌≤◌, ℕ, zero, suc, Bool, true, false, ◌&&◌, cond, nat_eq, List, [], ◌∷◌, ◌++◌, length, take, map, get_or, Result, Ok, Err, refl, sym, ap, ◌∙◌, subst, arith, length-append}
+use Rattle.std.proofs.Common.{◌≡◌, ◌^◌, ◌<◌, ◌≤◌, ℕ, Bool, true, false, ◌&&◌, cond, nat_eq, List, [], ◌∷◌, ◌++◌, length, take, map, get_or, Result, Ok, Err, sym, ap, ◌∙◌, subst, arith, length-append}
 use Rattle.std.specs.List.{list_any}
 use Rattle.std.specs.Result.{IfErr, IsErrAnd}
-use Rattle.std.proofs.lemmas.List.{get_or-map, length-map}
+use Rattle.std.proofs.lemmas.List.{get_or-map, length-map, take-map}
+use Rattle.std.proofs.lemmas.List.Folds.{list_any_at}
 use Rattle.hy_base.specs.declared.limit.Kind.TheVariants as kind
 use Rattle.hy_formula.specs.declared.atom.Atom.{Atom}
 use Rattle.hy_formula.specs.Trees.{Tree, always, never, atom, not, next, finally, globally, and, or, implies, iff, until, release, weak}
@@ -12,18 +13,7 @@ use Rattle.fin_monitor.specs.Codes.{IndexedAtom, plain_atom, is_atom, with_atom,
 use Rattle.fin_monitor.specs.Lefts.{IsAtomMask}
 use Rattle.fin_monitor.specs.Limits.{IsAtomsRefusal}
 use Rattle.fin_monitor.proofs.CodeBits.{letter-at, mask-at}
-use Rattle.fin_monitor.proofs.Sets.{or-left, or-right}
 use Rattle.hy_bits.specs.Binary.{has_one}
-
-pub any-at : {A : Type 0} (p : A → Bool) (xs : List A) (i : ℕ) (d : A) → i < length xs → p (get_or xs i d) ≡ true → list_any p xs ≡ true
-any-at p [] i d lt e = absurd (omega arith)
-any-at p (x ∷ xs) zero d lt e = or-left (p x) (list_any p xs) e
-any-at p (x ∷ xs) (suc i) d lt e = or-right (p x) (list_any p xs) (any-at p xs i d (omega arith) e)
-
-map-take : {A B : Type 0} (f : A → B) (i : ℕ) (xs : List A) → map f (take i xs) ≡ take i (map f xs)
-map-take f zero xs = refl
-map-take f (suc i) [] = refl
-map-take f (suc i) (x ∷ xs) = ap (λ l. f x ∷ l) (map-take f i xs)
 
 module _ (atoms : List Atom) (a : Atom) (i : ℕ) (x : Atom) (lt : i < length atoms) (at : x ≡ get_or atoms i x) (is : (nat_eq x.name a.name && nat_eq x.var a.var) ≡ true) where
   inside : i < length (map plain_atom atoms)
@@ -35,11 +25,11 @@ module _ (atoms : List Atom) (a : Atom) (i : ℕ) (x : Atom) (lt : i < length at
       subst P (ap plain_atom at ∙ sym (get_or-map plain_atom atoms i x (plain_atom x) lt)) is
 
   pub atom-known : list_any (is_atom a.name a.var) (map plain_atom atoms) ≡ true
-  atom-known = any-at (is_atom a.name a.var) (map plain_atom atoms) i (plain_atom x) inside there
+  atom-known = list_any_at (is_atom a.name a.var) (map plain_atom atoms) i (plain_atom x) inside there
 
   module _ (none : list_any (is_atom a.name a.var) (map plain_atom (take i atoms)) ≡ false) where
     before : list_any (is_atom a.name a.var) (take i (map plain_atom atoms)) ≡ false
-    before = ap (list_any (is_atom a.name a.var)) (sym (map-take plain_atom i atoms)) ∙ none
+    before = ap (list_any (is_atom a.name a.var)) (take-map plain_atom i atoms) ∙ none
 
     pub atom-bit : (code : ℕ) → letter_of (map plain_atom atoms) code a.name a.var ≡ has_one code i
     atom-bit code = letter-at 0 i (map plain_atom atoms) code a.name a.var (plain_atom x) inside before there ∙ ap (has_one code) (omega arith)

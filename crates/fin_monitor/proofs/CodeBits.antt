@@ -3,7 +3,7 @@ use Rattle.std.proofs.Common.{◌≡◌, ◌⊎◌, ◌+◌, ◌*◌, ◌/◌, �
 use Rattle.std.specs.Int.{bit_at}
 use Rattle.std.specs.List.{list_any}
 use Rattle.std.proofs.Math.Nat.{pow-succ', mod-eq_of_lt}
-use Rattle.std.proofs.lemmas.Bool.{eqb-true}
+use Rattle.std.proofs.lemmas.Bool.{eqb-true, or_cases, and_parts}
 use Rattle.std.proofs.lemmas.Nat.{pow_below}
 use Rattle.std.proofs.lemmas.Nat.Bits.{bit_at-suc, bit_at_lowest, bit_at-zero, bit_at_or, bit_at_and, bit_at-lt, bit_at-pow_same, same_from_bits}
 use Rattle.std.proofs.Math.Pow.{pow_mono}
@@ -11,7 +11,6 @@ use Rattle.hy_bits.specs.Binary.{has_one}
 use Rattle.hy_formula.specs.declared.atom.Atom.{Atom}
 use Rattle.fin_monitor.specs.Codes.{IndexedAtom, plain_atom, is_atom, one_if, code_of, letter_from, letter_of}
 use Rattle.fin_monitor.specs.Lefts.{IsAtomMask, IsPart}
-use Rattle.fin_monitor.proofs.Sets.{both-true, or-cases}
 
 pub one_if-lt : (b : Bool) → one_if b < 2
 one_if-lt true = omega arith
@@ -50,12 +49,12 @@ from-code : (letter : ℕ → ℕ → Bool) (code : ℕ) (atoms : List IndexedAt
     → (name variable : ℕ) → list_any (is_atom name variable) atoms ≡ true → letter_from i atoms code name variable ≡ letter name variable
 from-code letter code [] i same name variable is = absurd (cc)
 from-code letter code (a ∷ atoms) i same name variable is =
-    step (is_atom name variable a) refl (or-cases (is_atom name variable a) (list_any (is_atom name variable) atoms) is)
+    step (is_atom name variable a) refl (or_cases (is_atom name variable a) (list_any (is_atom name variable) atoms) is)
     (from-code letter code atoms (suc i) (λ j. ap (has_one code) (omega arith) ∙ same (suc j) ∙ has-later (letter a.name a.variable) (code_of letter atoms) j) name variable)
   where
     here : is_atom name variable a ≡ true → has_one code i ≡ letter name variable
     here e =
-        let (n, v) = both-true (nat_eq a.name name) (nat_eq a.variable variable) e in
+        let (n, v) = and_parts (nat_eq a.name name) (nat_eq a.variable variable) e in
         ap (has_one code) (omega arith) ∙ same 0 ∙ has-first (letter a.name a.variable) (code_of letter atoms)
         ∙ ap (λ x. letter x a.variable) (eqb-true a.name name n) ∙ ap (letter name) (eqb-true a.variable variable v)
 

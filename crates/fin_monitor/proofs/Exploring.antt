@@ -1,5 +1,5 @@
 -- Residuals are explored, entry by entry.
-use Rattle.std.proofs.Common.{◌≡◌, ◌⊎◌, ◌+◌, ◌*◌, ◌/◌, ◌%◌, ◌^◌, ◌<◌, ◌≤◌, ℕ, zero, suc, Bool, true, false, cond, List, [], ◌∷◌, ◌++◌, length, map, get_or, Vec, Result, Ok, Err, IfOk, OnOk, IfErr, inl, inr, refl, sym, ap, ◌∙◌, subst, arith, bit_and, length-append}
+use Rattle.std.proofs.Common.{◌≡◌, ◌⊎◌, ◌+◌, ◌*◌, ◌/◌, ◌%◌, ◌^◌, ◌<◌, ◌≤◌, ℕ, zero, suc, Bool, true, false, cond, List, [], ◌∷◌, ◌++◌, length, map, get_or, Vec, Result, Ok, Err, IfOk, OnOk, inl, inr, refl, sym, ap, ◌∙◌, subst, arith, bit_and, length-append}
 use Rattle.std.proofs.Math.Nat.{div-lt_iff_lt-mul, mul-le-mul_right}
 use Rattle.std.proofs.Math.Pow.{pow_mono}
 use Rattle.std.proofs.lemmas.Nat.{div-mul-add, mod-mul-add, pow_pos, and_le_l}
@@ -16,9 +16,9 @@ use Rattle.fin_monitor.specs.Tables.{row_of, AreAllLefts, Puts, Follows, IsEntry
 use Rattle.fin_monitor.specs.declared.monitor_error.MonitorError.{MonitorError}
 use Rattle.fin_monitor.specs.declared.monitor_error.MonitorError.TheVariants.{Limit, Memory}
 use Rattle.hy_base.specs.declared.limit.Kind.TheVariants as kind
+use Rattle.hy_base.proofs.Places.{last-of}
 use Rattle.fin_monitor.proofs.FamilySteps.{family-minimal, family-single, same-family}
 use Rattle.fin_monitor.proofs.Outdoing.{alike-both_ways, step-alike}
-use Rattle.fin_monitor.proofs.Masks.{last-of}
 use Rattle.fin_monitor.proofs.Stepping.{kept-length}
 use Rattle.fin_monitor.proofs.CodeBits.{masked-agrees}
 use Rattle.fin_monitor.proofs.Unrolled.{each-asked}
@@ -235,10 +235,6 @@ on-ok A (Err e) a = tt
 pub on-ok-map : {T E A B : Type 0} (r : Result T E) → OnOk r A → (A → B) → OnOk r B
 on-ok-map (Ok x) a f = f a
 on-ok-map (Err e) a f = tt
-
-pub err-map : {T E : Type 0} (P Q : E → Type 0) (r : Result T E) → ((e : E) → P e → Q e) → IfErr r P → IfErr r Q
-err-map P Q (Ok x) f p = tt
-err-map P Q (Err e) f p = f e p
 
 -- a residual that is too many where it is put is reached
 pub put-refusal : (nodes : List Node) (root : ℕ) (atoms : List IndexedAtom) (old : List (List Duty)) (r : List Duty) (table : List ℕ) (bits : ℕ) → 2 ^ bits ≡ row_of atoms → IsExplored nodes root atoms old table → IsFamily r → IsReached nodes root r

@@ -5,12 +5,12 @@ use Rattle.std.specs.List.Sorted.{IsPermutation}
 use Rattle.std.proofs.lemmas.List.{take_more, take-append-drop, append-nil, map-append}
 use Rattle.std.proofs.lemmas.List.Elements.{Contains-append_left, Contains-append_right, Contains-push_cases}
 use Rattle.std.proofs.lemmas.List.Sorted.{IsPermutation-insert, IsPermutation-to_front, IsPermutation-trans, IsPermutation-sym, Contains-permutation}
+use Rattle.hy_base.proofs.Members.{filter-from, any-of, contains-here, contains-cases, contains-none}
 use Rattle.hy_formula.specs.Quantifiers.{Each}
-use Rattle.hy_formula.proofs.Tuples.{contains-here, contains-cases, contains-none}
+use Rattle.hy_formula.proofs.Each.{each-from, each-at}
 use Rattle.fin_monitor.specs.Duties.{Duty, both, joined, within, minimal, Same, AreAlike}
 use Rattle.fin_monitor.specs.Lefts.{kept, precedes, IsAscending, IsFamily, IsPlaceFor}
 use Rattle.fin_monitor.proofs.Alike.{within-itself, alike-itself, alike-through, alike-append}
-use Rattle.fin_monitor.proofs.Lists.{filter-from, each-at, each-from, any-of}
 use Rattle.fin_monitor.proofs.Minimal.{IsApart, with_duty, alike-kept, kept-alike, apart-kept, apart-minimal}
 use Rattle.fin_monitor.proofs.Order.{precedes-through, precedes-other, same-ascending, ascending-filter, ascending-between, ascending-later}
 

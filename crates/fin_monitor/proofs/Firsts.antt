@@ -2,12 +2,12 @@
 use Rattle.std.proofs.Common.{◌≡◌, ◌+◌, ◌<◌, ◌≤◌, ℕ, List, [], ◌∷◌, ◌++◌, length, get_or, Option, Some, None, inl, inr, refl, sym, ap, ◌∙◌, subst, arith, length-append}
 use Rattle.std.proofs.lemmas.Bool.{cases_lt}
 use Rattle.std.proofs.lemmas.List.{get_or_append_left}
+use Rattle.hy_base.proofs.Places.{last-of}
 use Rattle.ltl_closure.specs.Nodes.{Node}
 use Rattle.fin_monitor.specs.Duties.{Duty, after_each, residual_at}
 use Rattle.fin_monitor.specs.Reductions.{LeaveAlike, IsFirstRow, AreFirsts}
 use Rattle.fin_monitor.proofs.Alike.{alike-through}
 use Rattle.fin_monitor.proofs.Outdoing.{alike-both_ways}
-use Rattle.fin_monitor.proofs.Masks.{last-of}
 
 module _ (nodes : List Node) (list keys : List (List Duty)) (firsts : List ℕ) (row : ℕ) (is : AreFirsts nodes list keys firsts row) where
   pub firsts-kept : (keys' : List (List Duty)) (firsts' : List ℕ) → keys' ≡ keys → firsts' ≡ firsts → AreFirsts nodes list keys' firsts' (row + 1)

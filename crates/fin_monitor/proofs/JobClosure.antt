@@ -1,34 +1,16 @@
 -- The closure of the one job of a body.
-use Rattle.std.proofs.Common.{◌≡◌, ◌+◌, ◌<◌, inl, inr, length-append, ℕ, true, IsTrue, List, [], ◌∷◌, ◌++◌, length, get_or, refl, sym, ap, ◌∙◌, subst, arith}
+use Rattle.std.proofs.Common.{◌≡◌, ◌+◌, inl, inr, length-append, ℕ, true, IsTrue, List, [], ◌∷◌, ◌++◌, length, get_or, sym, ap, ◌∙◌, subst, arith}
 use Rattle.std.specs.List.{All}
-use Rattle.std.proofs.lemmas.Bool.{ltb-true, cases_eq}
+use Rattle.std.proofs.lemmas.Bool.{cases_eq}
 use Rattle.std.proofs.lemmas.List.{get_or_append_left}
-use Rattle.hy_formula.specs.Trees.{Tree, always, never, atom, not, next, finally, globally, and, or, implies, iff, until, release, weak, vars_below, tree_of}
-use Rattle.hy_formula.specs.Renamed.{renamed}
+use Rattle.hy_formula.specs.Trees.{Tree, vars_below, tree_of}
 use Rattle.ltl_closure.specs.declared.job.Job.{Job}
 use Rattle.ltl_closure.specs.Jobs.{Rooted, Task, tasks_by, tasks_of, task_nodes, closure_of, variable_in, IsMapped}
 use Rattle.fin_monitor.specs.OneJob.{IsSame, IsOneJob}
 use Rattle.std.proofs.lemmas.List.Elements.{All-cons, All-nil}
+use Rattle.hy_base.proofs.Places.{last-of}
+use Rattle.hy_formula.proofs.Renaming.{renamed-kept}
 use Rattle.fin_monitor.specs.Duties.{body_nodes, body_root}
-use Rattle.fin_monitor.proofs.Masks.{last-of}
-use Rattle.fin_monitor.proofs.Sets.{both-true}
-
-module _ (map : ℕ → ℕ) (n : ℕ) (same : (v : ℕ) → v < n → map v ≡ v) where
-  renamed-same : (f : Tree) → vars_below n f ≡ true → renamed map f ≡ f
-  renamed-same always b = refl
-  renamed-same never b = refl
-  renamed-same (atom a v) b = ap (atom a) (same v (ltb-true v n b))
-  renamed-same (not f) b = ap not (renamed-same f b)
-  renamed-same (next f) b = ap next (renamed-same f b)
-  renamed-same (finally f) b = ap finally (renamed-same f b)
-  renamed-same (globally f) b = ap globally (renamed-same f b)
-  renamed-same (and f g) b = let (x, y) = both-true (vars_below n f) (vars_below n g) b in λ i. and (renamed-same f x i) (renamed-same g y i)
-  renamed-same (or f g) b = let (x, y) = both-true (vars_below n f) (vars_below n g) b in λ i. or (renamed-same f x i) (renamed-same g y i)
-  renamed-same (implies f g) b = let (x, y) = both-true (vars_below n f) (vars_below n g) b in λ i. implies (renamed-same f x i) (renamed-same g y i)
-  renamed-same (iff f g) b = let (x, y) = both-true (vars_below n f) (vars_below n g) b in λ i. iff (renamed-same f x i) (renamed-same g y i)
-  renamed-same (until f g) b = let (x, y) = both-true (vars_below n f) (vars_below n g) b in λ i. until (renamed-same f x i) (renamed-same g y i)
-  renamed-same (release f g) b = let (x, y) = both-true (vars_below n f) (vars_below n g) b in λ i. release (renamed-same f x i) (renamed-same g y i)
-  renamed-same (weak f g) b = let (x, y) = both-true (vars_below n f) (vars_below n g) b in λ i. weak (renamed-same f x i) (renamed-same g y i)
 
 pub same-more : (m : List ℕ) (n : ℕ) → IsSame m n → IsSame (m ++ n ∷ []) (n + 1)
 same-more m n is =
@@ -53,7 +35,7 @@ module _ (jobs : List Job) (body : Tree) (n : ℕ) (is : IsOneJob jobs body n) (
   pub job-closure : closure_of (tasks_of jobs) ≡ record { nodes = body_nodes body; roots = body_root body ∷ [] }
   job-closure =
       ap closure_of the-tasks
-      ∙ ap (λ t. let made : Rooted = record { nodes = body_nodes t; roots = body_root t ∷ [] } in made) (renamed-same (variable_in is.map) n (λ v lt. is.same.same v lt) body bound)
+      ∙ ap (λ t. let made : Rooted = record { nodes = body_nodes t; roots = body_root t ∷ [] } in made) (renamed-kept (variable_in is.map) n (λ v lt. is.same.same v lt) body bound)
 
   pub job-nodes : task_nodes (tasks_of jobs) ≡ body_nodes body
   job-nodes = ap (λ (r : Rooted). r.nodes) job-closure

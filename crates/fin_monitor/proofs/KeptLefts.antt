@@ -1,12 +1,7 @@
 -- Lists that are kept for several codes.
-use Rattle.std.proofs.Common.{◌≡◌, ◌<◌, ℕ, zero, suc, List, [], ◌∷◌, ◌++◌, length, get_or, set, Result, Ok, Err, IfOk, sym, ap, ◌∙◌, subst, arith}
+use Rattle.std.proofs.Common.{◌≡◌, ℕ, zero, suc, List, [], ◌∷◌, ◌++◌, set, Result, Ok, Err, IfOk, sym, ap, ◌∙◌, subst}
 use Rattle.hy_formula.specs.Quantifiers.{Each}
-use Rattle.fin_monitor.proofs.Lists.{each-append}
-
-pub each-item : {A : Type 0} (P : A → Type 0) (xs : List A) (i : ℕ) (d : A) → Each P xs → i < length xs → P (get_or xs i d)
-each-item P [] i d is lt = absurd (omega arith)
-each-item P (x ∷ xs) zero d (here, is) lt = here
-each-item P (x ∷ xs) (suc i) d (here, is) lt = each-item P xs i d is (omega arith)
+use Rattle.hy_formula.proofs.Each.{each-append}
 
 pub each-set : {A : Type 0} (P : A → Type 0) (xs : List A) (i : ℕ) (x : A) → Each P xs → P x → Each P (set xs i x)
 each-set P [] i x is p = tt

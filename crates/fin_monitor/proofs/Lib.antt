@@ -1,7 +1,6 @@
 pub mod Alike
 pub mod CodeBits
 pub mod FamilySteps
-pub mod Lists
 pub mod Minimal
 pub mod Order
 pub mod Owing

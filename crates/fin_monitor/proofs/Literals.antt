@@ -1,20 +1,18 @@
 -- The literals of the closure of a body are among its atoms.
 use Rattle.std.proofs.Common.{◌≡◌, ◌<◌, ℕ, Bool, true, false, cond, List, [], ◌∷◌, ◌++◌, length, inl, inr, refl, sym, ap, ◌∙◌, subst, arith, length-append}
 use Rattle.std.specs.List.{list_any}
-use Rattle.std.proofs.lemmas.Bool.{cases_lt, eq-eqb}
+use Rattle.std.proofs.lemmas.Bool.{cases_lt, eq-eqb, or_left, or_right, and_from}
 use Rattle.std.proofs.lemmas.List.{get_or_append_left, get_or-map, length-map}
 use Rattle.std.proofs.lemmas.List.Folds.{list_any-append}
 use Rattle.hy_formula.specs.Trees as tree
 use Rattle.hy_formula.specs.Trees.{Tree}
 use Rattle.hy_formula.specs.Normals.{Normal, always, never, literal, and, or, next, weak_next, until, release, normal_form}
 use Rattle.ltl_closure.specs.Nodes as node
-use Rattle.ltl_closure.specs.Nodes.{Node, node_at}
 use Rattle.ltl_closure.specs.Closures.{same_form, with_new, with_form, closure, form_in, node_of}
 use Rattle.ltl_closure.proofs.Closing.{last-form}
 use Rattle.fin_monitor.specs.Codes.{IndexedAtom, is_atom, with_atom, with_atoms, atoms_of, code_of, letter_of}
 use Rattle.fin_monitor.specs.Duties.{body_nodes}
 use Rattle.fin_monitor.proofs.CodeBits.{letter-code}
-use Rattle.fin_monitor.proofs.Sets.{or-left, or-right, and-true}
 use Rattle.fin_monitor.proofs.Steps.{SameAtoms}
 
 abbrev pub IsKnown : List IndexedAtom → ℕ → ℕ → Type 0
@@ -41,7 +39,7 @@ with-kept n v known m u is = step (list_any (is_atom n v) known)
   where
     step : (b : Bool) → IsKnown (cond b known (known ++ record { name = n; variable = v } ∷ [])) m u
     step true = is
-    step false = list_any-append (is_atom m u) known (record { name = n; variable = v } ∷ []) ∙ or-left (list_any (is_atom m u) known) _ is
+    step false = list_any-append (is_atom m u) known (record { name = n; variable = v } ∷ []) ∙ or_left (list_any (is_atom m u) known) _ is
 
 with-there : (n v : ℕ) (known : List IndexedAtom) → IsKnown (with_atom n v known) n v
 with-there n v known = step (list_any (is_atom n v) known) refl
@@ -53,7 +51,7 @@ with-there n v known = step (list_any (is_atom n v) known) refl
     step true e = e
     step false e =
         list_any-append (is_atom n v) known (record { name = n; variable = v } ∷ [])
-        ∙ or-right (list_any (is_atom n v) known) _ (or-left (is_atom n v (record { name = n; variable = v })) false (and-true _ _ (eq-eqb n n refl) (eq-eqb v v refl)))
+        ∙ or_right (list_any (is_atom n v) known) _ (or_left (is_atom n v (record { name = n; variable = v })) false (and_from _ _ (eq-eqb n n refl) (eq-eqb v v refl)))
 
 grows : (f : Tree) (known : List IndexedAtom) → Inside known (with_atoms f known)
 grows tree.always known n v is = is

@@ -5,15 +5,15 @@ use Rattle.std.proofs.Math.Nat.{pow-succ'}
 use Rattle.std.proofs.Math.Pow.{pow_mono}
 use Rattle.std.proofs.lemmas.Bool.{cases_eq, cases_lt, eqb-true, lt-ltb, le-ltb}
 use Rattle.std.proofs.lemmas.List.{take_more, length-map, get_or_append_left, get_or-append-add, get_or-map}
+use Rattle.std.proofs.lemmas.Option.{get_or_from_slice_get}
 use Rattle.hy_bits.specs.BinaryLaws.{contains-insert_same, contains-insert_other}
 use Rattle.hy_bits.specs.Letter.{Letter as NameSet}
 use Rattle.hy_formula.specs.Quantifiers.{Each}
+use Rattle.hy_formula.proofs.Each.{each-append}
 use Rattle.fin_monitor.specs.declared.name_bit.NameBit.{NameBit}
 use Rattle.fin_monitor.specs.declared.variable_parts.VariableParts.{VariableParts}
 use Rattle.fin_monitor.specs.Codes.{IndexedAtom}
 use Rattle.fin_monitor.specs.Parts.{bits_of, bits_below, low_number, part_in, AreLowParts, ArePartsOf, AreParts}
-use Rattle.fin_monitor.proofs.Lists.{each-append}
-use Rattle.fin_monitor.proofs.Masks.{get-some}
 
 -- ---- numbers of lowest names
 
@@ -151,7 +151,7 @@ get-last (z ∷ zs) x (suc v) y e = elim (get-last zs x v y e) [ inl f ↦ inl f
 pub looked-up : (parts : VariableParts) (letter : NameSet) (number low : ℕ) → number ≡ low_number 8 letter → slice_get parts.low number ≡ Some low
     → low + bits_of parts.high letter ≡ part_in parts letter
 looked-up parts letter number low e at =
-    ap (λ n. n + bits_of parts.high letter) (sym (get-some 0 parts.low number low at) ∙ ap (λ i. get_or parts.low i 0) e)
+    ap (λ n. n + bits_of parts.high letter) (sym (get_or_from_slice_get parts.low number low 0 at) ∙ ap (λ i. get_or parts.low i 0) e)
 
 pub none-high : (names : List NameBit) (letter : NameSet) → nat_eq (length names) 0 ≡ true → bits_of names letter ≡ 0
 none-high [] letter e = refl

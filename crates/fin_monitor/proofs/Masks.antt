@@ -1,30 +1,23 @@
 -- Masks of the atoms that are asked.
-use Rattle.std.proofs.Common.{◌≡◌, ◌+◌, ◌<◌, ℕ, zero, suc, true, false, ◌||◌, List, [], ◌∷◌, ◌++◌, length, take, get_or, slice_get, Some, inl, inr, refl, sym, ap, ◌∙◌, subst, arith, bit_or}
+use Rattle.std.proofs.Common.{◌≡◌, ◌+◌, ◌<◌, ℕ, true, false, ◌||◌, List, [], ◌∷◌, ◌++◌, length, take, get_or, slice_get, Some, inl, inr, sym, ap, ◌∙◌, subst, arith, bit_or}
 use Rattle.std.specs.FinSet.{contains}
 use Rattle.std.proofs.lemmas.Bool.{cases_eq}
 use Rattle.std.proofs.lemmas.List.{take_more, get_or_append_left}
+use Rattle.std.proofs.lemmas.Option.{get_or_from_slice_get}
+use Rattle.hy_base.proofs.Places.{last-of}
+use Rattle.hy_formula.proofs.Each.{each-append}
 use Rattle.ltl_closure.specs.Nodes.{Node, node_at, PartsBelow}
 use Rattle.fin_monitor.specs.Codes.{IndexedAtom}
 use Rattle.fin_monitor.specs.Duties.{Duty}
 use Rattle.fin_monitor.specs.Lefts.{IsPart, IsAsked, AreAsked, IsAskedNode, IsAskedBelow, IsAskedAll}
 use Rattle.fin_monitor.proofs.CodeBits.{part-left, part-right, part-through}
-use Rattle.fin_monitor.proofs.Lists.{each-append}
 use Rattle.fin_monitor.proofs.Unrolled.{asked-one}
-
-pub get-some : {A : Type 0} (d : A) (xs : List A) (k : ℕ) (x : A) → slice_get xs k ≡ Some x → get_or xs k d ≡ x
-get-some d [] k x e = absurd (cc)
-get-some d (y ∷ ys) zero x e = cc
-get-some d (y ∷ ys) (suc k) x e = get-some d ys k x e
-
-pub last-of : {A : Type 0} (xs : List A) (x d : A) → get_or (xs ++ x ∷ []) (length xs) d ≡ x
-last-of [] x d = refl
-last-of (y ∷ ys) x d = last-of ys x d
 
 pub parts-either : (masks : List ℕ) (g h x y : ℕ) → slice_get masks g ≡ Some x → slice_get masks h ≡ Some y
     → IsPart (get_or masks g 0) (bit_or x y) × IsPart (get_or masks h 0) (bit_or x y)
 parts-either masks g h x y p q =
     let P : ℕ → Type 0 = λ m. IsPart m (bit_or x y) in
-    (subst P (sym (get-some 0 masks g x p)) (part-left x y), subst P (sym (get-some 0 masks h y q)) (part-right x y))
+    (subst P (sym (get_or_from_slice_get masks g x 0 p)) (part-left x y), subst P (sym (get_or_from_slice_get masks h y 0 q)) (part-right x y))
 
 below-on : (masks : List ℕ) (d : Duty) (n a b : ℕ) → IsAskedBelow masks d n a → IsPart a b → IsAskedBelow masks d n b
 below-on masks d n a b asked part k lt has = part-through (get_or masks k 0) a b (asked k lt has) part
@@ -43,7 +36,7 @@ all-more masks ds i d a b lt is asked here =
 pub below-has : (masks : List ℕ) (d : Duty) (k a x : ℕ) → IsAskedBelow masks d k a → slice_get masks k ≡ Some x → IsAskedBelow masks d (k + 1) (bit_or a x)
 below-has masks d k a x asked at q lt has =
     elim (cases_eq q k) [
-      | inl e ↦ let P : ℕ → Type 0 = λ m. IsPart m (bit_or a x) in subst P (sym (ap (λ j. get_or masks j 0) e ∙ get-some 0 masks k x at)) (part-right a x)
+      | inl e ↦ let P : ℕ → Type 0 = λ m. IsPart m (bit_or a x) in subst P (sym (ap (λ j. get_or masks j 0) e ∙ get_or_from_slice_get masks k x 0 at)) (part-right a x)
       | inr apart ↦ below-on masks d k a (bit_or a x) asked (part-left a x) q (omega arith) has
     ]
 

@@ -3,9 +3,9 @@ use Rattle.hy_formula.specs.Temporal.{Decided}
 use Rattle.std.proofs.Common.{◌≡◌, ◌⊎◌, ◌↔◌, Bool, true, false, not, ◌||◌, List, [], ◌∷◌, ◌++◌, filter, inl, inr, refl, sym, ap, ◌∙◌, subst}
 use Rattle.std.specs.List.{Contains}
 use Rattle.std.proofs.lemmas.List.Elements.{Contains-push, Contains-push_cases, Contains-append_left}
-use Rattle.hy_formula.proofs.Tuples.{contains-here, contains-later, contains-cases, contains-none}
+use Rattle.hy_base.proofs.Members.{filter-from, filter-of, all-from, all-of, contains-here, contains-later, contains-cases, contains-none}
+use Rattle.hy_base.proofs.Truths.{implied}
 use Rattle.fin_monitor.specs.Duties.{Duty, within, is_least, minimal, Same, Covers, AreAlike}
-use Rattle.fin_monitor.proofs.Lists.{filter-from, filter-of, all-from, all-of}
 use Rattle.fin_monitor.proofs.Alike.{within-itself, within-through, within-both}
 
 -- ---- the least ones
@@ -13,10 +13,6 @@ use Rattle.fin_monitor.proofs.Alike.{within-itself, within-through, within-both}
 least-if : (a b : Bool) → (not a || b) ≡ true → a ≡ true → b ≡ true
 least-if true b e h = e
 least-if false b e h = absurd (cc)
-
-if-least : (a b : Bool) → (a ≡ true → b ≡ true) → (not a || b) ≡ true
-if-least true b f = f refl
-if-least false b f = refl
 
 -- The minimal duties are those within which there is no other.
 pub minimal-least : (ds : List Duty) (d : Duty) → Contains (minimal ds) d ↔ (Contains ds d × ((e : Duty) → Contains ds e → within e d ≡ true → e ≡ d))
@@ -31,7 +27,7 @@ minimal-least ds d = (there, back)
     back (c, least) =
         filter-of (is_least ds) ds d c
         (all-of (λ (x : Duty). not (within x d) || within d x) ds
-        (λ e ce. if-least (within e d) (within d e) (λ w. let P : Duty → Type 0 = λ z. within d z ≡ true in subst P (sym (least e ce w)) (within-itself d))))
+        (λ e ce. implied (within e d) (within d e) (λ w. let P : Duty → Type 0 = λ z. within d z ≡ true in subst P (sym (least e ce w)) (within-itself d))))
 
 pub minimal-from : (ds : List Duty) (d : Duty) → Contains (minimal ds) d → Contains ds d
 minimal-from ds d c = ((minimal-least ds d).0 c).0
@@ -41,17 +37,9 @@ minimal-from ds d c = ((minimal-least ds d).0 c).0
 pub record IsApart (list : List Duty) : Type 0 where
   pub apart : (d e : Duty) → Contains list d → Contains list e → within d e ≡ true → d ≡ e
 
-pub false-not : (b : Bool) → (b ≡ true → ⊥) → b ≡ false
-false-not true n = absurd (n refl)
-false-not false n = refl
-
 pub not-true : (b : Bool) → not b ≡ true → b ≡ true → ⊥
 not-true true e h = cc
 not-true false e h = cc
-
-pub true-not : (b : Bool) → (b ≡ true → ⊥) → not b ≡ true
-true-not true n = absurd (n refl)
-true-not false n = refl
 
 -- a list that is apart, and alike another one, has the minimal ones of it
 pub apart-minimal : (list ds : List Duty) → IsApart list → AreAlike list ds → Same list (minimal ds)

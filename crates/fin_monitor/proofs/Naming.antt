@@ -3,7 +3,7 @@ use Rattle.std.proofs.Common.{◌≡◌, ◌+◌, ◌*◌, ◌^◌, ◌<◌, ◌
 use Rattle.std.specs.FinSet.{contains}
 use Rattle.std.specs.List.{list_any}
 use Rattle.std.proofs.Math.Nat.{pow-succ'}
-use Rattle.std.proofs.lemmas.Bool.{eqb-true, ltb-true}
+use Rattle.std.proofs.lemmas.Bool.{eqb-true, ltb-true, and_parts}
 use Rattle.std.proofs.lemmas.List.{take_more}
 use Rattle.hy_bits.specs.Letter.{Letter as NameSet}
 use Rattle.hy_formula.specs.declared.atom.Atom.{Atom}
@@ -12,7 +12,6 @@ use Rattle.fin_monitor.specs.declared.name_bit.NameBit.{NameBit}
 use Rattle.fin_monitor.specs.Codes.{IndexedAtom, plain_atom, is_atom, one_if, code_of, part_of, with_atoms}
 use Rattle.fin_monitor.specs.Machines.{Machine, IsMonitor}
 use Rattle.fin_monitor.specs.Parts.{bits_of, AreNamesOf}
-use Rattle.fin_monitor.proofs.Sets.{both-true}
 
 -- ---- one name more
 
@@ -87,13 +86,13 @@ module _ (p : ℕ → ℕ → Bool) (n : ℕ) (none : (name v : ℕ) → v < n �
   code-quiet (next f) known b e = code-quiet f known b e
   code-quiet (finally f) known b e = code-quiet f known b e
   code-quiet (globally f) known b e = code-quiet f known b e
-  code-quiet (and f g) known b e = let (x, y) = both-true (vars_below n f) (vars_below n g) b in code-quiet g (with_atoms f known) y (code-quiet f known x e)
-  code-quiet (or f g) known b e = let (x, y) = both-true (vars_below n f) (vars_below n g) b in code-quiet g (with_atoms f known) y (code-quiet f known x e)
-  code-quiet (implies f g) known b e = let (x, y) = both-true (vars_below n f) (vars_below n g) b in code-quiet g (with_atoms f known) y (code-quiet f known x e)
-  code-quiet (iff f g) known b e = let (x, y) = both-true (vars_below n f) (vars_below n g) b in code-quiet g (with_atoms f known) y (code-quiet f known x e)
-  code-quiet (until f g) known b e = let (x, y) = both-true (vars_below n f) (vars_below n g) b in code-quiet g (with_atoms f known) y (code-quiet f known x e)
-  code-quiet (release f g) known b e = let (x, y) = both-true (vars_below n f) (vars_below n g) b in code-quiet g (with_atoms f known) y (code-quiet f known x e)
-  code-quiet (weak f g) known b e = let (x, y) = both-true (vars_below n f) (vars_below n g) b in code-quiet g (with_atoms f known) y (code-quiet f known x e)
+  code-quiet (and f g) known b e = let (x, y) = and_parts (vars_below n f) (vars_below n g) b in code-quiet g (with_atoms f known) y (code-quiet f known x e)
+  code-quiet (or f g) known b e = let (x, y) = and_parts (vars_below n f) (vars_below n g) b in code-quiet g (with_atoms f known) y (code-quiet f known x e)
+  code-quiet (implies f g) known b e = let (x, y) = and_parts (vars_below n f) (vars_below n g) b in code-quiet g (with_atoms f known) y (code-quiet f known x e)
+  code-quiet (iff f g) known b e = let (x, y) = and_parts (vars_below n f) (vars_below n g) b in code-quiet g (with_atoms f known) y (code-quiet f known x e)
+  code-quiet (until f g) known b e = let (x, y) = and_parts (vars_below n f) (vars_below n g) b in code-quiet g (with_atoms f known) y (code-quiet f known x e)
+  code-quiet (release f g) known b e = let (x, y) = and_parts (vars_below n f) (vars_below n g) b in code-quiet g (with_atoms f known) y (code-quiet f known x e)
+  code-quiet (weak f g) known b e = let (x, y) = and_parts (vars_below n f) (vars_below n g) b in code-quiet g (with_atoms f known) y (code-quiet f known x e)
 
 below-apart : (v w : ℕ) → v < w → nat_eq v w ≡ false
 below-apart v w lt = step (nat_eq v w) refl

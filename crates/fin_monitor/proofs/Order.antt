@@ -1,16 +1,15 @@
 -- The order of duties, and families: each set of duties is one family at most.
 use Rattle.std.proofs.Common.{◌≡◌, ◌⊎◌, ◌<◌, Bool, true, false, ◌&&◌, nat_eq, nat_lt, cond, List, [], ◌∷◌, ◌++◌, filter, inl, inr, refl, sym, ap, ◌∙◌, subst, arith}
 use Rattle.std.specs.List.{Contains}
-use Rattle.std.proofs.lemmas.Bool.{cases_lt, eq-eqb, eqb-true, ltb-true, lt-ltb}
+use Rattle.std.proofs.lemmas.Bool.{cases_lt, eq-eqb, eqb-true, ltb-true, lt-ltb, or_cases, or_left, or_right, and_parts, and_from}
+use Rattle.hy_base.proofs.Members.{contains-here, contains-later, contains-cases, contains-none}
 use Rattle.hy_bits.specs.Sets.{NumberSet}
 use Rattle.hy_bits.specs.Binary.{number, ones}
 use Rattle.hy_bits.specs.BinaryLaws.{ones-number}
 use Rattle.hy_formula.specs.Quantifiers.{Each}
-use Rattle.hy_formula.proofs.Tuples.{contains-here, contains-later, contains-cases, contains-none}
+use Rattle.hy_formula.proofs.Each.{each-at}
 use Rattle.fin_monitor.specs.Duties.{Duty, Same}
 use Rattle.fin_monitor.specs.Lefts.{precedes, IsAscending}
-use Rattle.fin_monitor.proofs.Lists.{each-at}
-use Rattle.fin_monitor.proofs.Sets.{both-true, and-true, or-cases, or-left, or-right}
 
 pub same-number : (s t : NumberSet) → number s ≡ number t → s ≡ t
 same-number s t e = sym (ones-number s) ∙ ap ones e ∙ ones-number t
@@ -20,15 +19,15 @@ IsBefore d e = (number d.strong < number e.strong) ⊎ ((number d.strong ≡ num
 
 pub before-from : (d e : Duty) → precedes d e ≡ true → IsBefore d e
 before-from d e h =
-    elim (or-cases (nat_lt (number d.strong) (number e.strong)) (nat_eq (number d.strong) (number e.strong) && nat_lt (number d.weak) (number e.weak)) h) [
+    elim (or_cases (nat_lt (number d.strong) (number e.strong)) (nat_eq (number d.strong) (number e.strong) && nat_lt (number d.weak) (number e.weak)) h) [
       | inl a ↦ inl (ltb-true _ _ a)
-      | inr b ↦ let (x, y) = both-true (nat_eq (number d.strong) (number e.strong)) (nat_lt (number d.weak) (number e.weak)) b in inr (eqb-true _ _ x, ltb-true _ _ y)
+      | inr b ↦ let (x, y) = and_parts (nat_eq (number d.strong) (number e.strong)) (nat_lt (number d.weak) (number e.weak)) b in inr (eqb-true _ _ x, ltb-true _ _ y)
     ]
 
 pub before-of : (d e : Duty) → IsBefore d e → precedes d e ≡ true
-before-of d e (inl lt) = or-left (nat_lt (number d.strong) (number e.strong)) _ (lt-ltb _ _ lt)
+before-of d e (inl lt) = or_left (nat_lt (number d.strong) (number e.strong)) _ (lt-ltb _ _ lt)
 before-of d e (inr (same, lt)) =
-    or-right (nat_lt (number d.strong) (number e.strong)) _ (and-true (nat_eq (number d.strong) (number e.strong)) _ (eq-eqb _ _ same) (lt-ltb _ _ lt))
+    or_right (nat_lt (number d.strong) (number e.strong)) _ (and_from (nat_eq (number d.strong) (number e.strong)) _ (eq-eqb _ _ same) (lt-ltb _ _ lt))
 
 pub before-through : (d e f : Duty) → IsBefore d e → IsBefore e f → IsBefore d f
 before-through d e f (inl a) (inl b) = inl (omega arith)

@@ -3,11 +3,11 @@ use Rattle.std.proofs.Common.{◌≡◌, ◌+◌, ◌<◌, ℕ, zero, suc, Bool,
 use Rattle.std.specs.Cmp.{nat_cmp_total}
 use Rattle.std.specs.List.{Contains}
 use Rattle.std.specs.FinSet.{empty, contains, union, is_subset, is_subset-contains, contains-is_subset}
-use Rattle.std.proofs.lemmas.Bool.{cases_eq}
+use Rattle.std.proofs.lemmas.Bool.{cases_eq, or_cases, or_left, or_right, and_parts, and_from}
 use Rattle.std.proofs.lemmas.List.{drop_more}
 use Rattle.std.proofs.lemmas.List.Elements.{Contains-append_left, Contains-append_right, Contains-append_cases}
+use Rattle.hy_base.proofs.Members.{contains-here, contains-cases, contains-none}
 use Rattle.hy_bits.specs.Sets.{NumberSet}
-use Rattle.hy_formula.proofs.Tuples.{contains-here, contains-cases, contains-none}
 use Rattle.ltl_closure.specs.Nodes.{Node, until, node_at, PartsBelow}
 use Rattle.fin_monitor.specs.Duties.{Duty, no_duty, strongly, both, joined, within, after_node, after, after_members, after_duty, after_each, minimal, residual_step, Same, Covers, AreAlike}
 use Rattle.fin_monitor.specs.Lefts.{IsFamily}
@@ -15,7 +15,7 @@ use Rattle.fin_monitor.specs.Reductions.{Outdoes, OutdoesSome, OutdoesDuty, Outd
 use Rattle.fin_monitor.proofs.Alike.{within-itself, within-through, joined-from, joined-of, covers-itself, covers-through, same-alike, alike-through, alike-back}
 use Rattle.fin_monitor.proofs.FamilySteps.{family-minimal}
 use Rattle.fin_monitor.proofs.Minimal.{alike-minimal}
-use Rattle.fin_monitor.proofs.Sets.{and-true, both-true, has-none, has-union, or-cases, or-left, or-right}
+use Rattle.fin_monitor.proofs.Sets.{has-none, has-union}
 use Rattle.fin_monitor.proofs.Stepping.{each-append}
 use Rattle.fin_monitor.proofs.Unrolled.{after-unrolled}
 
@@ -39,12 +39,12 @@ outdoes-until nodes b k g h lt is parts so letter =
 
 within-left : (x y : Duty) → within x (both x y) ≡ true
 within-left x y =
-    and-true _ _ (contains-is_subset nat_cmp_total x.strong (union x.strong y.strong) (λ k h. (has-union x.strong y.strong k).1 (inl h)))
+    and_from _ _ (contains-is_subset nat_cmp_total x.strong (union x.strong y.strong) (λ k h. (has-union x.strong y.strong k).1 (inl h)))
     (contains-is_subset nat_cmp_total x.weak (union x.weak y.weak) (λ k h. (has-union x.weak y.weak k).1 (inl h)))
 
 within-right : (x y : Duty) → within y (both x y) ≡ true
 within-right x y =
-    and-true _ _ (contains-is_subset nat_cmp_total y.strong (union x.strong y.strong) (λ k h. (has-union x.strong y.strong k).1 (inr h)))
+    and_from _ _ (contains-is_subset nat_cmp_total y.strong (union x.strong y.strong) (λ k h. (has-union x.strong y.strong k).1 (inr h)))
     (contains-is_subset nat_cmp_total y.weak (union x.weak y.weak) (λ k h. (has-union x.weak y.weak k).1 (inr h)))
 
 union-over : (s t u : NumberSet) → is_subset s u ≡ true → is_subset t u ≡ true → is_subset (union s t) u ≡ true
@@ -54,12 +54,12 @@ union-over s t u p q =
 
 both-over : (x y z : Duty) → within x z ≡ true → within y z ≡ true → within (both x y) z ≡ true
 both-over x y z p q =
-    let (a, b) = both-true (is_subset x.strong z.strong) (is_subset x.weak z.weak) p in
-    let (c, d) = both-true (is_subset y.strong z.strong) (is_subset y.weak z.weak) q in
-    and-true _ _ (union-over x.strong y.strong z.strong a c) (union-over x.weak y.weak z.weak b d)
+    let (a, b) = and_parts (is_subset x.strong z.strong) (is_subset x.weak z.weak) p in
+    let (c, d) = and_parts (is_subset y.strong z.strong) (is_subset y.weak z.weak) q in
+    and_from _ _ (union-over x.strong y.strong z.strong a c) (union-over x.weak y.weak z.weak b d)
 
 none-within : (x : Duty) → within no_duty x ≡ true
-none-within x = and-true _ _ (contains-is_subset nat_cmp_total empty x.strong (λ k h. absurd (has-none k h))) (contains-is_subset nat_cmp_total empty x.weak (λ k h. absurd (has-none k h)))
+none-within x = and_from _ _ (contains-is_subset nat_cmp_total empty x.strong (λ k h. absurd (has-none k h))) (contains-is_subset nat_cmp_total empty x.weak (λ k h. absurd (has-none k h)))
 
 module _ (nodes : List Node) (letter : ℕ → ℕ → Bool) where
   -- Some duty of the list is within x.
@@ -110,7 +110,7 @@ outdoes-duty nodes e d some letter x c =
     let (s, w, cs, cw, is) = joined-from (after_members nodes letter d.strong n) (after_members nodes letter d.weak n) x c in
     let P : Duty → Type 0 = λ y. IsOver nodes letter (after_duty nodes letter e) y in
     let under : (f : ℕ) → f < n → (contains d.strong f || contains d.weak f) ≡ true → IsOver nodes letter (after nodes letter f) (both s w) = λ f lt has.
-    elim (or-cases (contains d.strong f) (contains d.weak f) has) [
+    elim (or_cases (contains d.strong f) (contains d.weak f) has) [
       | inl a ↦ let (z, cz, le) = members-under nodes letter d.strong n f s lt a cs in (z, cz, within-through z s (both s w) le (within-left s w))
       | inr b ↦ let (z, cz, le) = members-under nodes letter d.weak n f w lt b cw in (z, cz, within-through z w (both s w) le (within-right s w))
     ] in
@@ -119,8 +119,8 @@ outdoes-duty nodes e d some letter x c =
     let (z, cz, wz) = under f less in_d in
     let (y, cy, wy) = out letter z cz in
     (y, cy, within-through y z (both s w) wy wz)) in
-    let (p, cp, wp) = members-over nodes letter e.strong n (both s w) (λ k lt h. pick k lt (or-left (contains e.strong k) (contains e.weak k) h)) in
-    let (q, cq, wq) = members-over nodes letter e.weak n (both s w) (λ k lt h. pick k lt (or-right (contains e.strong k) (contains e.weak k) h)) in
+    let (p, cp, wp) = members-over nodes letter e.strong n (both s w) (λ k lt h. pick k lt (or_left (contains e.strong k) (contains e.weak k) h)) in
+    let (q, cq, wq) = members-over nodes letter e.weak n (both s w) (λ k lt h. pick k lt (or_right (contains e.strong k) (contains e.weak k) h)) in
     subst P is (both p q, joined-of (after_members nodes letter e.strong n) (after_members nodes letter e.weak n) p q cp cq, both-over p q (both s w) wp wq)
 
 pub outdone-by : (nodes : List Node) (list : List Duty) (e d : Duty) → Contains list e → OutdoesDuty nodes e d → OutdoneBy nodes d list

@@ -4,11 +4,11 @@ use Rattle.std.specs.Bool.{beq}
 use Rattle.std.specs.List.{Contains}
 use Rattle.std.specs.FinSet.{empty, contains}
 use Rattle.std.proofs.lemmas.Bool.{cases_eq, eq-eqb, ne_eqb}
+use Rattle.hy_base.proofs.Members.{contains-here, contains-later, contains-cases, contains-none}
 use Rattle.hy_bits.specs.Sets.{NumberSet}
 use Rattle.hy_formula.specs.Temporal.{Span, Within, Words, IsDecided}
 use Rattle.hy_formula.specs.Normals.{Normal, HoldsAt}
 use Rattle.hy_formula.specs.Quantifiers.{Each}
-use Rattle.hy_formula.proofs.Tuples.{contains-here, contains-later, contains-cases, contains-none}
 use Rattle.hy_formula.proofs.Unrolling.{until_step, release_step}
 use Rattle.ltl_closure.specs.Nodes.{Node, always, never, literal, and, or, next, weak_next, until, release, node_at, form_of, PartsBelow, Numbers}
 use Rattle.fin_monitor.specs.Duties.{Duty, no_duty, strongly, weakly, both, joined, after_node, after_below, after, after_members, after_duty, after_each}

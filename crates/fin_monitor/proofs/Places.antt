@@ -2,11 +2,11 @@
 use Rattle.std.proofs.Common.{◌≡◌, ◌+◌, ◌*◌, ◌%◌, ◌^◌, ◌<◌, ◌≤◌, ℕ, Bool, Some, List, length, drop, map, slice_get, sym, ap, ◌∙◌, subst, arith}
 use Rattle.std.proofs.Math.Nat.{mod-eq_of_lt}
 use Rattle.std.proofs.lemmas.List.{length-map}
+use Rattle.std.proofs.lemmas.Option.{get_or_from_slice_get}
 use Rattle.hy_formula.specs.declared.atom.Atom.{Atom}
 use Rattle.fin_monitor.specs.Codes.{plain_atom, one_if, code_of}
 use Rattle.fin_monitor.specs.Machines.{Machine, codes, states_of, next_state, IsMonitor}
 use Rattle.fin_monitor.proofs.CodeBits.{code-lt, codes-down, drop-all, small-code}
-use Rattle.fin_monitor.proofs.Masks.{get-some}
 use Rattle.fin_monitor.proofs.Running.{place-inside}
 
 -- ---- places
@@ -26,7 +26,7 @@ module _ (m : Machine) (is : IsMonitor m) (q code bits : ℕ) (e : bits ≡ leng
 
   module _ (n : ℕ) (at : slice_get m.table (q * 2 ^ bits % 18446744073709551616 + code) ≡ Some n) where
     pub entry-is : n ≡ next_state m q code
-    entry-is = sym (get-some 0 m.table (q * codes m + code) n (ap (λ p. slice_get m.table (p + code)) (sym shifted) ∙ at))
+    entry-is = sym (get_or_from_slice_get m.table (q * codes m + code) n 0 (ap (λ p. slice_get m.table (p + code)) (sym shifted) ∙ at))
 
     pub entry-within : n < states_of m
     entry-within = let P : ℕ → Type 0 = λ s. s < states_of m in subst P (sym entry-is) (is.inside (q * codes m + code) (place-inside m is q code lt less))

@@ -4,6 +4,8 @@ use Rattle.std.specs.Bool.{beq}
 use Rattle.std.specs.FinSet.{empty, contains, is_subset, is_subset-contains, contains-is_subset}
 use Rattle.std.specs.Cmp.{nat_cmp_total}
 use Rattle.std.proofs.lemmas.List.{length-map}
+use Rattle.std.proofs.lemmas.Bool.{and_parts}
+use Rattle.hy_base.proofs.Members.{any-from, any-of}
 use Rattle.hy_bits.specs.Sets.{NumberSet}
 use Rattle.hy_formula.specs.Trees.{Tree}
 use Rattle.hy_formula.specs.Temporal.{Span, below, Words, SatisfiesAt}
@@ -11,13 +13,13 @@ use Rattle.hy_formula.specs.Normals.{Normal, HoldsAt, normal_form}
 use Rattle.hy_formula.specs.Quantifiers.{Each}
 use Rattle.hy_formula.proofs.Deciding.{decided-below}
 use Rattle.hy_formula.proofs.Normalising.{normal-right}
+use Rattle.hy_formula.proofs.Each.{each-append, each-from, each-at}
 use Rattle.ltl_closure.specs.Nodes.{Node, always, never, literal, and, or, next, weak_next, until, release, node_at, PartsBelow, Numbers}
 use Rattle.ltl_closure.specs.Closures.{closure, form_in, node_of}
 use Rattle.ltl_closure.proofs.Closing.{grown-form, number-found, closure-numbers}
 use Rattle.fin_monitor.specs.Duties.{Duty, no_duty, strongly, weakly, both, joined, after_node, after_below, after, after_members, after_duty, after_each, within, minimal, residual_after, accepts, body_nodes, body_root}
-use Rattle.fin_monitor.proofs.Sets.{Has, has-cases, has-none, has-union, both-true}
+use Rattle.fin_monitor.proofs.Sets.{Has, has-cases, has-none, has-union}
 use Rattle.fin_monitor.proofs.Minimal.{minimal-from, minimal-under}
-use Rattle.fin_monitor.proofs.Lists.{each-append, each-from, each-at, any-from, any-of}
 use Rattle.fin_monitor.proofs.Owing.{IsDone, SomeDone, some-done, done-one, done-strongly, each-right}
 
 -- ---- members stay below the length of the closure
@@ -98,7 +100,7 @@ module _ (nodes : List Node) (form : ℕ → Normal) (numbers : Numbers nodes fo
 module _ (span : Span) (words : Words) (form : ℕ → Normal) (j : ℕ) where
   done-within : (d e : Duty) → within d e ≡ true → IsDone span words form j e → IsDone span words form j d
   done-within d e w done =
-      let (a, b) = both-true (is_subset d.strong e.strong) (is_subset d.weak e.weak) w in
+      let (a, b) = and_parts (is_subset d.strong e.strong) (is_subset d.weak e.weak) w in
       record {
         strong = λ k h. done.strong k (is_subset-contains nat_cmp_total d.strong e.strong a k h);
         weak = λ k h. done.weak k (is_subset-contains nat_cmp_total d.weak e.weak b k h);

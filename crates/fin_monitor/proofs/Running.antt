@@ -1,9 +1,10 @@
 -- The machine accepts as the residuals do.
 use Rattle.std.proofs.Common.{◌≡◌, ◌⊎◌, ◌↔◌, ◌+◌, ◌-◌, ◌*◌, ◌%◌, ◌^◌, ◌<◌, ◌≤◌, ℕ, zero, suc, Bool, true, false, cond, IsTrue, List, [], ◌∷◌, ◌++◌, length, map, replicate, get_or, inl, inr, refl, sym, ap, ◌∙◌, subst, arith, length-append}
-use Rattle.std.proofs.Math.Nat.{mul-le-mul_right, mul-le-mul_left}
+use Rattle.std.proofs.Math.Nat.{mul-le-mul_left}
 use Rattle.std.proofs.lemmas.Nat.{div-mul-add, mod-mul-add}
 use Rattle.std.proofs.lemmas.Bool.{cases_lt}
-use Rattle.std.proofs.lemmas.List.{get_or_append_left, get_or-map, length-map}
+use Rattle.std.proofs.lemmas.List.{get_or_append_left, get_or-map, length-map, get_or-append-add, length-replicate}
+use Rattle.hy_base.proofs.Places.{last-of, below-row}
 use Rattle.hy_formula.specs.Trees.{Tree, vars_below}
 use Rattle.hy_formula.specs.Temporal.{Words}
 use Rattle.hy_finite.specs.declared.lengths.Lengths.{Lengths}
@@ -18,26 +19,13 @@ use Rattle.fin_monitor.specs.Tables.{row_of, IsAutomaton, IsTableOf, IsSettling,
 use Rattle.fin_monitor.proofs.CodeBits.{code-lt}
 use Rattle.fin_monitor.proofs.Exploring.{same-through, same-back, row-some}
 use Rattle.fin_monitor.proofs.Literals.{body-atoms}
-use Rattle.fin_monitor.proofs.Masks.{last-of}
 use Rattle.fin_monitor.proofs.Residuing.{monitoring}
 use Rattle.fin_monitor.proofs.Steps.{same-step, same-accepts, step-atoms, SameAtoms}
-
-behind : {A : Type 0} (xs ys : List A) (k : ℕ) (d : A) → get_or (xs ++ ys) (length xs + k) d ≡ get_or ys k d
-behind [] ys k d = ap (λ q. get_or ys q d) (omega arith)
-behind (x ∷ xs) ys k d = let e : suc (length xs) + k ≡ suc (length xs + k) = omega arith in ap (λ q. get_or (x ∷ xs ++ ys) q d) e ∙ behind xs ys k d
 
 each-copy : (w n k : ℕ) → k < w → get_or (replicate w n) k 0 ≡ n
 each-copy zero n k lt = absurd (omega arith)
 each-copy (suc w) n zero lt = refl
 each-copy (suc w) n (suc k) lt = each-copy w n k (omega arith)
-
-copies : (w n : ℕ) → length (replicate w n) ≡ w
-copies zero n = refl
-copies (suc w) n = ap suc (copies w n)
-
--- place c of row q is in the first rows
-pub in-rows : (q c n w : ℕ) → q < n → c < w → q * w + c < n * w
-in-rows q c n w lt less = let h : suc q * w ≤ n * w = mul-le-mul_right w lt in let e : suc q * w ≡ q * w + w = omega arith in omega arith
 
 module _ (nodes : List Node) (root : ℕ) (atoms : List IndexedAtom) (a : Automaton) (is : IsAutomaton nodes root atoms a) where
   pub states : length a.accepting ≡ length is.list
@@ -61,7 +49,7 @@ module _ (nodes : List Node) (root : ℕ) (atoms : List IndexedAtom) (a : Automa
   follows q code lt less =
       let w : ℕ = row_of atoms in
       let p : ℕ = q * w + code in
-      let inside : p < length a.table = omega (arith, in-rows q code (length is.list) w lt less, is.whole) in
+      let inside : p < length a.table = omega (arith, below-row w code q (length is.list) less lt, is.whole) in
       let entry = is.explored.entries p inside in
       let B : ℕ → ℕ → Type 0 = λ x y. Same (residual_step nodes (letter_of atoms x) (residual_at is.list y)) (residual_at is.list (get_or a.table p 0)) in
       (entry.inside, subst (λ x. B x q) (mod-mul-add q w code less) (subst (B (p % w)) (div-mul-add q w code less) entry.follows))
@@ -108,7 +96,7 @@ module _ (nodes : List Node) (root : ℕ) (atoms : List IndexedAtom) (a : Automa
     last-row code lt =
         ap (λ l. get_or l (n * w + code) 0) same-table
         ∙ ap (λ k. get_or (map (standing set.settled n) a.table ++ replicate w n) (k + code) 0) (sym (length-map a.table (standing set.settled n) ∙ whole))
-        ∙ behind (map (standing set.settled n) a.table) (replicate w n) code 0
+        ∙ get_or-append-add (map (standing set.settled n) a.table) (replicate w n) code 0
         ∙ each-copy w n code lt
 
     pub row-is : codes m ≡ w
@@ -117,12 +105,12 @@ module _ (nodes : List Node) (root : ℕ) (atoms : List IndexedAtom) (a : Automa
     pub long : length m.table ≡ states_of m * codes m
     long =
         ap length same-table ∙ length-append (map (standing set.settled n) a.table) (replicate w n)
-        ∙ (λ i. (length-map a.table (standing set.settled n) ∙ whole) i + copies w n i)
+        ∙ (λ i. (length-map a.table (standing set.settled n) ∙ whole) i + length-replicate w n i)
         ∙ (let e : n * w + w ≡ (n + 1) * w = omega arith in e)
         ∙ (λ i. (sym count) i * (sym row-is) i)
 
     pub small : w ≤ 65536 → length m.table ≤ 4259840
-    small few = omega (arith, ap length same-table, length-append (map (standing set.settled n) a.table) (replicate w n), length-map a.table (standing set.settled n), copies w n, table-of.few)
+    small few = omega (arith, ap length same-table, length-append (map (standing set.settled n) a.table) (replicate w n), length-map a.table (standing set.settled n), length-replicate w n, table-of.few)
 
     pub inside : (p : ℕ) → p < length m.table → get_or m.table p 0 < states_of m
     inside p lt =
@@ -132,7 +120,7 @@ module _ (nodes : List Node) (root : ℕ) (atoms : List IndexedAtom) (a : Automa
               subst P (sym (first-rows p less)) (step (flag_at set.settled (get_or a.table p 0)) (table-of.states p less))
           | inr more ↦
               let code : ℕ = p - length a.table in
-              let less : code < w = omega (arith, ap length same-table, length-append (map (standing set.settled n) a.table) (replicate w n), length-map a.table (standing set.settled n), copies w n) in
+              let less : code < w = omega (arith, ap length same-table, length-append (map (standing set.settled n) a.table) (replicate w n), length-map a.table (standing set.settled n), length-replicate w n) in
               let at : n * w + code ≡ p = omega (arith, whole) in
               let P : ℕ → Type 0 = λ x. x < states_of m in
               subst P (sym (ap (λ k. get_or m.table k 0) (sym at) ∙ last-row code less)) (omega (arith, count))
@@ -162,7 +150,7 @@ module _ (nodes : List Node) (root : ℕ) (atoms : List IndexedAtom) (a : Automa
       one-step : (f q code e : ℕ) → q < n → code < w → e ≡ get_or a.table (q * w + code) 0 → StandsFor f q → StandsFor (next_state m f code) e
       one-step f q code e lt less at (inl same) =
           let at-p : next_state m f code ≡ standing set.settled n e =
-          (λ i. get_or m.table (same i * row-is i + code) 0) ∙ first-rows (q * w + code) (omega (arith, in-rows q code n w lt less, whole)) ∙ ap (standing set.settled n) (sym at) in
+          (λ i. get_or m.table (same i * row-is i + code) 0) ∙ first-rows (q * w + code) (omega (arith, below-row w code q n less lt, whole)) ∙ ap (standing set.settled n) (sym at) in
           step (flag_at set.settled e) refl at-p
         where
           step : (b : Bool) → flag_at set.settled e ≡ b → next_state m f code ≡ cond b n e → StandsFor (next_state m f code) e
@@ -236,7 +224,7 @@ small-table body a is =
 -- ---- a monitor
 
 pub place-inside : (m : Machine) → IsMonitor m → (q code : ℕ) → q < states_of m → code < codes m → q * codes m + code < length m.table
-place-inside m is q code lt less = omega (arith, in-rows q code (states_of m) (codes m) lt less, is.long)
+place-inside m is q code lt less = omega (arith, below-row (codes m) code q (states_of m) less lt, is.long)
 
 pub few-states : (m : Machine) → IsMonitor m → states_of m ≤ 4259840
 few-states m is = let some : 1 ≤ codes m = row-some m.atoms in let h : states_of m * 1 ≤ states_of m * codes m = mul-le-mul_left (states_of m) some in omega (arith, h, is.long, is.small)

@@ -1,9 +1,10 @@
 -- Members of sets, and sets within others.
-use Rattle.std.proofs.Common.{◌≡◌, ℕ, ◌⊎◌, ◌↔◌, Bool, true, false, ◌||◌, ◌&&◌, inl, inr, refl, sym, ◌∙◌}
+use Rattle.std.proofs.Common.{◌≡◌, ℕ, ◌⊎◌, ◌↔◌, true, false, inl, inr, sym, ◌∙◌}
 use Rattle.std.specs.Ordering.{nat_cmp}
 use Rattle.std.specs.Cmp.{nat_cmp_total}
 use Rattle.std.specs.FinSet.{empty, insert, contains, contains-empty, union, contains-union, is_subset, is_subset-contains, contains-is_subset, same_set, nat_cmp-IsAntisymmetric}
-use Rattle.std.proofs.lemmas.Bool.{cases_eq}
+use Rattle.std.proofs.lemmas.Bool.{cases_eq, or_cases, or_left, or_right}
+use Rattle.hy_base.proofs.Truths.{same-truth}
 use Rattle.hy_bits.specs.Sets.{NumberSet}
 use Rattle.hy_bits.specs.BinaryLaws.{contains-insert_same, contains-insert_other}
 
@@ -20,30 +21,10 @@ has-cases s k q h =
 pub has-none : (k : ℕ) → ¬ Has empty k
 has-none k h = let e : false ≡ true = sym (contains-empty nat_cmp k) ∙ h in cc
 
-pub or-cases : (a b : Bool) → (a || b) ≡ true → (a ≡ true) ⊎ (b ≡ true)
-or-cases true b e = inl refl
-or-cases false b e = inr e
-
-pub or-left : (a b : Bool) → a ≡ true → (a || b) ≡ true
-or-left true b e = refl
-or-left false b e = absurd (cc)
-
-pub or-right : (a b : Bool) → b ≡ true → (a || b) ≡ true
-or-right true b e = refl
-or-right false b e = e
-
-pub both-true : (a b : Bool) → (a && b) ≡ true → (a ≡ true) × (b ≡ true)
-both-true true b e = (refl, e)
-both-true false b e = absurd (cc)
-
-pub and-true : (a b : Bool) → a ≡ true → b ≡ true → (a && b) ≡ true
-and-true true b e f = f
-and-true false b e f = e
-
 pub has-union : (s t : NumberSet) (k : ℕ) → Has (union s t) k ↔ (Has s k ⊎ Has t k)
 has-union s t k = (
-  λ h. or-cases (contains s k) (contains t k) (sym (contains-union nat_cmp_total s t k) ∙ h),
-  λ h. contains-union nat_cmp_total s t k ∙ elim h [ inl a ↦ or-left (contains s k) (contains t k) a | inr b ↦ or-right (contains s k) (contains t k) b ],
+  λ h. or_cases (contains s k) (contains t k) (sym (contains-union nat_cmp_total s t k) ∙ h),
+  λ h. contains-union nat_cmp_total s t k ∙ elim h [ inl a ↦ or_left (contains s k) (contains t k) a | inr b ↦ or_right (contains s k) (contains t k) b ],
 )
 
 pub subset-itself : (s : NumberSet) → is_subset s s ≡ true
@@ -56,12 +37,7 @@ subset-through s t u p q =
 pub same-set : (s t : NumberSet) → is_subset s t ≡ true → is_subset t s ≡ true → s ≡ t
 same-set s t a b =
     same_set nat_cmp_total nat_cmp-IsAntisymmetric s t
-    (λ q. both-ways (contains s q) (contains t q) (is_subset-contains nat_cmp_total s t a q) (is_subset-contains nat_cmp_total t s b q))
-  where
-    both-ways : (a b : Bool) → (a ≡ true → b ≡ true) → (b ≡ true → a ≡ true) → a ≡ b
-    both-ways true b f g = sym (f refl)
-    both-ways false true f g = g refl
-    both-ways false false f g = refl
+    (λ q. same-truth (contains s q) (contains t q) (is_subset-contains nat_cmp_total s t a q) (is_subset-contains nat_cmp_total t s b q))
 
 pub union-within : (s t u v : NumberSet) → is_subset s u ≡ true → is_subset t v ≡ true → is_subset (union s t) (union u v) ≡ true
 union-within s t u v p q =

@@ -1,8 +1,9 @@
 -- What members and residuals leave after the joint letter of a code, by families.
-use Rattle.std.proofs.Common.{◌≡◌, ◌+◌, ◌<◌, ◌≤◌, ℕ, zero, suc, Bool, true, false, cond, List, [], ◌∷◌, ◌++◌, length, take, get_or, slice_get, Some, set, Result, Ok, Err, IfOk, Vec, vec_items, ◌≢◌, bit_and, inl, inr, refl, sym, ap, ◌∙◌, subst, arith, append_assoc}
+use Rattle.std.proofs.Common.{◌≡◌, ◌+◌, ◌<◌, ◌≤◌, ℕ, zero, suc, Bool, true, false, cond, List, [], ◌∷◌, ◌++◌, length, take, get_or, slice_get, Some, set, Vec, vec_items, ◌≢◌, bit_and, inl, inr, refl, sym, ap, ◌∙◌, subst, arith, append_assoc}
 use Rattle.std.specs.FinSet.{contains}
 use Rattle.std.proofs.lemmas.Bool.{cases_eq}
 use Rattle.std.proofs.lemmas.List.{take_more, get_or_append_left, append-nil, get_or-set_same, get_or-set_other, length-set}
+use Rattle.hy_base.proofs.Places.{last-of}
 use Rattle.hy_bits.specs.Sets.{NumberSet}
 use Rattle.ltl_closure.specs.Nodes.{Node, and, or, until, release, node_at}
 use Rattle.fin_monitor.specs.Codes.{IndexedAtom, letter_of}
@@ -10,7 +11,6 @@ use Rattle.fin_monitor.specs.Duties.{Duty, no_duty, strongly, weakly, joined, af
 use Rattle.fin_monitor.specs.Lefts.{IsFamily, IsFamilyOf, IsLeft, AreLefts, IsUnionsBelow, IsStepOf, IsAsked, kept_lists, list_at}
 use Rattle.fin_monitor.proofs.Alike.{alike-itself, alike-through, alike-append, alike-joined}
 use Rattle.fin_monitor.proofs.FamilySteps.{alike-more, family-none, family-single}
-use Rattle.fin_monitor.proofs.Masks.{last-of}
 use Rattle.fin_monitor.proofs.Unrolled.{left-by, family-like}
 
 -- the list at a place
@@ -75,10 +75,6 @@ module _ (nodes : List Node) (atoms : List IndexedAtom) (code k : ℕ) (lt : k <
       (alike-append (joined ys xs) (joined (after nodes letter h) (after nodes letter g)) (joined (weakly k ∷ []) ys) (joined (weakly k ∷ []) (after nodes letter h))
       (alike-joined ys (after nodes letter h) xs (after nodes letter g) y x)
       (alike-joined (weakly k ∷ []) (weakly k ∷ []) ys (after nodes letter h) (alike-itself (weakly k ∷ [])) y)))
-
-pub ok-map : {T E : Type 0} (P Q : T → Type 0) (r : Result T E) → ((x : T) → P x → Q x) → IfOk r P → IfOk r Q
-ok-map P Q (Ok x) f p = f x p
-ok-map P Q (Err e) f p = tt
 
 -- ---- unions
 

@@ -4,11 +4,11 @@ use Rattle.std.specs.Bool.{beq}
 use Rattle.std.specs.List.{Contains}
 use Rattle.std.specs.FinSet.{empty, contains, is_subset}
 use Rattle.std.proofs.lemmas.List.Elements.{Contains-append_left, Contains-append_right, Contains-append_cases}
+use Rattle.hy_base.proofs.Members.{any-from, any-of, contains-here, contains-later, contains-cases, contains-none}
+use Rattle.hy_base.proofs.Truths.{same-truth}
 use Rattle.hy_bits.specs.Sets.{NumberSet}
-use Rattle.hy_formula.proofs.Tuples.{contains-here, contains-later, contains-cases, contains-none}
 use Rattle.ltl_closure.specs.Nodes.{Node, always, never, literal, and, or, next, weak_next, until, release, node_at}
 use Rattle.fin_monitor.specs.Duties.{Duty, no_duty, strongly, weakly, joined, after_node, after_below, after, after_members, after_duty, after_each, minimal, residual_step, accepts, Same}
-use Rattle.fin_monitor.proofs.Lists.{any-from, any-of}
 use Rattle.fin_monitor.proofs.Minimal.{minimal-least}
 
 each-from_all : (nodes : List Node) (letter : ℕ → ℕ → Bool) (ds : List Duty) (d : Duty) → Contains (after_each nodes letter ds) d → (x : Duty) × Contains ds x × Contains (after_duty nodes letter x) d
@@ -43,15 +43,10 @@ same-step nodes letter r s same d = (one r s same, one s r (λ q. ((same q).1, (
 
 -- equal sets accept alike
 pub same-accepts : (r s : List Duty) → Same r s → accepts r ≡ accepts s
-same-accepts r s same = both (accepts r) (accepts s) (go r s (λ d. (same d).0)) (go s r (λ d. (same d).1))
+same-accepts r s same = same-truth (accepts r) (accepts s) (go r s (λ d. (same d).0)) (go s r (λ d. (same d).1))
   where
     go : (x y : List Duty) → ((d : Duty) → Contains x d → Contains y d) → accepts x ≡ true → accepts y ≡ true
     go x y f e = let (d, c, h) = any-from (λ (d : Duty). is_subset d.strong empty) x e in any-of (λ (d : Duty). is_subset d.strong empty) y d (f d c) h
-
-    both : (a b : Bool) → (a ≡ true → b ≡ true) → (b ≡ true → a ≡ true) → a ≡ b
-    both true b f g = sym (f refl)
-    both false true f g = g refl
-    both false false f g = refl
 
 -- The letters agree at the literals of the nodes.
 abbrev pub SameAtoms : List Node → (ℕ → ℕ → Bool) → (ℕ → ℕ → Bool) → Type 0

@@ -2,7 +2,7 @@
 use Rattle.std.proofs.Common.{◌≡◌, ◌<◌, ◌≤◌, ℕ, zero, suc, Bool, true, false, cond, List, [], ◌∷◌, ◌++◌, length, get_or, inl, inr, refl, sym, ap, ◌∙◌, subst, arith, bit_and}
 use Rattle.std.specs.Bool.{beq}
 use Rattle.std.specs.FinSet.{contains}
-use Rattle.std.proofs.lemmas.Bool.{cases_lt, eq-eqb, ne_eqb}
+use Rattle.std.proofs.lemmas.Bool.{cases_lt, eq-eqb, ne_eqb, or_left, or_right}
 use Rattle.hy_bits.specs.Sets.{NumberSet}
 use Rattle.ltl_closure.specs.Nodes.{Node, always, never, literal, and, or, next, weak_next, until, release, node_at, PartsBelow}
 use Rattle.fin_monitor.specs.Codes.{IndexedAtom, letter_of}
@@ -10,7 +10,6 @@ use Rattle.fin_monitor.specs.Duties.{Duty, no_duty, strongly, weakly, joined, af
 use Rattle.fin_monitor.specs.Lefts.{IsAsked, AreAsked, IsAskedNode, IsAskedAll, IsPart, IsFamilyOf, IsLeft}
 use Rattle.fin_monitor.proofs.Alike.{alike-through}
 use Rattle.fin_monitor.proofs.CodeBits.{agree-part}
-use Rattle.fin_monitor.proofs.Sets.{or-left, or-right}
 
 -- a node says the same with parts that say the same
 pub node-by_parts : (letter : ℕ → ℕ → Bool) (parts others : ℕ → List Duty) (k : ℕ) (node : Node) → PartsBelow k node → ((f : ℕ) → f < k → parts f ≡ others f)
@@ -89,8 +88,8 @@ module _ (nodes : List Node) (atoms : List IndexedAtom) (masks : List ℕ) (long
   pub each-asked : (ds : List Duty) → IsAskedAll masks ds mask → after_each nodes (letter_of atoms code) ds ≡ after_each nodes (letter_of atoms other) ds
   each-asked [] is = refl
   each-asked (d ∷ ds) (here, is) =
-      let s = members-asked d.strong (λ k lt has. here k lt (or-left (contains d.strong k) (contains d.weak k) has)) (length nodes) (omega arith) in
-      let w = members-asked d.weak (λ k lt has. here k lt (or-right (contains d.strong k) (contains d.weak k) has)) (length nodes) (omega arith) in
+      let s = members-asked d.strong (λ k lt has. here k lt (or_left (contains d.strong k) (contains d.weak k) has)) (length nodes) (omega arith) in
+      let w = members-asked d.weak (λ k lt has. here k lt (or_right (contains d.strong k) (contains d.weak k) has)) (length nodes) (omega arith) in
       let ih = each-asked ds is in
       λ i. joined (s i) (w i) ++ ih i
 

@@ -1,4 +1,7 @@
 mod CallLemmas
 mod FileLemmas
+pub mod Members
 mod Pieces
+pub mod Places
 pub mod Readings
+pub mod Truths

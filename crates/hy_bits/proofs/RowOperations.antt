@@ -99,7 +99,7 @@ module _ (ws : List ℕ) (i v : ℕ) (within : i / 64 < length ws)
 
 -- ---- two sets
 
-one_or : (a b : ℕ) → a < 2 → b < 2 → nat_eq (max a b) 1 ≡ (nat_eq a 1 || nat_eq b 1)
+pub one_or : (a b : ℕ) → a < 2 → b < 2 → nat_eq (max a b) 1 ≡ (nat_eq a 1 || nat_eq b 1)
 one_or zero zero la lb = refl
 one_or zero (suc zero) la lb = refl
 one_or (suc zero) zero la lb = refl

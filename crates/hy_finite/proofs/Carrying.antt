@@ -8,6 +8,7 @@ use Rattle.std.proofs.Math.Nat.{mod-add-mod}
 use Rattle.std.proofs.lemmas.Nat.{or_shr, div-add-mod', pow_pos, mod_below, xor_lt}
 use Rattle.std.proofs.lemmas.Nat.Bits.{bit_at_lowest, bit_at-suc, bit_at_and, bit_at_or, bit_at_xor, bit_at_not, bit_at-lt, bit_at-zero, bit_at_cat_low}
 use Rattle.hy_bits.specs.Binary.{has_one}
+use Rattle.hy_bits.proofs.RowOperations.{one_or}
 use Rattle.hy_finite.specs.declared.rule.Rule.{Rule}
 use Rattle.hy_finite.specs.declared.rule.Rule.TheVariants.{Next, Until, Release}
 use Rattle.hy_finite.specs.Rules.{says, carries, carry_at}
@@ -44,18 +45,10 @@ carry-like turn r s f g f' g' c c' m first each (suc k) le =
 
 -- ---- bits
 
-one-or : (a b : ℕ) → a < 2 → b < 2 → nat_eq (max a b) 1 ≡ (nat_eq a 1 || nat_eq b 1)
-one-or zero zero la lb = refl
-one-or zero (suc zero) la lb = refl
-one-or (suc zero) zero la lb = refl
-one-or (suc zero) (suc zero) la lb = refl
-one-or (suc (suc a)) b la lb = absurd (omega arith)
-one-or a (suc (suc b)) la lb = absurd (omega arith)
-
 pub has_one-or : (a b k : ℕ) → has_one (bit_or a b) k ≡ (has_one a k || has_one b k)
 has_one-or a b k =
     ap (λ x. nat_eq x 1) (bit_at_or a b k)
-    ∙ one-or (bit_at a k) (bit_at b k) (bit_at-lt a k) (bit_at-lt b k)
+    ∙ one_or (bit_at a k) (bit_at b k) (bit_at-lt a k) (bit_at-lt b k)
 
 one-and : (a b : ℕ) → a < 2 → b < 2 → nat_eq (min a b) 1 ≡ (nat_eq a 1 && nat_eq b 1)
 one-and zero zero la lb = refl

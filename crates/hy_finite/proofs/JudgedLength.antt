@@ -5,10 +5,18 @@ use Rattle.hy_finite.specs.declared.lengths.Lengths.{Lengths}
 use Rattle.hy_finite.specs.declared.lengths.Lengths.TheVariants.{Min, Pad}
 use Rattle.hy_finite.specs.Traces.{Trace, of_two, judged, picked}
 
-of_two-assoc : (lengths : Lengths) (a b c : ℕ)
+-- ---- two lengths
+
+pub of_two-turned : (lengths : Lengths) (a b : ℕ) → of_two lengths a b ≡ of_two lengths b a
+of_two-turned Min a b = omega arith
+of_two-turned Pad a b = omega arith
+
+pub of_two-assoc : (lengths : Lengths) (a b c : ℕ)
     → of_two lengths a (of_two lengths b c) ≡ of_two lengths (of_two lengths a b) c
 of_two-assoc Min a b c = omega arith
 of_two-assoc Pad a b c = omega arith
+
+-- ---- a tuple
 
 -- one trace more
 judged-append : (lengths : Lengths) (ts : List Trace) (t : Trace) → 1 ≤ length ts

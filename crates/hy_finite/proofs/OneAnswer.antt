@@ -64,7 +64,7 @@ one-line_answer table line (Err a) (Err b) p q one two =
 
 -- ---- files
 
-one-events : (table : List (List ℕ)) (n : ℕ) (lines : List (List ℕ)) (a b : List Placed)
+pub one-events : (table : List (List ℕ)) (n : ℕ) (lines : List (List ℕ)) (a b : List Placed)
     → SayEvents table n lines a → SayEvents table n lines b → a ≡ b
 one-events table n [] a b one two = one ∙ sym two
 one-events table n (line ∷ lines) a b (inl (nothing, one)) (inl (also, two)) =

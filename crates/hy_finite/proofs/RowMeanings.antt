@@ -3,6 +3,7 @@ use Rattle.std.proofs.Common.{◌≡◌, ℕ, zero, suc, ◌+◌, ◌-◌, ◌*�
 use Rattle.std.specs.Bool.{Decides}
 use Rattle.std.proofs.lemmas.Bool.Decides.{Decides-at, Decides-not, Decides-and, Decides-or}
 use Rattle.std.proofs.lemmas.Nat.Bits.{bit_at_ones, bit_at-zero}
+use Rattle.hy_base.proofs.Truths.{decides-implies, decides-iff}
 use Rattle.hy_bits.specs.Binary.{has_one}
 use Rattle.hy_formula.specs.Trees.{Tree, always, never, not as no, next, finally, globally, and, or, implies, iff, until, release, weak}
 use Rattle.hy_formula.specs.Temporal.{Words, below, SatisfiesAt, IsUntil, IsRelease}
@@ -11,7 +12,7 @@ use Rattle.hy_finite.specs.declared.rule.Rule.TheVariants.{Not, Next, Finally, G
 use Rattle.hy_finite.specs.Rules.{says, carry_at, start}
 use Rattle.hy_finite.specs.Rows.{one_at, IsApplied, IsFilled, IsRepeated}
 use Rattle.hy_finite.proofs.Carrying.{carry-like, release-turned}
-use Rattle.hy_finite.proofs.Truth.{decides-implies, decides-iff, until-step}
+use Rattle.hy_finite.proofs.Truth.{until-step}
 
 -- ---- values at places, the last position first
 

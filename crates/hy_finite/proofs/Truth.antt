@@ -1,33 +1,8 @@
 -- Truth values that decide facts, and what until says at a position by what it says at the next one.
 use Rattle.std.proofs.Common.{◌≡◌, ℕ, suc, ◌<◌, ◌≤◌, Bool, true, false, not, ◌&&◌, ◌||◌, inl, inr, refl, sym, subst, arith}
-use Rattle.std.specs.Bool.{beq, Decides}
+use Rattle.std.specs.Bool.{Decides}
 use Rattle.std.proofs.lemmas.Bool.{cases_eq}
 use Rattle.hy_formula.specs.Temporal.{below, IsUntil}
-
-pub decides-itself : (b : Bool) → Decides b (b ≡ true)
-decides-itself b = (λ e. e, λ e. e)
-
-pub decides-implies : {P Q : Type 0} (x y : Bool) → Decides x P → Decides y Q
-    → Decides (not x || y) (P → Q)
-decides-implies true y p q = (λ e _. q.0 e, λ f. q.1 (f (p.0 refl)))
-decides-implies false y p q = (λ _ h. absurd (decided p h), λ _. refl)
-  where
-    decided : {P : Type 0} → Decides false P → P → ⊥
-    decided d h = let e : false ≡ true = d.1 h in cc
-
-pub decides-iff : {P Q : Type 0} (x y : Bool) → Decides x P → Decides y Q → Decides (beq x y) ((P
-    → Q) × (Q → P))
-decides-iff true true p q = (λ _. (λ _. q.0 refl, λ _. p.0 refl), λ _. refl)
-decides-iff true false p q = (λ e. absurd (cc), λ h. q.1 (h.0 (p.0 refl)))
-decides-iff false true p q = (λ e. absurd (cc), λ h. p.1 (h.1 (q.0 refl)))
-decides-iff false false p q = (
-  λ _. (
-    λ h. absurd (let e : false ≡ true = p.1 h in
-        cc),
-    λ h. absurd (let e : false ≡ true = q.1 h in cc),
-  ),
-  λ _. refl,
-)
 
 -- until at a position, when its right side holds there
 until-now : (m i : ℕ) (P Q : ℕ → Type 0) → i < m → Q i → IsUntil (below m) P Q i

@@ -2,13 +2,14 @@
 use Rattle.std.proofs.Common.{ℕ, ◌⊎◌, ◌↔◌, List, [], ◌∷◌, ◌++◌, inl, inr, sym, subst}
 use Rattle.std.specs.List.{Contains}
 use Rattle.std.proofs.lemmas.List.Elements.{Contains-push_cases}
+use Rattle.hy_base.proofs.Members.{contains-here, contains-later}
 use Rattle.hy_formula.specs.Trees.{Tree}
 use Rattle.hy_formula.specs.Temporal.{Decided}
 use Rattle.hy_formula.specs.declared.prefix.Quant.TheVariants.{Exists, Forall}
 use Rattle.hy_formula.specs.Quantifiers.{Quantified, repeated, Each}
 use Rattle.hy_formula.proofs.Deciding.{decided-below, decided-like, decided-not}
 use Rattle.hy_formula.proofs.Choices.{decided-quantified}
-use Rattle.hy_formula.proofs.Tuples.{contains-here, contains-later, searched-members, some-tuple, every-tuple}
+use Rattle.hy_formula.proofs.Tuples.{searched-members, some-tuple, every-tuple}
 use Rattle.hy_finite.specs.declared.lengths.Lengths.{Lengths}
 use Rattle.hy_finite.specs.Traces.{Trace, judged, trace_words, Meets, ViolatesBy, Violates}
 

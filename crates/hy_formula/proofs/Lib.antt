@@ -1,5 +1,6 @@
 pub mod Choices
 pub mod Deciding
+pub mod Each
 pub mod KeptNames
 pub mod LawRules
 pub mod Names

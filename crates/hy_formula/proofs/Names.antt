@@ -8,6 +8,7 @@ use Rattle.std.specs.Option.{option_map}
 use Rattle.std.specs.Str.{bytes_eq}
 use Rattle.std.proofs.lemmas.Bool.{lt-ltb, le-ltb, cases_lt, true≢false, false_from_ne_true, and_parts, and_from}
 use Rattle.std.proofs.lemmas.Slice.Eq.{bytes_eq-Decides}
+use Rattle.hy_base.proofs.Truths.{same-bytes, bytes-themselves}
 use Rattle.hy_formula.specs.Names.{place_of, are_distinct}
 
 -- ---- a test on an option
@@ -19,13 +20,6 @@ bump (Some j) k e = cc
 no_bump : (o : Option ℕ) → option_map suc o ≡ Some zero → ⊥
 no_bump None e = cc
 no_bump (Some j) e = cc
-
--- the same bytes
-same_bytes : (x y : List ℕ) → bytes_eq x y ≡ true → x ≡ y
-same_bytes x y = (bytes_eq-Decides x y).0
-
-bytes_itself : (x : List ℕ) → bytes_eq x x ≡ true
-bytes_itself x = (bytes_eq-Decides x x).1 refl
 
 -- a place is the first, where the first name is the one, or one behind it
 at_place : (P : ℕ → Type 0) (b : Bool) (o : Option ℕ) (k : ℕ) → (b ≡ true → P zero) → (b ≡ false → (j : ℕ) → o ≡ Some j → P (suc j))
@@ -57,7 +51,7 @@ pub place_of-get : (name : List ℕ) (xs : List (List ℕ)) (k : ℕ) → place_
 place_of-get name [] k e = cc
 place_of-get name (x ∷ xs) k e =
     at_place (λ j. slice_get (x ∷ xs) j ≡ Some name) (bytes_eq x name) (place_of name xs) k
-    (λ same. ap Some (same_bytes x name same))
+    (λ same. ap Some (same-bytes x name same))
     (λ other j there. place_of-get name xs j there)
     e
 
@@ -72,7 +66,7 @@ place_of-lt name (x ∷ xs) k e =
 -- ---- a new name
 
 pub place_of-push : (name : List ℕ) (xs : List (List ℕ)) → place_of name xs ≡ None → place_of name (xs ++ name ∷ []) ≡ Some (length xs)
-place_of-push name [] e = ap (λ b. if b then Some zero else None) (bytes_itself name)
+place_of-push name [] e = ap (λ b. if b then Some zero else None) (bytes-themselves name)
 place_of-push name (x ∷ xs) e =
     let absent = no_place (bytes_eq x name) (place_of name xs) e in
     ap (λ b. if b then Some zero else option_map suc (place_of name (xs ++ name ∷ []))) absent.0
@@ -86,7 +80,7 @@ place_of-push_other other name (x ∷ xs) apart e =
     ∙ ap (option_map suc) (place_of-push_other other name xs apart absent.1)
 
 turned : (x y : List ℕ) → bytes_eq x y ≡ false → bytes_eq y x ≡ false
-turned x y e = false_from_ne_true _ (λ t. true≢false (sym ((bytes_eq-Decides x y).1 (sym (same_bytes y x t))) ∙ e))
+turned x y e = false_from_ne_true _ (λ t. true≢false (sym ((bytes_eq-Decides x y).1 (sym (same-bytes y x t))) ∙ e))
 
 none_of : (o : Option ℕ) → not (is_some o) ≡ true → o ≡ None
 none_of None e = refl
@@ -112,7 +106,7 @@ get-place_of name (x ∷ xs) (suc k) distinct e =
     let parts = and_parts _ _ distinct in
     let there : place_of name xs ≡ Some k = get-place_of name xs k parts.1 e in
     let absent : place_of x xs ≡ None = none_of _ parts.0 in
-    let apart : bytes_eq x name ≡ false = false_from_ne_true _ (λ t. let same = same_bytes x name t in cc) in
+    let apart : bytes_eq x name ≡ false = false_from_ne_true _ (λ t. let same = same-bytes x name t in cc) in
     ap (λ b. if b then Some zero else option_map suc (place_of name xs)) apart ∙ ap (option_map suc) there
 
 -- ---- names as they are kept

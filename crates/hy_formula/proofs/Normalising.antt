@@ -1,5 +1,6 @@
 -- The meaning of a normal form is that of its tree.
-use Rattle.std.proofs.Common.{◌≡◌, ℕ, ◌+◌, ◌↔◌, Bool, true, false, inl, inr, refl}
+use Rattle.std.proofs.Common.{ℕ, ◌+◌, ◌↔◌, Bool, true, false, inl, inr}
+use Rattle.std.proofs.lemmas.Bool.{false_from_ne_true}
 use Rattle.hy_formula.specs.Trees.{Tree, always, never, atom, not, next, finally, globally, and, or, implies, iff, until, release, weak}
 use Rattle.hy_formula.specs.Temporal.{Span, Words, IsUntil, IsRelease, SatisfiesAt, Decided, IsDecided}
 use Rattle.hy_formula.specs.Normals.{normal_form, IsHeld, HoldsAt, Signed}
@@ -83,10 +84,6 @@ not_release-right span R S P Q i p q d =
 abbrev pub Right : Span → Words → Bool → Tree → Type 0
 Right span words b f = (i : ℕ) → HoldsAt span words (normal_form b f) i ↔ Signed b (SatisfiesAt span words f i)
 
-is-false : (b : Bool) → ¬ (b ≡ true) → b ≡ false
-is-false true n = absurd (n refl)
-is-false false n = refl
-
 module _ (span : Span) (words : Words) (d : IsDecided span words) where
   known : (f : Tree) (i : ℕ) → ¬ ¬ SatisfiesAt span words f i → SatisfiesAt span words f i
   known f i h = elim (d f i) [ inl s ↦ s | inr n ↦ absurd (h n) ]
@@ -97,7 +94,7 @@ module _ (span : Span) (words : Words) (d : IsDecided span words) where
   normal-right true never i = (λ h. h, λ h. h)
   normal-right false never i = (λ _ h. h, λ _. tt)
   normal-right true (atom n v) i = (λ h. h, λ h. h)
-  normal-right false (atom n v) i = (λ e h. cc, λ h. is-false _ h)
+  normal-right false (atom n v) i = (λ e h. cc, λ h. false_from_ne_true _ h)
   normal-right true (not f) i = normal-right false f i
   normal-right false (not f) i =
       let p : Right span words true f = normal-right true f in

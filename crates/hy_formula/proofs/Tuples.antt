@@ -1,29 +1,11 @@
 -- Members of a list, and tuples of members that one quantifier, again and again, chooses.
-use Rattle.std.proofs.Common.{◌≡◌, ℕ, zero, suc, ◌⊎◌, ◌↔◌, List, [], ◌∷◌, inl, inr, refl, sym, ap, subst, arith}
+use Rattle.std.proofs.Common.{ℕ, zero, suc, ◌↔◌, List, [], ◌∷◌, inl, inr, refl, sym, ap, subst, arith}
 use Rattle.std.specs.List.{Contains}
-use Rattle.std.proofs.lemmas.List.Elements.{Contains-append_right, Contains-append_cases}
+use Rattle.hy_base.proofs.Members.{contains-here, contains-later, contains-cases, contains-none}
 use Rattle.hy_formula.specs.Temporal.{Decided}
 use Rattle.hy_formula.specs.declared.prefix.Quant.TheVariants.{Exists, Forall}
 use Rattle.hy_formula.specs.Quantifiers.{Quantified, repeated, IsTuple}
 use Rattle.hy_formula.proofs.Choices.{IsSearched}
-
-pub contains-here : {A : Type 0} (x : A) (xs : List A) → Contains (x ∷ xs) x
-contains-here x xs = (0, omega arith, refl)
-
-pub contains-later : {A : Type 0} (x y : A) (xs : List A) → Contains xs y → Contains (x ∷ xs) y
-contains-later x y xs h = Contains-append_right (x ∷ []) xs y h
-
-pub contains-cases : {A : Type 0} (x y : A) (xs : List A) → Contains (x ∷ xs) y
-    → (x ≡ y) ⊎ Contains xs y
-contains-cases x y xs h =
-    elim (Contains-append_cases (x ∷ []) xs y h) [
-      | inl (zero, lt, e) ↦ inl e
-      | inl (suc k, lt, e) ↦ absurd (omega arith)
-      | inr later ↦ inr later
-    ]
-
-pub contains-none : {A : Type 0} (y : A) → ¬ Contains [] y
-contains-none y (k, lt, e) = omega arith
 
 -- Of the members of a list one with a property is found.
 pub searched-members : {A : Type 0} (list : List A) → IsSearched (Contains list)

@@ -1,6 +1,6 @@
 -- Until and release at a position, by what they say at the next.
-use Rattle.std.proofs.Common.{◌≡◌, ℕ, ◌+◌, ◌≤◌, ◌⊎◌, ◌↔◌, Bool, true, false, inl, inr, refl, sym, subst, arith}
-use Rattle.std.proofs.lemmas.Bool.{cases_eq}
+use Rattle.std.proofs.Common.{ℕ, ◌+◌, ◌≤◌, ◌⊎◌, ◌↔◌, true, false, inl, inr, sym, subst, arith}
+use Rattle.std.proofs.lemmas.Bool.{cases_eq, false_from_ne_true}
 use Rattle.hy_formula.specs.Trees as tree
 use Rattle.hy_formula.specs.Temporal.{Span, endless, below, Within, Words, IsUntil, SatisfiesAt, Decided, IsDecided}
 use Rattle.hy_formula.specs.Normals.{Normal, always, never, literal, and, or, next, weak_next, until, release, IsHeld, HoldsAt}
@@ -70,16 +70,12 @@ plain (weak_next f) = tree.not (tree.next (tree.not (plain f)))
 plain (until f g) = tree.until (plain f) (plain g)
 plain (release f g) = tree.release (plain f) (plain g)
 
-is-false : (b : Bool) → ¬ (b ≡ true) → b ≡ false
-is-false true n = absurd (n refl)
-is-false false n = refl
-
 module _ (span : Span) (words : Words) (d : IsDecided span words) where
   pub plain-right : (f : Normal) → Same (HoldsAt span words f) (SatisfiesAt span words (plain f))
   plain-right always i = (λ h. h, λ h. h)
   plain-right never i = (λ h. h, λ h. h)
   plain-right (literal true n v) i = (λ h. h, λ h. h)
-  plain-right (literal false n v) i = (λ e h. cc, λ h. is-false _ h)
+  plain-right (literal false n v) i = (λ e h. cc, λ h. false_from_ne_true _ h)
   plain-right (and f g) i =
       let p : Same (HoldsAt span words f) (SatisfiesAt span words (plain f)) = plain-right f in
       let q : Same (HoldsAt span words g) (SatisfiesAt span words (plain g)) = plain-right g in

@@ -6,6 +6,7 @@ use Rattle.std.specs.FinSet.{contains}
 use Rattle.std.proofs.lemmas.Bool.{cases_eq}
 use Rattle.std.proofs.lemmas.Grind.{common_steps}
 use Rattle.std.proofs.lemmas.List.{get_or-replicate, length-replicate, length-append, get_or_append_left}
+use Rattle.hy_base.proofs.Truths.{decides-implies, decides-iff, decides-itself}
 use Rattle.hy_bits.specs.Letter.{Letter}
 use Rattle.hy_formula.specs.Lassos.{Lasso}
 use Rattle.hy_formula.proofs.Repeating.{steady-tree}
@@ -14,7 +15,7 @@ use Rattle.hy_formula.specs.Trees.{Tree, always, never, atom, not as no, next, f
 use Rattle.hy_formula.specs.Temporal.{endless, Words, Repeats, IsUntil, IsRelease, SatisfiesAt}
 use Rattle.hy_lasso.specs.Rows.{value_at, place, around, Says, Tells, IsRowOf}
 use Rattle.hy_lasso.proofs.Places.{place-within, tells-everywhere}
-use Rattle.hy_lasso.proofs.Rows.{decides-itself, tells-long, until-like, release-like, tells-like, tells-not}
+use Rattle.hy_lasso.proofs.Rows.{tells-long, until-like, release-like, tells-like, tells-not}
 
 -- a row made place by place of two others
 tells-by : (s m : ℕ) (left right row : List Bool) (P Q R : ℕ → Type 0) (f : Bool → Bool → Bool) → Tells s m left P → Tells s m right Q → length row ≡ length left → EachIndex left (λ i. value_at row i ≡ f (value_at left i) (value_at right i)) → ((i : ℕ) (p q : Bool) → Decides p (P i) → Decides q (Q i) → Decides (f p q) (R i)) → Tells s m row R
@@ -36,16 +37,6 @@ tells-constant s m b P some d = record { some = some; long = length-replicate m 
     same i =
         ap (λ n. value_at (replicate m b) (place s (n - s) i)) (length-replicate m b)
         ∙ get_or-replicate m (place s (m - s) i) b false (let lt = place-within s (m - s) i (omega arith) in omega (arith, lt))
-
-decides-implies : {P Q : Type 0} (x y : Bool) → Decides x P → Decides y Q → Decides (not x || y) (P → Q)
-decides-implies true y p q = (λ e _. q.0 e, λ f. q.1 (f (p.0 refl)))
-decides-implies false y p q = (λ _ h. absurd (let e : false ≡ true = p.1 h in cc), λ _. refl)
-
-decides-iff : {P Q : Type 0} (x y : Bool) → Decides x P → Decides y Q → Decides (beq x y) ((P → Q) × (Q → P))
-decides-iff true true p q = (λ _. (λ _. q.0 refl, λ _. p.0 refl), λ _. refl)
-decides-iff true false p q = (λ e. absurd (cc), λ h. q.1 (h.0 (p.0 refl)))
-decides-iff false true p q = (λ e. absurd (cc), λ h. p.1 (h.1 (q.0 refl)))
-decides-iff false false p q = (λ _. (λ h. absurd (let e : false ≡ true = p.1 h in cc), λ h. absurd (let e : false ≡ true = q.1 h in cc)), λ _. refl)
 
 -- ---- the row of a tree, by those of its parts
 

@@ -1,8 +1,8 @@
 -- Members of a list tried one after another.
-use Rattle.std.proofs.Common.{◌≡◌, ℕ, zero, suc, ◌+◌, ◌<◌, ◌⊎◌, ◌↔◌, Bool, true, false, not, IsTrue, List, [], ◌∷◌, ◌++◌, length, get_or, drop, Some, slice_get, Result, Ok, Err, IfOk, IfErr, refl, sym, ap, ◌∙◌, inl, inr, subst, arith}
+use Rattle.std.proofs.Common.{◌≡◌, ℕ, zero, suc, ◌+◌, ◌<◌, ◌⊎◌, ◌↔◌, Bool, true, false, not, IsTrue, List, [], ◌∷◌, ◌++◌, length, get_or, drop, Result, Ok, Err, IfOk, IfErr, refl, sym, ◌∙◌, inl, inr, subst, arith}
 use Rattle.std.specs.List.{Contains}
 use Rattle.std.specs.Bool.{beq, Decides}
-use Rattle.std.proofs.lemmas.List.{append_assoc, append-nil, length-append, map-append}
+use Rattle.std.proofs.lemmas.List.{append_assoc, append-nil, length-append, map-append, get_or_default}
 use Rattle.hy_bits.specs.Letter.{Letter}
 use Rattle.hy_formula.specs.Trees.{Tree}
 use Rattle.hy_formula.specs.declared.prefix.Quant.{Quant}
@@ -14,7 +14,6 @@ use Rattle.hy_lasso.specs.Words.{no_lasso, picked, Meets, Remains}
 use Rattle.hy_lasso.specs.Limits.{joint_limit}
 use Rattle.hy_lasso.specs.declared.error.HoldsError.{HoldsError}
 use Rattle.hy_lasso.specs.declared.error.HoldsError.TheVariants.{Memory as OfMemory, Limit as OfLimit}
-use Rattle.hy_lasso.proofs.LassoWords.{any-default}
 
 -- What is said of a tuple may be said in other words.
 pub quantified-like : {A : Type 0} (Member : A → Type 0) (Body Other : List A → Type 0) → ((tuple : List A) → Body tuple → Other tuple) → (prefix : List Quant) → Quantified Member Body prefix → Quantified Member Other prefix
@@ -44,10 +43,10 @@ module _ (list : List (Lasso Letter)) (body : Tree) (chosen : List (Lasso Letter
   Tried wanted n = (k : ℕ) → k < n → Tries (not wanted) k
 
   member : (k : ℕ) → k < length list → Contains list (get_or list k no_lasso)
-  member k lt = (k, lt, any-default list k lt _ _)
+  member k lt = (k, lt, get_or_default list k _ _ lt)
 
   of-member : (P : Lasso Letter → Type 0) (x : Lasso Letter) → Contains list x → ((k : ℕ) → k < length list → P (get_or list k no_lasso)) → P x
-  of-member P x (k, lt, e) all = subst P (any-default list k lt no_lasso x ∙ e) (all k lt)
+  of-member P x (k, lt, e) all = subst P (get_or_default list k no_lasso x lt ∙ e) (all k lt)
 
   pub exists-found : (k : ℕ) → k < length list → Tries true k → Remains list body chosen (Exists ∷ prefix)
   exists-found k lt t = (get_or list k no_lasso, member k lt, (after _).0 (t.0 refl))
@@ -70,15 +69,6 @@ module _ (list : List (Lasso Letter)) (body : Tree) (chosen : List (Lasso Letter
   pub none : (q : Quant) → Tried (is_same q Exists) (length list) → Decides (not (is_same q Exists)) (Remains list body chosen (q ∷ prefix))
   none Exists tried = (λ e. absurd (cc), λ h. absurd (exists-none tried h))
   none Forall tried = (λ _. forall-all tried, λ _. refl)
-
--- a list from a place on
-pub drop-here : {A : Type 0} (xs : List A) (n : ℕ) (x : A) → slice_get xs n ≡ Some x → drop n xs ≡ x ∷ drop (n + 1) xs
-drop-here xs n x is = let e : suc n ≡ n + 1 = omega arith in from xs n is ∙ ap (λ k. x ∷ drop k xs) e
-  where
-    from : (ys : List _) (k : ℕ) → slice_get ys k ≡ Some x → drop k ys ≡ x ∷ drop (suc k) ys
-    from [] k e = absurd (cc)
-    from (y ∷ ys) zero e = let same : y ≡ x = cc in ap (λ z. z ∷ ys) same
-    from (y ∷ ys) (suc k) e = from ys k e
 
 pub drop-all : {A : Type 0} (xs : List A) (n : ℕ) → length xs ≡ n → drop n xs ≡ []
 drop-all [] zero e = refl

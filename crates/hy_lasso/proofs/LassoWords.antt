@@ -1,33 +1,16 @@
 -- The words of lassos repeat.
-use Rattle.std.proofs.Common.{◌≡◌, ℕ, zero, suc, ◌+◌, ◌-◌, ◌*◌, ◌%◌, ◌<◌, ◌≤◌, Bool, true, false, nat_lt, cond, List, [], ◌∷◌, length, get_or, inl, inr, refl, sym, ap, ◌∙◌, subst, arith}
+use Rattle.std.proofs.Common.{◌≡◌, ℕ, zero, suc, ◌+◌, ◌-◌, ◌*◌, ◌%◌, ◌<◌, ◌≤◌, List, [], ◌∷◌, length, get_or, inl, inr, sym, ap, ◌∙◌, subst, arith}
 use Rattle.std.specs.FinSet.{empty, contains}
 use Rattle.std.proofs.Math.Nat.{add-mul-mod_self_right, mul-pos, mul_assoc}
 use Rattle.std.proofs.lemmas.Bool.{cases_lt}
-use Rattle.std.proofs.lemmas.Bool.Decides.{Decides-ltb}
 use Rattle.std.proofs.lemmas.List.{get_or_past}
+use Rattle.hy_base.proofs.Truths.{cond-below, cond-above}
 use Rattle.hy_bits.specs.Letter.{Letter}
 use Rattle.hy_formula.specs.Lassos.{Lasso, lasso_at}
 use Rattle.hy_formula.specs.Temporal.{endless, Repeats, IsDecided}
 use Rattle.hy_formula.proofs.Repeating.{decided-repeating}
 use Rattle.hy_lasso.specs.Words.{no_lasso, letter_at, lasso_words, AreLassos}
 use Rattle.hy_lasso.specs.Joint.{IsMultiple, IsPeriod}
-
--- a choice by a number that is below another, and by one that is not
-pub cond-below : {A : Type 0} (i n : ℕ) (x y : A) → i < n → cond (nat_lt i n) x y ≡ x
-cond-below i n x y lt = rw ((Decides-ltb i n).1 lt) refl
-
-pub cond-above : {A : Type 0} (i n : ℕ) (x y : A) → n ≤ i → cond (nat_lt i n) x y ≡ y
-cond-above {A} i n x y le = decide (nat_lt i n) refl
-  where
-    decide : (b : Bool) → nat_lt i n ≡ b → cond b x y ≡ y
-    decide true e = absurd (omega (arith, (Decides-ltb i n).0 e))
-    decide false e = refl
-
--- what is read inside a list, whatever stands for what is missing
-pub any-default : {A : Type 0} (xs : List A) (k : ℕ) → k < length xs → (c d : A) → get_or xs k c ≡ get_or xs k d
-any-default [] k lt c d = absurd (omega arith)
-any-default (x ∷ xs) zero lt c d = refl
-any-default (x ∷ xs) (suc k) lt c d = any-default xs k (omega arith) c d
 
 -- in the stem, and past it
 pub in-stem : {A : Type 0} (none : A) (l : Lasso A) (i : ℕ) → i < length l.stem → lasso_at none l i ≡ get_or l.stem i none

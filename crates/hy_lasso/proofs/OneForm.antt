@@ -3,14 +3,13 @@ use Rattle.std.proofs.Common.{◌≡◌, ℕ, zero, suc, ◌+◌, ◌-◌, ◌*�
 use Rattle.std.specs.FinSet.{empty}
 use Rattle.std.proofs.Math.Seq.{take-length}
 use Rattle.std.proofs.lemmas.Bool.{cases_eq, cases_lt}
-use Rattle.std.proofs.lemmas.List.{ext_get_or, get_or-take, get_or-append_right, get_or_append_left, length-take-le}
+use Rattle.std.proofs.lemmas.List.{ext_get_or, get_or-take, get_or-append_right, get_or_append_left, length-take-le, get_or_default}
 use Rattle.hy_bits.specs.Letter.{Letter}
 use Rattle.hy_formula.specs.Lassos.{Lasso}
 use Rattle.hy_lasso.specs.Words.{letter_at}
 use Rattle.hy_lasso.specs.Joint.{IsMultiple}
 use Rattle.hy_lasso.specs.NormalForms.{times, IsNormal}
 use Rattle.hy_lasso.specs.Rounds.{letter_of, RepeatsAfter}
-use Rattle.hy_lasso.proofs.LassoWords.{any-default}
 use Rattle.hy_lasso.proofs.Periods.{front-more, multiple-le}
 use Rattle.hy_lasso.proofs.Periodic.{Comes, rounds, IsWordOf, lasso_of, own-word}
 use Rattle.hy_lasso.proofs.Shortening.{length-times}
@@ -87,7 +86,7 @@ whole-round stem cycle w s g of form pos (n, e) r =
 split-last : (xs : List Letter) (n : ℕ) → length xs ≡ suc n → xs ≡ take n xs ++ letter_of xs n ∷ []
 split-last xs n long =
     let e : n + 1 ≡ length xs = omega (arith, long) in
-    sym (take-length xs) ∙ ap (λ k. take k xs) (sym e) ∙ front-more xs n (letter_of xs n) (omega (arith, long)) (any-default xs n (omega (arith, long)) empty _)
+    sym (take-length xs) ∙ ap (λ k. take k xs) (sym e) ∙ front-more xs n (letter_of xs n) (omega (arith, long)) (get_or_default xs n empty _ (omega (arith, long)))
 
 -- the stem of a normal form is the shortest
 not-longer : (stem cycle : List Letter) (w : ℕ → Letter) (s : ℕ) → IsWordOf stem cycle w → IsNormal (lasso_of stem cycle) → Comes w s (length cycle) → ¬ (s < length stem)

@@ -3,14 +3,13 @@ use Rattle.std.proofs.Common.{◌≡◌, ℕ, zero, suc, ◌+◌, ◌-◌, ◌*�
 use Rattle.std.proofs.Math.Nat.{mod-add-div, mod-lt, mul_comm, mul_assoc, mul-mod_left, mul-le-mul_right, mul-sub}
 use Rattle.std.proofs.lemmas.Bool.{cases_eq, cases_lt}
 use Rattle.std.proofs.lemmas.Grind.{common_steps}
-use Rattle.std.proofs.lemmas.List.{get_or_append_left, length-append, append_assoc, take-append-drop, map-append, length-map}
+use Rattle.std.proofs.lemmas.List.{get_or_append_left, length-append, append_assoc, take-append-drop, map-append, length-map, get_or_default}
 use Rattle.std.proofs.lemmas.Option.{get_or_from_slice_get, slice_get-get_or}
 use Rattle.std.specs.List.{All}
 use Rattle.std.proofs.Math.Seq.{take-suc}
 use Rattle.hy_bits.specs.Letter.{Letter}
 use Rattle.hy_formula.specs.Lassos.{Lasso}
 use Rattle.hy_lasso.specs.Words.{no_lasso, picked}
-use Rattle.hy_lasso.proofs.LassoWords.{any-default}
 use Rattle.hy_lasso.specs.Joint.{IsMultiple, IsPeriod, IsLeastPeriod, IsJudged, IsCommon, IsLeastCommon, most_positions}
 
 pub multiple-zero : (c n : ℕ) → c % n ≡ 0 → IsMultiple c n
@@ -186,12 +185,12 @@ module _ (list : List (Lasso Letter)) (pick : List ℕ) (i : ℕ) (l : Lasso Let
   pub picked-more : picked list (take (i + 1) pick) ≡ picked list (take i pick) ++ l ∷ []
   picked-more =
       let f : ℕ → Lasso Letter = λ k. get_or list k no_lasso in
-      ap (map f) (front-more pick i (get_or pick i 0) lt (any-default pick i lt 0 _)) ∙ map-append f (take i pick) (get_or pick i 0 ∷ []) ∙ ap (λ xs. picked list (take i pick) ++ xs) (picked-one [])
+      ap (map f) (front-more pick i (get_or pick i 0) lt (get_or_default pick i 0 _ lt)) ∙ map-append f (take i pick) (get_or pick i 0 ∷ []) ∙ ap (λ xs. picked list (take i pick) ++ xs) (picked-one [])
 
   pub picked-whole : picked list pick ≡ picked list (take i pick) ++ l ∷ picked list (drop (i + 1) pick)
   picked-whole =
       let f : ℕ → Lasso Letter = λ k. get_or list k no_lasso in
-      ap (map f) (front-whole pick i (get_or pick i 0) lt (any-default pick i lt 0 _)) ∙ map-append f (take i pick) (get_or pick i 0 ∷ drop (i + 1) pick) ∙ ap (λ xs. picked list (take i pick) ++ xs) (picked-one (drop (i + 1) pick))
+      ap (map f) (front-whole pick i (get_or pick i 0) lt (get_or_default pick i 0 _ lt)) ∙ map-append f (take i pick) (get_or pick i 0 ∷ drop (i + 1) pick) ∙ ap (λ xs. picked list (take i pick) ++ xs) (picked-one (drop (i + 1) pick))
 
 pub picked-at : (list : List (Lasso Letter)) (pick : List ℕ) (v : ℕ) (l : Lasso Letter) → v < length pick → slice_get list (get_or pick v 0) ≡ Some l → get_or (picked list pick) v no_lasso ≡ l
 picked-at list [] v l lt is = absurd (omega arith)

@@ -4,9 +4,9 @@ use Rattle.std.specs.Bool.{Decides}
 use Rattle.std.proofs.Math.Nat.{mod-add-div, mod-lt, mod-eq_of_lt, add-mul-mod_self_right, mul_comm}
 use Rattle.std.proofs.lemmas.Bool.{cases_lt}
 use Rattle.std.proofs.lemmas.Bool.Decides.{Decides-at, Decides-like}
+use Rattle.hy_base.proofs.Truths.{cond-below, cond-above}
 use Rattle.hy_formula.proofs.Repeating.{Steady}
 use Rattle.hy_lasso.specs.Rows.{value_at, place, around, Says, Tells}
-use Rattle.hy_lasso.proofs.LassoWords.{cond-below, cond-above}
 
 -- a position before the cycle is a place, and so is one in the first round
 pub place-first : (s c i : ℕ) → i < s + c → place s c i ≡ i

@@ -5,6 +5,7 @@ use Rattle.std.proofs.lemmas.Bool.{cases_eq}
 use Rattle.std.proofs.lemmas.Bool.Decides.{Decides-at, Decides-like, Decides-not, Decides-or}
 use Rattle.std.proofs.lemmas.List.{get_or-set_same, get_or-set_other}
 use Rattle.std.proofs.Math.ListN.{length-set}
+use Rattle.hy_base.proofs.Truths.{decides-itself}
 use Rattle.hy_formula.specs.Temporal.{endless, below, IsUntil, IsRelease}
 use Rattle.hy_formula.proofs.Repeating.{Steady, until-near, steady-until}
 use Rattle.hy_formula.proofs.Unrolling.{until-unrolled}
@@ -16,9 +17,6 @@ pub record Rewritten (old new : List Bool) (f : ℕ → Bool) (i : ℕ) : Type 0
   pub long : length new ≡ length old
   pub below : (k : ℕ) → k < i → value_at new k ≡ f k
   pub above : (k : ℕ) → i ≤ k → value_at new k ≡ value_at old k
-
-pub decides-itself : (b : Bool) → Decides b (b ≡ true)
-decides-itself b = (λ e. e, λ e. e)
 
 -- until at a position, by what its sides say there and until at the next
 pub unrolled-by : (P Q : ℕ → Type 0) (U V : Type 0) (p q later : Bool) (i : ℕ) → V ↔ (Q i ⊎ (P i × U)) → Decides p (P i) → Decides q (Q i) → Decides later U → Decides (q || (p && later)) V

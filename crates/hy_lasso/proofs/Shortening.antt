@@ -1,10 +1,10 @@
 -- The steps to a normal form keep the word, and lead to one.
-use Rattle.std.proofs.Common.{◌≡◌, ◌≢◌, ℕ, zero, suc, ◌+◌, ◌-◌, ◌*◌, ◌/◌, ◌%◌, ◌<◌, ◌≤◌, List, [], ◌∷◌, ◌++◌, length, get_or, take, drop, refl, sym, ap, ◌∙◌, inl, inr, subst, arith}
+use Rattle.std.proofs.Common.{◌≡◌, ◌≢◌, ℕ, zero, suc, ◌+◌, ◌-◌, ◌*◌, ◌/◌, ◌%◌, ◌<◌, ◌≤◌, List, [], ◌∷◌, ◌++◌, length, take, drop, refl, sym, ap, ◌∙◌, inl, inr, subst, arith}
 use Rattle.std.specs.FinSet.{empty}
 use Rattle.std.proofs.Math.Nat.{mod-add-div, mod-lt, mul_comm, mul_assoc, mul-mod_left}
 use Rattle.std.proofs.lemmas.Bool.{cases_lt}
-use Rattle.std.proofs.lemmas.Grind.{common_steps}
 use Rattle.std.proofs.lemmas.List.{get_or-take, get_or-drop, get_or-append_right, get_or_append_left, length-take-le, length-append, length-drop}
+use Rattle.hy_base.proofs.Places.{last-of}
 use Rattle.hy_bits.specs.Letter.{Letter}
 use Rattle.hy_lasso.specs.Words.{letter_at}
 use Rattle.hy_lasso.specs.NormalForms.{times, IsNormal}
@@ -138,9 +138,6 @@ times-repeats (suc n) word i lt =
     get_or-append_right word _ (length word) (i + length word) empty refl (omega arith)
     ∙ ap (letter_of (times n word)) e
     ∙ sym (times-shift n word i less)
-
-last-of : {A : Type 0} (front : List A) (x d : A) → get_or (front ++ x ∷ []) (length front) d ≡ x
-last-of front x d = grind (arith, common_steps)
 
 module _ (stem cycle : List Letter) (d k : ℕ) (some : 0 < length cycle) (round : IsLeastRound cycle d) (shared : IsSharedEnd stem (take d cycle) k) where
   abbrev w : ℕ → Letter

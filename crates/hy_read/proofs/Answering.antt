@@ -13,9 +13,7 @@ use Rattle.hy_read.proofs.Viable.{longest-one, longest-once}
 use Rattle.hy_read.proofs.Once.{formulas-once}
 use Rattle.hy_read.proofs.Collecting.{named-all}
 use Rattle.hy_read.proofs.Rebinding.{bind-formulas, bound-formulas}
-
-same_some : (o : Option ℕ) (a b : ℕ) → o ≡ Some a → o ≡ Some b → a ≡ b
-same_some o a b h k = cc
+use Rattle.hy_read.proofs.Building.{some_is}
 
 same_atoms : (a b : Tree) (n m p q : ℕ) → a ≡ atom_tree n p → b ≡ atom_tree m q → n ≡ m → p ≡ q → a ≡ b
 same_atoms a b n m p q h k e f = cc
@@ -24,8 +22,8 @@ same_atoms a b n m p q h k e f = cc
 bound_once : (names : List (List ℕ)) (quantifiers : List Quantifier) (name bound : List ℕ) (a b : Tree) → Bound names quantifiers name bound a → Bound names quantifiers name bound b → a ≡ b
 bound_once names quantifiers name bound a b h k =
     same_atoms a b h.number k.number h.place k.place h.is_atom k.is_atom
-    (same_some (place_of name names) h.number k.number h.has_number k.has_number)
-    (same_some (last_place_of bound (variables_of quantifiers)) h.place k.place h.has_place k.has_place)
+    (some_is (place_of name names) h.number k.number h.has_number k.has_number)
+    (some_is (last_place_of bound (variables_of quantifiers)) h.place k.place h.has_place k.has_place)
 
 pub one-list : (names : List (List ℕ)) (many : Bool) (fs gs : List Read) (tokens : List Token) → AreFormulas (Bound names) many fs tokens → AreFormulas (Bound names) many gs tokens → fs ≡ gs
 one-list names many fs gs tokens h k = formulas-once (Bound names) (bound_once names) many fs gs tokens h k

@@ -279,7 +279,7 @@ no_place o names variables a v tree e h none =
 same_parts : (n m p q : ℕ) → n ≡ m → p ≡ q → trees.atom n p ≡ trees.atom m q
 same_parts n m p q e h = cc
 
-some_is : (o : Option ℕ) (a b : ℕ) → o ≡ Some a → o ≡ Some b → a ≡ b
+pub some_is : (o : Option ℕ) (a b : ℕ) → o ≡ Some a → o ≡ Some b → a ≡ b
 some_is o a b h k = cc
 
 pub same_atom : (o : Option (List (List ℕ))) (names variables : List (List ℕ)) (a v : List ℕ) (tree : Tree) (n k : ℕ) → o ≡ Some names → meaning o variables a v tree → place_of a names ≡ Some n → last_place_of v variables ≡ Some k → trees.atom n k ≡ tree

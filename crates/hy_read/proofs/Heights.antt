@@ -1,5 +1,6 @@
 -- The height of a body does not depend on what its atoms mean.
 use Rattle.std.proofs.Common.{◌≡◌, ℕ, suc, max, List, [], Some, refl, ap, sym, ◌∙◌}
+use Rattle.std.proofs.lemmas.Option.{same_Some}
 use Rattle.hy_read.specs.declared.symbol.Symbol.{Symbol}
 use Rattle.hy_read.specs.declared.symbol.Symbol.TheVariants as signs
 use Rattle.hy_formula.specs.Trees.{Tree, always, height}
@@ -15,14 +16,11 @@ prefix-height signs.Finally make t h = let e : make ≡ Rattle.hy_formula.specs.
 prefix-height signs.Globally make t h = let e : make ≡ Rattle.hy_formula.specs.Trees.globally = cc in ap (λ f. height (f t)) e
 prefix-height _ make t h = absurd cc
 
-some-once : (p q : ℕ × (Tree → Tree → Tree)) → Some p ≡ Some q → p ≡ q
-some-once p q h = cc
-
 joined-as : (s : Symbol) (k r : ℕ) (join op : Tree → Tree → Tree) (a b : Tree) → binary_of s ≡ Some (k, op) → binary_of s ≡ Some (r, join) → height (op a b) ≡ suc (max (height a) (height b)) → height (join a b) ≡ suc (max (height a) (height b))
 joined-as s k r join op a b g h e =
     let one : ℕ × (Tree → Tree → Tree) = (k, op) in
     let two : ℕ × (Tree → Tree → Tree) = (r, join) in
-    let pairs : one ≡ two = some-once one two (sym g ∙ h) in
+    let pairs : one ≡ two = same_Some one two (sym g ∙ h) in
     let same : op ≡ join = ap (λ (p : ℕ × (Tree → Tree → Tree)). p.1) pairs in
     ap (λ f. height (f a b)) (sym same) ∙ e
 

@@ -11,6 +11,7 @@ use Rattle.hy_read.specs.Within as within
 use Rattle.hy_read.specs.Within.{Within}
 use Rattle.hy_read.specs.Results.{opened, most_open, IsBound}
 use Rattle.hy_read.proofs.TokenKinds.{binary-kind, prefix-kind, leaf-kind}
+use Rattle.hy_read.proofs.Passing.{opens_at_least}
 
 same-open : (s : Symbol) (n : ℕ) → (kind_of_symbol s ≡ open_paren → ⊥) → (kind_of_symbol s ≡ close_paren → ⊥) → opened (symbol s) n ≡ n
 same-open signs.OpenParen n h g = absurd (h refl)
@@ -48,10 +49,6 @@ at-front k a w x y e f = omega arith
 at-leaf : (k w x : ℕ) → x ≡ max k w → x ≡ max (k + 0) w
 at-leaf k w x e = omega arith
 
-at-least : (k : ℕ) (ts : List Token) → k ≤ most_open k ts
-at-least k [] = omega arith
-at-least k (t ∷ ts) = omega arith
-
 module _ (Means : List ℕ → List ℕ → Tree → Type 0) where
   abbrev pub opens : {rank : ℕ} {tokens rest : List Token} {tree : Tree} → Derives Means rank tokens tree rest → ℕ
   opens (alone d) = opens d
@@ -70,7 +67,7 @@ module _ (Means : List ℕ → List ℕ → Tree → Type 0) where
       at-front k (opens d) (most_open k rest) (most_open k (symbol s ∷ tokens)) (most_open k tokens) (prefix-skips s k tokens (prefix-kind s _ h)) (opens-counted d k)
   opens-counted (named {rest = rest} h) k = at-leaf k (most_open k rest) (max k (most_open k rest)) refl
   opens-counted {rest = rest} (grouped {tokens = tokens} d) k =
-      deeper k (opens d) (most_open k rest) (max k (most_open (suc k) tokens)) (most_open (suc k) tokens) (max (suc k) (most_open k rest)) refl (opens-counted d (suc k)) refl (at-least k rest)
+      deeper k (opens d) (most_open k rest) (max k (most_open (suc k) tokens)) (most_open (suc k) tokens) (max (suc k) (most_open k rest)) refl (opens-counted d (suc k)) refl (opens_at_least k rest)
 
   to-within : {rank : ℕ} {tokens rest : List Token} {tree : Tree} (d : Derives Means rank tokens tree rest) (n : ℕ) → opens d ≤ n → Within Means n rank tokens tree rest
   to-within (alone d) n le = within.alone (to-within d n le)

@@ -1,5 +1,5 @@
 -- One more token is passed: what is counted, and what is bound.
-use Rattle.std.proofs.Common.{◌≡◌, ℕ, zero, suc, max, ◌+◌, ◌<◌, ◌≤◌, Bool, true, false, is_some, if◌then◌else◌, List, [], ◌∷◌, ◌++◌, length, length-append, drop, take, map, get_or, add-one, Option, Some, None, refl, ap, sym, ◌∙◌, arith, append_assoc}
+use Rattle.std.proofs.Common.{◌≡◌, ℕ, zero, suc, max, ◌+◌, ◌<◌, ◌≤◌, Bool, true, false, is_some, if◌then◌else◌, List, [], ◌∷◌, ◌++◌, length, drop, take, map, get_or, add-one, Option, Some, None, refl, ap, sym, ◌∙◌, arith, append_assoc}
 use Rattle.std.specs.Option.{option_map, is_none}
 use Rattle.std.proofs.Math.Seq.{drop-append_seam, take-suc}
 use Rattle.std.proofs.lemmas.Grind.{common_steps}
@@ -56,9 +56,6 @@ counted_more front t k old new kind before p mp q mq s = record {
 }
 
 -- ---- what is bound
-
-length_more : (front : List Span) (s : Span) → length (front ++ s ∷ []) ≡ length front + 1
-length_more front s = length-append front (s ∷ [])
 
 tokens_more : (front : List Span) (s : Span) (rest : List Token) → tokens_of (front ++ s ∷ []) ++ rest ≡ tokens_of front ++ s.token ∷ rest
 tokens_more front s rest = ap (λ x. x ++ rest) (map-append (λ x. x.token) front (s ∷ [])) ∙ append_assoc (tokens_of front) (s.token ∷ []) rest

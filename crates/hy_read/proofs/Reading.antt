@@ -1,6 +1,5 @@
 -- From the counts of a text and what is built of it to the answer.
-use Rattle.std.proofs.Common.{◌≡◌, ℕ, zero, suc, ◌<◌, ◌≤◌, List, [], ◌∷◌, ◌++◌, length, length-append, map, Bool, true, false, nat_lt, Option, Some, None, Result, Ok, Err, refl, ap, sym, subst, ◌∙◌, arith}
-use Rattle.std.proofs.lemmas.Bool.Decides.{nat_tests}
+use Rattle.std.proofs.Common.{◌≡◌, ℕ, zero, suc, ◌<◌, ◌≤◌, List, [], ◌∷◌, ◌++◌, length, length-append, map, Bool, false, nat_lt, Option, Some, None, Result, Ok, Err, refl, ap, sym, subst, ◌∙◌, arith}
 use Rattle.hy_formula.specs.declared.formula.Formula.{Formula}
 use Rattle.hy_read.specs.declared.build_error.BuildError.{BuildError}
 use Rattle.hy_read.specs.declared.build_error.BuildError.TheVariants as refusals
@@ -12,6 +11,7 @@ use Rattle.hy_read.specs.Builds.{AreBuilt, meaning_in, most_of_heights, most_of_
 use Rattle.hy_read.specs.Contract.{IsAnswer}
 use Rattle.hy_formula.specs.Trees.{Tree}
 use Rattle.std.proofs.lemmas.List.{length-map}
+use Rattle.std.proofs.lemmas.Bool.{lt-ltb, le-ltb}
 use Rattle.hy_read.specs.Grammar.{AreFormulas, Quantifier, Read}
 use Rattle.hy_read.specs.Judged.{HasNames, HasTooManyNames, IsJudged, IsLate, IsLateAndNamed, IsMeasured, IsPastCount, IsWithinCounts}
 use Rattle.hy_read.specs.Parses.{AreLeft}
@@ -52,12 +52,6 @@ formulas_of many old bytes c s =
       quantified = sym (formulas_quantified (Bound (names_of old tokens)) many fs tokens are) ∙ sym s.words;
     }
 
-test_past : (a b : ℕ) → a < b → nat_lt a b ≡ true
-test_past a b h = grind (arith, nat_tests)
-
-test_within : (a b : ℕ) → b ≤ a → nat_lt a b ≡ false
-test_within a b h = grind (arith, nat_tests)
-
 module _ (many : Bool) (limit : ℕ) (old : List (List ℕ)) (bytes : List ℕ) (c : Counts) (s : IsSound many bytes c) (f : Formulas many old bytes c s.spans) where
   abbrev tokens : List Token
   tokens = tokens_of s.spans
@@ -75,38 +69,38 @@ module _ (many : Bool) (limit : ℕ) (old : List (List ℕ)) (bytes : List ℕ) 
   }
 
   few_specs : suc c.semicolons ≤ 16 → nat_lt 16 (length f.fs) ≡ false
-  few_specs h = let long = f.long in test_within 16 (length f.fs) (omega arith)
+  few_specs h = let long = f.long in le-ltb 16 (length f.fs) (omega arith)
 
   few_quantifiers : c.most_quantifiers ≤ limit → nat_lt limit (most_of_quantifiers f.fs) ≡ false
-  few_quantifiers h = let quantified = f.quantified in test_within limit (most_of_quantifiers f.fs) (omega arith)
+  few_quantifiers h = let quantified = f.quantified in le-ltb limit (most_of_quantifiers f.fs) (omega arith)
 
   few_parens : c.most_parens ≤ 200 → nat_lt 200 (most_open zero tokens) ≡ false
-  few_parens h = let opens = s.opens in test_within 200 (most_open zero tokens) (omega arith)
+  few_parens h = let opens = s.opens in le-ltb 200 (most_open zero tokens) (omega arith)
 
   past_specs : 16 < suc c.semicolons → First (Some specs)
-  past_specs h = let long = f.long in rw (test_past 16 (length f.fs) (omega arith)) refl
+  past_specs h = let long = f.long in rw (lt-ltb 16 (length f.fs) (omega arith)) refl
 
   past_quantifiers : suc c.semicolons ≤ 16 → limit < c.most_quantifiers → First (Some quantifiers)
   past_quantifiers g h =
       let quantified = f.quantified in
-      rw (few_specs g, test_past limit (most_of_quantifiers f.fs) (omega arith)) refl
+      rw (few_specs g, lt-ltb limit (most_of_quantifiers f.fs) (omega arith)) refl
 
   past_parens : suc c.semicolons ≤ 16 → c.most_quantifiers ≤ limit → 200 < c.most_parens → First (Some parens)
   past_parens g h k =
       let opens = s.opens in
-      rw (few_specs g, few_quantifiers h, test_past 200 (most_open zero tokens) (omega arith)) refl
+      rw (few_specs g, few_quantifiers h, lt-ltb 200 (most_open zero tokens) (omega arith)) refl
 
   past_heights : IsWithinCounts limit c → 200 < most_of_heights f.fs → First (Some heights)
   past_heights w h =
-      rw (few_specs w.few_specs, few_quantifiers w.few_quantifiers, few_parens w.few_parens, test_past 200 (most_of_heights f.fs) h) refl
+      rw (few_specs w.few_specs, few_quantifiers w.few_quantifiers, few_parens w.few_parens, lt-ltb 200 (most_of_heights f.fs) h) refl
 
   past_names : IsWithinCounts limit c → most_of_heights f.fs ≤ 200 → 64 < length (names_of old tokens) → First (Some names)
   past_names w h k =
-      rw (few_specs w.few_specs, few_quantifiers w.few_quantifiers, few_parens w.few_parens, test_within 200 (most_of_heights f.fs) h, test_past 64 (length (names_of old tokens)) k) refl
+      rw (few_specs w.few_specs, few_quantifiers w.few_quantifiers, few_parens w.few_parens, le-ltb 200 (most_of_heights f.fs) h, lt-ltb 64 (length (names_of old tokens)) k) refl
 
   past_none : IsWithinCounts limit c → most_of_heights f.fs ≤ 200 → length (names_of old tokens) ≤ 64 → First None
   past_none w h k =
-      rw (few_specs w.few_specs, few_quantifiers w.few_quantifiers, few_parens w.few_parens, test_within 200 (most_of_heights f.fs) h, test_within 64 (length (names_of old tokens)) k) refl
+      rw (few_specs w.few_specs, few_quantifiers w.few_quantifiers, few_parens w.few_parens, le-ltb 200 (most_of_heights f.fs) h, le-ltb 64 (length (names_of old tokens)) k) refl
 
   past_count : (k : Count) → IsPastCount limit c k → First (Some k)
   past_count specs h = past_specs h

@@ -1,9 +1,10 @@
 -- Printing the names of a set, and the sets of a word, one after another: what is printed so far and what is left.
-use Rattle.std.proofs.Common.{◌≡◌, ℕ, zero, suc, get_or, ◌+◌, ◌<◌, ◌≤◌, Bool, true, false, List, [], ◌∷◌, ◌++◌, length, map, drop, slice_get, Some, refl, sym, ap, ◌∙◌, arith, append_assoc, append-nil, add-one}
+use Rattle.std.proofs.Common.{◌≡◌, ℕ, zero, suc, get_or, ◌+◌, ◌<◌, ◌≤◌, Bool, true, false, List, [], ◌∷◌, ◌++◌, length, map, drop, slice_get, Some, refl, sym, ap, ◌∙◌, append_assoc, append-nil, add-one}
 use Rattle.std.specs.List.{join_with_byte}
-use Rattle.std.proofs.lemmas.Grind.{common_steps}
 use Rattle.std.proofs.lemmas.Option.{slice_get-get_or}
 use Rattle.std.specs.FinSet as set
+use Rattle.std.proofs.lemmas.List.{drop_all}
+use Rattle.hy_base.proofs.Places.{drop-at}
 use Rattle.hy_bits.specs.Letter.{Letter}
 use Rattle.hy_text.specs.Joined.{piece, pieces}
 use Rattle.hy_text.specs.Names.{spelled}
@@ -19,20 +20,12 @@ left_behind {A = A} [] i x e = cc
 left_behind {A = A} (y ∷ ys) zero x e = cc
 left_behind {A = A} (y ∷ ys) (suc i) x e = left_behind ys i x e
 
--- what is left from a place on is what stands there, and what is left behind it
-pub left_at : {A : Type 0} (xs : List A) (i : ℕ) (x : A) → slice_get xs i ≡ Some x → drop i xs ≡ x ∷ drop (i + 1) xs
-left_at xs i x e = rw add-one (left_behind xs i x e)
-
 -- a name that is in the letter, and one that is not
 pub member_at : (table : List (List ℕ)) (letter : Letter) (i : ℕ) (name : List ℕ) → slice_get table i ≡ Some name → set.contains letter i ≡ true → members_from i letter (drop i table) ≡ name ∷ members_from (i + 1) letter (drop (i + 1) table)
-member_at table letter i name e has = rw (left_at table i name e) (rw has (rw add-one refl))
+member_at table letter i name e has = rw (drop-at table i name e) (rw has (rw add-one refl))
 
 pub member_not_at : (table : List (List ℕ)) (letter : Letter) (i : ℕ) → i < length table → set.contains letter i ≡ false → members_from i letter (drop i table) ≡ members_from (i + 1) letter (drop (i + 1) table)
-member_not_at table letter i less lacks = rw (left_at table i (get_or table i []) (slice_get-get_or table i [] less)) (rw lacks (rw add-one refl))
-
--- Nothing is left behind the last place.
-pub left_none : {A : Type 0} (xs : List A) (i : ℕ) → length xs ≤ i → drop i xs ≡ []
-left_none xs i past = grind (arith, common_steps)
+member_not_at table letter i less lacks = rw (drop-at table i (get_or table i []) (slice_get-get_or table i [] less)) (rw lacks (rw add-one refl))
 
 -- What is printed makes, with the names that are left from a place on, the whole.
 abbrev pub NamesLeft : List (List ℕ) → Letter → List ℕ → ℕ → Bool → List ℕ → Type 0
@@ -49,8 +42,8 @@ name_passed table letter all i first front left less lacks =
 
 pub names_printed : (table : List (List ℕ)) (letter : Letter) (all : List ℕ) (i : ℕ) (first : Bool) (front : List ℕ) → length table ≤ i → NamesLeft table letter all i first front → front ≡ all
 names_printed table letter all i first front past left =
-    sym (append-nil front) ∙ ap (λ l. front ++ pieces first 44 (map spelled (members_from i letter l))) (sym (left_none table i past)) ∙ left
+    sym (append-nil front) ∙ ap (λ l. front ++ pieces first 44 (map spelled (members_from i letter l))) (sym (drop_all i table past)) ∙ left
 
 pub sets_printed : (f : Letter → List ℕ) (letters : List Letter) (i : ℕ) (first : Bool) (front all : List ℕ) → length letters ≤ i → front ++ pieces first 59 (map f (drop i letters)) ≡ all → front ≡ all
 sets_printed f letters i first front all past left =
-    sym (append-nil front) ∙ ap (λ l. front ++ pieces first 59 (map f l)) (sym (left_none letters i past)) ∙ left
+    sym (append-nil front) ∙ ap (λ l. front ++ pieces first 59 (map f l)) (sym (drop_all i letters past)) ∙ left

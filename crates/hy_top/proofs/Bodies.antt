@@ -3,6 +3,7 @@ use Rattle.std.proofs.Common.{◌^◌, List, length, inl, inr, subst, arith}
 use Rattle.std.proofs.Math.Nat.{mul-le-mul_right}
 use Rattle.hy_formula.specs.Quantifiers.{Each}
 use Rattle.hy_formula.specs.Trees.{Tree}
+use Rattle.hy_formula.proofs.Each.{each-at}
 use Rattle.fin_monitor.specs.Codes.{atoms_of}
 use Rattle.fin_monitor.specs.Duties.{body_nodes, body_root}
 use Rattle.fin_monitor.specs.Limits.{HasLargeClosure, HasSmallClosure, HasManyAtoms, HasFewAtoms, HasLargeTable, HasSmallTable}
@@ -15,7 +16,7 @@ use Rattle.hy_top.specs.Files.{Given, HasFormulas}
 use Rattle.hy_top.specs.Monitoring.{monitored, SomePlain, EachPlain, SomeBody}
 use Rattle.hy_top.specs.Deciding.{plans_of}
 use Rattle.hy_top.specs.Stages.{count, closure, atoms, table, Passed}
-use Rattle.hy_top.proofs.Formulas.{of_formulas, each_contains, few-members}
+use Rattle.hy_top.proofs.Formulas.{of_formulas, few-members}
 
 small_closures : (body : Tree) → HasSmallClosure body → ¬ HasLargeClosure body
 small_closures body small large = omega (arith, small, large)
@@ -35,7 +36,7 @@ module _ (command : Command) (given : Given) (formulas : List Plain) (has : HasF
   no-body Q R apart each some =
       let P : List Plain → Type 0 = λ fs. SomePlain Q (monitored command fs) in
       let (f, there, is) = subst P (of_formulas command given formulas has some.formulas some.has) some.some in
-      apart f.body (each_contains (λ (g : Plain). R g.body) (monitored command formulas) f each there) is
+      apart f.body (each-at (λ (g : Plain). R g.body) (monitored command formulas) f each there) is
 
   pub closure_passed : Each HasFewMembers (plans_of command formulas) → EachPlain HasSmallClosure (monitored command formulas)
       → (¬ HasManyMembers command given) → Passed command given (count closure)

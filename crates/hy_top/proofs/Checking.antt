@@ -44,8 +44,8 @@ use Rattle.hy_top.specs.Stages.{names as names_stage}
 use Rattle.hy_top.specs.Steps.{Takes, TakesCircuit, Ends}
 use Rattle.std.specs.Bool.{IsTrue}
 use Rattle.std.specs.List.{Contains}
+use Rattle.hy_base.proofs.Members.{contains-here, contains-later}
 use Rattle.aig_net.specs.Signals.{has_signal, literal_of}
-use Rattle.hy_formula.proofs.Tuples.{contains-here, contains-later}
 use Rattle.hy_top.proofs.Bodies.{closure_passed, atoms_passed, table_passed}
 use Rattle.hy_top.proofs.Formulas.{class_passed, instances_passed}
 use Rattle.hy_top.proofs.Progress.{Progress, begun, goes_on, ends_here, answers_behind, runs_short, texts_once}

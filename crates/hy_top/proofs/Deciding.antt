@@ -2,6 +2,7 @@
 use Rattle.std.proofs.Common.{◌≡◌, ◌≢◌, ℕ, Bool, true, false, cond, List, [], ◌∷◌, ◌++◌, length, Ok, inl, inr, refl, sym, ap, subst, ◌∙◌}
 use Rattle.hy_base.specs.declared.limit.Limit.{Limit as Past}
 use Rattle.hy_base.specs.declared.shelf.Shelf.{Ghosts}
+use Rattle.hy_base.proofs.Members.{contains-here, contains-later}
 use Rattle.hy_bits.specs.Letter.{Letter}
 use Rattle.hy_formula.specs.Lassos.{Lasso}
 use Rattle.hy_formula.specs.Classes.{class_of}
@@ -9,7 +10,6 @@ use Rattle.hy_formula.specs.Quantifiers.{Each}
 use Rattle.hy_formula.specs.declared.classes.Class.{Class}
 use Rattle.hy_formula.specs.declared.classes.Class.TheVariants as classes
 use Rattle.hy_formula.specs.declared.prefix.Quant.{Quant}
-use Rattle.hy_formula.proofs.Tuples.{contains-here, contains-later}
 use Rattle.hy_read.specs.Answers.{Plain}
 use Rattle.ea_reduce.specs.Fulfilled.{IsOfOneKind}
 use Rattle.ea_reduce.specs.Plans.{PlainPlan}

@@ -5,13 +5,13 @@ use Rattle.std.proofs.lemmas.List.{length-map}
 use Rattle.hy_base.specs.Limits.{most as most_of}
 use Rattle.hy_base.specs.declared.limit.Kind.{Kind}
 use Rattle.hy_base.specs.declared.limit.Kind.TheVariants as kinds
+use Rattle.hy_base.proofs.Members.{contains-here, contains-later}
 use Rattle.hy_formula.specs.declared.formula.Formula.{Formula}
 use Rattle.hy_formula.specs.Classes.{class_of}
 use Rattle.hy_formula.specs.declared.classes.Class.{Class}
 use Rattle.hy_formula.specs.declared.classes.Class.TheVariants as classes
 use Rattle.hy_formula.specs.Quantifiers.{Each}
 use Rattle.hy_formula.specs.Trees.{Tree}
-use Rattle.hy_formula.proofs.Tuples.{contains-here, contains-later}
 use Rattle.hy_finite.specs.declared.event.Placed.{Placed}
 use Rattle.hy_finite.specs.declared.lengths.Lengths.{Lengths}
 use Rattle.hy_read.specs.Answers.{Plain, Answers, read_as, plain_of, tokens_of, located}

@@ -1,11 +1,11 @@
 -- What is said of the formulas of a command behind its files, stage by stage.
-use Rattle.std.proofs.Common.{◌≡◌, ℕ, zero, suc, ◌≤◌, Bool, true, List, [], ◌∷◌, length, inl, inr, refl, sym, ap, subst, ◌∙◌, arith}
+use Rattle.std.proofs.Common.{◌≡◌, ℕ, zero, suc, ◌≤◌, Bool, true, List, [], ◌∷◌, length, refl, sym, ap, subst, ◌∙◌, arith}
 use Rattle.std.specs.List.{Contains}
 use Rattle.std.proofs.lemmas.List.Elements.{All-contains}
 use Rattle.hy_formula.specs.Classes.{class_of}
 use Rattle.hy_formula.specs.Quantifiers.{Each}
-use Rattle.hy_formula.proofs.Tuples.{contains-none, contains-cases}
 use Rattle.hy_formula.specs.declared.classes.Class.{Class}
+use Rattle.hy_formula.proofs.Each.{each-at}
 use Rattle.hy_read.specs.Answers.{Plain}
 use Rattle.ea_reduce.specs.Plans.{PlainPlan, PlainJob}
 use Rattle.ea_reduce.specs.Refused.{HasFewMaps, HasManyMaps, most_maps}
@@ -33,11 +33,6 @@ untaken_once takes (f ∷ formulas) (suc place) zero found next (fits, one) (is,
 untaken_once takes (f ∷ formulas) (suc place) (suc other) found next (fits, one) (also, two) =
     let (same, known) = untaken_once takes formulas place other found next one two in (ap suc same, known)
 
-pub each_contains : {A : Type 0} (P : A → Type 0) (xs : List A) (x : A) → Each P xs → Contains xs x → P x
-each_contains P [] x all there = absurd (contains-none x there)
-each_contains P (y ∷ ys) x (first, all) there =
-    elim (contains-cases y x ys there) [ inl e ↦ subst P e first | inr later ↦ each_contains P ys x all later ]
-
 few_or_many : (plan : PlainPlan) → HasFewMaps plan → ¬ HasManyMaps plan
 few_or_many plan few (job, there, many) =
     let le = All-contains (λ (j : PlainJob). length j.maps ≤ most_maps) plan.jobs job few there in omega (arith, le, many)
@@ -55,9 +50,9 @@ module _ (command : Command) (given : Given) (formulas : List Plain) (has : HasF
   pub instances_passed : Each HasFewMaps (plans_of command formulas) → Passed command given (count instances)
   instances_passed few a (past, e) =
       let P : List Plain → Type 0 = λ fs. Contains (plans_of command fs) past.plan in
-      few_or_many past.plan (each_contains HasFewMaps (plans_of command formulas) past.plan few (subst P (of_formulas past.formulas past.has) past.of)) past.many
+      few_or_many past.plan (each-at HasFewMaps (plans_of command formulas) past.plan few (subst P (of_formulas past.formulas past.has) past.of)) past.many
 
   pub few-members : Each HasFewMembers (plans_of command formulas) → ¬ HasLargeClosure command given
   few-members few past =
       let P : List Plain → Type 0 = λ fs. Contains (plans_of command fs) past.plan in
-      omega (arith, each_contains HasFewMembers (plans_of command formulas) past.plan few (subst P (of_formulas past.formulas past.has) past.of), past.many)
+      omega (arith, each-at HasFewMembers (plans_of command formulas) past.plan few (subst P (of_formulas past.formulas past.has) past.of), past.many)

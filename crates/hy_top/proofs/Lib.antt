@@ -3,7 +3,6 @@ pub mod Checking
 pub mod Counting
 pub mod Deciding
 pub mod Ending
-pub mod EventLines
 pub mod EventSteps
 pub mod FirstSpecs
 pub mod Formulas

@@ -12,6 +12,8 @@ use Rattle.rv_core.specs.Endings.{Spec, IsClean, FirstViolated}
 use Rattle.rv_core.specs.Histories.{History, empty_history, Step, refused, goes, step, arrives}
 use Rattle.hy_lasso.specs.Words.{Satisfies as Meant}
 use Rattle.hy_read.specs.Answers.{Plain}
+use Rattle.hy_finite.proofs.OneAnswer.{one-events}
+use Rattle.rv_core.proofs.Ending.{first-one}
 use Rattle.ea_core.specs.Decided.{Implies, TellsApart}
 use Rattle.ea_core.specs.Undecided.{HasFewBranches, HasManyBranches}
 use Rattle.ea_core.proofs.Searching.{not-both}
@@ -39,7 +41,6 @@ use Rattle.hy_top.proofs.Progress.{texts_once}
 use Rattle.hy_top.proofs.Reading.{bytes_once}
 use Rattle.hy_top.proofs.Texts.{refused_once}
 use Rattle.hy_top.proofs.Counting.{clean-once}
-use Rattle.hy_top.proofs.EventLines.{events-once}
 
 agree : {a b : Answer} → a ≡ b → Agree a b
 agree {a} e = subst (Agree a) e (same a)
@@ -49,20 +50,9 @@ agree {a} e = subst (Agree a) e (same a)
 same-clean : (lengths : Lengths) (specs : List Spec) (list : List Trace) (s : ℕ) → FirstViolated lengths specs list s → ¬ IsClean lengths specs list
 same-clean lengths specs list s first clean = clean s first.there first.violated
 
-one-violated : (lengths : Lengths) (specs : List Spec) (list : List Trace) (s t : ℕ) → FirstViolated lengths specs list s → FirstViolated lengths specs list t → s ≡ t
-one-violated lengths specs list s t one two =
-    elim (cases_lt s t) [
-      | inl lt ↦ absurd (two.before s lt one.violated)
-      | inr from ↦
-          elim (cases_lt t s) [
-            | inl lt ↦ absurd (one.before t lt two.violated)
-            | inr to ↦ omega arith
-          ]
-    ]
-
 violations-agree : (lengths : Lengths) (specs : List Spec) (list : List Trace) (a b : Answer) → IsViolation lengths specs list a → IsViolation lengths specs list b → Agree a b
 violations-agree lengths specs list a b one two =
-    let spec = one-violated lengths specs list one.spec two.spec one.found.first two.found.first in
+    let spec = first-one lengths specs list one.spec two.spec one.found.first two.found.first in
     let trace : one.trace ≡ two.trace = let p = one.found.last in let q = two.found.last in omega (arith, p, q) in
     let P : Answer → Type 0 = λ x. Agree x b in
     let Q : Answer → Type 0 = λ y. Agree (answers.Violation one.spec one.trace one.tuple) y in
@@ -121,7 +111,7 @@ one-list : (command : Command) (given : Given) (names : List (List ℕ)) (events
     → AreEvents command given names others → events ≡ others
 one-list (monitor specs traces lengths drop) given names events others (bytes, came, said) (more, also, again) =
     let P : List ℕ → Type 0 = λ bs. SayEvents names 1 (lines_of bs) events in
-    events-once names 1 (lines_of more) events others (subst P (bytes_once given 1 bytes more came also) said) again
+    one-events names 1 (lines_of more) events others (subst P (bytes_once given 1 bytes more came also) said) again
 one-list (monitor_made specs n lengths drop) given names events others one two = one ∙ sym two
 one-list (judge formula list) given names events others none two = absurd none
 one-list (decide formula states proof) given names events others none two = absurd none

@@ -5,9 +5,9 @@ use Rattle.std.proofs.lemmas.Grind.{flat_map-append}
 use Rattle.clap.specs.Walk.{Row, all_of, with_values, without, has_row}
 use Rattle.clap.specs.declared.builder.value_parser.Reading.{Reading}
 use Rattle.clap.specs.declared.parser.matches.ValueSource.{ValueSource}
+use Rattle.hy_base.proofs.Truths.{same-bytes, bytes-themselves}
 use Rattle.hy_words.specs.Words.{Text, Item, file, item_files, item_gives, files_in, given_in}
 use Rattle.hy_words.specs.Parsers.{files_name}
-use Rattle.hy_words.proofs.Splitting.{same_bytes, bytes_same}
 use Rattle.hy_words.proofs.Lookups.{more, given_values, without_none, row_there}
 
 -- values, where there are some
@@ -50,7 +50,7 @@ not-the-other a b e = by (bytes_eq b a) refl
   where
     by : (t : Bool) → bytes_eq b a ≡ t → t ≡ false
     by false f = refl
-    by true f = absurd (true≢false (sym (bytes_same a) ∙ ap (λ n. bytes_eq a n) (sym (same_bytes b a f)) ∙ e))
+    by true f = absurd (true≢false (sym (bytes-themselves a) ∙ ap (λ n. bytes_eq a n) (sym (same-bytes b a f)) ∙ e))
 
 module _ (rows : List Row) (items : List Item) (holds : Holds rows items) (how : Reading) (s : ValueSource) (v : Text) where
   -- A name that was not given yet is given a value.
@@ -71,7 +71,7 @@ module _ (rows : List Row) (items : List Item) (holds : Holds rows items) (how :
         by id false free = holds.named id free ∙ ap held (sym (append-nil (given_in id items)))
 
         few : (id : Text) (b : Bool) → bytes_eq name id ≡ b → length (given_in id items ++ cond b (v ∷ []) []) ≤ 1
-        few id true e = let P : Text → Type 0 = λ n. length (given_in n items ++ v ∷ []) ≤ 1 in subst P (same_bytes name id e) (rw not-given (omega arith))
+        few id true e = let P : Text → Type 0 = λ n. length (given_in n items ++ v ∷ []) ≤ 1 in subst P (same-bytes name id e) (rw not-given (omega arith))
         few id false e = rw (append-nil (given_in id items)) (holds.once id)
 
   -- One more name of a file.

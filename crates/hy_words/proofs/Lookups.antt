@@ -5,8 +5,8 @@ use Rattle.std.specs.Str.{bytes_eq}
 use Rattle.clap.specs.Walk.{Row, Rule, all_of, with_values, without, has_row}
 use Rattle.clap.specs.declared.builder.value_parser.Reading.{Reading}
 use Rattle.clap.specs.declared.parser.matches.ValueSource.{ValueSource}
+use Rattle.hy_base.proofs.Truths.{same-bytes, bytes-themselves}
 use Rattle.hy_words.specs.Words.{Text, has}
-use Rattle.hy_words.proofs.Splitting.{same_bytes, bytes_same}
 
 -- ---- the first argument that passes a test
 
@@ -17,7 +17,7 @@ module _ (make : Text → Rule) (p : Rule → Bool) (name : Text) (passes : (m :
     where
       by : (b : Bool) → bytes_eq m name ≡ b → (has names name ≡ true → find p (map make names ++ rest) ≡ Some (make name))
           → find p (map make (m ∷ names) ++ rest) ≡ Some (make name)
-      by true e behind = rw (passes m, e) (ap (λ n. Some (make n)) (same_bytes m name e))
+      by true e behind = rw (passes m, e) (ap (λ n. Some (make n)) (same-bytes m name e))
       by false e behind = rw (passes m, e) (behind (sym (ap (λ b. b || has names name) e) ∙ there))
 
   pub find_past : (names : List Text) (rest : List Rule) → has names name ≡ false → find p (map make names ++ rest) ≡ find p rest
@@ -54,10 +54,10 @@ given_values k id how s values (r ∷ rows) = by (bytes_eq r.id k) (bytes_eq r.i
         → all_of id (with_values k how s values rows) ≡ cond (bytes_eq k id) (more (all_of id rows) values) (all_of id rows)
         → all_of id (with_values k how s values (r ∷ rows)) ≡ cond (bytes_eq k id) (more (all_of id (r ∷ rows)) values) (all_of id (r ∷ rows))
     by true true true e f g behind = rw (e, f, g) refl
-    by true true false e f g behind = absurd (true≢false (sym f ∙ ap (λ n. bytes_eq n id) (same_bytes r.id k e) ∙ g))
-    by true false true e f g behind = absurd (true≢false (sym g ∙ ap (λ n. bytes_eq n id) (sym (same_bytes r.id k e)) ∙ f))
+    by true true false e f g behind = absurd (true≢false (sym f ∙ ap (λ n. bytes_eq n id) (same-bytes r.id k e) ∙ g))
+    by true false true e f g behind = absurd (true≢false (sym g ∙ ap (λ n. bytes_eq n id) (sym (same-bytes r.id k e)) ∙ f))
     by true false false e f g behind = rw (e, f, g) refl
-    by false true true e f g behind = absurd (true≢false (sym (bytes_same k) ∙ ap (λ n. bytes_eq n k) (same_bytes k id g ∙ sym (same_bytes r.id id f)) ∙ e))
+    by false true true e f g behind = absurd (true≢false (sym (bytes-themselves k) ∙ ap (λ n. bytes_eq n k) (same-bytes k id g ∙ sym (same-bytes r.id id f)) ∙ e))
     by false true false e f g behind = rw (e, f, g) refl
     by false false true e f g behind = rw (e, f) behind
     by false false false e f g behind = rw (e, f) behind

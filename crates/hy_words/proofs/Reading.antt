@@ -9,14 +9,15 @@ use Rattle.clap.specs.Walk.{Row, Rule, Held, Walk, Waiting, idle, option, positi
 use Rattle.clap.specs.Faults.{turn_fault, settle_fault, walk_fault}
 use Rattle.clap.specs.Kinds.{Kinds, or_else}
 use Rattle.clap.specs.declared.error.kind.ErrorKind.TheVariants.{InvalidValue}
+use Rattle.hy_base.proofs.Truths.{same-bytes, bytes-themselves}
 use Rattle.hy_formula.specs.Quantifiers.{Each}
 use Rattle.hy_words.specs.declared.tool.Tool.{Tool}
 use Rattle.hy_words.specs.Words.{Item, file, flag, Says, nothing, behind_dashes, a_file, a_flag, an_option, joined, has, dashed, is_bare, flags_of, options_of, given_in, item_gives}
 use Rattle.hy_words.specs.Words.{option as given}
 use Rattle.hy_words.specs.Parsers.{files_name}
-use Rattle.hy_words.proofs.Splitting.{same_bytes, bytes_same, IsSplit, long_word, not_dashes, bare_word, short_word, other_word, first_char}
+use Rattle.hy_words.proofs.Splitting.{IsSplit, long_word, not_dashes, bare_word, short_word, other_word, first_char}
 use Rattle.hy_words.proofs.Walking as w
-use Rattle.hy_words.proofs.Walking.{built_flag, built_option, built_files, rules_for, shape_for, stands, calm, some-none}
+use Rattle.hy_words.proofs.Walking.{built_flag, built_option, rules_for, shape_for, stands, calm, some-none}
 use Rattle.hy_words.proofs.Lookups.{row_there}
 use Rattle.hy_words.proofs.Holding.{held, Holds, named-more, file-more}
 
@@ -86,7 +87,7 @@ module _ (tool : Tool) where
     where
       by : (b : Bool) → bytes_eq files_name name ≡ b → b ≡ false
       by false e = refl
-      by true e = absurd (true≢false (sym there ∙ ap (has names) (sym (same_bytes files_name name e)) ∙ gone))
+      by true e = absurd (true≢false (sym there ∙ ap (has names) (sym (same-bytes files_name name e)) ∙ gone))
 
   -- one more name of a file waits
   file_will : IsFine → (h : Held) (word : Text) (items : List Item) → Holds (settled rules h).rows items
@@ -305,7 +306,7 @@ module _ (tool : Tool) where
           let Q : Walk → Type 0 = λ walk. Ends walk words (items ++ map file words) in
           let R : Text → Type 0 = λ word. Says tool (word ∷ words) (map file words) in (
             map file words,
-            subst R (sym (same_bytes word (45 ∷ 45 ∷ []) ed)) (behind_dashes words),
+            subst R (sym (same-bytes word (45 ∷ 45 ∷ []) ed)) (behind_dashes words),
             subst Q (sym next) (trailing_sound fine words h waiting items will (subst P next rest)),
           )
       by false (Some (name, v)) s ed el es = long_sound fine words later h items word waiting skip will name v el e
@@ -377,7 +378,7 @@ module _ (tool : Tool) where
   complete fine _ _ (a_flag name words ys there says) bare h waiting quiet items settles holds once =
       let long = fine.flag_alone name there in
       let other = not_dashes (dashed name) (name, None) long in
-      let new = none-before (settled rules h).rows items (flag name) ys name (codes "true") holds (files-apart fine name flags fine.free there) (ap (λ b. cond b (codes "true" ∷ []) []) (bytes_same name)) (once name) in
+      let new = none-before (settled rules h).rows items (flag name) ys name (codes "true") holds (files-apart fine name flags fine.free there) (ap (λ b. cond b (codes "true" ∷ []) []) (bytes-themselves name)) (once name) in
       let next = w.flag_next flags options h waiting (dashed name) name None long other there refl in
       let later = reacted rules (built_flag name) [] h in
       let (rest, ends) = complete fine words ys says bare later idle tt (items ++ flag name ∷ []) refl (flag_will fine h name items there holds new)
@@ -393,7 +394,7 @@ module _ (tool : Tool) where
       let gone = fine.apart name there in
       let word = dashed (name ++ 61 ∷ v) in
       let other = not_dashes word (name, Some v) long in
-      let new = none-before (settled rules h).rows items (given name v) ys name v holds (files-apart fine name options fine.clear there) (ap (λ b. cond b (v ∷ []) []) (bytes_same name)) (once name) in
+      let new = none-before (settled rules h).rows items (given name v) ys name v holds (files-apart fine name options fine.clear there) (ap (λ b. cond b (v ∷ []) []) (bytes-themselves name)) (once name) in
       let next = w.valued_next flags options h waiting word name (Some v) long other gone there v refl in
       let later = reacted rules (built_option name) (v ∷ []) h in
       let (rest, ends) = complete fine words ys says bare later idle tt (items ++ given name v ∷ []) refl (option_will fine (settled rules h).rows name v items there holds new)
@@ -409,7 +410,7 @@ module _ (tool : Tool) where
       let gone = fine.apart name there in
       let word = dashed name in
       let other = not_dashes word (name, None) long in
-      let new = none-before (settled rules h).rows items (given name v) ys name v holds (files-apart fine name options fine.clear there) (ap (λ b. cond b (v ∷ []) []) (bytes_same name)) (once name) in
+      let new = none-before (settled rules h).rows items (given name v) ys name v holds (files-apart fine name options fine.clear there) (ap (λ b. cond b (v ∷ []) []) (bytes-themselves name)) (once name) in
       let next = w.option_next flags options h waiting word name None long other gone there refl in
       let mid = record (settled rules h) { pending = Some (name, []) } in
       let (vlong, vshort, vother) = bare_word v good in

@@ -4,20 +4,11 @@ use Rattle.std.specs.List.{slice_get}
 use Rattle.std.specs.Bool.{IsTrue}
 use Rattle.std.specs.Char.{encode_utf8}
 use Rattle.std.specs.Str.{bytes_eq, chars, IsUtf8, is_utf8, all_scalars, encode_utf8_all}
-use Rattle.std.proofs.lemmas.Slice.Eq.{bytes_eq-Decides}
 use Rattle.std.proofs.lemmas.Str.{is_utf8-from_IsUtf8}
+use Rattle.std.proofs.lemmas.Option.{none-some}
 use Rattle.clap.specs.Lexer.{long_of, short_of, name_and_value}
+use Rattle.hy_base.proofs.Truths.{same-bytes}
 use Rattle.hy_words.specs.Words.{Text, dashed, is_bare}
-
-pub same_bytes : (a b : Text) → bytes_eq a b ≡ true → a ≡ b
-same_bytes a b = (bytes_eq-Decides a b).0
-
-pub bytes_same : (a : Text) → bytes_eq a a ≡ true
-bytes_same a = (bytes_eq-Decides a a).1 refl
-
-pub or_false : (b : Bool) → (b || false) ≡ b
-or_false true = refl
-or_false false = refl
 
 -- A text is its name, or its name, an equals sign and its value.
 abbrev pub IsSplit : Text → Text → Option Text → Type 0
@@ -42,9 +33,6 @@ split_at (b ∷ text) = by (b == 61) refl (split_at text)
         → IsSplit (b ∷ text) (name_and_value (b ∷ text)).0 (name_and_value (b ∷ text)).1
     by true e behind = rw e (ap (λ n. n ∷ text) (eqb-true b 61 e))
     by false e behind = rw e (simp (one-more-behind, one-more) (keep b text _ _ behind))
-
-none-some : {A : Type 0} (x : A) → None ≡ Some x → ⊥
-none-some x e = cc
 
 -- A word that begins with two dashes.
 pub long_word : (word name : Text) (value : Option Text) → long_of word ≡ Some (name, value) → (text : Text) × (word ≡ dashed text) × IsSplit text name value
@@ -74,7 +62,7 @@ pub not_dashes : (word : Text) (p : Text × Option Text) → long_of word ≡ So
 not_dashes word p e = by (bytes_eq word (45 ∷ 45 ∷ [])) refl
   where
     by : (b : Bool) → bytes_eq word (45 ∷ 45 ∷ []) ≡ b → b ≡ false
-    by true f = let same = sym (ap long_of (same_bytes word (45 ∷ 45 ∷ []) f)) ∙ e in cc
+    by true f = let same = sym (ap long_of (same-bytes word (45 ∷ 45 ∷ []) f)) ∙ e in cc
     by false f = refl
 
 -- A word that is not bare begins with a dash: it is two dashes, long or short.

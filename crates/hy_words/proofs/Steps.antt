@@ -1,18 +1,14 @@
 -- Steps of loops over names, and of reading a number.
-use Rattle.std.proofs.Common.{◌≡◌, ◌≢◌, ℕ, zero, suc, ◌+◌, ◌<◌, ◌&&◌, ◌==◌, Bool, true, false, not, List, [], ◌∷◌, ◌++◌, map, take, length, get_or, Bor, Option, Some, None, Result, Ok, decimal, refl, sym, ap, ◌∙◌, arith, append_assoc}
+use Rattle.std.proofs.Common.{◌≡◌, ◌≢◌, ℕ, zero, suc, ◌+◌, ◌<◌, ◌&&◌, ◌==◌, true, false, not, List, [], ◌∷◌, ◌++◌, map, take, length, get_or, Bor, Option, Some, None, Result, Ok, decimal, refl, sym, ap, ◌∙◌, arith, append_assoc}
 use Rattle.std.proofs.lemmas.List.{take_more, map-append}
 use Rattle.std.specs.List.{list_all}
 use Rattle.std.specs.Result.{result_ok}
 use Rattle.std.specs.Str.{bytes_eq}
 use Rattle.clap.specs.Walk.{Rule}
 use Rattle.clap.specs.Simple.{App, with_rule}
+use Rattle.hy_base.proofs.Truths.{and-false, bytes-themselves}
 use Rattle.hy_words.specs.Words.{Text, is_filled}
 use Rattle.hy_words.specs.Parsers.{taking}
-use Rattle.hy_words.proofs.Splitting.{bytes_same}
-
-and-false : (b : Bool) → (b && false) ≡ false
-and-false true = refl
-and-false false = refl
 
 -- A name that is empty.
 pub unfilled : (names : List (Bor Text)) (i : ℕ) (d : Bor Text) → i < length names → (length (get_or names i d).now == 0) ≡ true → list_all is_filled (map (λ n. n.now) names) ≡ false
@@ -43,4 +39,4 @@ pub that_number : {E : Type 0} (r : Result ℕ E) (o : Option ℕ) (n m : ℕ) �
 that_number {E} r o n m back k v = let both : Some m ≡ Some n = sym v ∙ k ∙ ap result_ok back in cc
 
 pub text_same : (text printed : Text) (n m : ℕ) → text ≡ decimal n → printed ≡ decimal m → m ≡ n → not (bytes_eq printed text) ≡ false
-text_same text printed n m e f g = ap (λ t. not (bytes_eq t text)) (f ∙ ap decimal g ∙ sym e) ∙ ap not (bytes_same text)
+text_same text printed n m e f g = ap (λ t. not (bytes_eq t text)) (f ∙ ap decimal g ∙ sym e) ∙ ap not (bytes-themselves text)

@@ -4,6 +4,7 @@ use Rattle.std.specs.List.{list_any, list_all, fold, slice_get, find}
 use Rattle.std.specs.Bool.{IsTrue}
 use Rattle.std.specs.Option.{option_map, option_and_then}
 use Rattle.std.specs.Str.{bytes_eq, IsUtf8}
+use Rattle.std.proofs.lemmas.Bool.{or_right}
 use Rattle.clap.specs.Walk.{Row, Rule, Text, all_of, first_of, with_default, settled, has_row, nothing_held, idle, finished, Walk, rows_after}
 use Rattle.clap.specs.Faults.{built_fault, level_fault, fault_of, defaults_fault, check_fault, walk_fault, settle_fault}
 use Rattle.clap.specs.Kinds.{Kinds, or_else}
@@ -22,7 +23,7 @@ use Rattle.clap.specs.Matches.{found_of, first_value}
 use Rattle.clap.specs.Walk.{rows_of}
 use Rattle.clap.specs.declared.parser.matches.ArgMatches.{ArgMatches}
 use Rattle.clap.proofs.WalkLemmas.{first_value-rows, raw_values-rows}
-use Rattle.hy_words.proofs.Splitting.{same_bytes, bytes_same}
+use Rattle.hy_base.proofs.Truths.{same-bytes, bytes-themselves}
 use Rattle.hy_words.proofs.Lookups.{more, given_values, row_there}
 use Rattle.hy_words.proofs.Holding.{held, Holds, nothing_holds}
 use Rattle.hy_words.proofs.Walking.{built_flag, built_option, built_files, rules_for, shape_for, stands}
@@ -35,7 +36,7 @@ one_of [] name there P all = absurd (true≢false (sym there))
 one_of (n ∷ names) name there P (first, all) = by (bytes_eq n name) refl (λ t. one_of names name t P all)
   where
     by : (b : Bool) → bytes_eq n name ≡ b → (has names name ≡ true → P name) → P name
-    by true e behind = subst P (same_bytes n name e) first
+    by true e behind = subst P (same-bytes n name e) first
     by false e behind = behind (sym (ap (λ b. b || has names name) e) ∙ there)
 
 pub fine : (tool : Tool) → IsFine tool
@@ -113,7 +114,7 @@ module _ (options : List Text) where
       by : (b c : Bool) → has_row f rows ≡ b → bytes_eq f id ≡ c → all_of id (with_default rows (built_flag f)) ≡ Some vs
       by true c e g = rw e there
       by false false e g = flag_other rows f id g ∙ there
-      by false true e g = absurd (true≢false (sym (row_there id rows ∙ ap is_some there) ∙ ap (λ n. has_row n rows) (sym (same_bytes f id g)) ∙ e))
+      by false true e g = absurd (true≢false (sym (row_there id rows ∙ ap is_some there) ∙ ap (λ n. has_row n rows) (sym (same-bytes f id g)) ∙ e))
 
   flags_stay : (flags : List Text) (rows : List Row) (id : Text) (vs : List Text) → all_of id rows ≡ Some vs → all_of id (all_defaults flags rows) ≡ Some vs
   flags_stay [] rows id vs there = rw (options_kept options rows) there
@@ -126,7 +127,7 @@ module _ (options : List Text) where
       by (Some vs) e = let there : has_row f rows ≡ true = row_there f rows ∙ ap is_some e in rw there e
       by None e =
           let gone : has_row f rows ≡ false = row_there f rows ∙ ap is_some e in
-          rw (gone, given_values f f _ _ (codes "false" ∷ []) rows, bytes_same f, e) refl
+          rw (gone, given_values f f _ _ (codes "false" ∷ []) rows, bytes-themselves f, e) refl
 
   flags_filled : (flags : List Text) (rows : List Row) (id : Text) → has flags id ≡ true → all_of id (all_defaults flags rows) ≡ Some (unwrap_or (all_of id rows) (codes "false" ∷ []))
   flags_filled [] rows id there = absurd (true≢false (sym there))
@@ -137,7 +138,7 @@ module _ (options : List Text) where
           → all_of id (all_defaults (f ∷ flags) rows) ≡ Some (unwrap_or (all_of id rows) (codes "false" ∷ []))
       by true e behind =
           let P : Text → Type 0 = λ n. all_of n (all_defaults (f ∷ flags) rows) ≡ Some (unwrap_or (all_of n rows) (codes "false" ∷ [])) in
-          subst P (same_bytes f id e) (flags_stay flags (with_default rows (built_flag f)) f _ (flag_filled rows f))
+          subst P (same-bytes f id e) (flags_stay flags (with_default rows (built_flag f)) f _ (flag_filled rows f))
       by false e behind =
           behind (sym (ap (λ b. b || has flags id) e) ∙ there) ∙ ap (λ o. Some (unwrap_or o (codes "false" ∷ []))) (flag_other rows f id e)
 
@@ -228,7 +229,7 @@ not-files names name gone there = by (bytes_eq files_name name) refl
   where
     by : (b : Bool) → bytes_eq files_name name ≡ b → b ≡ false
     by false e = refl
-    by true e = absurd (true≢false (sym there ∙ ap (has names) (sym (same_bytes files_name name e)) ∙ gone))
+    by true e = absurd (true≢false (sym there ∙ ap (has names) (sym (same-bytes files_name name e)) ∙ gone))
 
 -- A flag is given `true`.
 AreTrue : List Text → Type 0
@@ -252,12 +253,12 @@ module _ (tool : Tool) (name : Text) (there : has (flags_of tool) name ≡ true)
   flags_true _ _ (an_option n v words items known says) = by (bytes_eq n name) refl (flags_true words items says)
     where
       by : (b : Bool) → bytes_eq n name ≡ b → AreTrue (given_in name items) → AreTrue (cond b (v ∷ []) [] ++ given_in name items)
-      by true e behind = absurd (true≢false (sym there ∙ ap (has (flags_of tool)) (sym (same_bytes n name e)) ∙ (fine tool).apart n known))
+      by true e behind = absurd (true≢false (sym there ∙ ap (has (flags_of tool)) (sym (same-bytes n name e)) ∙ (fine tool).apart n known))
       by false e behind = behind
   flags_true _ _ (joined n v words items known says) = by (bytes_eq n name) refl (flags_true words items says)
     where
       by : (b : Bool) → bytes_eq n name ≡ b → AreTrue (given_in name items) → AreTrue (cond b (v ∷ []) [] ++ given_in name items)
-      by true e behind = absurd (true≢false (sym there ∙ ap (has (flags_of tool)) (sym (same_bytes n name e)) ∙ (fine tool).apart n known))
+      by true e behind = absurd (true≢false (sym there ∙ ap (has (flags_of tool)) (sym (same-bytes n name e)) ∙ (fine tool).apart n known))
       by false e behind = behind
 
 flag-text : (given : List Text) → length given ≤ 1 → AreTrue given
@@ -294,7 +295,7 @@ passes_of p (n ∷ names) name there all = by (bytes_eq n name) refl (p n) refl 
   where
     by : (b : Bool) → bytes_eq n name ≡ b → (c : Bool) → p n ≡ c → (has names name ≡ true → IsTrue (list_all p names) → IsTrue (p name)) → IsTrue (c && list_all p names) → IsTrue (p name)
     by b e false f behind all = absurd (true≢false (sym all))
-    by true e true f behind all = ap p (sym (same_bytes n name e)) ∙ f
+    by true e true f behind all = ap p (sym (same-bytes n name e)) ∙ f
     by false e true f behind all = behind (sym (ap (λ b. b || has names name) e) ∙ there) all
 
 bare-value : (v : Text) (more : List Text) → IsTrue (list_all is_value (v ∷ more)) → IsTrue (is_bare v)
@@ -326,11 +327,11 @@ bare_values tool _ _ (a_file n words items known says) good = bare_values tool w
 bare_values tool _ _ (a_flag n words items known says) good =
     bare_values tool words items says (λ name there. behind-good is_value (item_gives name (flag n)) (given_in name items) (good name there))
 bare_values tool _ _ (an_option n v words items known says) good = (
-  bare-value v (given_in n items) (let P : Bool → Type 0 = λ b. IsTrue (list_all is_value (cond b (v ∷ []) [] ++ given_in n items)) in subst P (bytes_same n) (good n known)),
+  bare-value v (given_in n items) (let P : Bool → Type 0 = λ b. IsTrue (list_all is_value (cond b (v ∷ []) [] ++ given_in n items)) in subst P (bytes-themselves n) (good n known)),
   bare_values tool words items says (λ name there. behind-good is_value (item_gives name (given n v)) (given_in name items) (good name there)),
 )
 bare_values tool _ _ (joined n v words items known says) good = (
-  bare-value v (given_in n items) (let P : Bool → Type 0 = λ b. IsTrue (list_all is_value (cond b (v ∷ []) [] ++ given_in n items)) in subst P (bytes_same n) (good n known)),
+  bare-value v (given_in n items) (let P : Bool → Type 0 = λ b. IsTrue (list_all is_value (cond b (v ∷ []) [] ++ given_in n items)) in subst P (bytes-themselves n) (good n known)),
   bare_values tool words items says (λ name there. behind-good is_value (item_gives name (given n v)) (given_in name items) (good name there)),
 )
 
@@ -346,11 +347,7 @@ taken tool words items says proper =
 
 each_from : (names : List Text) (P : Text → Type 0) → ((name : Text) → has names name ≡ true → P name) → Each P names
 each_from [] P all = tt
-each_from (n ∷ names) P all = (all n (rw (bytes_same n) refl), each_from names P (λ name there. all name (or_right (bytes_eq n name) (has names name) there)))
-  where
-    or_right : (a b : Bool) → b ≡ true → (a || b) ≡ true
-    or_right true b e = refl
-    or_right false b e = e
+each_from (n ∷ names) P all = (all n (rw (bytes-themselves n) refl), each_from names P (λ name there. all name (or_right (bytes_eq n name) (has names name) there)))
 
 first_from_all : (id : Text) (rows : List Row) → first_of id rows ≡ option_and_then (λ vs. slice_get vs 0) (all_of id rows)
 first_from_all id rows = by (find (λ (r : Row). bytes_eq r.id id) rows)

@@ -1,16 +1,16 @@
 -- What the parser does with each kind of word.
 use Rattle.std.proofs.Common.{◌≡◌, ◌≢◌, ℕ, ◌&&◌, ◌==◌, Bool, true, false, not, List, [], ◌∷◌, ◌++◌, map, Option, Some, None, is_some, refl, sym, ◌∙◌}
-use Rattle.std.specs.List.{list_any, find, fold, slice_get}
-use Rattle.std.specs.Str.{bytes_eq, chars, IsUtf8}
+use Rattle.std.specs.List.{slice_get}
+use Rattle.std.specs.Str.{bytes_eq, chars}
 use Rattle.clap.specs.Lexer.{long_of, short_of}
-use Rattle.clap.specs.Walk.{Row, Rule, Held, Walk, Waiting, idle, option, positional, all_of, arg_by_long, arg_by_short, arg_by_id, arg_by_index, subcommand_met, walked, settled, reacted, pushed, used, has_row}
+use Rattle.clap.specs.Walk.{Row, Rule, Held, Walk, Waiting, idle, option, positional, arg_by_long, arg_by_short, arg_by_id, arg_by_index, subcommand_met, walked, settled, reacted, used, has_row}
 use Rattle.clap.specs.Simple.{Shape, new_shape, filled, with_index}
 use Rattle.clap.specs.Faults.{turn_fault, react_fault, settle_fault, use_fault, flags_fault}
 use Rattle.clap.specs.Kinds.{or_else}
 use Rattle.clap.specs.declared.error.kind.ErrorKind.TheVariants.{UnknownArgument, TooManyValues, ArgumentConflict}
+use Rattle.hy_base.proofs.Truths.{or-false, and-false, bytes-themselves}
 use Rattle.hy_words.specs.Words.{Text, has}
 use Rattle.hy_words.specs.Parsers.{flag_rule, option_rule, files_rule, files_name}
-use Rattle.hy_words.proofs.Splitting.{bytes_same, or_false}
 use Rattle.hy_words.proofs.Lookups.{find_named, find_past, find_skip}
 
 abbrev pub built_flag : Text → Rule
@@ -46,10 +46,6 @@ none_met idle word = refl
 none_met (option id) word = refl
 none_met positional word = refl
 
-pub and-false : (b : Bool) → (b && false) ≡ false
-and-false true = refl
-and-false false = refl
-
 pub some-none : {A : Type 0} {x : A} {xs : List A} → x ∷ xs ≡ [] → ⊥
 some-none e = cc
 
@@ -72,17 +68,17 @@ module _ (flags options : List Text) where
   by_long name a = not (is_some a.index) && Rattle.clap.specs.Walk.has_long a name
 
   pub long_flag : (name : Text) → has flags name ≡ true → arg_by_long rules name ≡ Some (built_flag name)
-  long_flag name there = find_named built_flag (by_long name) name (λ m. or_false (bytes_eq m name)) flags _ there
+  long_flag name there = find_named built_flag (by_long name) name (λ m. or-false (bytes_eq m name)) flags _ there
 
   pub long_option : (name : Text) → has flags name ≡ false → has options name ≡ true → arg_by_long rules name ≡ Some (built_option name)
   long_option name gone there =
-      find_past built_flag (by_long name) name (λ m. or_false (bytes_eq m name)) flags _ gone
-      ∙ find_named built_option (by_long name) name (λ m. or_false (bytes_eq m name)) options _ there
+      find_past built_flag (by_long name) name (λ m. or-false (bytes_eq m name)) flags _ gone
+      ∙ find_named built_option (by_long name) name (λ m. or-false (bytes_eq m name)) options _ there
 
   pub long_none : (name : Text) → has flags name ≡ false → has options name ≡ false → arg_by_long rules name ≡ None
   long_none name gone away =
-      find_past built_flag (by_long name) name (λ m. or_false (bytes_eq m name)) flags _ gone
-      ∙ find_past built_option (by_long name) name (λ m. or_false (bytes_eq m name)) options _ away
+      find_past built_flag (by_long name) name (λ m. or-false (bytes_eq m name)) flags _ gone
+      ∙ find_past built_option (by_long name) name (λ m. or-false (bytes_eq m name)) options _ away
 
   pub id_option : (name : Text) → has flags name ≡ false → has options name ≡ true → arg_by_id rules name ≡ Some (built_option name)
   id_option name gone there =
@@ -185,7 +181,7 @@ module _ (flags options : List Text) where
     pub value_next : (name : Text) → has flags name ≡ false → has options name ≡ true → h.pending ≡ Some (name, [])
         → walked rules [] (stands h (option name) false) word ≡ stands (record h { pending = Some (name, word ∷ []) }) idle false
     unfolding walked
-    value_next name gone there e = rw (other, long, short, id_option name gone there, e, bytes_same name) refl
+    value_next name gone there e = rw (other, long, short, id_option name gone there, e, bytes-themselves name) refl
 
   -- ---- uses
 

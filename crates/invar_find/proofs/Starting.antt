@@ -2,6 +2,7 @@
 use Rattle.std.proofs.Common.{◌≡◌, ℕ, zero, suc, ◌+◌, ◌*◌, ◌<◌, ◌≤◌, ◌^◌, min, Bool, false, List, [], ◌∷◌, ◌++◌, length, inl, inr, refl, sym, ◌∙◌, subst, arith, length-append}
 use Rattle.std.specs.Prelude.{Contains, ◌↔◌, Result, Ok, Err, IfOk}
 use Rattle.std.proofs.lemmas.List.Elements.{Contains-append_cases}
+use Rattle.hy_base.proofs.Members.{contains-none, contains-cases}
 use Rattle.aig_net.specs.declared.parts.Reset.{Reset}
 use Rattle.aig_net.specs.Nets.{Net, Valuation, IsStart, ResetTo, latch_variable, row}
 use Rattle.live_safe.specs.declared.safe_net.SafeNet.{SafeNet}
@@ -12,7 +13,7 @@ use Rattle.cnf_frames.specs.Queries.{for_each}
 use Rattle.invar_find.specs.Candidates.{candidates, pairs_with, single_facts}
 use Rattle.invar_find.specs.Parts.{AreThose, HoldsIn}
 use Rattle.invar_find.specs.Searches.{IsSearching}
-use Rattle.invar_find.proofs.Sublists.{contains-none, contains-cases, sublist-among, sublist-length}
+use Rattle.invar_find.proofs.Sublists.{sublist-among, sublist-length}
 
 pub if-ok-map : {T E : Type 0} (r : Result T E) (P Q : T → Type 0) → IfOk r P →
     ((v : T) → P v → Q v) → IfOk r Q

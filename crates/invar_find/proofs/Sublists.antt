@@ -1,25 +1,13 @@
 -- Sublists, and those facts for which something holds.
 use Rattle.std.proofs.Common.{◌≡◌, ℕ, ◌+◌, ◌<◌, ◌≤◌, List, [], ◌∷◌, ◌++◌, length, inl, inr, sym, ◌∙◌, subst, arith, take}
-use Rattle.std.specs.Prelude.{Contains, ◌⊎◌}
+use Rattle.std.specs.Prelude.{Contains}
 use Rattle.std.proofs.lemmas.List.{append-nil, take_all, take_more}
-use Rattle.std.proofs.lemmas.List.Elements.{Contains-append_left, Contains-append_right, Contains-append_cases, Contains-get_or, Contains-push, Contains-push_cases}
+use Rattle.std.proofs.lemmas.List.Elements.{Contains-append_left, Contains-append_right, Contains-get_or, Contains-push, Contains-push_cases}
+use Rattle.hy_base.proofs.Members.{contains-none, contains-cases}
 use Rattle.cnf_frames.specs.declared.facts.Fact.{Fact}
 use Rattle.cnf_frames.specs.declared.facts.Fact.TheVariants.{Zero}
 use Rattle.cnf_frames.specs.Facts.{AllIn, IsIn, fact_at}
 use Rattle.invar_find.specs.Parts.{IsSublist, none, leaves, takes, AreThose}
-
-pub contains-none : {A : Type 0} (x : A) → ¬ Contains [] x
-contains-none x (k, lt, e) = absurd (omega arith)
-
-pub contains-cases : (f g : Fact) (facts : List Fact) → Contains (f ∷ facts) g →
-    (f ≡ g) ⊎ Contains facts g
-contains-cases f g facts has = elim (Contains-append_cases (f ∷ []) facts g has) [
-  | inl one ↦ elim (Contains-push_cases [] f g one) [
-    | inl never ↦ absurd (contains-none g never)
-    | inr same ↦ inl same
-  ]
-  | inr later ↦ inr later
-]
 
 pub sublist-refl : (facts : List Fact) → IsSublist facts facts
 sublist-refl [] = none

@@ -3,14 +3,8 @@ use Rattle.std.proofs.Common.{◌≡◌, ℕ, zero, suc, ◌+◌, ◌-◌, ◌<�
 use Rattle.aig_net.specs.declared.parts.And.{And}
 use Rattle.aig_net.specs.Wires.{Wire, literal, made, Fits, Makes, both, all_of, and_of, listed}
 use Rattle.aig_net.proofs.Wiring.{grows}
-use Rattle.aig_net.proofs.Making.{all-of-last}
-use Rattle.aig_net.proofs.Listed.{listed-last}
-
-last-listed : {B : Type 0} (n : ℕ) (f : ℕ → B) → listed 0 (n + 1) f ≡ listed 0 n f ++ f n ∷ []
-last-listed n f =
-    let up : n + 1 ≡ suc n = omega arith in
-    let plain : 0 + n ≡ n = omega arith in
-    ap (λ k. listed 0 k f) up ∙ listed-last 0 n f ∙ ap (λ k. listed 0 n f ++ f k ∷ []) plain
+use Rattle.aig_net.proofs.Making.{all-of-last, last-listed}
+use Rattle.live_safe.proofs.Sizes.{all-of-append}
 
 listed-parts : {B : Type 0} (c n d : ℕ) (f : ℕ → B) →
     listed c (n + d) f ≡ listed c n f ++ listed (c + n) d f
@@ -92,10 +86,6 @@ module _ (first : ℕ) (old : List And) (w : Wire) where
       (and_of (made first old v).literal
       (made first (made first old v).ands x).literal ∷ []) in
       omega (arith, here, l, all-grows (both v x) ws)
-
-  all-of-append : (v : Wire) (xs ys : List Wire) → all_of v (xs ++ ys) ≡ all_of (all_of v xs) ys
-  all-of-append v [] ys = refl
-  all-of-append v (x ∷ xs) ys = all-of-append (both v x) xs ys
 
   -- a front takes no more ands
   pub front-fits : (xs ys : List Wire) → Fits first old (all_of w (xs ++ ys)) →

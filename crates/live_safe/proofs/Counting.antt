@@ -3,6 +3,7 @@ use Rattle.std.proofs.Common.{◌≡◌, ℕ, zero, suc, ◌+◌, ◌≤◌, Boo
 use Rattle.std.proofs.lemmas.Bool.{cases_eq}
 use Rattle.std.proofs.lemmas.Bool.Decides.{Decides-ltb}
 use mir.Val.{bool_byte}
+use Rattle.hy_base.proofs.Truths.{or-false, more-if}
 use Rattle.live_safe.specs.Safe.{count_below}
 
 pub count-upto : (test : ℕ → Bool) (n : ℕ) → count_below test n ≤ n
@@ -43,17 +44,13 @@ some_more test k some b e h =
     ∙ ap (λ b. nat_lt 0 (cond b (suc (count_below test k)) (count_below test k))) e
     ∙ ap (λ n. nat_lt 0 (count_below test n)) (sym up)
   where
-    or-nothing : (b : Bool) → (b || false) ≡ b
-    or-nothing true = refl
-    or-nothing false = refl
-
     or-true : (b : Bool) → (b || true) ≡ true
     or-true true = refl
     or-true false = refl
 
     at : (b : Bool) (c : ℕ) → (nat_lt 0 c || b) ≡ nat_lt 0 (cond b (suc c) c)
     at true c = or-true (nat_lt 0 c) ∙ sym ((Decides-ltb 0 (suc c)).1 (omega arith))
-    at false c = or-nothing (nat_lt 0 c)
+    at false c = or-false (nat_lt 0 c)
 
 pub count-within : (test : ℕ → Bool) (n k : ℕ) → k ≤ n → count_below test k ≤ count_below test n
 count-within test zero k le =
@@ -66,11 +63,7 @@ count-within test (suc n) k le =
       | inr apart ↦ omega (
         arith,
         count-within test n k (omega arith),
-        more (test n)
+        more-if (test n)
             (count_below test n),
       )
     ]
-  where
-    more : (b : Bool) (c : ℕ) → c ≤ cond b (suc c) c
-    more true c = omega arith
-    more false c = omega arith

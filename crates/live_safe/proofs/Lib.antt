@@ -6,7 +6,7 @@ mod Parts
 pub mod SafeGates
 pub mod SafeRange
 pub mod Saving
-mod Shapes
+pub mod Shapes
 mod Sizes
 mod Stages
 pub mod Starts

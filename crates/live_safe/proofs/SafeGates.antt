@@ -1,6 +1,6 @@
 -- What the gates of a safe net say.
-use Rattle.std.proofs.Common.{◌≡◌, ℕ, suc, ◌+◌, ◌-◌, ◌*◌, ◌<◌, ◌≤◌, Bool, true, false, not, ◌&&◌, cond, nat_lt, List, [], ◌∷◌, ◌++◌, map, length, refl, sym, ap, ◌∙◌, subst, arith, length-append}
-use Rattle.std.proofs.lemmas.Bool.Decides.{Decides-ltb}
+use Rattle.std.proofs.Common.{◌≡◌, ℕ, suc, ◌+◌, ◌-◌, ◌*◌, ◌<◌, ◌≤◌, Bool, true, false, not, ◌&&◌, cond, List, [], ◌∷◌, ◌++◌, map, length, refl, sym, ap, ◌∙◌, subst, arith, length-append}
+use Rattle.hy_base.proofs.Truths.{cond-below, cond-above}
 use Rattle.aig_net.specs.declared.parts.And.{And}
 use Rattle.aig_net.specs.Nets.{Net, no_and, Valuation, literal_value, and_value, reset_at, and_at, literal_at, latch_variable, first_and, AreRight, IsRight}
 use Rattle.aig_net.specs.Wires.{listed, Wire, literal, wire_value, wire_at}
@@ -8,16 +8,8 @@ use Rattle.live_safe.specs.Safe.{effective_at, begun_nexts, has_begun, safe_inpu
 use Rattle.aig_net.proofs.Literals.{value-under, value-even}
 use Rattle.aig_net.proofs.Listed.{length-listed}
 use Rattle.aig_net.proofs.Wiring.{all-right, right-first, and-of-value}
-use Rattle.aig_net.proofs.Listed.{append-each, map-each, listed-each, listed-append, not_true}
+use Rattle.aig_net.proofs.Listed.{append-each, map-each, listed-each, listed-append}
 use Rattle.live_safe.proofs.Shapes.{length-shape}
-
-pub lt-cond : {A : Type 0} (a b : ℕ) (x y : A) → a < b → cond (nat_lt a b) x y ≡ x
-lt-cond a b x y lt = rw ((Decides-ltb a b).1 lt) refl
-
-pub le-cond : {A : Type 0} (a b : ℕ) (x y : A) → b ≤ a → cond (nat_lt a b) x y ≡ y
-le-cond a b x y le =
-    let e : nat_lt a b ≡ false = not_true _ (λ is. omega (arith, (Decides-ltb a b).0 is)) in
-    rw e refl
 
 -- ---- the variables of the net
 
@@ -43,22 +35,22 @@ module _ (net : Net) where
   first-safe = ap (λ x. suc (safe_inputs net + x)) many-safe-latches
 
   pub variable-early : (u : ℕ) → u ≤ net.inputs → safe_variable net u ≡ 2 * u
-  variable-early u le = le-cond net.inputs u _ _ le
+  variable-early u le = cond-above net.inputs u _ _ le
 
   pub variable-latch : (j : ℕ) → j < length net.latches →
       safe_variable net (latch_variable net j) ≡ literal_at (effectives net).literals j
   variable-latch j lt =
       let at : latch_variable net j - suc net.inputs ≡ j = omega arith in
-      lt-cond net.inputs (latch_variable net j) _ _ (omega arith)
-      ∙ le-cond (net.inputs + length net.latches) (latch_variable net j) _ _ (omega arith)
+      cond-below net.inputs (latch_variable net j) _ _ (omega arith)
+      ∙ cond-above (net.inputs + length net.latches) (latch_variable net j) _ _ (omega arith)
       ∙ ap (literal_at (effectives net).literals) at
 
   pub variable-and : (j : ℕ) → safe_variable net (first_and net + j) ≡ 2 *
       (safe_first net + (length (effectives net).ands + j))
   variable-and j =
       let at : first_and net + j - suc (net.inputs + length net.latches) ≡ j = omega arith in
-      lt-cond net.inputs (first_and net + j) _ _ (omega arith)
-      ∙ lt-cond (net.inputs + length net.latches) (first_and net + j) _ _ (omega arith)
+      cond-below net.inputs (first_and net + j) _ _ (omega arith)
+      ∙ cond-below (net.inputs + length net.latches) (first_and net + j) _ _ (omega arith)
       ∙ ap (λ x. 2 * (safe_first net + (length (effectives net).ands + x))) at
 
   pub safe-value : (v : Valuation) (l : ℕ) →

@@ -1,7 +1,7 @@
 -- A lasso execution gives a path of the safe net from the start to bad.
 use Rattle.std.proofs.Common.{◌≡◌, ◌≢◌, ℕ, zero, suc, ◌+◌, ◌-◌, ◌*◌, ◌/◌, ◌<◌, ◌≤◌, Bool, true, false, not, ◌&&◌, cond, nat_lt, nat_eq, List, [], ◌∷◌, length, get_or, IsTrue, inl, inr, refl, sym, ap, ◌∙◌, subst, arith}
-use Rattle.std.proofs.lemmas.Bool.{cases_eq, cases_lt, ne_eqb, eq-eqb}
-use Rattle.std.proofs.lemmas.Bool.Decides.{Decides-ltb}
+use Rattle.std.proofs.lemmas.Bool.{cases_eq, cases_lt, ne_eqb, eq-eqb, and_from, lt-ltb, le-ltb}
+use Rattle.hy_base.proofs.Truths.{cond-below, cond-above}
 use Rattle.aig_net.specs.declared.parts.Reset.{Reset}
 use Rattle.aig_net.specs.declared.parts.Reset.TheVariants.{Zero, One, Free}
 use Rattle.aig_net.specs.Nets.{Net, ResetTo, Valuation, literal_value, reset_at, literal_at, latch_variable, first_and, variables, Below, IsRight, IsStart, IsStep, AllTrue, IsNet}
@@ -12,20 +12,20 @@ use Rattle.live_safe.specs.Safe.{begun_nexts, count_below, is_free, is_set, free
 use Rattle.aig_net.proofs.Literals.{value-even, value-same}
 use Rattle.aig_net.proofs.Valuations.{filled, valuation-right, valuation-given, valuation-only}
 use Rattle.aig_net.proofs.Rounds.{at-round, gone-recurs}
-use Rattle.aig_net.proofs.Listed.{true-and, true-or-left, true-or-right, each-map, append-listed, each-listed, not_true}
+use Rattle.aig_net.proofs.Listed.{true-or-left, true-or-right, each-map, append-listed, each-listed}
 use Rattle.live_safe.proofs.Shapes.{ShapeFacts, shape-facts, facts-shape, count-below, chosen, chosen-at}
 use Rattle.live_safe.proofs.Starts.{false-start}
 use Rattle.aig_net.proofs.Closings.{closed-run}
-use Rattle.live_safe.proofs.SafeGates.{lt-cond, le-cond, first-safe, variable-early, safe-value, shown-right, shown-latch, effective-value, grab-value, next_saved-value, seen-value, copy-value, bad-value}
+use Rattle.live_safe.proofs.SafeGates.{first-safe, variable-early, safe-value, shown-right, shown-latch, effective-value, grab-value, next_saved-value, seen-value, copy-value, bad-value}
 use Rattle.live_safe.proofs.SafeRange.{safe-ordered}
-use Rattle.live_safe.proofs.Unfolding.{is-set-begun, on-later, on-first, free-later, copy-taken, copy-stays}
+use Rattle.live_safe.proofs.Unfolding.{is-set-begun, on-later, on-first, copy-taken, copy-stays}
 
 all-of-holds : (v : Valuation) (w : Wire) (ws : List Wire) → wire_value v w ≡ true →
     ((j : ℕ) → j < length ws → wire_value v (wire_at ws j) ≡ true) →
     wire_value v (all_of w ws) ≡ true
 all-of-holds v w [] e all = e
 all-of-holds v w (x ∷ ws) e all =
-    all-of-holds v (both w x) ws (true-and _ _ e (all 0 (omega arith)))
+    all-of-holds v (both w x) ws (and_from _ _ e (all 0 (omega arith)))
     (λ j lt. all (suc j) (omega arith))
 
 true-equal : (a b : Bool) → a ≡ b → not (not (not (a && not b) && not (not a && b))) ≡ true
@@ -33,17 +33,6 @@ true-equal true true e = refl
 true-equal true false e = absurd (cc)
 true-equal false true e = absurd (cc)
 true-equal false false e = refl
-
-free-first : (r b x : Bool) → b ≡ false → not (not (b && r) && not (not b && x)) ≡ x
-free-first r false true e = refl
-free-first r false false e = refl
-free-first r true x e = absurd (cc)
-
-lt-true : (a b : ℕ) → a < b → nat_lt a b ≡ true
-lt-true a b lt = (Decides-ltb a b).1 lt
-
-lt-false : (a b : ℕ) → b ≤ a → nat_lt a b ≡ false
-lt-false a b le = not_true _ (λ is. omega (arith, (Decides-ltb a b).0 is))
 
 module _ (net : Net) (good : IsNet net) (word : Word) (run : IsRun net word) (s c : ℕ)
     (some : 0 < c) where
@@ -89,7 +78,7 @@ module _ (net : Net) (good : IsNet net) (word : Word) (run : IsRun net word) (s 
   path-right : (i : ℕ) → IsRight (to_safe net).net (path i)
   unfolding path
   path-right i = valuation-right (to_safe net).net (given i) (safe-ordered net good)
-      (le-cond net.inputs 0 _ _ (omega arith) ∙ (run.right i).constant)
+      (cond-above net.inputs 0 _ _ (omega arith) ∙ (run.right i).constant)
 
   path-given : (i u : ℕ) → u < safe_first net → path i u ≡ given i u
   unfolding path
@@ -97,12 +86,12 @@ module _ (net : Net) (good : IsNet net) (word : Word) (run : IsRun net word) (s 
       valuation-given (to_safe net).net (given i) u (omega (arith, e, lt))
 
   path-early : (i u : ℕ) → u ≤ net.inputs → path i u ≡ word i u
-  path-early i u le = path-given i u (omega arith) ∙ le-cond net.inputs u _ _ le
+  path-early i u le = path-given i u (omega arith) ∙ cond-above net.inputs u _ _ le
 
   path-take : (i : ℕ) → path i (suc net.inputs) ≡ nat_eq i s
   path-take i = path-given i (suc net.inputs) (omega arith)
-      ∙ lt-cond net.inputs (suc net.inputs) _ _ (omega arith)
-      ∙ le-cond (suc net.inputs) (suc net.inputs) _ _ (omega arith)
+      ∙ cond-below net.inputs (suc net.inputs) _ _ (omega arith)
+      ∙ cond-above (suc net.inputs) (suc net.inputs) _ _ (omega arith)
 
   path-free : (i j : ℕ) → j < length net.latches → free_at net j ≡ true →
       literal_value (path i) (free_input net j) ≡ word i (latch_variable net j)
@@ -111,8 +100,8 @@ module _ (net : Net) (good : IsNet net) (word : Word) (run : IsRun net word) (s 
       let u : ℕ = suc (net.inputs + suc (count_below (free_at net) j)) in
       let at : u - suc (suc net.inputs) ≡ count_below (free_at net) j = omega arith in
       value-even (path i) u ∙ path-given i u (omega (arith, n))
-      ∙ lt-cond net.inputs u _ _ (omega arith) ∙ lt-cond (suc net.inputs) u _ _ (omega arith)
-      ∙ le-cond (safe_inputs net) u _ _ (omega (arith, n))
+      ∙ cond-below net.inputs u _ _ (omega arith) ∙ cond-below (suc net.inputs) u _ _ (omega arith)
+      ∙ cond-above (safe_inputs net) u _ _ (omega (arith, n))
       ∙ ap (λ x. get_or (frees i) x false) at
       ∙ chosen-at (free_at net) (λ j. word i (latch_variable net j)) false
       (length net.latches) j lt is
@@ -123,9 +112,9 @@ module _ (net : Net) (good : IsNet net) (word : Word) (run : IsRun net word) (s 
   path-row : (i j : ℕ) → var j < safe_first net → path i (var j) ≡ get_or (row i) j false
   path-row i j lt =
       let at : var j - suc (safe_inputs net) ≡ j = omega arith in
-      path-given i (var j) lt ∙ lt-cond net.inputs (var j) _ _ (omega arith)
-      ∙ lt-cond (suc net.inputs) (var j) _ _ (omega arith)
-      ∙ lt-cond (safe_inputs net) (var j) _ _ (omega arith)
+      path-given i (var j) lt ∙ cond-below net.inputs (var j) _ _ (omega arith)
+      ∙ cond-below (suc net.inputs) (var j) _ _ (omega arith)
+      ∙ cond-below (safe_inputs net) (var j) _ _ (omega arith)
       ∙ ap (λ x. get_or (row i) x false) at
 
   rows : (i : ℕ) → ShapeFacts false net (nat_lt s i) (λ j. seen_by j i) (λ j. latch_by j i)
@@ -189,7 +178,7 @@ module _ (net : Net) (good : IsNet net) (word : Word) (run : IsRun net word) (s 
   shows-first j lt Free e =
       let Q : Reset → Type 0 = λ r. is_set r ≡ true in
       let R : Reset → Type 0 = λ r. is_free r ≡ true in
-      free-first _ _ _ (begun-value 0 (is-set-begun net j lt (subst Q (sym e) refl)))
+      copy-stays _ _ _ (begun-value 0 (is-set-begun net j lt (subst Q (sym e) refl)))
       ∙ path-free 0 j lt (subst R (sym e) refl)
 
   shows-later : (i j : ℕ) → j < length net.latches → (r : Reset) → (reset_at net.resets j) ≡ r →
@@ -201,7 +190,7 @@ module _ (net : Net) (good : IsNet net) (word : Word) (run : IsRun net word) (s 
       ∙ raw-value (suc i) j lt
   shows-later i j lt Free e =
       let Q : Reset → Type 0 = λ r. is_set r ≡ true in
-      free-later _ _ _ (begun-value (suc i) (is-set-begun net j lt (subst Q (sym e) refl)))
+      copy-taken _ _ _ (begun-value (suc i) (is-set-begun net j lt (subst Q (sym e) refl)))
       ∙ raw-value (suc i) j lt
 
   shows-latch : (i j : ℕ) → j < length net.latches →
@@ -245,12 +234,12 @@ module _ (net : Net) (good : IsNet net) (word : Word) (run : IsRun net word) (s 
   saved-or-take : (i : ℕ) → nat_lt s (suc i) ≡ either-of (nat_lt s i) (nat_eq i s)
   saved-or-take i =
       elim (cases_lt s i) [
-        | inl past ↦ lt-true s (suc i) (omega arith) ∙ sym (true-or-left _ _ (lt-true s i past))
+        | inl past ↦ lt-ltb s (suc i) (omega arith) ∙ sym (true-or-left _ _ (lt-ltb s i past))
         | inr le ↦
             elim (cases_eq i s) [
-              | inl e ↦ lt-true s (suc i) (omega arith) ∙ sym (true-or-right _ _ (eq-eqb i s e))
-              | inr apart ↦ lt-false s (suc i) (omega arith)
-                  ∙ sym (ap (λ b. either-of b (nat_eq i s)) (lt-false s i le)
+              | inl e ↦ lt-ltb s (suc i) (omega arith) ∙ sym (true-or-right _ _ (eq-eqb i s e))
+              | inr apart ↦ le-ltb s (suc i) (omega arith)
+                  ∙ sym (ap (λ b. either-of b (nat_eq i s)) (le-ltb s i le)
                   ∙ ap (either-of false) (ne_eqb i s apart))
             ]
       ]
@@ -290,11 +279,11 @@ module _ (net : Net) (good : IsNet net) (word : Word) (run : IsRun net word) (s 
       copy-value net (path i) (path-right i) j lt ∙ elim (cases_eq i s) [
         | inl e ↦
             let grabs : literal_value (path i) (grab net) ≡ true =
-            here ∙ true-and _ _ (eq-eqb i s e) (ap not (lt-false s i (omega arith))) in
+            here ∙ and_from _ _ (eq-eqb i s e) (ap not (le-ltb s i (omega arith))) in
             copy-taken _ _ _ grabs ∙ effective-value net (path i) (path-right i) j lt
             ∙ shows-latch i j lt ∙ ap (λ x. word x (latch_variable net j)) e
             ∙ sym (ap (λ b. b && word s (latch_variable net j))
-            (lt-true s (suc i) (omega arith)))
+            (lt-ltb s (suc i) (omega arith)))
         | inr apart ↦
             let grabs : literal_value (path i) (grab net) ≡ false =
             here ∙ ap (λ b. b && not (nat_lt s i)) (ne_eqb i s apart) in
@@ -305,8 +294,8 @@ module _ (net : Net) (good : IsNet net) (word : Word) (run : IsRun net word) (s 
       same-side : i ≢ s → nat_lt s i ≡ nat_lt s (suc i)
       same-side apart =
           elim (cases_lt s i) [
-            | inl past ↦ lt-true s i past ∙ sym (lt-true s (suc i) (omega arith))
-            | inr le ↦ lt-false s i le ∙ sym (lt-false s (suc i) (omega arith))
+            | inl past ↦ lt-ltb s i past ∙ sym (lt-ltb s (suc i) (omega arith))
+            | inr le ↦ le-ltb s i le ∙ sym (le-ltb s (suc i) (omega arith))
           ]
 
   abbrev begun-latches : List ℕ
@@ -333,11 +322,11 @@ module _ (net : Net) (good : IsNet net) (word : Word) (run : IsRun net word) (s 
 
   path-starts : IsStart (to_safe net).net (path 0)
   path-starts = false-start net (path 0) (latches-each (λ j _. path 0 (var j) ≡ false) (record {
-    on_saved = path-saved 0 ∙ lt-false s 0 (omega arith);
+    on_saved = path-saved 0 ∙ le-ltb s 0 (omega arith);
     on_seen = λ j lt. path-seen 0 j lt;
     on_latch = λ j lt. path-latch 0 j lt;
     on_copy = λ j lt. path-copy 0 j lt
-        ∙ ap (λ b. b && word s (latch_variable net j)) (lt-false s 0 (omega arith));
+        ∙ ap (λ b. b && word s (latch_variable net j)) (le-ltb s 0 (omega arith));
     on_begun = begun-each (λ j _. path 0
         (var (suc (length net.fairs + (length net.latches + (length net.latches + j))))) ≡ false)
         (λ e. path-begun 0 e);
@@ -371,12 +360,12 @@ module _ (net : Net) (good : IsNet net) (word : Word) (run : IsRun net word) (s 
     seen-since : (j q : ℕ) → s ≤ q → was_true j q ≡ true → (d : ℕ) → seen_by j (suc (q + d)) ≡ true
     seen-since j q from is zero =
         let e : q + 0 ≡ q = omega arith in
-        ap (λ x. seen_by j (suc x)) e ∙ true-and _ _ (lt-true s (suc q) (omega arith))
+        ap (λ x. seen_by j (suc x)) e ∙ and_from _ _ (lt-ltb s (suc q) (omega arith))
         (true-or-left _ _ is)
     seen-since j q from is (suc d) =
         let e : q + suc d ≡ suc (q + d) = omega arith in
-        ap (λ x. seen_by j (suc x)) e ∙ true-and _ _ (lt-true s (suc (suc (q + d))) (omega arith))
-        (true-or-right _ _ (true-and _ _ (lt-true s (suc (q + d)) (omega arith))
+        ap (λ x. seen_by j (suc x)) e ∙ and_from _ _ (lt-ltb s (suc (suc (q + d))) (omega arith))
+        (true-or-right _ _ (and_from _ _ (lt-ltb s (suc (q + d)) (omega arith))
         (seen-since j q from is d)))
 
     raw-last : (j : ℕ) → j < length net.latches →
@@ -406,7 +395,7 @@ module _ (net : Net) (good : IsNet net) (word : Word) (run : IsRun net word) (s 
         true-equal _ _ (raw-last j lt ∙ back j lt
         ∙ sym (value-even (path (s + c))
         (var (suc (length net.fairs + (length net.latches + j)))) ∙ path-copy (s + c) j lt
-        ∙ ap (λ b. b && word s (latch_variable net j)) (lt-true s (s + c) (omega arith))))))
+        ∙ ap (λ b. b && word s (latch_variable net j)) (lt-ltb s (s + c) (omega arith))))))
 
     pub saved-path : IsBadPath (to_safe net) (s + c) path
     saved-path = record {
@@ -420,15 +409,15 @@ module _ (net : Net) (good : IsNet net) (word : Word) (run : IsRun net word) (s 
       ends =
           bad-value net (path (s + c)) (path-right (s + c))
           ∙ all-of-holds (path (s + c)) (literal (saved net)) (bad_wires net)
-          (saved-value (s + c) ∙ lt-true s (s + c) (omega arith)) bad-all;
+          (saved-value (s + c) ∙ lt-ltb s (s + c) (omega arith)) bad-all;
     }
 
     pub saves-at : (literal_value (path s) (saved net) ≡ false)
         × (literal_value (path (suc s)) (saved net) ≡ true)
     saves-at = (
-      saved-value s ∙ lt-false s s (omega arith),
+      saved-value s ∙ le-ltb s s (omega arith),
       saved-value (suc s)
-          ∙ lt-true s (suc s) (omega arith),
+          ∙ lt-ltb s (suc s) (omega arith),
     )
 
 -- the path of a lasso execution

@@ -1,7 +1,8 @@
 -- The latches of a safe net in their parts, and choices of a list.
-use Rattle.std.proofs.Common.{◌≡◌, ℕ, zero, suc, ◌+◌, ◌<◌, ◌≤◌, Bool, true, false, cond, List, [], ◌∷◌, ◌++◌, length, get_or, inl, inr, refl, sym, ◌∙◌, subst, arith, length-append}
+use Rattle.std.proofs.Common.{◌≡◌, ℕ, zero, suc, ◌+◌, ◌<◌, Bool, true, false, cond, List, [], ◌∷◌, ◌++◌, length, get_or, inl, inr, refl, sym, ◌∙◌, subst, arith, length-append}
 use Rattle.std.proofs.lemmas.Bool.{cases_eq}
 use Rattle.std.proofs.lemmas.List.{get_or_append_left, get_or_at}
+use Rattle.hy_base.proofs.Truths.{counted-if, more-if}
 use Rattle.aig_net.specs.Nets.{Net}
 use Rattle.live_safe.specs.Safe.{count_below, shape}
 use Rattle.aig_net.specs.Wires.{listed}
@@ -81,25 +82,17 @@ module _ {A : Type 0} (d : A) (net : Net) (saved : A) (seen latch copy : ℕ →
 -- ---- choices
 
 module _ (test : ℕ → Bool) where
-  counted : (b : Bool) (a : ℕ) → b ≡ true → a < cond b (suc a) a
-  counted true a e = omega arith
-  counted false a e = absurd (cc)
-
-  more-counted : (b : Bool) (a : ℕ) → a ≤ cond b (suc a) a
-  more-counted true a = omega arith
-  more-counted false a = omega arith
-
   pub count-below : (n k : ℕ) → k < n → test k ≡ true → count_below test k < count_below test n
   count-below zero k lt is = absurd (omega arith)
   count-below (suc n) k lt is =
       elim (cases_eq k n) [
         | inl e ↦ let P : ℕ → Type 0 = λ k. test k ≡ true →
             count_below test k < count_below test (suc n) in
-            subst P (sym e) (counted (test n) (count_below test n)) is
+            subst P (sym e) (counted-if (test n) (count_below test n)) is
         | inr apart ↦ omega (
           arith,
           count-below n k (omega arith) is,
-          more-counted (test n)
+          more-if (test n)
               (count_below test n),
         )
       ]

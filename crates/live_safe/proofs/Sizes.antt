@@ -22,7 +22,7 @@ all-of-cost w (x ∷ ws) c few =
     let rest = all-of-cost (both w x) ws c (λ j lt. few (suc j) (omega arith)) in
     omega (arith, here, rest)
 
-all-of-append : (w : Wire) (xs ys : List Wire) → all_of w (xs ++ ys) ≡ all_of (all_of w xs) ys
+pub all-of-append : (w : Wire) (xs ys : List Wire) → all_of w (xs ++ ys) ≡ all_of (all_of w xs) ys
 all-of-append w [] ys = refl
 all-of-append w (x ∷ xs) ys = all-of-append (both w x) xs ys
 

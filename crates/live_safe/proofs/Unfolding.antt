@@ -1,6 +1,6 @@
 -- A path of the safe net from the start to bad stands for a lasso execution.
 use Rattle.std.proofs.Common.{◌≡◌, ℕ, zero, suc, ◌+◌, ◌-◌, ◌*◌, ◌<◌, ◌≤◌, ◌⊎◌, Bool, true, false, not, ◌&&◌, List, [], ◌∷◌, length, get_or, IsTrue, inl, inr, refl, sym, ap, ◌∙◌, subst, arith}
-use Rattle.std.proofs.lemmas.Bool.{cases_eq}
+use Rattle.std.proofs.lemmas.Bool.{cases_eq, and_parts}
 use Rattle.std.proofs.lemmas.Bool.Decides.{Decides-ltb}
 use Rattle.aig_net.specs.declared.parts.Reset.{Reset}
 use Rattle.aig_net.specs.declared.parts.Reset.TheVariants.{Zero, One, Free}
@@ -11,7 +11,7 @@ use Rattle.aig_net.specs.Wires.{all_of, listed, Wire, literal, both, equal, wire
 use Rattle.live_safe.specs.Safe.{begun_nexts, count_below, is_set, set_at, has_begun, safe_inputs, take, saved, seen, raw, copied_latch, begun, effective, safe_literal, grab, next_saved, copy_wire, seen_wire, bad_wires, closing, safe_latches, to_safe, shown_word}
 use Rattle.aig_net.proofs.Literals.{value-even}
 use Rattle.aig_net.proofs.Rounds.{length-part, at-part}
-use Rattle.aig_net.proofs.Listed.{and-true, map-each, listed-append, listed-each}
+use Rattle.aig_net.proofs.Listed.{map-each, listed-append, listed-each}
 use Rattle.live_safe.proofs.Shapes.{ShapeFacts, shape-facts, count-below}
 use Rattle.live_safe.proofs.SafeGates.{safe-value, shown-right, shown-latch, effective-value, grab-value, next_saved-value, seen-value, copy-value, bad-value}
 use Rattle.aig_net.proofs.Looping.{loop-run}
@@ -25,7 +25,7 @@ pub all-of-true : (v : Valuation) (w : Wire) (ws : List Wire) → wire_value v (
 all-of-true v w [] e = (e, λ j lt. absurd (omega arith))
 all-of-true v w (x ∷ ws) e =
     let (two, rest) = all-of-true v (both w x) ws e in
-    let (a, b) = and-true _ _ two in
+    let (a, b) = and_parts _ _ two in
     (a, at b rest)
   where
     at : wire_value v x ≡ true → ((j : ℕ) → j < length ws → wire_value v (wire_at ws j) ≡ true) →
@@ -64,11 +64,6 @@ pub on-first : (r b : Bool) → b ≡ false → not (not r && not (not b)) ≡ t
 on-first true false e = refl
 on-first false false e = refl
 on-first r true e = absurd (cc)
-
-pub free-later : (r b x : Bool) → b ≡ true → not (not (b && r) && not (not b && x)) ≡ r
-free-later true true x e = refl
-free-later false true x e = refl
-free-later r false x e = absurd (cc)
 
 pub is-set-begun : (net : Net) (j : ℕ) → j < length net.latches → set_at net j ≡ true →
     has_begun net ≡ true
@@ -168,7 +163,7 @@ module _ (net : Net) (k : ℕ) (path : Word) (bad : IsBadPath (to_safe net) k pa
           wire_value (path (suc i)) (effective net j r) ≡ literal_value (path (suc i)) (raw net j)
       at Zero h = refl
       at One h = on-later _ _ (h refl)
-      at Free h = free-later _ _ _ (h refl)
+      at Free h = copy-taken _ _ _ (h refl)
 
   start-shown : IsStart net (w 0)
   start-shown j few =

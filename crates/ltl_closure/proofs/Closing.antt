@@ -2,21 +2,13 @@
 use Rattle.std.proofs.Common.{◌≡◌, ℕ, zero, suc, ◌+◌, ◌<◌, ◌≤◌, Bool, true, false, ◌&&◌, ◌||◌, cond, nat_eq, List, [], ◌∷◌, ◌++◌, length, inl, inr, refl, sym, ap, ◌∙◌, subst, arith, length-append}
 use Rattle.std.specs.Bool.{beq}
 use Rattle.std.specs.List.{list_any}
-use Rattle.std.proofs.lemmas.Bool.{cases_lt, eqb-true, eq-eqb}
+use Rattle.std.proofs.lemmas.Bool.{cases_lt, eqb-true, eq-eqb, and_parts, and_from}
 use Rattle.std.proofs.lemmas.List.{get_or-map, length-map, get_or_append_left}
 use Rattle.hy_formula.specs.Normals.{Normal, always, never, literal, and, or, next, weak_next, until, release}
 use Rattle.ltl_closure.specs.Nodes as node
 use Rattle.ltl_closure.specs.Nodes.{Node, node_at, form_of, PartsBelow, Numbers}
 use Rattle.ltl_closure.specs.Closures.{same_form, with_new, with_form, with_forms, closure, number_in, form_in, node_of, nodes_of}
 use Rattle.ltl_closure.specs.Numbered.{Below, PartsIn, Closed}
-
-pub and-both : (a b : Bool) → (a && b) ≡ true → (a ≡ true) × (b ≡ true)
-and-both true b e = (refl, e)
-and-both false b e = absurd (cc)
-
-pub both-and : (a b : Bool) → a ≡ true → b ≡ true → (a && b) ≡ true
-both-and true b e f = f
-both-and false b e f = absurd (cc)
 
 pub same-bool : (b c : Bool) → beq b c ≡ true → b ≡ c
 same-bool true true e = refl
@@ -28,31 +20,31 @@ pub equal-form : (f g : Normal) → same_form f g ≡ true → f ≡ g
 equal-form always always e = refl
 equal-form never never e = refl
 equal-form (literal b n v) (literal c m u) e =
-    let (p, q) = and-both (beq b c) (nat_eq n m && nat_eq v u) e in
-    let (r, s) = and-both (nat_eq n m) (nat_eq v u) q in
+    let (p, q) = and_parts (beq b c) (nat_eq n m && nat_eq v u) e in
+    let (r, s) = and_parts (nat_eq n m) (nat_eq v u) q in
     let x : b ≡ c = same-bool b c p in
     let y : n ≡ m = eqb-true n m r in
     let z : v ≡ u = eqb-true v u s in
     cc
-equal-form (and f g) (and h k) e = let (p, q) = and-both (same_form f h) (same_form g k) e in let x : f ≡ h = equal-form f h p in let y : g ≡ k = equal-form g k q in cc
-equal-form (or f g) (or h k) e = let (p, q) = and-both (same_form f h) (same_form g k) e in let x : f ≡ h = equal-form f h p in let y : g ≡ k = equal-form g k q in cc
+equal-form (and f g) (and h k) e = let (p, q) = and_parts (same_form f h) (same_form g k) e in let x : f ≡ h = equal-form f h p in let y : g ≡ k = equal-form g k q in cc
+equal-form (or f g) (or h k) e = let (p, q) = and_parts (same_form f h) (same_form g k) e in let x : f ≡ h = equal-form f h p in let y : g ≡ k = equal-form g k q in cc
 equal-form (next f) (next h) e = let x : f ≡ h = equal-form f h e in cc
 equal-form (weak_next f) (weak_next h) e = let x : f ≡ h = equal-form f h e in cc
-equal-form (until f g) (until h k) e = let (p, q) = and-both (same_form f h) (same_form g k) e in let x : f ≡ h = equal-form f h p in let y : g ≡ k = equal-form g k q in cc
-equal-form (release f g) (release h k) e = let (p, q) = and-both (same_form f h) (same_form g k) e in let x : f ≡ h = equal-form f h p in let y : g ≡ k = equal-form g k q in cc
+equal-form (until f g) (until h k) e = let (p, q) = and_parts (same_form f h) (same_form g k) e in let x : f ≡ h = equal-form f h p in let y : g ≡ k = equal-form g k q in cc
+equal-form (release f g) (release h k) e = let (p, q) = and_parts (same_form f h) (same_form g k) e in let x : f ≡ h = equal-form f h p in let y : g ≡ k = equal-form g k q in cc
 equal-form _ _ e = absurd (cc)
 
 pub form-itself : (f : Normal) → same_form f f ≡ true
 form-itself always = refl
 form-itself never = refl
-form-itself (literal true n v) = both-and _ _ (eq-eqb n n refl) (eq-eqb v v refl)
-form-itself (literal false n v) = both-and _ _ (eq-eqb n n refl) (eq-eqb v v refl)
-form-itself (and f g) = both-and _ _ (form-itself f) (form-itself g)
-form-itself (or f g) = both-and _ _ (form-itself f) (form-itself g)
+form-itself (literal true n v) = and_from _ _ (eq-eqb n n refl) (eq-eqb v v refl)
+form-itself (literal false n v) = and_from _ _ (eq-eqb n n refl) (eq-eqb v v refl)
+form-itself (and f g) = and_from _ _ (form-itself f) (form-itself g)
+form-itself (or f g) = and_from _ _ (form-itself f) (form-itself g)
 form-itself (next f) = form-itself f
 form-itself (weak_next f) = form-itself f
-form-itself (until f g) = both-and _ _ (form-itself f) (form-itself g)
-form-itself (release f g) = both-and _ _ (form-itself f) (form-itself g)
+form-itself (until f g) = and_from _ _ (form-itself f) (form-itself g)
+form-itself (release f g) = and_from _ _ (form-itself f) (form-itself g)
 
 -- `new` goes on with `old`, is closed where `old` is, and has the form.
 pub record Grown (old new : List Normal) (f : Normal) : Type 0 where

@@ -1,9 +1,9 @@
 -- The number of a node among nodes that differ.
-use Rattle.std.proofs.Common.{◌≡◌, ℕ, zero, suc, ◌<◌, Bool, true, false, ◌&&◌, ◌||◌, nat_eq, List, [], ◌∷◌, length, map, get_or, position, Some, None, inl, inr, refl, sym, ap, ◌∙◌, subst, arith}
+use Rattle.std.proofs.Common.{◌≡◌, ℕ, zero, suc, ◌<◌, Bool, true, false, ◌&&◌, nat_eq, List, [], ◌∷◌, length, map, get_or, position, Some, None, inl, inr, refl, sym, ap, ◌∙◌, subst, arith}
 use Rattle.std.specs.Bool.{beq}
 use Rattle.std.specs.List.{list_any, IsDistinct}
 use Rattle.std.proofs.Math.ListN.{get_or-map}
-use Rattle.std.proofs.lemmas.Bool.{cases_eq, cases_lt, eqb-true, eq-eqb}
+use Rattle.std.proofs.lemmas.Bool.{cases_eq, cases_lt, eqb-true, eq-eqb, and_parts, and_from, or_parts}
 use Rattle.std.proofs.lemmas.List.{length-map}
 use Rattle.std.proofs.lemmas.List.Quantifiers.{position-Some}
 use Rattle.std.proofs.lemmas.Map.Keys.{apart_from_distinct}
@@ -13,23 +13,19 @@ use Rattle.ltl_closure.specs.contracts.node.NodePartialEq.TheImpl.{ghosts}
 use Rattle.ltl_closure.specs.Nodes.{Node, always, never, literal, and, or, next, weak_next, until, release, node_at}
 use Rattle.ltl_closure.specs.Numbered.{IsNumberOf}
 use Rattle.ltl_closure.specs.Plain.{plain_node, same_node}
-use Rattle.ltl_closure.proofs.Closing.{and-both, both-and, same-bool}
+use Rattle.ltl_closure.proofs.Closing.{same-bool}
 use Rattle.ltl_closure.proofs.Inserting.{same-kept}
-
-or-both : (a b : Bool) → (a || b) ≡ false → (a ≡ false) × (b ≡ false)
-or-both true b e = absurd (cc)
-or-both false b e = (refl, e)
 
 two-equal : (g h k l : ℕ) → (nat_eq g k && nat_eq h l) ≡ true → (g ≡ k) × (h ≡ l)
 two-equal g h k l e =
-    let (p, q) = and-both (nat_eq g k) (nat_eq h l) e in
+    let (p, q) = and_parts (nat_eq g k) (nat_eq h l) e in
     (eqb-true g k p, eqb-true h l q)
 
 equal-node : (a b : Node) → same_node a b ≡ true → a ≡ b
 equal-node always always e = refl
 equal-node never never e = refl
 equal-node (literal b n v) (literal c m u) e =
-    let (p, q) = and-both (nat_eq n m && nat_eq v u) (beq b c) e in
+    let (p, q) = and_parts (nat_eq n m && nat_eq v u) (beq b c) e in
     let (r, s) = two-equal n v m u p in
     let t : b ≡ c = same-bool b c q in
     cc
@@ -52,13 +48,13 @@ node-itself : (a : Node) → same_node a a ≡ true
 node-itself always = refl
 node-itself never = refl
 node-itself (literal b n v) =
-    both-and _ _ (both-and _ _ (itself n) (itself v)) (bool-itself b)
-node-itself (and g h) = both-and _ _ (itself g) (itself h)
-node-itself (or g h) = both-and _ _ (itself g) (itself h)
+    and_from _ _ (and_from _ _ (itself n) (itself v)) (bool-itself b)
+node-itself (and g h) = and_from _ _ (itself g) (itself h)
+node-itself (or g h) = and_from _ _ (itself g) (itself h)
 node-itself (next g) = itself g
 node-itself (weak_next g) = itself g
-node-itself (until g h) = both-and _ _ (itself g) (itself h)
-node-itself (release g h) = both-and _ _ (itself g) (itself h)
+node-itself (until g h) = and_from _ _ (itself g) (itself h)
+node-itself (release g h) = and_from _ _ (itself g) (itself h)
 
 module _ (keys : List Kept) (distinct : IsDistinct ghosts.eq keys) (node : Kept) where
   abbrev nodes : List Node
@@ -107,9 +103,9 @@ module _ (keys : List Kept) (distinct : IsDistinct ghosts.eq keys) (node : Kept)
   none-passes : (test : Kept → Bool) (xs : List Kept) (k : ℕ) → list_any test xs ≡ false
       → k < length xs → test (get_or xs k True) ≡ true → ⊥
   none-passes test [] k e lt is = absurd (omega arith)
-  none-passes test (x ∷ xs) zero e lt is = let first = or-both (test x) _ e in cc
+  none-passes test (x ∷ xs) zero e lt is = let first = or_parts (test x) _ e in cc
   none-passes test (x ∷ xs) (suc k) e lt is =
-      let first = or-both (test x) _ e in
+      let first = or_parts (test x) _ e in
       none-passes test xs k first.1 (omega arith) is
 
   pub number-none : list_any (λ k. ghosts.eq node k) keys ≡ false

@@ -274,10 +274,6 @@ full-visited old full f other g forms stands known =
       record { there = grown.there; number = λ room. absurd (let clash : true ≡ false = sym full ∙ room in cc) },
     )
 
--- what is inserted stands on
-new-grown : (f : Normal) (forms : List Normal) → Closed forms → PartsIn forms (length forms) f → Grown forms (with_new f forms) f
-new-grown f forms closed parts = grown-new forms f closed parts
-
 module _ {E : Type 0} (old m1 m2 m3 new : Numbering) (other : Option ℕ) (ops inner : Operands) (at : ops ≡ operands_at (map plain_node old.members.keys) other) (at' : inner ≡ operands_at (map plain_node old.members.keys) ops.second)
     (x y z : ℕ) (kept1 kept : Kept) (r : Result ℕ E) (keeps : Keeps old m1) (keeps' : Keeps m1 m2) (keeps'' : Keeps m2 m3) (ins1 : Inserts m2 kept1 m3 z) (ins : IfOk r (Inserts m3 kept new)) where
   weak-pair : (p q p' q' : Pairing) (f g fo go : Normal) → Visits old g ops.first go m1 y → Visits m1 f inner.first fo m2 x

@@ -1,10 +1,10 @@
 -- Among the branches of what holds at a position is one whose members hold, there and at the next position,
 -- and which postpones no until whose end is reached.
-use Rattle.std.proofs.Common.{◌≡◌, ℕ, zero, suc, ◌<◌, ◌≤◌, ◌⊎◌, Bool, true, false, not, ◌&&◌, ◌||◌, cond, nat_eq, List, [], ◌++◌, length, inl, inr, refl, sym, subst, arith}
+use Rattle.std.proofs.Common.{◌≡◌, ℕ, zero, suc, ◌<◌, ◌≤◌, ◌⊎◌, Bool, true, false, not, ◌&&◌, cond, nat_eq, List, [], ◌++◌, length, inl, inr, refl, sym, subst, arith}
 use Rattle.std.specs.Bool.{beq}
 use Rattle.std.specs.List.{Contains}
 use Rattle.std.specs.FinSet.{empty, insert, contains}
-use Rattle.std.proofs.lemmas.Bool.{cases_eq, eqb-true}
+use Rattle.std.proofs.lemmas.Bool.{cases_eq, eqb-true, and_parts, and_from, or_left, or_right, or_cases, false_from_ne_true}
 use Rattle.std.proofs.lemmas.List.Elements.{Contains-append_left, Contains-append_right}
 use Rattle.hy_formula.specs.Temporal.{Decided}
 use Rattle.ltl_closure.specs.Nodes.{Node, always, never, literal, and, or, next, weak_next, until, release, node_at, PartsBelow, Local}
@@ -29,26 +29,6 @@ finds-right nodes T N xs ys (branch, there, fits) = (branch, Contains-append_rig
 
 -- ---- literals
 
-pub and-both : (a b : Bool) → (a && b) ≡ true → (a ≡ true) × (b ≡ true)
-and-both true b e = (refl, e)
-and-both false b e = absurd (cc)
-
-pub both-and : (a b : Bool) → a ≡ true → b ≡ true → (a && b) ≡ true
-both-and true b e f = f
-both-and false b e f = absurd (cc)
-
-or-first : (a b : Bool) → a ≡ true → (a || b) ≡ true
-or-first true b e = refl
-or-first false b e = absurd (cc)
-
-or-second : (a b : Bool) → b ≡ true → (a || b) ≡ true
-or-second true b e = refl
-or-second false b e = e
-
-or-either : (a b : Bool) → (a || b) ≡ true → (a ≡ true) ⊎ (b ≡ true)
-or-either true b e = inl refl
-or-either false b e = inr e
-
 opposite : (c b : Bool) → beq c (not b) ≡ true → c ≡ b → ⊥
 opposite true true e same = cc
 opposite true false e same = cc
@@ -57,8 +37,8 @@ opposite false false e same = cc
 
 opposes-clash : (T N : ℕ → Type 0) (letter : ℕ → ℕ → Bool) (k : ℕ) (b : Bool) (name variable : ℕ) (node : Node) → Local T N letter k node → is_literal (not b) name variable node ≡ true → letter name variable ≡ b → ⊥
 opposes-clash T N letter k b name variable (literal c n v) said e other =
-    let both = and-both (beq c (not b)) _ e in
-    let names = and-both (nat_eq n name) (nat_eq v variable) both.1 in
+    let both = and_parts (beq c (not b)) _ e in
+    let names = and_parts (nat_eq n name) (nat_eq v variable) both.1 in
     let same_name : n ≡ name = eqb-true n name names.0 in
     let same_variable : v ≡ variable = eqb-true v variable names.1 in
     let same : letter n v ≡ letter name variable = cc in
@@ -68,8 +48,8 @@ opposes-clash T N letter k b name variable _ said e other = absurd (cc)
 pub literal-some : (nodes : List Node) (now : Members) (b : Bool) (name variable m : ℕ) → has_literal nodes now b name variable m ≡ true → (k : ℕ) × (k < m) × Has now k × (is_literal b name variable (node_at nodes k) ≡ true)
 literal-some nodes now b name variable zero e = absurd (cc)
 literal-some nodes now b name variable (suc m) e =
-    elim (or-either (contains now m && is_literal b name variable (node_at nodes m)) _ e) [
-      | inl found ↦ let both = and-both (contains now m) _ found in (m, omega arith, both.0, both.1)
+    elim (or_cases (contains now m && is_literal b name variable (node_at nodes m)) _ e) [
+      | inl found ↦ let both = and_parts (contains now m) _ found in (m, omega arith, both.0, both.1)
       | inr more ↦ let (k, lt, h, o) = literal-some nodes now b name variable m more in (k, omega arith, h, o)
     ]
 
@@ -79,13 +59,9 @@ literal-there nodes now b name variable (suc m) k lt has is =
     elim (cases_eq k m) [
       | inl e ↦
           let P : ℕ → Type 0 = λ q. (contains now q && is_literal b name variable (node_at nodes q)) ≡ true in
-          or-first _ _ (subst P e (both-and _ _ has is))
-      | inr apart ↦ or-second _ _ (literal-there nodes now b name variable m k (omega arith) has is)
+          or_left _ _ (subst P e (and_from _ _ has is))
+      | inr apart ↦ or_right _ _ (literal-there nodes now b name variable m k (omega arith) has is)
     ]
-
-pub not_true : (b : Bool) → (b ≡ true → ⊥) → b ≡ false
-not_true true n = absurd (n refl)
-not_true false n = refl
 
 -- ---- the choice
 
@@ -134,7 +110,7 @@ module _ (nodes : List Node) (T N : ℕ → Type 0) (letter : ℕ → ℕ → Bo
     expanded never e said below = absurd said
     expanded (literal b n v) e said below =
         let clear : has_literal nodes now (not b) n v (length nodes) ≡ false =
-        not_true _ (λ opposed. let (k, lt', h, o) = literal-some nodes now (not b) n v (length nodes) opposed in
+        false_from_ne_true _ (λ opposed. let (k, lt', h, o) = literal-some nodes now (not b) n v (length nodes) opposed in
         opposes-clash T N letter k b n v (node_at nodes k) (local k lt' (s.done k h)) o said) in
         let P : Bool → Type 0 = λ c. Finds nodes T N (cond c [] (rest todo later)) in
         subst P (sym clear) (ih todo later (extended f lt todo now later todo later s mine (λ k h. h) s.doing s.left (λ g h e' t. absurd (cc))))

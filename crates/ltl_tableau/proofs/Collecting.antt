@@ -2,8 +2,9 @@
 use Rattle.std.proofs.Common.{◌≡◌, ℕ, zero, suc, ◌<◌, ◌≤◌, ◌⊎◌, Bool, true, false, ◌&&◌, cond, nat_eq, if◌then◌else◌, List, [], ◌∷◌, ◌++◌, length, inl, inr, refl, sym, ap, ◌∙◌, subst, arith, length-append}
 use Rattle.std.specs.FinSet.{contains}
 use Rattle.std.specs.List.{Contains, list_any}
-use Rattle.std.proofs.lemmas.Bool.{cases_lt, cases_eq, eqb-true, eq-eqb, or_cases}
+use Rattle.std.proofs.lemmas.Bool.{cases_lt, cases_eq, eqb-true, eq-eqb, or_cases, and_parts, and_from}
 use Rattle.std.proofs.lemmas.List.Elements.{Contains-append_right, Contains-push_cases}
+use Rattle.hy_base.proofs.Truths.{same-truth}
 use Rattle.hy_bits.specs.Binary.{ones, number}
 use Rattle.hy_bits.specs.BinaryLaws.{ones-number}
 use Rattle.ltl_closure.specs.Nodes.{Node, node_at}
@@ -116,17 +117,9 @@ number-same s t e = sym (ones-number s) ∙ ap ones (eqb-true _ _ e) ∙ ones-nu
 abbrev pub equal : Branch → Branch → Bool
 equal a b = nat_eq (number a.now) (number b.now) && nat_eq (number a.later) (number b.later)
 
-both-true : (a b : Bool) → (a && b) ≡ true → (a ≡ true) × (b ≡ true)
-both-true true b e = (refl, e)
-both-true false b e = absurd (cc)
-
-true-both : (a b : Bool) → a ≡ true → b ≡ true → (a && b) ≡ true
-true-both true b e f = f
-true-both false b e f = absurd (cc)
-
 pub equal-same : (a b : Branch) → equal a b ≡ true → a ≡ b
 equal-same a b e =
-    let (n, l) = both-true (nat_eq (number a.now) (number b.now)) (nat_eq (number a.later)
+    let (n, l) = and_parts (nat_eq (number a.now) (number b.now)) (nat_eq (number a.later)
     (number b.later)) e in
     let now : a.now ≡ b.now = number-same a.now b.now n in
     let later : a.later ≡ b.later = number-same a.later b.later l in
@@ -135,16 +128,11 @@ equal-same a b e =
 
 pub equal-itself : (a b : Branch) → a ≡ b → equal a b ≡ true
 equal-itself a b e =
-    true-both _ _ (eq-eqb (number a.now) (number b.now) (ap (λ (x : Branch). number x.now) e))
+    and_from _ _ (eq-eqb (number a.now) (number b.now) (ap (λ (x : Branch). number x.now) e))
     (eq-eqb (number a.later) (number b.later) (ap (λ (x : Branch). number x.later) e))
 
-both-ways : (a b : Bool) → (a ≡ true → b ≡ true) → (b ≡ true → a ≡ true) → a ≡ b
-both-ways true b f g = sym (f refl)
-both-ways false true f g = g refl
-both-ways false false f g = refl
-
 pub equal-is : (a b : Branch) → equal a b ≡ same_branch a b
-equal-is a b = both-ways (equal a b) (same_branch a b) (λ e. same-branch_itself a b
+equal-is a b = same-truth (equal a b) (same_branch a b) (λ e. same-branch_itself a b
     (equal-same a b e)) (λ e. equal-itself a b (equal-branch a b e))
 
 any-same : (f g : Branch → Bool) → ((b : Branch) → f b ≡ g b) → (list : List Branch)
@@ -169,8 +157,8 @@ equal_work a b =
 
 pub same-work : {w : ℕ} (a b : Work w) → equal_work a b ≡ true → a ≡ b
 same-work {w} a b e =
-    let (below, more) = both-true (nat_eq a.below b.below) _ e in
-    let (held, next) = both-true (nat_eq (number a.held) (number b.held)) _ more in
+    let (below, more) = and_parts (nat_eq a.below b.below) _ e in
+    let (held, next) = and_parts (nat_eq (number a.held) (number b.held)) _ more in
     ap (λ x. let made : Work w = record { below = x; held = a.held; next = a.next } in made) (eqb-true a.below b.below below)
     ∙ ap (λ x. let made : Work w = record { below = b.below; held = x; next = a.next } in made) (number-same a.held b.held held)
     ∙ ap (λ x. let made : Work w = record { below = b.below; held = b.held; next = x } in made) (number-same a.next b.next next)

@@ -4,32 +4,21 @@ use Rattle.std.specs.List.{Contains, list_any}
 use Rattle.std.specs.Cmp.{nat_cmp_total}
 use Rattle.std.specs.FinSet.{empty, contains, is_subset, is_subset-contains, contains-is_subset, same_set, nat_cmp-IsAntisymmetric}
 use Rattle.std.proofs.lemmas.List.Elements.{Contains-append_left, Contains-append_right, Contains-append_cases, Contains-push, Contains-push_cases}
+use Rattle.std.proofs.lemmas.Bool.{and_parts, or_cases}
+use Rattle.hy_base.proofs.Truths.{same-truth}
 use Rattle.ltl_closure.specs.Nodes.{Node}
 use Rattle.ltl_tableau.specs.Branches.{Members, Branch, same_branch, with_branch, with_all, branches_below, IsBranch}
 
-both : (a b : Bool) → (a && b) ≡ true → (a ≡ true) × (b ≡ true)
-both true b e = (refl, e)
-both false b e = absurd (cc)
-
-either : (a b : Bool) → (a || b) ≡ true → (a ≡ true) ⊎ (b ≡ true)
-either true b e = inl refl
-either false b e = inr e
-
-both-ways : (a b : Bool) → (a ≡ true → b ≡ true) → (b ≡ true → a ≡ true) → a ≡ b
-both-ways true b f g = sym (f refl)
-both-ways false true f g = g refl
-both-ways false false f g = refl
-
 same-members : (s t : Members) → (is_subset s t && is_subset t s) ≡ true → s ≡ t
 same-members s t e =
-    let (there, back) = both (is_subset s t) (is_subset t s) e in
+    let (there, back) = and_parts (is_subset s t) (is_subset t s) e in
     same_set nat_cmp_total nat_cmp-IsAntisymmetric s t
-    (λ q. both-ways (contains s q) (contains t q) (is_subset-contains nat_cmp_total s t there q)
+    (λ q. same-truth (contains s q) (contains t q) (is_subset-contains nat_cmp_total s t there q)
     (is_subset-contains nat_cmp_total t s back q))
 
 pub equal-branch : (a b : Branch) → same_branch a b ≡ true → a ≡ b
 equal-branch a b e =
-    let (now, later) = both (is_subset a.now b.now && is_subset b.now a.now)
+    let (now, later) = and_parts (is_subset a.now b.now && is_subset b.now a.now)
     (is_subset a.later b.later && is_subset b.later a.later) e in
     let n : a.now ≡ b.now = same-members a.now b.now now in
     let l : a.later ≡ b.later = same-members a.later b.later later in
@@ -55,7 +44,7 @@ known-there : (b : Branch) (list : List Branch) → list_any (same_branch b) lis
     → Contains list b
 known-there b [] e = absurd (cc)
 known-there b (x ∷ xs) e =
-    elim (either (same_branch b x) (list_any (same_branch b) xs) e) [
+    elim (or_cases (same_branch b x) (list_any (same_branch b) xs) e) [
       | inl here ↦ (0, omega arith, sym (equal-branch b x here))
       | inr more ↦ Contains-append_right (x ∷ []) xs b (known-there b xs more)
     ]

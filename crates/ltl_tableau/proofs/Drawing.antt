@@ -1,17 +1,19 @@
 -- The graph of the branches that were explored.
-use Rattle.std.proofs.Common.{◌≡◌, ◌≢◌, ℕ, zero, suc, ◌+◌, ◌<◌, ◌≤◌, ◌↔◌, Bool, true, false, not, nat_lt, cond, List, [], ◌∷◌, ◌++◌, length, map, get_or, position, slice_get, Some, None, inl, inr, refl, sym, ap, ◌∙◌, subst, arith}
+use Rattle.std.proofs.Common.{◌≡◌, ◌≢◌, ℕ, zero, suc, ◌+◌, ◌<◌, ◌≤◌, ◌↔◌, Bool, true, false, not, nat_lt, cond, List, [], ◌∷◌, ◌++◌, length, map, get_or, position, slice_get, Some, inl, inr, refl, sym, ap, ◌∙◌, subst, arith}
 use Rattle.std.specs.List.{Contains, position_or_len}
 use Rattle.std.specs.FinSet.{empty}
 use Rattle.std.proofs.lemmas.Bool.{cases_lt, cases_eq}
-use Rattle.std.proofs.lemmas.List.{get_or_append_left, get_or_past}
+use Rattle.std.proofs.lemmas.List.{get_or_append_left, get_or_past, get_or_default}
 use Rattle.std.proofs.lemmas.List.Elements.{Contains-append_left, Contains-append_right, Contains-push, Contains-push_cases}
+use Rattle.std.proofs.lemmas.Option.{cond_some}
+use Rattle.hy_base.proofs.Places.{last-of}
 use Rattle.rank_check.specs.declared.graph.Node.{Node as Vertex}
 use Rattle.rank_check.specs.Graphs.{Shape, members_of, no_node}
 use Rattle.ltl_closure.specs.Nodes.{Node, always, node_at}
 use Rattle.ltl_tableau.specs.Branches.{Members, Branch, branches, IsBranch, postponed_by, postpones}
 use Rattle.ltl_tableau.specs.Reached.{IsReachable, first, after, branch_at, set_at, group_at, IsTableau, Explores, AreGroups, IsNodeOf, AreNodes}
 use Rattle.ltl_tableau.proofs.Collecting.{number-same}
-use Rattle.ltl_tableau.proofs.Exploring.{contains-at, place-of, last-of, equal_sets}
+use Rattle.ltl_tableau.proofs.Exploring.{contains-at, place-of, equal_sets}
 
 -- ---- groups
 
@@ -106,13 +108,9 @@ module _ (p : Members → Bool) where
           let P : ℕ → Type 0 = λ q. p (get_or (x ∷ xs) q d) ≡ true in
           subst P one (rest (omega arith))
 
-some-place : (c : Bool) (n i : ℕ) → cond c (Some n) None ≡ Some i → (c ≡ true) × (n ≡ i)
-some-place true n i e = (refl, let same : n ≡ i = cc in same)
-some-place false n i e = absurd (cc)
-
 pub set-at_place : (sets : List Members) (s : Members) (i : ℕ) → Some i ≡ position (λ t. equal_sets s t) sets → i < length sets → set_at sets i ≡ s
 set-at_place sets s i e lt =
-    let (_, same) = some-place (nat_lt (position_or_len (λ t. equal_sets s t) sets) (length sets)) (position_or_len (λ t. equal_sets s t) sets) i (sym e) in
+    let (_, same) = cond_some (nat_lt (position_or_len (λ t. equal_sets s t) sets) (length sets)) (position_or_len (λ t. equal_sets s t) sets) i (sym e) in
     let inside : position_or_len (λ t. equal_sets s t) sets < length sets = omega arith in
     let there : equal_sets s (set_at sets (position_or_len (λ t. equal_sets s t) sets)) ≡ true = found-at (λ t. equal_sets s t) sets empty inside in
     let P : ℕ → Type 0 = λ q. set_at sets q ≡ s in
@@ -153,11 +151,6 @@ module _ (nodes : List Node) (n : ℕ) (roots : Members) (sets : List Members) (
 
 -- ---- nodes, one after another
 
-get-default : {A : Type 0} (xs : List A) (j : ℕ) (d e : A) → j < length xs → get_or xs j d ≡ get_or xs j e
-get-default [] j d e lt = absurd (omega arith)
-get-default (x ∷ xs) zero d e lt = refl
-get-default (x ∷ xs) (suc j) d e lt = get-default xs j d e (omega arith)
-
 pub nodes-push : (nodes : List Node) (sets : List Members) (items : List Branch) (old new : List Vertex) (x : Vertex) (b : Branch) (i : ℕ) → length old ≡ i → new ≡ old ++ x ∷ [] → i < length items → b ≡ get_or items i b → IsNodeOf nodes sets b x
     → ((v : ℕ) → v < i → IsNodeOf nodes sets (branch_at items v) (get_or old v no_node)) → (v : ℕ) → v < i + 1 → IsNodeOf nodes sets (branch_at items v) (get_or new v no_node)
 nodes-push nodes sets items old new x b i count is lt at here each v below =
@@ -169,7 +162,7 @@ nodes-push nodes sets items old new x b i count is lt at here each v below =
           let N : Vertex → Type 0 = IsNodeOf nodes sets (branch_at items (length old)) in
           let B : Branch → Type 0 = λ c. IsNodeOf nodes sets c x in
           let inside : length old < length items = omega arith in
-          let item : branch_at items (length old) ≡ b = get-default items (length old) _ b inside ∙ ap (λ q. get_or items q b) count ∙ sym at in
+          let item : branch_at items (length old) ≡ b = get_or_default items (length old) _ b inside ∙ ap (λ q. get_or items q b) count ∙ sym at in
           subst Q (sym is) (subst P e (subst N (sym (last-of old x no_node)) (subst B (sym item) here)))
       | inr apart ↦
           let inside : v < length old = omega arith in

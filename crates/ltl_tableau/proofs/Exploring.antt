@@ -2,9 +2,11 @@
 use Rattle.std.proofs.Common.{◌≡◌, ℕ, zero, suc, ◌+◌, ◌<◌, ◌≤◌, ◌⊎◌, Bool, true, false, not, ◌||◌, nat_eq, cond, if◌then◌else◌, List, [], ◌∷◌, ◌++◌, length, map, take, get_or, slice_get, Some, inl, inr, refl, sym, ap, ◌∙◌, subst, arith, length-append}
 use Rattle.std.specs.List.{Contains, list_any}
 use Rattle.std.specs.FinSet.{empty}
-use Rattle.std.proofs.lemmas.Bool.{cases_lt, cases_eq, eq-eqb}
-use Rattle.std.proofs.lemmas.List.{get_or_append_left, get_or_past, length-map, map-append, take_more}
+use Rattle.std.proofs.lemmas.Bool.{cases_lt, cases_eq, eq-eqb, not-true}
+use Rattle.std.proofs.lemmas.List.{get_or_append_left, get_or_past, length-map, map-append, take_more, get_or_default, take_all}
 use Rattle.std.proofs.lemmas.List.Elements.{Contains-append_left, Contains-append_right, Contains-push, Contains-push_cases}
+use Rattle.std.proofs.lemmas.Option.{get_or_from_slice_get}
+use Rattle.hy_base.proofs.Places.{last-of}
 use Rattle.hy_bits.specs.Binary.{number}
 use Rattle.ltl_closure.specs.Nodes.{Node}
 use Rattle.ltl_tableau.specs.Branches.{Members, Branch, same_branch, with_branch, with_all, branches, branches_below, IsBranch}
@@ -12,13 +14,9 @@ use Rattle.ltl_tableau.specs.Walks.{no_branch}
 use Rattle.ltl_tableau.specs.Collected.{Collects}
 use Rattle.ltl_tableau.specs.Reached.{IsReachable, after, branch_at, set_at, group_at, AreDistinct, HasMore, Explores, AreGroups, Grows, PutsBranch, PutsSet}
 use Rattle.ltl_tableau.proofs.Collecting.{equal, equal-same, equal-itself, number-same}
-use Rattle.ltl_tableau.proofs.Distinct.{equal-branch, same-branch_itself}
+use Rattle.ltl_tableau.proofs.Distinct.{there-known}
 
 -- ---- elements of lists
-
-pub last-of : {A : Type 0} (xs : List A) (x d : A) → get_or (xs ++ x ∷ []) (length xs) d ≡ x
-last-of [] x d = refl
-last-of (y ∷ ys) x d = last-of ys x d
 
 pub contains-at : {A : Type 0} (d : A) (xs : List A) (k : ℕ) (x : A) → k < length xs → get_or xs k d ≡ x → Contains xs x
 contains-at d [] k x lt e = absurd (omega arith)
@@ -29,11 +27,6 @@ pub place-of : {A : Type 0} (d : A) (xs : List A) (x : A) → Contains xs x → 
 place-of d [] x (k, lt, e) = absurd (omega arith)
 place-of d (y ∷ ys) x (zero, lt, e) = (0, omega arith, e)
 place-of d (y ∷ ys) x (suc k, lt, e) = let (j, below, at) = place-of d ys x (k, omega arith, e) in (suc j, omega arith, at)
-
-get-some : {A : Type 0} (d : A) (xs : List A) (k : ℕ) (x : A) → slice_get xs k ≡ Some x → get_or xs k d ≡ x
-get-some d [] k x e = absurd (cc)
-get-some d (y ∷ ys) zero x e = cc
-get-some d (y ∷ ys) (suc k) x e = get-some d ys k x e
 
 -- ---- insertions
 
@@ -66,19 +59,15 @@ module _ {A : Type 0} (eq : A → A → Bool) (itself : (a b : A) → a ≡ b �
   put-there old new x true any e = let P : List A → Type 0 = λ l. Contains l x in subst P (sym e) (there-any old x any)
   put-there old new x false any e = let P : List A → Type 0 = λ l. Contains l x in subst P (sym e) (Contains-push old x)
 
-not-not : (b : Bool) → not b ≡ true → b ≡ false
-not-not true e = absurd (cc)
-not-not false e = refl
-
 pub puts-branch : (old new : List Branch) (b : Branch) (n : ℕ) → new ≡ (if list_any (λ y. equal b y) old then old else old ++ b ∷ []) → n < length new
     → (k : Branch) × (slice_get new n ≡ Some k) × (equal b k ≡ true) → PutsBranch old b new n
 puts-branch old new b n keys lt (k, at, is) =
     record {
       is_new = not (list_any (λ y. equal b y) old);
       within = lt;
-      at = get-some no_branch new n k at ∙ sym (equal-same b k is);
+      at = get_or_from_slice_get new n k no_branch at ∙ sym (equal-same b k is);
       list = put-list equal equal-itself equal-same old new b (list_any (λ y. equal b y) old) keys;
-      was = λ e. new-was equal equal-itself equal-same old b (not-not (list_any (λ y. equal b y) old) e);
+      was = λ e. new-was equal equal-itself equal-same old b (not-true (list_any (λ y. equal b y) old) e);
     }
 
 abbrev pub equal_sets : Members → Members → Bool
@@ -93,7 +82,7 @@ puts-set old new s keys =
       is_new = not (list_any (λ t. equal_sets s t) old);
       there = put-there equal_sets sets-itself number-same old new s (list_any (λ t. equal_sets s t) old) refl keys;
       list = put-list equal_sets sets-itself number-same old new s (list_any (λ t. equal_sets s t) old) keys;
-      was = λ e. new-was equal_sets sets-itself number-same old s (not-not (list_any (λ t. equal_sets s t) old) e);
+      was = λ e. new-was equal_sets sets-itself number-same old s (not-true (list_any (λ t. equal_sets s t) old) e);
     }
 
 -- ---- distinct branches
@@ -116,15 +105,12 @@ distinct-push list b distinct new v w lt lt' same = cases (cases_lt v (length li
     cases (inr p) (inl q) = absurd (clash w v q p lt (sym same))
     cases (inr p) (inr q) = omega (arith, l)
 
-any-branch : (list : List Branch) (b : Branch) → Contains list b → list_any (same_branch b) list ≡ true
-any-branch = any-there same_branch same-branch_itself equal-branch
-
 distinct-one : (list : List Branch) (b : Branch) → AreDistinct list → AreDistinct (with_branch list b)
 distinct-one list b distinct = step (list_any (same_branch b) list) refl
   where
     step : (c : Bool) → list_any (same_branch b) list ≡ c → AreDistinct (cond c list (list ++ b ∷ []))
     step true e = distinct
-    step false e = distinct-push list b distinct (λ h. let t = any-branch list b h in cc)
+    step false e = distinct-push list b distinct (λ h. let t = there-known b list h in cc)
 
 distinct-all : (list bs : List Branch) → AreDistinct list → AreDistinct (with_all list bs)
 distinct-all list [] distinct = distinct
@@ -299,25 +285,14 @@ groups-push nodes n sets sets' list list' groups members grows are more inside f
 
 -- ---- what a pass over a set has at hand
 
-get-default : {A : Type 0} (xs : List A) (j : ℕ) (d e : A) → j < length xs → get_or xs j d ≡ get_or xs j e
-get-default [] j d e lt = absurd (omega arith)
-get-default (x ∷ xs) zero d e lt = refl
-get-default (x ∷ xs) (suc j) d e lt = get-default xs j d e (omega arith)
-
 pub set-there : (keys items : List Members) (j i : ℕ) (s : Members) → items ≡ keys → i ≡ j → s ≡ get_or items i s → j < length keys → Contains keys s
 set-there keys items j i s is at here lt = let e : get_or keys j s ≡ s = cc in contains-at s keys j s lt e
 
 pub set-is : (keys items : List Members) (j i : ℕ) (s : Members) → items ≡ keys → i ≡ j → s ≡ get_or items i s → j < length keys → set_at keys j ≡ s
-set-is keys items j i s is at here lt = let e : get_or keys j s ≡ s = cc in get-default keys j empty s lt ∙ e
+set-is keys items j i s is at here lt = let e : get_or keys j s ≡ s = cc in get_or_default keys j empty s lt ∙ e
 
 pub item-branch : (nodes : List Node) (set : Members) (items found : List Branch) (i : ℕ) (b : Branch) → items ≡ found → found ≡ branches nodes set → i < length items → b ≡ get_or items i b → IsBranch nodes set b
 item-branch nodes set items found i b is whole lt at = let P : List Branch → Type 0 = λ l. Contains l b in subst P (is ∙ whole) (contains-at b items i b lt (sym at))
-
-pub take-whole : {A : Type 0} (xs : List A) (i : ℕ) → length xs ≤ i → take i xs ≡ xs
-take-whole [] zero le = refl
-take-whole [] (suc i) le = refl
-take-whole (x ∷ xs) zero le = absurd (omega arith)
-take-whole (x ∷ xs) (suc i) le = ap (λ ys. x ∷ ys) (take-whole xs i (omega arith))
 
 pub at-root : (nodes : List Node) (sets sets' : List Members) (list list' : List Branch) (b : Branch) → Grows sets list sets' list' → 0 < length sets → IsReachable nodes (set_at sets 0) b → IsReachable nodes (set_at sets' 0) b
 at-root nodes sets sets' list list' b grows some h = let P : Members → Type 0 = λ r. IsReachable nodes r b in subst P (sym (grows.sets_stay 0 some)) h
@@ -326,10 +301,10 @@ pub more-at_root : (nodes : List Node) (sets sets' : List Members) (list list' :
 more-at_root nodes sets sets' list list' n grows some h = let P : Members → Type 0 = λ r. HasMore nodes r n in subst P (grows.sets_stay 0 some) h
 
 pub all-members : (nodes : List Node) (set : Members) (list items found : List Branch) (vs : List ℕ) (i : ℕ) → items ≡ found → found ≡ branches nodes set → length items ≤ i → map (branch_at list) vs ≡ take i items → map (branch_at list) vs ≡ branches nodes set
-all-members nodes set list items found vs i is whole end so_far = so_far ∙ take-whole items i end ∙ is ∙ whole
+all-members nodes set list items found vs i is whole end so_far = so_far ∙ take_all i items end ∙ is ∙ whole
 
 pub few-members : (list items found : List Branch) (vs : List ℕ) (i n : ℕ) → items ≡ found → length found ≤ n → length items ≤ i → map (branch_at list) vs ≡ take i items → length vs ≤ n
 few-members list items found vs i n is few end so_far =
     let l = length-map vs (branch_at list) in
-    let e : map (branch_at list) vs ≡ items = so_far ∙ take-whole items i end in
+    let e : map (branch_at list) vs ≡ items = so_far ∙ take_all i items end in
     omega (arith, ap length e, ap length is)

@@ -2,6 +2,7 @@
 use Rattle.std.proofs.Common.{◌≡◌, ◌≢◌, ℕ, zero, suc, ◌<◌, ◌≤◌, Bool, true, false, not, cond, List, [], ◌++◌, length, inl, inr, refl, sym, ap, ◌∙◌, subst, arith}
 use Rattle.std.specs.FinSet.{insert, contains}
 use Rattle.std.proofs.lemmas.Bool.{cases_eq}
+use Rattle.hy_base.proofs.Truths.{not-not}
 use Rattle.ltl_closure.specs.Nodes.{Node, always, never, literal, and, or, next, weak_next, until, release, node_at}
 use Rattle.ltl_tableau.specs.Branches.{Members, Has, Branch, is_literal, has_literal, expand}
 use Rattle.ltl_tableau.specs.Ways.{ways, Within, Dies, Forces}
@@ -12,10 +13,6 @@ use Rattle.ltl_tableau.proofs.WaysLemmas.{known, swapped, swapped-two, within-it
 
 pub both-same : (xs ys us vs : List Branch) → xs ≡ us → ys ≡ vs → xs ++ ys ≡ us ++ vs
 both-same xs ys us vs e d = ap (λ l. l ++ ys) e ∙ ap (λ l. us ++ l) d
-
-pub not-not : (b : Bool) → not (not b) ≡ b
-not-not true = refl
-not-not false = refl
 
 -- a literal of which the opposite is new
 module _ (nodes : List Node) (more : Members) (x f : ℕ) (f_lt : f < length nodes) (lower : x < f) (has : Has more f)

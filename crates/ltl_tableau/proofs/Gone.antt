@@ -6,8 +6,9 @@ use Rattle.std.specs.Ordering.{nat_cmp}
 use Rattle.std.specs.Cmp.{nat_cmp_total, unsigned_tied}
 use Rattle.std.proofs.Math.Path.{fun_ext}
 use Rattle.std.proofs.Math.Nat.{add-mul-mod_self_right, mod-eq_of_lt, mod-lt, le-mul_of_pos_right}
-use Rattle.std.proofs.lemmas.Bool.{cases_eq, cases_lt, ne_eqb, eq-eqb}
+use Rattle.std.proofs.lemmas.Bool.{cases_lt, false_from_ne_true}
 use Rattle.std.proofs.lemmas.List.{get_or_default, get_or_past, get_or-map, length-map}
+use Rattle.hy_base.proofs.Truths.{turned-test, and-true, and-false}
 use Rattle.hy_formula.specs.Temporal.{endless, Words}
 use Rattle.hy_formula.specs.Normals.{Normal, HoldsAt}
 use Rattle.hy_formula.specs.Lassos.{Lasso, lasso_at}
@@ -18,7 +19,7 @@ use Rattle.ltl_tableau.specs.Branches.{Members, Has, Branch, is_literal, has_lit
 use Rattle.ltl_tableau.specs.Walks.{no_branch, gone, IsWalk, IsAccepting}
 use Rattle.ltl_tableau.specs.WalkWords.{with_literal, letter_below, letter_of, lasso_of, lassos_from, lassos_of, VariableBelow, VariablesBelow}
 use Rattle.hy_lasso.proofs.LassoWords.{in-stem, in-cycle}
-use Rattle.ltl_tableau.proofs.Choosing.{not_true, literal-some}
+use Rattle.ltl_tableau.proofs.Choosing.{literal-some}
 use Rattle.ltl_tableau.proofs.Saturating.{literal-node}
 use Rattle.ltl_tableau.proofs.Sounding.{sound}
 
@@ -40,19 +41,8 @@ accepting-fair nodes roots walk is accepting k i =
 
 -- ---- the letters of a branch
 
-same-test : (a b : ℕ) → nat_eq a b ≡ nat_eq b a
-same-test a b = elim (cases_eq a b) [ inl e ↦ eq-eqb a b e ∙ sym (eq-eqb b a (sym e)) | inr apart ↦ ne_eqb a b apart ∙ sym (ne_eqb b a (λ e. apart (sym e))) ]
-
 contains-with : (s : Letter) (k q : ℕ) → contains (insert s k) q ≡ (nat_eq k q || contains s q)
-contains-with s k q = contains-insert nat_cmp_total s k q ∙ ap (λ b. b || contains s q) (unsigned_tied q k ∙ same-test q k)
-
-and-true : (b : Bool) → (b && true) ≡ b
-and-true true = refl
-and-true false = refl
-
-and-false : (b : Bool) → (b && false) ≡ false
-and-false true = refl
-and-false false = refl
+contains-with s k q = contains-insert nat_cmp_total s k q ∙ ap (λ b. b || contains s q) (unsigned_tied q k ∙ turned-test q k)
 
 literal-added : (v n u name : ℕ) (s : Letter) (b : Bool) → nat_eq u v ≡ b → contains (cond b (insert s n) s) name ≡ ((nat_eq n name && b) || contains s name)
 literal-added v n u name s true e = contains-with s n name ∙ ap (λ b. b || contains s name) (sym (and-true (nat_eq n name)))
@@ -115,7 +105,7 @@ are-lassos nodes walk n some v lt =
 module _ (nodes : List Node) (walk : Lasso Branch) (some : 0 < length walk.cycle) (n : ℕ) (variables : VariablesBelow n nodes) where
   no-literal : (now : Members) (name v : ℕ) → n ≤ v → has_literal nodes now true name v (length nodes) ≡ false
   no-literal now name v past =
-      not_true _ (λ is.
+      false_from_ne_true _ (λ is.
       let (k, lt, has, e) = literal-some nodes now true name v (length nodes) is in
       let P : Node → Type 0 = VariableBelow n in
       let below : v < n = subst P (literal-node true name v (node_at nodes k) e) (variables k lt) in

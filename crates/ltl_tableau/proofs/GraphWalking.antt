@@ -5,8 +5,10 @@ use Rattle.std.proofs.Math.Nat.{mod-eq_of_lt, mod-lt}
 use Rattle.std.proofs.lemmas.Bool.{cases_lt, lt-ltb}
 use Rattle.std.proofs.lemmas.List.{get_or-map, get_or_default, length-map}
 use Rattle.std.proofs.lemmas.List.Elements.{Contains-append_right}
+use Rattle.hy_base.proofs.Truths.{cond-below, cond-above}
+use Rattle.hy_base.proofs.Members.{map-of, map-from}
 use Rattle.hy_formula.specs.Lassos.{Lasso}
-use Rattle.hy_lasso.proofs.LassoWords.{in-stem, in-cycle, cond-below, cond-above}
+use Rattle.hy_lasso.proofs.LassoWords.{in-stem, in-cycle}
 use Rattle.rank_check.specs.declared.ranks.Ranks.{Ranks}
 use Rattle.rank_check.specs.Graphs as graphs
 use Rattle.rank_check.specs.Graphs.{Shape, members_of, successors_of, IsEdge, Postpones, IsWhole, place_of}
@@ -22,21 +24,6 @@ use Rattle.ltl_tableau.proofs.Drawing.{postpones-below}
 use Rattle.ltl_tableau.proofs.Exploring.{contains-at, place-of}
 
 -- ---- lists
-
-map-has : {A B : Type 0} (f : A → B) (xs : List A) (x : A) → Contains xs x
-    → Contains (map f xs) (f x)
-map-has f [] x (k, lt, e) = absurd (omega arith)
-map-has f (y ∷ ys) x (zero, lt, e) = (0, omega arith, ap f e)
-map-has f (y ∷ ys) x (suc k, lt, e) =
-    Contains-append_right (f y ∷ []) (map f ys) (f x) (map-has f ys x (k, omega arith, e))
-
-has-map : {A B : Type 0} (f : A → B) (xs : List A) (y : B) → Contains (map f xs) y
-    → (x : A) × Contains xs x × (f x ≡ y)
-has-map f [] y (k, lt, e) = absurd (omega arith)
-has-map f (x ∷ xs) y (zero, lt, e) = (x, (0, omega arith, refl), e)
-has-map f (x ∷ xs) y (suc k, lt, e) =
-    let (z, there, is) = has-map f xs y (k, omega arith, e) in
-    (z, Contains-append_right (x ∷ []) xs z there, is)
 
 -- ---- places of a stem and a cycle
 
@@ -86,7 +73,7 @@ module _ (nodes : List Node) (roots : Members) (list : List Branch) (graph : Sha
   start-branch : (v : ℕ) → Contains (members_of graph 0) v → IsBranch nodes roots (branch_at list v)
   start-branch v h =
       let P : List Branch → Type 0 = λ l. Contains l (branch_at list v) in
-      subst P tableau.starts (map-has (branch_at list) (members_of graph 0) v h)
+      subst P tableau.starts (map-of (branch_at list) (members_of graph 0) v h)
 
   edge-branch : (v w : ℕ) → IsEdge graph v w
       → IsBranch nodes (branch_at list v).later (branch_at list w)
@@ -95,7 +82,7 @@ module _ (nodes : List Node) (roots : Members) (list : List Branch) (graph : Sha
       subst P (tableau.leads v (omega (
         arith,
         tableau.count,
-      ))) (map-has (branch_at list) (successors_of graph v) w h)
+      ))) (map-of (branch_at list) (successors_of graph v) w h)
 
   free-branch : (v k : ℕ) → v < length list → ¬ Postpones graph v k
       → postpones nodes (branch_at list v) k ≡ false
@@ -152,7 +139,7 @@ module _ (nodes : List Node) (roots : Members) (list : List Branch) (graph : Sha
     accepts k =
         let (v, there, free) = fair k in (
           branch_at list v,
-          map-has (branch_at list) cycle v there,
+          map-of (branch_at list) cycle v there,
           free-branch v k (made v there) free,
         )
 
@@ -170,7 +157,7 @@ module _ (nodes : List Node) (roots : Members) (list : List Branch) (graph : Sha
     start-node v lt h =
         let P : List Branch → Type 0 = λ l. Contains l (branch_at list v) in
         let (w, there, same) =
-        has-map (branch_at list) (members_of graph 0) (branch_at list v) (subst P
+        map-from (branch_at list) (members_of graph 0) (branch_at list v) (subst P
         (sym tableau.starts) h) in
         let Q : ℕ → Type 0 = Contains (members_of graph 0) in
         subst Q (tableau.distinct w v (inside 0 w there) lt same) there
@@ -180,7 +167,7 @@ module _ (nodes : List Node) (roots : Members) (list : List Branch) (graph : Sha
     edge-node v w lt lt' h =
         let P : List Branch → Type 0 = λ l. Contains l (branch_at list w) in
         let (u, there, same) =
-        has-map (branch_at list) (successors_of graph v) (branch_at list w) (subst P (sym
+        map-from (branch_at list) (successors_of graph v) (branch_at list w) (subst P (sym
         (tableau.leads v lt)) h) in
         let Q : ℕ → Type 0 = Contains (successors_of graph v) in (
           omega (arith, tableau.count),
@@ -299,7 +286,7 @@ module _ (nodes : List Node) (roots : Members) (list : List Branch) (graph : Sha
             let (b, there, kept) = accepted k in
             let P : List Branch → Type 0 = λ l. Contains l b in
             let (v, here, same) =
-            has-map (branch_at list) cycle b (subst P (sym same_cycle) there) in (
+            map-from (branch_at list) cycle b (subst P (sym same_cycle) there) in (
               v,
               here,
               λ p.
@@ -342,14 +329,14 @@ module _ (nodes : List Node) (roots : Members) (list : List Branch) (graph : Sha
       reached-ranked b (first is) =
           let P : List Branch → Type 0 = λ l. Contains l b in
           let (v, there, same) =
-          has-map (branch_at list) (members_of graph 0) b (subst P (sym tableau.starts) is) in
+          map-from (branch_at list) (members_of graph 0) b (subst P (sym tableau.starts) is) in
           (v, inside 0 v there, same, ranked.starts v there)
       reached-ranked b (after a reach is) =
           let (v, lt, same, rank) = reached-ranked a reach in
           let P : List Branch → Type 0 = λ l. Contains l b in
           let Q : Branch → Type 0 = λ x. IsBranch nodes x.later b in
           let (w, there, same') =
-          has-map (branch_at list) (successors_of graph v) b (subst P (sym (tableau.leads v lt))
+          map-from (branch_at list) (successors_of graph v) b (subst P (sym (tableau.leads v lt))
           (subst Q (sym same) is)) in
           let (k, at) = rank-there (rank_of ranks v) rank in
           let (j, at', le) = ranked.falls v w k (omega (arith, tableau.count), there) at in

@@ -3,6 +3,7 @@ use Rattle.std.proofs.Common.{◌≡◌, ℕ, zero, suc, ◌<◌, ◌≤◌, Boo
 use Rattle.std.specs.Ordering.{nat_cmp}
 use Rattle.std.specs.FinSet.{empty, insert, contains, contains-empty}
 use Rattle.std.proofs.lemmas.Bool.{cases_eq, cases_lt}
+use Rattle.hy_base.proofs.Truths.{not-not}
 use Rattle.ltl_closure.specs.Nodes.{Node, always, never, literal, and, or, next, weak_next, until, release, node_at, PartsBelow}
 use Rattle.ltl_tableau.specs.Branches.{Members, Has, Branch, is_literal, has_literal, expand, branches_below}
 use Rattle.ltl_tableau.specs.Ways.{ways}
@@ -10,7 +11,7 @@ use Rattle.ltl_tableau.proofs.Sets.{has-new, has-old, has-cases, contains-other}
 use Rattle.ltl_tableau.proofs.Choosing.{literal-some, literal-there}
 use Rattle.ltl_tableau.proofs.Saturating.{literal-node, literal-itself}
 use Rattle.ltl_tableau.proofs.WaysLemmas.{same-sets, within-itself, dies-literal}
-use Rattle.ltl_tableau.proofs.Forcing.{both-same, cond-same, not-not}
+use Rattle.ltl_tableau.proofs.Forcing.{both-same, cond-same}
 
 -- What is to do below f is what is held there, and what is there now is what is held from f on.
 record Splits (f : ℕ) (todo now held : Members) : Type 0 where

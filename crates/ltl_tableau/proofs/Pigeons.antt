@@ -1,27 +1,14 @@
 -- Of more numbers than there are values below a bound, two are equal; and sets by numbers.
-use Rattle.std.proofs.Common.{◌≡◌, ◌≢◌, ℕ, zero, suc, ◌+◌, ◌-◌, ◌*◌, ◌^◌, ◌<◌, ◌≤◌, Bool, true, false, min, inl, inr, refl, sym, ◌∙◌, subst, arith}
+use Rattle.std.proofs.Common.{◌≡◌, ℕ, zero, suc, ◌+◌, ◌-◌, ◌*◌, ◌^◌, ◌<◌, Bool, true, false, min, inl, inr, refl, sym, ◌∙◌, subst, arith}
 use Rattle.std.specs.FinSet.{contains, same_set, nat_cmp-IsAntisymmetric}
 use Rattle.std.specs.Cmp.{nat_cmp_total}
 use Rattle.std.proofs.Math.Nat.{pow-succ'}
-use Rattle.std.proofs.lemmas.Bool.{cases_eq, cases_lt}
+use Rattle.std.proofs.lemmas.Bool.{cases_eq, cases_lt, false_from_ne_true}
 use Rattle.ltl_tableau.specs.Branches.{Members, Has}
-use Rattle.hy_formula.proofs.Deciding.{decided-some}
 
 -- x, or one less above v
 abbrev squeezed : ℕ → ℕ → ℕ
 squeezed v x = x - min 1 (x - v)
-
-pub two-equal : (n : ℕ) (f : ℕ → ℕ) → ((i : ℕ) → i ≤ n → f i < n) → (i : ℕ) × (j : ℕ) × (i < j) × (j ≤ n) × (f i ≡ f j)
-two-equal zero f small = absurd (omega (arith, small 0 (omega arith)))
-two-equal (suc n) f small =
-    elim (decided-some (λ i. f i ≡ f (suc n)) (λ i. cases_eq (f i) (f (suc n))) (suc n)) [
-      | inl (i, lt, e) ↦ (i, suc n, lt, omega arith, e)
-      | inr none ↦
-          let apart : (i : ℕ) → i ≤ n → f i ≢ f (suc n) = λ i le e. none (i, omega arith, e) in
-          let last : f (suc n) < suc n = small (suc n) (omega arith) in
-          let (i, j, lt, le, e) = two-equal n (λ i. squeezed (f (suc n)) (f i)) (λ i le. omega (arith, small i (omega arith), apart i le)) in
-          (i, j, lt, omega arith, omega (arith, e, apart i (omega arith), apart j le))
-    ]
 
 abbrev pub bit_of : Bool → ℕ
 bit_of true = 1
@@ -56,10 +43,6 @@ bits-same (suc n) s t e k lt =
       | inr apart ↦ bits-same n s t rest k (omega arith)
     ]
 
-past-false : (b : Bool) → (b ≡ true → ⊥) → b ≡ false
-past-false true n = absurd (n refl)
-past-false false n = refl
-
 pub same-members : (n : ℕ) (s t : Members) → ((k : ℕ) → Has s k → k < n) → ((k : ℕ) → Has t k → k < n) → bits n s ≡ bits n t → s ≡ t
 same-members n s t inside inside' e = same_set nat_cmp_total nat_cmp-IsAntisymmetric s t at
   where
@@ -67,5 +50,5 @@ same-members n s t inside inside' e = same_set nat_cmp_total nat_cmp-IsAntisymme
     at q =
         elim (cases_lt q n) [
           | inl lt ↦ bits-same n s t e q lt
-          | inr past ↦ past-false _ (λ h. omega (arith, inside q h)) ∙ sym (past-false _ (λ h. omega (arith, inside' q h)))
+          | inr past ↦ false_from_ne_true _ (λ h. omega (arith, inside q h)) ∙ sym (false_from_ne_true _ (λ h. omega (arith, inside' q h)))
         ]

@@ -1,6 +1,7 @@
 -- A fair run of branches, from words on which the roots hold.
 use Rattle.std.proofs.Common.{◌≡◌, ℕ, zero, suc, ◌+◌, ◌<◌, ◌≤◌, ◌⊎◌, Bool, true, false, not, ◌&&◌, List, length, inl, inr, refl, sym, ap, ◌∙◌, subst, arith, add-one}
 use Rattle.std.specs.FinSet.{contains}
+use Rattle.hy_base.proofs.Truths.{and-false}
 use Rattle.hy_formula.specs.Temporal.{endless, Words, IsDecided}
 use Rattle.hy_formula.specs.Normals as normal
 use Rattle.hy_formula.specs.Normals.{Normal, HoldsAt}
@@ -9,10 +10,6 @@ use Rattle.ltl_tableau.specs.Branches.{Members, Has, Branch, IsBranch, postponed
 use Rattle.hy_formula.proofs.Deciding.{decided-and, decided-lt}
 use Rattle.hy_formula.proofs.Unrolling.{decided-normal, until_step, release_step}
 use Rattle.ltl_tableau.proofs.Choosing.{Fits, fitting-branch}
-
-and-false : (b : Bool) → (b && false) ≡ false
-and-false true = refl
-and-false false = refl
 
 module _ (nodes : List Node) (form : ℕ → Normal) (words : Words) (d : IsDecided endless words) (numbers : Numbers nodes form) where
   -- the members that hold at a position

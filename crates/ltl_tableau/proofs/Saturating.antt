@@ -1,23 +1,17 @@
 -- What a branch says: its members keep the rules of their nodes.
-use Rattle.std.proofs.Common.{◌≡◌, ℕ, zero, suc, ◌<◌, ◌≤◌, Bool, true, false, not, cond, nat_eq, List, [], ◌∷◌, length, Some, None, inl, inr, refl, sym, subst, arith}
+use Rattle.std.proofs.Common.{◌≡◌, ℕ, zero, suc, ◌<◌, ◌≤◌, Bool, true, false, not, cond, nat_eq, List, [], length, Some, None, inl, inr, refl, sym, subst, arith}
 use Rattle.std.specs.List.{Contains}
 use Rattle.std.specs.FinSet.{empty, insert, contains}
-use Rattle.std.proofs.lemmas.Bool.{cases_eq, cases_lt, eqb-true, eq-eqb}
+use Rattle.std.proofs.lemmas.Bool.{cases_eq, cases_lt, eqb-true, eq-eqb, and_parts, and_from, false_from_ne_true}
 use Rattle.std.proofs.lemmas.List.Elements.{Contains-append_cases}
+use Rattle.hy_base.proofs.Members.{contains-one, contains-none}
+use Rattle.hy_base.proofs.Truths.{same-truth}
 use Rattle.ltl_closure.specs.Nodes.{Node, always, never, literal, and, or, next, weak_next, until, release, node_at, PartsBelow, Local}
 use Rattle.ltl_closure.specs.Numbered.{IsNumberOf}
 use Rattle.ltl_tableau.specs.Branches.{Members, Has, Branch, is_literal, has_literal, expand, branches_below, IsBranch}
 use Rattle.ltl_tableau.proofs.Distinct.{branch-from}
 use Rattle.ltl_tableau.proofs.Sets.{has-new, has-old, has-cases, has-none}
-use Rattle.ltl_tableau.proofs.Choosing.{and-both, both-and, not_true, literal-some, literal-there}
-
--- the one branch of a list of one
-only-one : (x b : Branch) → Contains (x ∷ []) b → x ≡ b
-only-one x b (zero, lt, e) = e
-only-one x b (suc k, lt, e) = absurd (omega arith)
-
-none-there : (b : Branch) → ¬ Contains [] b
-none-there b (k, lt, e) = omega arith
+use Rattle.ltl_tableau.proofs.Choosing.{literal-some, literal-there}
 
 -- What a node of the branch says, where a literal speaks of the members above its own number.
 abbrev Says : List Node → Branch → ℕ → Node → Type 0
@@ -39,7 +33,7 @@ literal-none : (nodes : List Node) (now : Members) (b : Bool) (name variable : �
     (q : ℕ) → q < length nodes → Has now q → is_literal b name variable
     (node_at nodes q) ≡ false
 literal-none nodes now b name variable e q lt has =
-    not_true _ (λ is. let there : has_literal nodes now b name variable (length nodes) ≡ true =
+    false_from_ne_true _ (λ is. let there : has_literal nodes now b name variable (length nodes) ≡ true =
     literal-there nodes now b name variable (length nodes) q lt has is in cc)
 
 module _ (nodes : List Node) (parts : (k : ℕ) → k < length nodes → PartsBelow k
@@ -84,7 +78,7 @@ module _ (nodes : List Node) (parts : (k : ℕ) → k < length nodes → PartsBe
         let P : Node → Type 0 = Says nodes b f in
         grown f doing now later doing later b (ih doing later c) (λ k h. h) (λ k h. h) (subst P
         (sym e) tt)
-    built never e below c = absurd (none-there b c)
+    built never e below c = absurd (contains-none b c)
     built (literal s n v) e below c = step (has_literal nodes now (not s) n v (length nodes)) refl
       where
         clear : has_literal nodes now (not s) n v (length nodes) ≡ false
@@ -104,7 +98,7 @@ module _ (nodes : List Node) (parts : (k : ℕ) → k < length nodes → PartsBe
         step : (x : Bool) → has_literal nodes now (not s) n v (length nodes) ≡ x
             → Built nodes (suc f) doing now later b
         step true is = let Q : Bool → Type 0 =
-            λ x. Contains (cond x [] (rest doing later)) b in absurd (none-there b (subst Q is c))
+            λ x. Contains (cond x [] (rest doing later)) b in absurd (contains-none b (subst Q is c))
         step false is = let Q : Bool → Type 0 =
             λ x. Contains (cond x [] (rest doing later)) b in clear is (subst Q is c)
     built (and g h) e (p, q) c =
@@ -179,7 +173,7 @@ module _ (nodes : List Node) (parts : (k : ℕ) → k < length nodes → PartsBe
       → Has now k → f ≤ k) → Contains
       (branches_below nodes f doing now later) b → Built nodes f doing now later b
   all-built zero le doing now later b above c =
-      let same = only-one (record { now = now; later = later }) b c in
+      let same = contains-one (record { now = now; later = later }) b c in
       let P : Branch → Type 0 = λ x. Built nodes 0 doing now later x in
       subst P same (record {
         keeps = λ k h. h;
@@ -243,12 +237,12 @@ module _ (nodes : List Node) (parts : (k : ℕ) → k < length nodes → PartsBe
 pub literal-node : (b : Bool) (name variable : ℕ) (node : Node)
     → is_literal b name variable node ≡ true → node ≡ literal b name variable
 literal-node true name variable (literal true n v) e =
-    let names = and-both (nat_eq n name) (nat_eq v variable) e in
+    let names = and_parts (nat_eq n name) (nat_eq v variable) e in
     let same_name : n ≡ name = eqb-true n name names.0 in
     let same_variable : v ≡ variable = eqb-true v variable names.1 in
     cc
 literal-node false name variable (literal false n v) e =
-    let names = and-both (nat_eq n name) (nat_eq v variable) e in
+    let names = and_parts (nat_eq n name) (nat_eq v variable) e in
     let same_name : n ≡ name = eqb-true n name names.0 in
     let same_variable : v ≡ variable = eqb-true v variable names.1 in
     cc
@@ -257,9 +251,9 @@ literal-node b name variable _ e = absurd (cc)
 pub literal-itself : (b : Bool) (name variable : ℕ)
     → is_literal b name variable (literal b name variable) ≡ true
 literal-itself true name variable =
-    both-and _ _ (eq-eqb name name refl) (eq-eqb variable variable refl)
+    and_from _ _ (eq-eqb name name refl) (eq-eqb variable variable refl)
 literal-itself false name variable =
-    both-and _ _ (eq-eqb name name refl) (eq-eqb variable variable refl)
+    and_from _ _ (eq-eqb name name refl) (eq-eqb variable variable refl)
 
 -- a literal is among the members where the number that it has is
 pub literal-known : (nodes : List Node) (now : Members) (b : Bool) (name variable i : ℕ)
@@ -275,17 +269,12 @@ literal-known nodes now b name variable i (lt, only) =
     let (k, lt', has, is) = literal-some nodes now b name variable (length nodes) e in
     let P : ℕ → Type 0 = Has now in
     subst P ((only k lt').0 (literal-node b name variable (node_at nodes k) is)) has)
-  where
-    same-truth : (a c : Bool) → (a ≡ true → c ≡ true) → (c ≡ true → a ≡ true) → a ≡ c
-    same-truth true c f g = sym (f refl)
-    same-truth false true f g = g refl
-    same-truth false false f g = refl
 
 pub literal-unknown : (nodes : List Node) (now : Members) (b : Bool) (name variable : ℕ)
     → IsNumberOf nodes (literal b name variable) None
     → false ≡ has_literal nodes now b name variable (length nodes)
 literal-unknown nodes now b name variable none =
-    sym (not_true _ (λ e.
+    sym (false_from_ne_true _ (λ e.
     let (k, lt, has, is) = literal-some nodes now b name variable (length nodes) e in
     none k lt (literal-node b name variable (node_at nodes k) is)))
 
@@ -338,7 +327,7 @@ module _ (nodes : List Node) (b : Branch) (says :
       literal-there nodes b.now true name variable (length nodes) k lt has (subst P (sym e)
       (literal-itself true name variable))
   local-of k lt has (literal false name variable) e s =
-      not_true _ (λ is.
+      false_from_ne_true _ (λ is.
       let (q, ltq, hasq, isq) = literal-some nodes b.now true name variable (length nodes) is in
       no-clash k q lt ltq has hasq name variable e (literal-node true name variable
       (node_at nodes q) isq))

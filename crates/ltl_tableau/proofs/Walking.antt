@@ -4,6 +4,7 @@ use Rattle.std.specs.List.{Contains}
 use Rattle.std.proofs.Math.Nat.{add-mul-mod_self_right, mod-eq_of_lt, mod-lt, mod-add-div', mul-pos, suc-mul, mul-suc, mul-add}
 use Rattle.std.proofs.lemmas.Bool.{cases_eq, cases_lt}
 use Rattle.std.proofs.lemmas.List.Elements.{Contains-get_or}
+use Rattle.hy_base.proofs.Places.{two-equal}
 use Rattle.hy_formula.specs.Temporal.{endless, Words, IsDecided, Repeats}
 use Rattle.hy_formula.specs.Normals.{Normal, HoldsAt}
 use Rattle.hy_formula.specs.Lassos.{Lasso}
@@ -13,7 +14,7 @@ use Rattle.ltl_tableau.specs.Walks.{no_branch, gone, IsWalk, IsAccepting}
 use Rattle.hy_formula.proofs.Repeating.{Steady, steady-tree, decided-repeating}
 use Rattle.hy_formula.proofs.Unrolling.{plain, plain-right}
 use Rattle.hy_lasso.proofs.LassoWords.{in-stem, in-cycle}
-use Rattle.ltl_tableau.proofs.Pigeons.{two-equal, bits, bits-below, same-members}
+use Rattle.ltl_tableau.proofs.Pigeons.{bits, bits-below, same-members}
 use Rattle.ltl_tableau.proofs.Running as running
 
 -- ---- lists of the first values of a function

@@ -3,6 +3,7 @@ use Rattle.std.proofs.Common.{◌≡◌, ℕ, zero, suc, ◌<◌, Bool, true, fa
 use Rattle.std.specs.Cmp.{nat_cmp_total}
 use Rattle.std.specs.FinSet.{insert, contains, same_set, nat_cmp-IsAntisymmetric}
 use Rattle.std.proofs.lemmas.Bool.{cases_eq}
+use Rattle.hy_base.proofs.Truths.{same-truth}
 use Rattle.ltl_closure.specs.Nodes.{Node, always, never, literal, and, or, next, weak_next, until, release, node_at}
 use Rattle.ltl_tableau.specs.Branches.{Members, Has, Branch, has_literal, expand}
 use Rattle.ltl_tableau.specs.Ways.{ways, Within, Dies}
@@ -10,11 +11,6 @@ use Rattle.ltl_tableau.proofs.Sets.{has-new, has-old, has-cases}
 use Rattle.ltl_tableau.proofs.Choosing.{literal-some, literal-there}
 
 -- ---- sets
-
-same-truth : (a b : Bool) → (a ≡ true → b ≡ true) → (b ≡ true → a ≡ true) → a ≡ b
-same-truth true b f g = sym (f refl)
-same-truth false true f g = g refl
-same-truth false false f g = refl
 
 pub same-sets : (s t : Members) → ((k : ℕ) → Has s k → Has t k) → ((k : ℕ) → Has t k → Has s k) → s ≡ t
 same-sets s t there back =

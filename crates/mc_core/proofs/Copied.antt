@@ -2,22 +2,14 @@
 use Rattle.std.proofs.Common.{◌≡◌, ℕ, zero, suc, ◌+◌, ◌<◌, ◌≤◌, Bool, true, false, not, ◌&&◌, cond, nat_eq, nat_lt, List, [], ◌∷◌, ◌++◌, take, slice_get, IsTrue, Option, Some, None, is_some, All, refl, sym, ap, ◌∙◌, subst, arith}
 use Rattle.std.specs.Option.{option_map}
 use Rattle.std.proofs.lemmas.Bool.Decides.{Decides-eqb}
+use Rattle.std.proofs.lemmas.Bool.{false_from_ne_true, and_parts, not-true}
+use Rattle.hy_base.proofs.Truths.{and-false}
 use Rattle.aig_net.specs.declared.signals.Signal.{Signal}
 use Rattle.aig_net.specs.Signals.{are_signals, has_signal, is_for, literal_of}
 use Rattle.aig_net.specs.Wires.{listed}
-use Rattle.aig_net.proofs.Listed.{not_true}
 use Rattle.self_compose.specs.Copies.{copy_literal}
 use Rattle.wit_lasso.specs.FormulaNets.{copy_signal, copy_signals}
 use Rattle.wit_lasso.proofs.CopySignals.{literal-copied}
-use Rattle.wit_lasso.proofs.Letters.{name-small}
-
-and-both : (a b : Bool) → (a && b) ≡ true → (a ≡ true) × (b ≡ true)
-and-both true b e = (refl, e)
-and-both false b e = absurd (cc)
-
-not-it : (b : Bool) → not b ≡ true → b ≡ false
-not-it true e = absurd (cc)
-not-it false e = refl
 
 -- what a list lacks and another lacks, both lack
 lacks-both : (xs ys : List Signal) (name var : ℕ) → has_signal xs name var ≡ false →
@@ -38,14 +30,14 @@ before : (signals : List Signal) (i : ℕ) (s : Signal) → IsTrue (are_signals 
 before [] i s are e = absurd (cc)
 before (x ∷ signals) zero s are e = refl
 before (x ∷ signals) (suc i) s are e =
-    at (is_for s.name s.var x) refl (before signals i s (and-both _ _ are).1 e)
+    at (is_for s.name s.var x) refl (before signals i s (and_parts _ _ are).1 e)
   where
     fresh : has_signal signals x.name x.var ≡ false
     fresh =
-        let (front, _) = and-both (nat_lt x.name 64 && not (has_signal signals x.name x.var))
+        let (front, _) = and_parts (nat_lt x.name 64 && not (has_signal signals x.name x.var))
         (are_signals signals) are in
-        let (_, new) = and-both (nat_lt x.name 64) (not (has_signal signals x.name x.var)) front in
-        not-it (has_signal signals x.name x.var) new
+        let (_, new) = and_parts (nat_lt x.name 64) (not (has_signal signals x.name x.var)) front in
+        not-true (has_signal signals x.name x.var) new
 
     there : (signals : List Signal) (i : ℕ) → slice_get signals i ≡ Some s →
         has_signal signals s.name s.var ≡ true
@@ -72,7 +64,7 @@ before (x ∷ signals) (suc i) s are e =
         is_some (cond b (Some x.literal) (literal_of (take i signals) s.name s.var)) ≡ false
     at false is rest = rest
     at true is rest =
-        let (n, v) = and-both _ _ is in
+        let (n, v) = and_parts _ _ is in
         let e1 : x.name ≡ s.name = (Decides-eqb x.name s.name).0 n in
         let e2 : x.var ≡ s.var = (Decides-eqb x.var s.var).0 v in
         let yes : has_signal signals x.name x.var ≡ true =
@@ -85,16 +77,12 @@ own-lacks : (n : ℕ) (s : Signal) (c m a : ℕ) → a + m ≤ c →
     has_signal (listed a m (λ c. copy_signal n c s)) s.name c ≡ false
 own-lacks n s c zero a le = refl
 own-lacks n s c (suc m) a le =
-    let no : nat_eq a c ≡ false = not_true _ (λ h. omega (arith, (Decides-eqb a c).0 h, le)) in
+    let no : nat_eq a c ≡ false = false_from_ne_true _ (λ h. omega (arith, (Decides-eqb a c).0 h, le)) in
     let off : is_for s.name c (copy_signal n a s) ≡ false =
     ap (λ b. nat_eq s.name s.name && b) no ∙ and-false (nat_eq s.name s.name) in
     ap (λ b. is_some (cond b (Some (copy_literal n a s.literal))
     (literal_of (listed (suc a) m (λ c. copy_signal n c s)) s.name c))) off
     ∙ own-lacks n s c m (suc a) (omega arith)
-  where
-    and-false : (b : Bool) → (b && false) ≡ false
-    and-false true = refl
-    and-false false = refl
 
 -- The signal of a copy is new after those of the signals before it, and of the copies before.
 pub copy_new : (n : ℕ) (signals made : List Signal) (i c : ℕ) (s : Signal) →
@@ -133,7 +121,3 @@ copy_new n signals made i c s are own e few is =
     own-take (y ∷ signals) (suc i) own zero d lt = own 0 d (omega arith)
     own-take (y ∷ signals) (suc i) own (suc k) d lt =
         own-take signals i (λ k d lt. own (suc k) d (omega arith)) k d (omega arith)
-
-pub small_name : (signals : List Signal) (i : ℕ) (s : Signal) → IsTrue (are_signals signals) →
-    slice_get signals i ≡ Some s → s.name < 64
-small_name = name-small

@@ -1,16 +1,15 @@
 -- The facts that are kept name latches.
-use Rattle.std.proofs.Common.{ℕ, zero, suc, ◌<◌, min, List, [], ◌∷◌, ◌++◌, length, Contains, inl, inr, refl, subst, arith}
+use Rattle.std.proofs.Common.{ℕ, zero, suc, ◌<◌, List, [], ◌∷◌, ◌++◌, length, Contains, inl, inr, refl, subst, arith}
 use Rattle.std.proofs.lemmas.List.Elements.{Contains-append_cases}
-use Rattle.hy_formula.proofs.Tuples.{contains-cases, contains-later, contains-none}
+use Rattle.hy_base.proofs.Members.{contains-later, contains-cases, contains-none}
 use Rattle.live_safe.specs.declared.safe_net.SafeNet.{SafeNet}
 use Rattle.cnf_frames.specs.declared.facts.Fact.{Fact}
-use Rattle.cnf_frames.specs.declared.facts.Fact.TheVariants.{Zero, One, Same, Differ}
-use Rattle.cnf_frames.specs.Facts.{AllIn, IsIn}
+use Rattle.cnf_frames.specs.Facts.{IsIn}
 use Rattle.cnf_frames.specs.Queries.{for_each}
 use Rattle.invar_find.specs.declared.kept.Kept.{Kept}
-use Rattle.invar_find.specs.Candidates.{candidates, pairs_with, single_facts}
 use Rattle.invar_find.specs.Kepts as kepts
 use Rattle.invar_find.specs.Parts.{IsSublist, none, leaves, takes}
+use Rattle.invar_find.proofs.Starting.{candidate-in}
 use Rattle.mc_core.specs.Answers.{IsUsable}
 
 abbrev Each : (Fact → Type 0) → List Fact → Type 0
@@ -48,21 +47,11 @@ module _ (P : Fact → Type 0) where
         | inr more ↦ each-part part (λ g h. each g (contains-later f g all h)) g more
       ]
 
-candidates-in : (n : ℕ) → AllIn n (candidates n)
-candidates-in n =
-    each-append (IsIn n) (single_facts n) (for_each pairs_with (min n 512))
-    (each-for (IsIn n) (λ j. Zero j ∷ One j ∷ []) n
-    (λ j lt. each-two (IsIn n) (Zero j) (One j) lt lt))
-    (each-for (IsIn n) pairs_with (min n 512) (λ j lt.
-    each-for (IsIn n) (λ i. Same i j ∷ Differ i j ∷ []) j (λ i less.
-    each-two (IsIn n) (Same i j) (Differ i j) (omega arith, omega arith)
-    (omega arith, omega arith))))
-
 pub usable : (safe : SafeNet) (conflicts : ℕ) (kept : Kept) → kepts.IsKept safe conflicts kept →
     IsUsable safe kept
 usable safe conflicts kept is = record {
   inside = each-part (IsIn (length safe.net.latches)) is.starting.sublist
-      (candidates-in (length safe.net.latches));
+      (candidate-in (length safe.net.latches));
   inductive = is.inductive;
   logs = is.logs;
 }

@@ -1,11 +1,10 @@
 -- What a name stands for, in parts and together.
 use Rattle.std.proofs.Common.{◌≡◌, ◌≢◌, ℕ, zero, suc, ◌+◌, ◌*◌, ◌<◌, ◌⊎◌, Bool, true, false, cond, nat_eq, List, [], ◌∷◌, length, get_or, inl, inr, refl, sym, ap, ◌∙◌, subst, arith}
-use Rattle.std.proofs.lemmas.Bool.{cases_eq}
+use Rattle.std.proofs.lemmas.Bool.{cases_eq, false_from_ne_true}
 use Rattle.std.proofs.lemmas.Slice.Eq.{bytes_eq-Decides}
 use Rattle.std.specs.Str.{bytes_eq}
 use Rattle.std.proofs.lemmas.Bool.Decides.{Decides-eqb}
 use Rattle.aig_net.specs.Nets.{Net, literal_at}
-use Rattle.aig_net.proofs.Listed.{not_true}
 use Rattle.mc_core.specs.declared.meaning.Meaning.{Meaning}
 use Rattle.mc_core.specs.declared.meaning.Meaning.TheVariants.{Nothing, Literal, Several}
 use Rattle.mc_core.specs.Meanings.{Means, merged}
@@ -41,7 +40,7 @@ module _ (P Q : ℕ → Type 0) where
               λ x h. elim h [ inl p' ↦ only x p' | inr q' ↦ alone x q' ∙ sym e ],
             )
         | inr apart ↦
-            let no : nat_eq l m ≡ false = not_true _ (λ h. apart ((Decides-eqb l m).0 h)) in
+            let no : nat_eq l m ≡ false = false_from_ne_true _ (λ h. apart ((Decides-eqb l m).0 h)) in
             subst R (sym (ap (λ b. cond b (Literal l) Several) no)) (l, m, inl p, inr q, apart)
       ]
   means-merged (Literal l) Several p (x, y, q, r, apart) = (x, y, inr q, inr r, apart)

@@ -1,13 +1,12 @@
 -- Sets of names.
 use Rattle.std.proofs.Common.{◌≡◌, ℕ, Bool, false, ◌||◌, nat_eq, inl, inr, refl, sym, ap, ◌∙◌, subst}
-use Rattle.std.proofs.lemmas.Bool.{cases_eq}
+use Rattle.std.proofs.lemmas.Bool.{cases_eq, false_from_ne_true}
 use Rattle.std.proofs.lemmas.Bool.Decides.{Decides-eqb}
 use Rattle.std.specs.Cmp.{nat_cmp_total}
 use Rattle.std.specs.FinSet.{contains, contains-empty, contains-union, empty, insert, union}
 use Rattle.std.specs.Ordering.{nat_cmp}
 use Rattle.hy_bits.specs.BinaryLaws.{contains-insert_other, contains-insert_same}
 use Rattle.hy_bits.specs.Letter.{Letter}
-use Rattle.aig_net.proofs.Listed.{not_true}
 
 pub no_name : (k : ℕ) → contains (empty {R = nat_cmp}) k ≡ false
 no_name k = contains-empty nat_cmp k
@@ -21,7 +20,7 @@ one_name s t a b k made e same =
       | inl is ↦ subst P (sym is) (contains-insert_same empty a
           ∙ sym ((Decides-eqb a a).1 refl))
       | inr apart ↦ contains-insert_other empty a k apart ∙ contains-empty nat_cmp k
-          ∙ sym (not_true _ (λ h. apart (sym ((Decides-eqb a k).0 h))))
+          ∙ sym (false_from_ne_true _ (λ h. apart (sym ((Decides-eqb a k).0 h))))
     ]
 
 pub either_name : (s t u : Letter) (k : ℕ) (x y : Bool) → u ≡ union s t → contains s k ≡ x →

@@ -1,11 +1,11 @@
 -- What a check is asked, and its answers by those of its parts.
 use Rattle.std.proofs.Common.{◌≡◌, ℕ, ◌<◌, ◌≤◌, Bool, List, [], ◌∷◌, get_or, length, Result, Ok, Err, IfErr, IfOk, inl, inr, refl, sym, subst, arith}
+use Rattle.std.proofs.lemmas.List.{get_or_default}
 use Rattle.hy_formula.specs.Trees.{Tree}
 use Rattle.hy_formula.specs.declared.prefix.Quant.{Quant}
 use Rattle.aig_net.specs.declared.signals.Signal.{Signal}
 use Rattle.hy_base.specs.Limits.{most}
 use Rattle.hy_base.specs.declared.limit.Kind.TheVariants.{Closure}
-use Rattle.hy_lasso.proofs.LassoWords.{any-default}
 use Rattle.aig_net.specs.Nets.{Below, IsNet, IsRight, Net, Valuation, latch_variable, literal_value, variables}
 use Rattle.ltl_closure.specs.Jobs.{forms_of}
 use Rattle.ltl_closure.proofs.Closing.{closure-numbers}
@@ -78,7 +78,7 @@ own-signals net names body signals good are = record {
   own = are.own;
   within = λ k d lt.
       let (_, only) = are.each (get_or signals k d)
-      (k, lt, any-default signals k lt (get_or signals k d) d) in
+      (k, lt, get_or_default signals k (get_or signals k d) d lt) in
       literal-below net good (name_at names (get_or signals k d).name)
       (get_or signals k d).literal only.has;
 }

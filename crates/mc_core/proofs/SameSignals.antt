@@ -4,7 +4,7 @@ use Rattle.std.proofs.Common.{◌≡◌, ◌≢◌, refl, sym, ap, ◌∙◌, su
 use Rattle.std.specs.Prelude.{ℕ, Bool, true, false, ◌&&◌, cond, nat_eq, List, [], ◌∷◌, IsTrue}
 use Rattle.std.specs.Prelude.{Option, Some, None, is_some, unwrap_or}
 use Rattle.std.specs.List.{Contains}
-use Rattle.hy_formula.proofs.Tuples.{contains-here, contains-later}
+use Rattle.hy_base.proofs.Members.{contains-here, contains-later}
 use Rattle.hy_formula.specs.declared.prefix.Quant.{Quant}
 use Rattle.hy_formula.specs.declared.prefix.Quant.TheVariants.{Exists, Forall}
 use Rattle.hy_formula.specs.Trees.{Tree}

@@ -1,14 +1,12 @@
 -- The signals of the names of a body, one name more at a time.
-use Rattle.std.proofs.Common.{◌≡◌, ℕ, zero, suc, ◌+◌, ◌<◌, Bool, true, false, ◌&&◌, cond, nat_eq, List, [], ◌∷◌, ◌++◌, length, get_or, IsTrue, Some, is_some, All, inl, inr, refl, sym, ap, ◌∙◌, subst, arith, length-append}
-use Rattle.std.proofs.lemmas.Bool.{cases_eq, cases_lt}
+use Rattle.std.proofs.Common.{◌≡◌, ℕ, zero, suc, ◌+◌, ◌<◌, Bool, true, false, ◌&&◌, cond, nat_eq, List, [], ◌∷◌, ◌++◌, IsTrue, Some, is_some, All, inl, inr, refl, sym, ap, ◌∙◌, subst, arith}
+use Rattle.std.proofs.lemmas.Bool.{cases_eq, false_from_ne_true}
 use Rattle.std.proofs.lemmas.Bool.Decides.{Decides-eqb}
-use Rattle.std.proofs.lemmas.List.{get_or_append_left, get_or-append-add}
-use Rattle.std.proofs.lemmas.List.Elements.{Contains-append_cases}
+use Rattle.std.proofs.lemmas.List.Elements.{Contains-append_cases, All-push}
 use Rattle.hy_formula.specs.Trees.{Tree}
 use Rattle.aig_net.specs.declared.signals.Signal.{Signal}
 use Rattle.aig_net.specs.Nets.{Net}
 use Rattle.aig_net.specs.Signals.{are_signals, has_signal, is_for, literal_of}
-use Rattle.aig_net.proofs.Listed.{not_true}
 use Rattle.mc_core.specs.declared.meaning.Meaning.{Meaning}
 use Rattle.mc_core.specs.declared.meaning.Meaning.TheVariants.{Nothing, Literal, Several}
 use Rattle.mc_core.specs.Meanings.{AreBelow, Means}
@@ -19,7 +17,7 @@ lacks : (signals : List Signal) (k : ℕ) → All (λ s. s.name < k) signals →
     has_signal signals k 0 ≡ false
 lacks [] k below = refl
 lacks (s ∷ signals) k below =
-    let no : nat_eq s.name k ≡ false = not_true _ (λ h.
+    let no : nat_eq s.name k ≡ false = false_from_ne_true _ (λ h.
     (let e = (Decides-eqb s.name k).0 h in let lt = below 0 s (omega arith) in
     omega (arith, e, lt))) in
     ap (λ b. is_some (cond (b && nat_eq s.var 0) (Some s.literal) (literal_of signals k 0))) no
@@ -49,18 +47,6 @@ has-last (x ∷ xs) s own = at (is_for s.name 0 x) (has-last xs s own)
         is_some (cond b (Some x.literal) (literal_of (xs ++ s ∷ []) s.name 0)) ≡ true
     at true h = refl
     at false h = h
-
-all-last : (P : Signal → Type 0) (xs : List Signal) (s : Signal) → All P xs → P s →
-    All P (xs ++ s ∷ [])
-all-last P xs s all p k d lt =
-    let m = length-append xs (s ∷ []) in
-    elim (cases_lt k (length xs)) [
-      | inl less ↦ subst P (sym (get_or_append_left xs (s ∷ []) d k less)) (all k d less)
-      | inr past ↦
-          let e : length xs + 0 ≡ k = omega (arith, m, lt, past) in
-          let Q : ℕ → Type 0 = λ k. P (get_or (xs ++ s ∷ []) k d) in
-          subst Q e (subst P (sym (get_or-append-add xs (s ∷ []) 0 d)) p)
-    ]
 
 module _ (net : Net) (names : List (List ℕ)) (body : Tree) where
   pub below_none : AreBelow net names body 0 []
@@ -99,7 +85,7 @@ module _ (net : Net) (names : List (List ℕ)) (body : Tree) where
   below_push k signals more s on named own only are added =
       let P : List Signal → Type 0 = AreBelow net names body (k + 1) in
       subst P (sym added) (record {
-        own = all-last (λ s. s.var ≡ 0) signals s are.own own;
+        own = All-push (λ s. s.var ≡ 0) signals s are.own own;
         each = λ y there. elim (Contains-append_cases signals (s ∷ []) y there) [
           | inl before ↦ are.each y before
           | inr (zero, lt, e) ↦
@@ -116,7 +102,7 @@ module _ (net : Net) (names : List (List ℕ)) (body : Tree) where
               subst Q (named ∙ sym e) (has-last signals s own)
           | inr apart ↦ has-more signals (s ∷ []) j (are.every j (omega (arith, lt, apart)) h)
         ];
-        below = all-last (λ s. s.name < k + 1) signals s
+        below = All-push (λ s. s.name < k + 1) signals s
             (λ i d lt. let b = are.below i d lt in omega (arith, b)) (omega (arith, named));
         only = λ j lt h. elim (cases_eq j k) [
           | inl e ↦

@@ -101,7 +101,7 @@ pub fn safe_for(
 }
 
 /// The signals of the copies: each of them in each copy.
-#[tactic(auto, using(self_compose::proofs::Copying::one_copy, crate::proofs::Copied::copy_new, crate::proofs::Copied::small_name))]
+#[tactic(auto, using(self_compose::proofs::Copying::one_copy, crate::proofs::Copied::copy_new, wit_lasso::proofs::Letters::small_name))]
 fn copy_signals(alloc: Global, signals: &Signals, n: u8) -> M<Signals>
     requires own { All (λ s. s.var ≡ 0) signals.now }
     requires small { All (λ s. s.literal / 2 * n < 2 ^ 31) signals.now }

@@ -5,6 +5,7 @@ use Rattle.std.specs.List.{Contains, All, slice_index_or}
 use Rattle.std.proofs.lemmas.List.{length-map}
 use Rattle.std.proofs.lemmas.List.Elements.{All-nil, All-cons, Contains-push, Contains-push_cases, Contains-append_left}
 use Rattle.hy_formula.specs.Quantifiers.{Each}
+use Rattle.hy_formula.proofs.Each.{each-append}
 use Rattle.hy_finite.specs.declared.lengths.Lengths.{Lengths}
 use Rattle.hy_finite.specs.Traces.{Trace, ViolatesBy, Violates, picked}
 use Rattle.hy_finite.proofs.Violating.{arriving}
@@ -12,7 +13,7 @@ use Rattle.fin_monitor.specs.Machines.{Machine}
 use Rattle.trace_trie.specs.Numbered.{Numbered}
 use Rattle.dominance.specs.Dominance.{IsTrace, Dominates}
 use Rattle.dominance.specs.Leaders.{IsAt}
-use Rattle.dominance.proofs.Elements.{at-push_old, at-push_new, each-append}
+use Rattle.dominance.proofs.Elements.{at-push_old, at-push_new}
 use Rattle.dominance.proofs.Replacements.{Covers, over-itself, violates-kept}
 use Rattle.tuple_walk.specs.Finds.{AreViolating, numbers_of, traces_of}
 use Rattle.rv_core.specs.Arrivals.{IsPassed}

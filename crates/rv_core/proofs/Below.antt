@@ -2,14 +2,14 @@
 use Rattle.std.proofs.Common.{◌≡◌, ℕ, zero, suc, ◌+◌, ◌<◌, List, [], ◌∷◌, ◌++◌, length, slice_get, Some, Bool, refl, sym, subst, arith}
 use Rattle.std.proofs.lemmas.Option.{slice_get_within}
 use Rattle.hy_formula.specs.Quantifiers.{Each}
+use Rattle.hy_formula.proofs.Each.{each-append, each-like}
 use Rattle.hy_finite.specs.declared.lengths.Lengths.{Lengths}
 use Rattle.hy_finite.specs.Traces.{Trace}
 use Rattle.fin_monitor.specs.Machines.{Machine}
 use Rattle.trace_trie.specs.Numbered.{Numbered}
-use Rattle.dominance.proofs.Elements.{each-append}
 use Rattle.rv_core.specs.Arrivals.{AreNext, IsNext, over, last}
 use Rattle.rv_core.specs.Keeping.{kept_at}
-use Rattle.rv_core.proofs.Places.{each-more, each-from}
+use Rattle.rv_core.proofs.Places.{each-from}
 use Rattle.rv_core.proofs.Seeing.{kept-there}
 use Rattle.rv_core.proofs.Sifting.{left-each}
 
@@ -18,8 +18,7 @@ Below n list = Each (λ (p : Numbered). p.0 < n) list
 
 below-more : (n : ℕ) (list : List Numbered) → Below n list → Below (n + 1) list
 below-more n list e =
-    each-more (λ (p : Numbered). p.0 < n) (λ (p : Numbered). p.0 < n + 1) list
-    (λ p lt. omega arith) e
+    each-like (λ (p : Numbered). p.0 < n) (λ (p : Numbered). p.0 < n + 1) (λ p lt. omega arith) list e
 
 below-push : (n : ℕ) (t : Trace) (list : List Numbered) → Below n list
     → Below (n + 1) (list ++ (n, t) ∷ [])

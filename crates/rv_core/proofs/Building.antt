@@ -3,10 +3,11 @@ use Rattle.std.proofs.Common.{◌≡◌, ℕ, zero, suc, ◌<◌, ◌≤◌, Boo
 use Rattle.std.proofs.lemmas.List.{length-map, length-replicate}
 use Rattle.hy_base.specs.declared.limit.Kind.{Kind}
 use Rattle.hy_base.specs.declared.limit.Kind.TheVariants as kind
-use Rattle.hy_formula.proofs.Tuples.{contains-none}
+use Rattle.hy_base.proofs.Members.{contains-none}
 use Rattle.hy_formula.specs.declared.formula.Formula.{Formula}
 use Rattle.hy_formula.specs.Quantifiers.{Each}
 use Rattle.hy_formula.specs.Trees.{Tree, tree_of}
+use Rattle.hy_formula.proofs.Each.{each-like}
 use Rattle.hy_finite.specs.declared.lengths.Lengths.{Lengths}
 use Rattle.hy_finite.specs.Traces.{Violates}
 use Rattle.fin_monitor.specs.declared.monitor_error.MonitorError.TheVariants as error
@@ -22,7 +23,7 @@ use Rattle.rv_core.specs.Held.{Held, spec_of, StandsFor}
 use Rattle.rv_core.specs.Keeping.{Covers, IsKept, AreKept, AreBelow, kept_at}
 use Rattle.rv_core.specs.Built.{spec_of_formula, SomeBody, EachBody, IsCause, earlier, IsFresh, AreFresh}
 use Rattle.rv_core.proofs.Keepings.{covers-itself, covers-through}
-use Rattle.rv_core.proofs.Places.{each-push, each-more}
+use Rattle.rv_core.proofs.Places.{each-push}
 
 module _ (P : Tree → Type 0) where
   some-more : (fs : List Formula) (f : Formula) → SomeBody P fs → SomeBody P (fs ++ f ∷ [])
@@ -40,13 +41,11 @@ module _ (P : Tree → Type 0) where
 
 small-closures : (fs : List Formula) → EachBody IsTaken fs → EachBody HasSmallClosure fs
 small-closures fs e =
-    each-more (λ (g : Formula). IsTaken (tree_of g.body))
-    (λ (g : Formula). HasSmallClosure (tree_of g.body)) fs (λ g t. t.closure) e
+    each-like (λ (g : Formula). IsTaken (tree_of g.body)) (λ (g : Formula). HasSmallClosure (tree_of g.body)) (λ g t. t.closure) fs e
 
 few-atoms : (fs : List Formula) → EachBody IsTaken fs → EachBody HasFewAtoms fs
 few-atoms fs e =
-    each-more (λ (g : Formula). IsTaken (tree_of g.body))
-    (λ (g : Formula). HasFewAtoms (tree_of g.body)) fs (λ g t. t.atoms) e
+    each-like (λ (g : Formula). IsTaken (tree_of g.body)) (λ (g : Formula). HasFewAtoms (tree_of g.body)) (λ g t. t.atoms) fs e
 
 -- a formula more that is taken
 pub cause-taken : (fs : List Formula) (f : Formula) (r : Option Kind) → IsCause fs r

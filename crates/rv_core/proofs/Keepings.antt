@@ -2,14 +2,15 @@
 use Rattle.std.proofs.Common.{◌≡◌, ℕ, ◌<◌, Bool, true, false, nat_eq, List, [], ◌∷◌, ◌++◌, length, if◌then◌else◌, inl, inr, refl, sym, ap, ◌∙◌, subst}
 use Rattle.std.specs.List.{Contains}
 use Rattle.std.proofs.lemmas.List.{length-map}
+use Rattle.hy_base.proofs.Members.{contains-here, contains-later, contains-cases, contains-none}
 use Rattle.hy_formula.specs.Quantifiers.{Each}
+use Rattle.hy_formula.proofs.Each.{each-from}
 use Rattle.hy_finite.specs.declared.lengths.Lengths.{Lengths}
 use Rattle.hy_finite.specs.Traces.{Trace}
 use Rattle.trace_trie.specs.Numbered.{Numbered}
 use Rattle.dominance.specs.Dominance.{Dominates}
 use Rattle.dominance.specs.Leaders.{IsAt, numbered}
 use Rattle.dominance.specs.Leaders as leaders
-use Rattle.dominance.proofs.Elements.{contains-here, contains-later, contains-cases, contains-none, each-from}
 use Rattle.dominance.proofs.Leaderships.{kept-apart}
 use Rattle.dominance.proofs.Replacements.{over-itself, over-through}
 use Rattle.dominance.proofs.Replacements as replaced

@@ -1,15 +1,17 @@
 -- What is kept with a trace more are the leaders again.
 use Rattle.std.proofs.Common.{◌≡◌, ℕ, Bool, true, false, not, cond, nat_eq, List, [], ◌∷◌, ◌++◌, length, ◌⊎◌, inl, inr, refl, sym, ap, ◌∙◌, subst}
 use Rattle.std.specs.List.{Contains, list_any, filter}
-use Rattle.std.proofs.lemmas.Bool.{eq-eqb, eqb-true}
+use Rattle.std.proofs.lemmas.Bool.{eq-eqb, eqb-true, cases_Bool}
+use Rattle.hy_base.proofs.Members.{contains-here, contains-later, contains-cases, contains-none, any-from, any-of}
 use Rattle.hy_formula.specs.Quantifiers.{Each}
+use Rattle.hy_formula.proofs.Each.{each-at}
 use Rattle.hy_finite.specs.declared.lengths.Lengths.{Lengths}
 use Rattle.hy_finite.specs.Traces.{Trace}
 use Rattle.fin_monitor.specs.Machines.{Machine}
 use Rattle.trace_trie.specs.Numbered.{Numbered}
 use Rattle.dominance.specs.Leaders.{IsAt, AreLeaders, TestKept, numbered}
 use Rattle.dominance.specs.Leaders as leaders
-use Rattle.dominance.proofs.Elements.{contains-here, contains-later, contains-cases, contains-none, at-one, each-at, any-from, any-of, false-or-true}
+use Rattle.dominance.proofs.Elements.{at-one}
 use Rattle.dominance.proofs.Leaderships.{refused-new, kept-step}
 use Rattle.rv_core.specs.Arrivals.{IsOver, IsUnder, AreLeft, none, dropped, stays, IsNext, over, last}
 use Rattle.rv_core.specs.Held.{spec_of}
@@ -112,7 +114,7 @@ module _ (rule : Lengths) (drop : Bool) (m : Machine) (t : Trace) where
     under-true : (p : Numbered) → Contains kept p → IsUnder rule drop m t p
         → under_test (numbered p.0 p.1) ≡ true
     under-true p c under =
-        elim (false-or-true (number_left p.0)) [
+        elim (cases_Bool (number_left p.0)) [
           | inl e ↦ absurd (number-left p c e under)
           | inr e ↦ ap not e
         ]

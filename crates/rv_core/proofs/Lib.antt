@@ -4,7 +4,7 @@ mod Below
 mod Bounding
 mod Building
 mod Calling
-mod Ending
+pub mod Ending
 mod Keepings
 mod Leading
 mod Lone

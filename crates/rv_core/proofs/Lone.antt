@@ -3,13 +3,13 @@ use Rattle.std.proofs.Common.{◌≡◌, ℕ, ◌+◌, ◌*◌, ◌≤◌, Bool,
 use Rattle.std.specs.List.{Contains}
 use Rattle.std.proofs.lemmas.Bool.{eq-eqb}
 use Rattle.std.proofs.lemmas.List.Elements.{Contains-push}
+use Rattle.hy_base.proofs.Members.{contains-here, contains-cases, contains-none}
 use Rattle.hy_formula.specs.Quantifiers.{Each, IsTuple}
 use Rattle.hy_finite.specs.declared.lengths.Lengths.{Lengths}
 use Rattle.hy_finite.specs.Traces.{Trace, Meets}
 use Rattle.fin_monitor.specs.Machines.{Machine}
 use Rattle.trace_trie.specs.Numbered.{Numbered, IsHeld, rest_from}
 use Rattle.dominance.specs.Dominance.{Dominates}
-use Rattle.dominance.proofs.Elements.{contains-here, contains-cases, contains-none}
 use Rattle.tuple_walk.specs.Finds.{AreViolating, AllMeet, traces_of}
 use Rattle.tuple_walk.specs.JointPrefixes.{Row, IsJointPrefix}
 use Rattle.rv_core.specs.declared.arrival.Outcome.TheVariants.{Stays, Passes, Violates}

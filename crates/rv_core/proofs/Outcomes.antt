@@ -2,12 +2,13 @@
 use Rattle.std.proofs.Common.{◌≡◌, ◌↔◌, ◌≤◌, ◌<◌, ◌+◌, ℕ, zero, suc, Bool, true, false, IsTrue, List, [], ◌∷◌, ◌++◌, length, slice_get, Option, Some, None, option_to_list, inl, inr, refl, sym, ◌∙◌, subst, arith}
 use Rattle.std.specs.List.{Contains}
 use Rattle.std.proofs.lemmas.Option.{slice_get_within, same_Some}
+use Rattle.hy_base.proofs.Members.{contains-here, contains-later}
 use Rattle.hy_formula.specs.Quantifiers.{Each}
+use Rattle.hy_formula.proofs.Each.{each-from}
 use Rattle.hy_finite.specs.declared.lengths.Lengths.{Lengths}
 use Rattle.hy_finite.specs.Traces.{Trace}
 use Rattle.fin_monitor.specs.Machines.{Machine}
 use Rattle.trace_trie.specs.Numbered.{Numbered, IsHeld}
-use Rattle.dominance.proofs.Elements.{contains-here, contains-later, each-from}
 use Rattle.tuple_walk.specs.Finds.{AllMeet, traces_of}
 use Rattle.rv_core.specs.declared.arrival.Outcome.{Outcome}
 use Rattle.rv_core.specs.declared.arrival.Outcome.TheVariants.{Stays, Passes}

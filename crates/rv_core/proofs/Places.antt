@@ -31,11 +31,6 @@ module _ {A : Type 0} (P : A → Type 0) where
   each-push [] x all p = (p, tt)
   each-push (y ∷ ys) x (q, all) p = (q, each-push ys x all p)
 
-pub each-more : {A : Type 0} (P Q : A → Type 0) (xs : List A) → ((x : A) → P x → Q x) → Each P xs
-    → Each Q xs
-each-more P Q [] f all = tt
-each-more P Q (x ∷ xs) f (p, all) = (f x p, each-more P Q xs f all)
-
 pub front-at : {A : Type 0} (n : ℕ) (xs : List A) (i : ℕ) (x : A) → i < n → slice_get xs i ≡ Some x
     → slice_get (take n xs) i ≡ Some x
 front-at zero xs i x lt at = absurd (omega arith)

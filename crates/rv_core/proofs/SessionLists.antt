@@ -4,6 +4,7 @@ use Rattle.std.specs.Map.{set_value}
 use Rattle.std.proofs.lemmas.Map.Steps.{set_value_same}
 use Rattle.rv_core.specs.declared.rv_error.RvError.{RvError}
 use Rattle.std.proofs.lemmas.Bool.{cases_eq, eq-eqb, ne_eqb}
+use Rattle.hy_base.proofs.Truths.{turned-test}
 use Rattle.hy_bits.specs.Letter.{Letter}
 use Rattle.hy_formula.specs.Quantifiers.{Each}
 use Rattle.rv_core.specs.Histories.{Session, letters_of, extended, closed}
@@ -16,22 +17,15 @@ abbrev pub word_of : Option (List Letter) → List Letter
 word_of None = []
 word_of (Some word) = word
 
-swapped : (m n : ℕ) → nat_eq m n ≡ nat_eq n m
-swapped m n =
-    elim (cases_eq m n) [
-      | inl e ↦ eq-eqb m n e ∙ sym (eq-eqb n m (sym e))
-      | inr differ ↦ ne_eqb m n differ ∙ sym (ne_eqb n m (λ e. differ (sym e)))
-    ]
-
 pub letters-extended : (n : ℕ) (a : Letter) (ss : List Session) (m : ℕ)
     → letters_of m (extended n a ss) ≡ cond (nat_eq n m)
     (Some (word_of (letters_of n ss) ++ a ∷ [])) (letters_of m ss)
-letters-extended n a [] m = rw (swapped m n) refl
+letters-extended n a [] m = rw (turned-test m n) refl
 letters-extended n a (s ∷ ss) m =
     elim (cases_eq n s.number) [
       | inl e ↦
           let here : nat_eq n s.number ≡ true = eq-eqb n s.number e in
-          let same : nat_eq m s.number ≡ nat_eq n m = ap (λ k. nat_eq m k) (sym e) ∙ swapped m n in
+          let same : nat_eq m s.number ≡ nat_eq n m = ap (λ k. nat_eq m k) (sym e) ∙ turned-test m n in
           rw (here, same) (by-cases (nat_eq n m))
       | inr differ ↦
           let there : nat_eq n s.number ≡ false = ne_eqb n s.number differ in
@@ -62,7 +56,7 @@ letters-closed n (s ∷ ss) m =
     elim (cases_eq n s.number) [
       | inl e ↦
           let here : nat_eq n s.number ≡ true = eq-eqb n s.number e in
-          let same : nat_eq m s.number ≡ nat_eq n m = ap (λ k. nat_eq m k) (sym e) ∙ swapped m n in
+          let same : nat_eq m s.number ≡ nat_eq n m = ap (λ k. nat_eq m k) (sym e) ∙ turned-test m n in
           rw (here, same, letters-closed n ss m) (by-cases (nat_eq n m))
       | inr differ ↦
           let there : nat_eq n s.number ≡ false = ne_eqb n s.number differ in

@@ -3,15 +3,15 @@ use Rattle.std.proofs.Common.{◌≡◌, ℕ, ◌+◌, ◌<◌, ◌≤◌, Bool,
 use Rattle.std.specs.List.{Contains}
 use Rattle.std.proofs.lemmas.Bool.{eq-eqb, lt-ltb, le-ltb, ltb-true, ltb-false}
 use Rattle.std.proofs.lemmas.List.Elements.{Contains-append_right}
+use Rattle.hy_base.proofs.Members.{contains-here}
 use Rattle.hy_formula.specs.Quantifiers.{Each}
+use Rattle.hy_formula.proofs.Each.{each-append, each-like}
 use Rattle.hy_finite.specs.declared.lengths.Lengths.{Lengths}
 use Rattle.hy_finite.specs.Traces.{Trace}
 use Rattle.fin_monitor.specs.Machines.{Machine}
 use Rattle.trace_trie.specs.Numbered.{Numbered, IsAscending, rest_from, without_number}
 use Rattle.trace_trie.proofs.Numbering.{without-other, without-append}
-use Rattle.dominance.proofs.Elements.{contains-here, each-append}
 use Rattle.rv_core.specs.Arrivals.{IsOver, IsUnder, AreLeft, none, dropped, stays, IsNext, last}
-use Rattle.rv_core.proofs.Places.{each-more}
 
 -- ---- what is left of a list from a number on
 
@@ -60,8 +60,7 @@ rest-next n (x ∷ xs) p more (above, h) e =
         ap (λ b. cond b (rest_from (p.0 + 1) xs) (x ∷ xs))
         (lt-ltb x.0 (p.0 + 1) (omega arith))
         ∙ rest-all (p.0 + 1) xs
-        (each-more (λ (q : Numbered). x.0 < q.0) (λ (q : Numbered). p.0 + 1 ≤ q.0) xs
-        (λ q lt. omega arith) above)
+        (each-like (λ (q : Numbered). x.0 < q.0) (λ (q : Numbered). p.0 + 1 ≤ q.0) (λ q lt. omega arith) xs above)
         ∙ rest
 
 pub rest-contains : (n : ℕ) (list : List Numbered) (p : Numbered) (more : List Numbered)
@@ -145,8 +144,7 @@ module _ (rule : Lengths) (drop : Bool) (m : Machine) (t : Trace) where
 
     below : Each (λ (q : Numbered). q.0 < p.0 + 1) (s.front ++ p ∷ [])
     below = each-append (λ (q : Numbered). q.0 < p.0 + 1) s.front (p ∷ [])
-        (each-more (λ (q : Numbered). q.0 < from) (λ (q : Numbered). q.0 < p.0 + 1) s.front
-        (λ q lt. omega (arith, le)) s.below) (omega arith, tt)
+        (each-like (λ (q : Numbered). q.0 < from) (λ (q : Numbered). q.0 < p.0 + 1) (λ q lt. omega (arith, le)) s.front s.below) (omega arith, tt)
 
     no_over : Each (λ (q : Numbered). ¬ IsOver rule drop m t q) (s.front ++ p ∷ [])
     no_over =
@@ -182,10 +180,9 @@ module _ (rule : Lengths) (drop : Bool) (m : Machine) (t : Trace) where
         let other = λ (q : Numbered). (q.0 ≡ p.0 → ⊥) in
         let first = without-other p.0 s.front_left
         (left-each other s.front s.front_left s.are
-        (each-more (λ (q : Numbered). q.0 < from) other s.front
-        (λ q lt e. omega (arith, le)) s.below)) in
+        (each-like (λ (q : Numbered). q.0 < from) other (λ q lt e. omega (arith, le)) s.front s.below)) in
         let later = without-other p.0 more
-        (each-more (λ (q : Numbered). p.0 < q.0) other more (λ q lt e. omega arith) above) in
+        (each-like (λ (q : Numbered). p.0 < q.0) other (λ q lt e. omega arith) more above) in
         let gone = without-here p more in
         record {
           front = s.front ++ p ∷ [];

@@ -1,15 +1,16 @@
 -- Where the order of two traces does not matter, the tuples with a trace first are enough.
 use Rattle.std.proofs.Common.{◌≡◌, ◌≤◌, List, [], ◌∷◌, length, inl, inr, sym, subst, ◌∙◌, arith}
 use Rattle.std.specs.List.{Contains}
+use Rattle.hy_base.proofs.Members.{contains-cases, contains-none}
 use Rattle.hy_formula.specs.Quantifiers.{Each}
 use Rattle.hy_finite.specs.declared.lengths.Lengths.{Lengths}
 use Rattle.hy_finite.specs.declared.lengths.Lengths.TheVariants.{Min}
 use Rattle.hy_finite.specs.Traces.{Trace, Meets, judged, trace_words}
 use Rattle.hy_formula.proofs.Deciding.{decided-below}
+use Rattle.hy_formula.proofs.Each.{each-at}
 use Rattle.fin_monitor.specs.Machines.{Machine}
 use Rattle.trace_trie.specs.Numbered.{Numbered, AreTraces}
 use Rattle.dominance.specs.Dominance.{IsTrace, IsSymmetric}
-use Rattle.dominance.proofs.Elements.{contains-cases, contains-none, each-at}
 use Rattle.tuple_walk.specs.Finds.{AllMeet, FirstMeet, traces_of}
 use Rattle.rv_core.specs.Watched.{MayTurn}
 use Rattle.rv_core.proofs.Keepings.{traces-from}

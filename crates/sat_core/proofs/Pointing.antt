@@ -1,10 +1,11 @@
 -- What is learned at the one place of the level through which a conflict goes.
-use Rattle.std.proofs.Common.{◌≡◌, ◌≢◌, ℕ, suc, ◌-◌, ◌<◌, ◌≤◌, true, false, List, [], ◌∷◌, ◌++◌, length, get_or, map, take, drop, reverse, inl, inr, sym, ap, ◌∙◌, subst, arith}
+use Rattle.std.proofs.Common.{◌≡◌, ◌≢◌, ℕ, suc, ◌-◌, ◌<◌, ◌≤◌, true, false, List, [], ◌∷◌, ◌++◌, length, get_or, map, take, reverse, inl, inr, sym, ap, ◌∙◌, subst, arith}
 use Rattle.std.specs.Prelude.{ℤ, pos, neg_ℤ, unsigned_abs}
 use Rattle.std.specs.List.{Contains}
 use Rattle.std.proofs.lemmas.Bool.{cases_eq, cases_lt}
-use Rattle.std.proofs.lemmas.List.{length-take-le, get_or_default, get_or-take, take-append-drop}
+use Rattle.std.proofs.lemmas.List.{length-take-le, get_or_default, get_or-take}
 use Rattle.std.proofs.lemmas.List.Elements.{Contains-append_left, Contains-push, Contains-push_cases, Contains-get_or}
+use Rattle.hy_base.proofs.Members.{from-take}
 use Rattle.sat_core.specs.declared.solver.Solver.{Solver}
 use Rattle.sat_core.specs.declared.analysis.Analysis.{Analysis}
 use Rattle.chain_check.specs.Clauses.{Clause, IsLiteral, AreLiterals, IsApart, IsNew}
@@ -27,10 +28,6 @@ front-place trail q z le (k, lt, e) =
       sym (get_or-take q trail k (pos 0) small) ∙
           get_or_default (take q trail) k (pos 0) z lt ∙ e,
     )
-
-pub front-part : (trail : List ℤ) (q : ℕ) (z : ℤ) → Contains (take q trail) z → Contains trail z
-front-part trail q z there = let P : List ℤ → Type 0 = λ xs. Contains xs z in
-    subst P (take-append-drop q trail) (Contains-append_left (take q trail) (drop q trail) z there)
 
 module _ (s : Solver) (start p : ℕ) (a : Analysis) (ready : IsReady s)
     (some : 0 < length s.limits.items) (last : start ≡ get_or s.limits.items
@@ -151,15 +148,15 @@ module _ (s : Solver) (start p : ℕ) (a : Analysis) (ready : IsReady s)
       let P : ℤ → Type 0 = Contains (take q s.partial.literals) in (
         λ h. consistent-trail s ready top (Contains-get_or s.partial.literals p
             (pos 0) point.inside)
-            (front-part s.partial.literals q (neg_ℤ top) h),
+            (from-take s.partial.literals q (neg_ℤ top) h),
         λ h. not-before q p le point.inside (subst P (twice top) h),
       )
 
   pub learned-is-new : IsNew s.clauses learned
   learned-is-new =
       learned-new s.clauses (take start s.partial.literals) learned (neg_ℤ top) settled
-      (λ l h k. consistent-trail s ready l (front-part s.partial.literals start l h)
-      (front-part s.partial.literals start (neg_ℤ l) k))
+      (λ l h k. consistent-trail s ready l (from-take s.partial.literals start l h)
+      (from-take s.partial.literals start (neg_ℤ l) k))
       (learned-unit start highest-below point.level) (top-open start point.level).0
     where
       settled : AreSettled s.clauses (take start s.partial.literals)

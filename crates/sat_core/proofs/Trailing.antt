@@ -1,17 +1,18 @@
 -- How a trail grows and shrinks.
-use Rattle.std.proofs.Common.{◌≡◌, ◌≢◌, ℕ, ◌-◌, ◌<◌, ◌≤◌, List, [], ◌∷◌, ◌++◌, Some, length, get_or, take, drop, inl, inr, refl, sym, ap, ◌∙◌, subst, arith}
+use Rattle.std.proofs.Common.{◌≡◌, ◌≢◌, ℕ, ◌-◌, ◌<◌, ◌≤◌, List, [], ◌∷◌, ◌++◌, Some, length, get_or, take, inl, inr, refl, sym, ap, ◌∙◌, subst, arith}
 use Rattle.std.specs.Prelude.{ℤ, pos, neg_ℤ, unsigned_abs, slice_get}
 use Rattle.std.specs.List.{Contains}
 use Rattle.std.proofs.lemmas.Bool.{cases_lt, cases_order}
-use Rattle.std.proofs.lemmas.List.{length-take-le, length_push, take-append-le, take_at, take-take, get_or_append_left, get_or_push, get_or-take, get_or_default, take-append-drop}
+use Rattle.std.proofs.lemmas.List.{length-take-le, length_push, take-append-le, take_at, take-take, get_or_append_left, get_or_push, get_or-take, get_or_default}
 use Rattle.std.proofs.lemmas.List.Elements.{Contains-append_left, Contains-push_cases, Contains-get_or}
 use Rattle.std.proofs.lemmas.Option.{slice_get_within, get_or_from_slice_get, slice_get-get_or}
+use Rattle.hy_base.proofs.Places.{two-equal}
+use Rattle.hy_base.proofs.Members.{from-take}
 use Rattle.chain_check.specs.Clauses.{Clause, IsLiteral, IsNew}
 use Rattle.chain_check.specs.Chains.{IsUnit, IsNumbered, Refutes, ends, goes}
 use Rattle.sat_core.specs.Trails.{IsOpenIn, IsSettled, AreSettled, IsStep, IsTrail}
 use Rattle.chain_check.proofs.Literals.{same-or-not, not-own-opposite, of-one-variable, same-variable}
 use Rattle.chain_check.proofs.Passing.{numbered-there}
-use Rattle.chain_check.proofs.Counting.{two-equal}
 
 abbrev pub IsConsistent : List ℤ → Type 0
 IsConsistent trues = (l : ℤ) → Contains trues l → ¬ Contains trues (neg_ℤ l)
@@ -79,11 +80,6 @@ numbered-more clauses d k c at = record { counted = at.counted; there = there }
         ap Some (get_or_append_left clauses (d ∷ []) c (k - 1) lt ∙
         get_or_from_slice_get clauses (k - 1) c c at.there)
 
--- a literal that the trail has before a place
-front-there : (trail : List ℤ) (n : ℕ) (l : ℤ) → Contains (take n trail) l → Contains trail l
-front-there trail n l there = let P : List ℤ → Type 0 = λ xs. Contains xs l in
-    subst P (take-append-drop n trail) (Contains-append_left (take n trail) (drop n trail) l there)
-
 pub at-front : (trail : List ℤ) (i n : ℕ) (d : ℤ) → i < n → n ≤ length trail →
     Contains (take n trail) (get_or trail i d)
 at-front trail i n d lt le =
@@ -137,8 +133,8 @@ module _ (variables : ℕ) (clauses : List Clause) (trail : List ℤ) (reasons l
 
   front-open : (n : ℕ) (l : ℤ) → IsOpenIn trail l → IsOpenIn (take n trail) l
   front-open n l open' = (
-    λ h. open'.0 (front-there trail n l h),
-    λ h. open'.1 (front-there trail n (neg_ℤ l) h),
+    λ h. open'.0 (from-take trail n l h),
+    λ h. open'.1 (from-take trail n (neg_ℤ l) h),
   )
 
 settled-same : (clauses : List Clause) (xs ys : List ℤ) → xs ≡ ys → AreSettled clauses xs →

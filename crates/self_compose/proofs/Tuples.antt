@@ -2,6 +2,7 @@
 use Rattle.std.proofs.Common.{◌≡◌, ℕ, zero, suc, ◌+◌, ◌*◌, ◌/◌, ◌%◌, ◌<◌, ◌≤◌, false, ◌&&◌, List, [], length, IsTrue, inl, inr, refl, sym, ap, ◌∙◌, subst, arith}
 use Rattle.std.proofs.Math.Nat.{add-mul-mod_self_right, mod-eq_of_lt, mod-lt, mod-add-div', mul-div_cancel, mul-le-mul_left}
 use Rattle.std.proofs.lemmas.Bool.{cases_eq}
+use Rattle.hy_base.proofs.Places.{below-row}
 use Rattle.aig_net.specs.declared.parts.And.{And}
 use Rattle.aig_net.specs.declared.parts.Reset.{Reset}
 use Rattle.aig_net.specs.declared.parts.Reset.TheVariants.{Zero}
@@ -173,12 +174,9 @@ module _ (net : Net) (n : ℕ) (some : 0 < n) where
 
   -- ---- the copies are a net
 
-  below-row : (c v m : ℕ) → c < n → v < m → v * n + c < m * n
-  below-row c v m few lt = let l : n * suc v ≤ n * m = mul-le-mul_left n lt in omega (arith, l, few)
-
   place-below : (c x m : ℕ) → c < n → x < suc m → place n c x < suc (m * n)
   place-below c zero m few lt = omega arith
-  place-below c (suc v) m few lt = omega (arith, below-row c v m few (omega arith))
+  place-below c (suc v) m few lt = omega (arith, below-row n c v m few (omega arith))
 
   place-lower : (c x y : ℕ) → x < suc y → place n c x < suc (y * n + c)
   place-lower c zero y lt = omega arith

@@ -4,7 +4,8 @@ use Rattle.std.specs.List.{Contains}
 use Rattle.std.proofs.lemmas.List.{length-map}
 use Rattle.std.proofs.lemmas.List.Elements.{Contains-append_cases}
 use Rattle.std.proofs.lemmas.Option.{slice_get_within}
-use Rattle.hy_formula.proofs.Tuples.{contains-cases, contains-none}
+use Rattle.hy_base.proofs.Members.{contains-cases, contains-none, map-of, map-from}
+use Rattle.hy_formula.proofs.Each.{each-at}
 use Rattle.hy_finite.specs.declared.lengths.Lengths.{Lengths}
 use Rattle.hy_finite.specs.declared.lengths.Lengths.TheVariants.{Min}
 use Rattle.hy_finite.specs.Traces.{Trace}
@@ -13,7 +14,7 @@ use Rattle.dominance.specs.Dominance.{IsSymmetric}
 use Rattle.dominance.specs.Leaders.{AreLeaders, numbered}
 use Rattle.trace_trie.specs.Numbered.{Numbered}
 use Rattle.tuple_walk.specs.Finds.{traces_of}
-use Rattle.tuple_walk.proofs.Lists.{map-of, map-from, get-contains, each-at}
+use Rattle.tuple_walk.proofs.Lists.{get-contains}
 use Rattle.rv_core.specs.Endings.{Spec}
 use Rattle.rv_core.specs.Held.{Held, spec_of, specs_of, StandsFor}
 use Rattle.rv_core.specs.Histories.{History}

@@ -3,8 +3,8 @@ use Rattle.std.proofs.Common.{◌≡◌, ℕ, zero, suc, ◌<◌, ◌≤◌, ◌
 use Rattle.std.specs.List.{Contains}
 use Rattle.std.specs.FinSet.{empty}
 use Rattle.std.proofs.lemmas.List.Elements.{Contains-append_left, Contains-append_right}
+use Rattle.hy_base.proofs.Members.{contains-here, contains-cases, contains-none}
 use Rattle.hy_bits.specs.Letter.{Letter}
-use Rattle.hy_formula.proofs.Tuples.{contains-here, contains-cases, contains-none}
 use Rattle.hy_finite.specs.Traces.{Trace}
 use Rattle.hy_formula.specs.declared.formula.Formula.{Formula}
 use Rattle.hy_formula.specs.Trees.{tree_of}

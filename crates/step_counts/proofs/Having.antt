@@ -4,9 +4,8 @@ use Rattle.std.specs.List.{Contains}
 use Rattle.std.proofs.Math.Nat.{pow-zero, pow-succ'}
 use Rattle.std.proofs.lemmas.List.{length-map}
 use Rattle.std.proofs.lemmas.List.Elements.{Contains-append_left, Contains-append_right}
+use Rattle.hy_base.proofs.Members.{contains-here, contains-later, contains-cases, contains-none, map-of}
 use Rattle.hy_formula.specs.Quantifiers.{Each}
-use Rattle.hy_formula.proofs.Tuples.{contains-here, contains-later, contains-cases, contains-none}
-use Rattle.tuple_walk.proofs.Lists.{map-of}
 use Rattle.step_counts.specs.Branches.{firsts_with, tuples_with}
 
 module _ {A : Type 0} where

@@ -3,11 +3,11 @@ use Rattle.std.proofs.Common.{◌≡◌, ℕ, zero, suc, ◌+◌, ◌/◌, ◌%�
 use Rattle.std.specs.FinSet.{empty}
 use Rattle.std.specs.List.{Contains}
 use Rattle.std.proofs.lemmas.List.Elements.{Contains-append_cases}
+use Rattle.hy_base.proofs.Members.{contains-cases, contains-none}
 use Rattle.hy_bits.specs.Letter.{Letter}
-use Rattle.hy_formula.proofs.Tuples.{contains-cases, contains-none}
+use Rattle.hy_formula.proofs.Each.{each-append}
 use Rattle.hy_finite.specs.Traces.{Trace}
 use Rattle.made_traces.specs.MadeTraces.{number, both_signals, letter_by, letters_from, length_of, letters_before, made_trace, made_traces}
-use Rattle.tuple_walk.proofs.Lists.{each-append}
 use Rattle.step_counts.specs.Words.{IsOver}
 
 module _ (table : List (List ℕ)) where

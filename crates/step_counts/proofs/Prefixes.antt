@@ -3,13 +3,13 @@ use Rattle.std.proofs.Common.{◌≡◌, ℕ, zero, suc, ◌+◌, ◌<◌, ◌�
 use Rattle.std.specs.List.{Contains}
 use Rattle.std.proofs.lemmas.List.{length-map}
 use Rattle.std.proofs.lemmas.List.Elements.{Contains-append_left, Contains-append_right}
+use Rattle.hy_base.proofs.Members.{contains-here, map-of}
 use Rattle.hy_formula.specs.Quantifiers.{Each}
-use Rattle.hy_formula.proofs.Tuples.{contains-here}
+use Rattle.hy_formula.proofs.Each.{each-at, each-like}
 use Rattle.hy_finite.specs.Traces.{Trace, judged}
 use Rattle.hy_finite.specs.declared.lengths.Lengths.TheVariants.{Min}
 use Rattle.trace_trie.specs.Numbered.{tail}
 use Rattle.tuple_walk.specs.JointPrefixes.{Row, entry, rows_of, IsPrefixOf, IsJointPrefix, IsFirstPrefix}
-use Rattle.tuple_walk.proofs.Lists.{map-of, each-at, each-like}
 use Rattle.step_counts.specs.Branches.{Branches, counts_of, over_lengths}
 use Rattle.step_counts.proofs.Having.{firsts, having, in-firsts, in-having}
 

@@ -2,12 +2,11 @@
 use Rattle.std.proofs.Common.{◌≡◌, ℕ, zero, suc, ◌+◌, ◌^◌, ◌<◌, ◌≤◌, ◌⊎◌, List, [], ◌∷◌, ◌++◌, length, map, take, slice_index_or, inl, inr, refl, sym, ap, ◌∙◌, subst, arith, length-append}
 use Rattle.std.specs.List.{Contains}
 use Rattle.std.proofs.Math.Nat.{pow-zero, two-pow-succ}
-use Rattle.std.proofs.lemmas.List.{length-map}
+use Rattle.std.proofs.lemmas.List.{length-map, length-take-le}
 use Rattle.std.proofs.lemmas.List.Elements.{Contains-append_left, Contains-append_right}
+use Rattle.hy_base.proofs.Members.{contains-here, map-of}
 use Rattle.hy_bits.specs.Letter.{Letter}
-use Rattle.hy_formula.proofs.Tuples.{contains-here}
 use Rattle.hy_finite.specs.Traces.{Trace}
-use Rattle.tuple_walk.proofs.Lists.{map-of}
 use Rattle.step_counts.specs.Branches.{Branches}
 use Rattle.step_counts.specs.Words.{IsOver}
 
@@ -157,11 +156,6 @@ module _ (x y : Letter) where
   filled-take (suc k) [] le = absurd (omega (arith, le))
   filled-take (suc k) (a ∷ t) le = ap (λ u. a ∷ u) (filled-take k t (omega (arith, le)))
 
-  long-take : (k : ℕ) (t : Trace) → k ≤ length t → length (take k t) ≡ k
-  long-take zero t le = refl
-  long-take (suc k) [] le = absurd (omega (arith, le))
-  long-take (suc k) (a ∷ t) le = ap suc (long-take k t (omega (arith, le)))
-
   -- ---- four lengths
 
   module _ (t : Trace) (over : IsOver x y t) where
@@ -192,7 +186,7 @@ module _ (x y : Letter) where
     at k u is le more =
         let same = filled-take k t le in
         elim ((other k).all (take k u) (over-take k u is)
-        (long-take k u more ∙ sym (long-filled k t))) [
+        (length-take-le k u more ∙ sym (long-filled k t))) [
           | inl e ↦ inl (e ∙ same)
           | inr c ↦ inr c
         ]

@@ -2,6 +2,7 @@
 use Rattle.std.proofs.Common.{◌≡◌, ℕ, zero, suc, ◌+◌, ◌≤◌, Bool, true, false, cond, List, inl, inr, sym, ap, ◌∙◌, arith}
 use Rattle.std.proofs.lemmas.Bool.{cases_eq}
 use mir.Val.{bool_byte}
+use Rattle.hy_base.proofs.Truths.{more-if}
 use Rattle.ltl_closure.specs.Nodes.{Node, node_at}
 use Rattle.sym_tableau.specs.Oracles.{is_temporal, oracles_below}
 
@@ -17,13 +18,9 @@ oracles-upto nodes (suc n) k le =
       | inr apart ↦ omega (
         arith,
         oracles-upto nodes n k (omega arith),
-        fewer (is_temporal (node_at nodes n)) (oracles_below nodes n),
+        more-if (is_temporal (node_at nodes n)) (oracles_below nodes n),
       )
     ]
-  where
-    fewer : (b : Bool) (a : ℕ) → a ≤ cond b (suc a) a
-    fewer true a = omega arith
-    fewer false a = omega arith
 
 pub oracles-few : (nodes : List Node) (n : ℕ) → oracles_below nodes n ≤ n
 oracles-few nodes zero = omega arith

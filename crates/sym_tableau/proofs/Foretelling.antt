@@ -1,13 +1,13 @@
 -- An execution on which the roots hold is one of the net with oracles.
 use Rattle.std.proofs.Common.{◌≡◌, ℕ, zero, suc, ◌+◌, ◌-◌, ◌/◌, ◌<◌, ◌≤◌, ◌↔◌, Bool, true, false, not, cond, nat_lt, List, [], ◌∷◌, ◌++◌, map, length, get_or, IsTrue, inl, inr, refl, sym, ap, ◌∙◌, subst, arith, length-append}
 use Rattle.std.proofs.lemmas.Bool.{cases_eq, cases_lt}
-use Rattle.std.proofs.lemmas.Bool.Decides.{Decides-ltb}
 use Rattle.std.proofs.lemmas.List.{get_or_append_left, get_or_at}
 use Rattle.std.proofs.Math.Path.{fun_ext}
+use Rattle.hy_base.proofs.Truths.{cond-below, cond-above}
 use Rattle.hy_formula.specs.Temporal.{endless, Words, IsDecided, Repeats}
 use Rattle.hy_formula.specs.Normals.{Normal, HoldsAt}
 use Rattle.ltl_closure.specs.Nodes as node
-use Rattle.ltl_closure.specs.Nodes.{Node, always, never, and, or, next, weak_next, until, release, node_at, form_of, PartsBelow, Numbers, Local}
+use Rattle.ltl_closure.specs.Nodes.{Node, always, never, and, or, next, weak_next, until, release, node_at, form_of, PartsBelow, Numbers}
 use Rattle.aig_net.specs.declared.parts.Reset.{Reset}
 use Rattle.aig_net.specs.Nets.{Net, Valuation, ResetTo, literal_value, literal_at, reset_at, latch_variable, first_and, variables, Below, IsRight, IsStart, IsStep, AllTrue, IsNet}
 use Rattle.aig_net.specs.Executions.{Word, IsFair, IsExecution, Recurs}
@@ -16,20 +16,12 @@ use Rattle.sym_tableau.specs.Oracles.{read, is_temporal, foretold, oracles_below
 use Rattle.aig_net.proofs.Literals.{value-same, value-even}
 use Rattle.aig_net.proofs.Valuations.{filled, valuation-right, valuation-given, valuation-only}
 use Rattle.aig_net.proofs.Wiring.{all-length, lit-from}
-use Rattle.aig_net.proofs.Listed.{each-append, each-map, true-or-left, true-or-right, kept-or, not_true}
+use Rattle.aig_net.proofs.Listed.{each-append, each-map, true-or-left, true-or-right, kept-or}
 use Rattle.sym_tableau.proofs.Gathering.{gathered-all}
 use Rattle.sym_tableau.proofs.Parts.{oracle-below, moved-value, moved-early, moved-late, latch-moved, many-latches, member-value, promise-value, end-value, old-right, facts-latch, reset-oracle, reset-started, reset-old}
 use Rattle.sym_tableau.proofs.Heeding.{to-local}
 use Rattle.sym_tableau.proofs.AttachedRange.{attached-net}
 use Rattle.sym_tableau.proofs.Truths.{from-local, holds-local, local-holds, truth, truth-right, truth-steady}
-
-lt-cond : {A : Type 0} (a b : ℕ) (x y : A) → a < b → cond (nat_lt a b) x y ≡ x
-lt-cond a b x y lt = rw ((Decides-ltb a b).1 lt) refl
-
-le-cond : {A : Type 0} (a b : ℕ) (x y : A) → b ≤ a → cond (nat_lt a b) x y ≡ y
-le-cond a b x y le =
-    let e : nat_lt a b ≡ false = not_true _ (λ is. omega (arith, (Decides-ltb a b).0 is)) in
-    rw e refl
 
 -- ---- what the oracles say
 
@@ -126,13 +118,13 @@ module _ (nodes : List Node) (truth : ℕ → ℕ → Bool) where
 
   module _ (net : Net) (word : Word) (i : ℕ) where
     given-early : (u : ℕ) → u ≤ net.inputs → given net word i u ≡ word i u
-    given-early u le = le-cond net.inputs u _ _ le
+    given-early u le = cond-above net.inputs u _ _ le
 
     given-oracle : (o : ℕ) → o < oracles nodes → given net word i (suc (net.inputs + o)) ≡ get_or
         (bits i (length nodes)) o false
     given-oracle o lt =
         let at : suc (net.inputs + o) - suc net.inputs ≡ o = omega arith in
-        lt-cond net.inputs (suc (net.inputs + o)) _ _ (omega arith) ∙ le-cond (net.inputs + oracles
+        cond-below net.inputs (suc (net.inputs + o)) _ _ (omega arith) ∙ cond-above (net.inputs + oracles
         nodes) (suc (net.inputs + o)) _ _ (omega arith) ∙ ap
         (λ x. get_or (bits i (length nodes)) x false) at
 
@@ -141,16 +133,16 @@ module _ (nodes : List Node) (truth : ℕ → ℕ → Bool) where
     given-owed o lt =
         let u : ℕ = suc (net.inputs + oracles nodes + o) in
         let at : u - suc (net.inputs + oracles nodes) ≡ o = omega arith in
-        lt-cond net.inputs u _ _ (omega arith) ∙ lt-cond (net.inputs + oracles nodes) u _ _
-        (omega arith) ∙ le-cond (net.inputs + oracles nodes + oracles nodes) u _ _
+        cond-below net.inputs u _ _ (omega arith) ∙ cond-below (net.inputs + oracles nodes) u _ _
+        (omega arith) ∙ cond-above (net.inputs + oracles nodes + oracles nodes) u _ _
         (omega arith) ∙ ap (bits-before i) at
 
     given-started : given net word i (suc (net.inputs + oracles nodes + oracles nodes)) ≡ is-later i
     given-started =
         let u : ℕ = suc (net.inputs + oracles nodes + oracles nodes) in
-        lt-cond net.inputs u _ _ (omega arith) ∙ lt-cond (net.inputs + oracles nodes) u _ _
-        (omega arith) ∙ lt-cond (net.inputs + oracles nodes + oracles nodes) u _ _
-        (omega arith) ∙ le-cond (suc (net.inputs + oracles nodes + oracles nodes)) u _ _
+        cond-below net.inputs u _ _ (omega arith) ∙ cond-below (net.inputs + oracles nodes) u _ _
+        (omega arith) ∙ cond-below (net.inputs + oracles nodes + oracles nodes) u _ _
+        (omega arith) ∙ cond-above (suc (net.inputs + oracles nodes + oracles nodes)) u _ _
         (omega arith)
 
     given-late : (u : ℕ) → net.inputs < u → given net word i
@@ -158,9 +150,9 @@ module _ (nodes : List Node) (truth : ℕ → ℕ → Bool) where
     given-late u lt =
         let m : ℕ = u + (oracles nodes + suc (oracles nodes)) in
         let at : m - (oracles nodes + suc (oracles nodes)) ≡ u = omega arith in
-        lt-cond net.inputs m _ _ (omega arith) ∙ lt-cond (net.inputs + oracles nodes) m _ _
-        (omega arith) ∙ lt-cond (net.inputs + oracles nodes + oracles nodes) m _ _
-        (omega arith) ∙ lt-cond (suc (net.inputs + oracles nodes + oracles nodes)) m _ _
+        cond-below net.inputs m _ _ (omega arith) ∙ cond-below (net.inputs + oracles nodes) m _ _
+        (omega arith) ∙ cond-below (net.inputs + oracles nodes + oracles nodes) m _ _
+        (omega arith) ∙ cond-below (suc (net.inputs + oracles nodes + oracles nodes)) m _ _
         (omega arith) ∙ ap (word i) at
 
     given-old : (u : ℕ) → given net word i (moved net nodes u) ≡ word i u

@@ -1,6 +1,6 @@
 -- On an execution of the net with oracles the roots hold.
 use Rattle.std.proofs.Common.{◌≡◌, ℕ, suc, ◌+◌, ◌<◌, ◌≤◌, Bool, true, false, not, ◌&&◌, List, map, length, IsTrue, inl, inr, refl, sym, ap, ◌∙◌, subst, arith}
-use Rattle.std.proofs.lemmas.Bool.{cases_lt}
+use Rattle.std.proofs.lemmas.Bool.{cases_lt, and_parts, not-true}
 use Rattle.std.proofs.lemmas.List.{get_or_past}
 use Rattle.hy_formula.specs.Temporal.{endless}
 use Rattle.hy_formula.specs.Normals.{Normal, HoldsAt}
@@ -16,7 +16,7 @@ use Rattle.sym_tableau.specs.Oracles.{read, is_temporal, foretold, oracles_below
 use Rattle.aig_net.proofs.Literals.{value-even, value-opposite}
 use Rattle.aig_net.proofs.Wiring.{all-length, lit-from}
 use Rattle.sym_tableau.proofs.Parts.{LatchFacts, oracle-below, moved-value, latch-moved, member-value, promise-value, end-value, old-right, latch-facts, many-latches, reset-old, reset-started}
-use Rattle.aig_net.proofs.Listed.{append-each, map-each, and-true, not-true, or-true, or-kept}
+use Rattle.aig_net.proofs.Listed.{append-each, map-each, or-true, or-kept}
 use Rattle.sym_tableau.proofs.Gathering.{gathered-has}
 
 module _ (v : Valuation) (constant : v 0 ≡ false) (signal : ℕ → ℕ → ℕ) (lit : ℕ → ℕ) (o k : ℕ)
@@ -30,7 +30,7 @@ module _ (v : Valuation) (constant : v 0 ≡ false) (signal : ℕ → ℕ → �
   to-local (node.literal true n x) below owes h = reads n x ∙ h
   to-local (node.literal false n x) below owes h = reads n x ∙ not-true
       (literal_value v (signal n x)) (sym (value-opposite v (signal n x)) ∙ h)
-  to-local (and g h') (p, q) owes h = let (a, b) = and-true _ _ h in (knows g p a, knows h' q b)
+  to-local (and g h') (p, q) owes h = let (a, b) = and_parts _ _ h in (knows g p a, knows h' q b)
   to-local (or g h') (p, q) owes h = elim (or-true _ _ h) [
     | inl a ↦ inl (knows g p a)
     | inr b ↦ inr
@@ -41,11 +41,11 @@ module _ (v : Valuation) (constant : v 0 ≡ false) (signal : ℕ → ℕ → �
   to-local (until g h') (p, q) owes h =
       elim (or-true _ _ h) [
         | inl a ↦ inl (knows h' q a)
-        | inr b ↦ let (x, y) = and-true _ _
+        | inr b ↦ let (x, y) = and_parts _ _
             b in inr (knows g p x, owes refl y)
       ]
   to-local (release g h') (p, q) owes h =
-      let (a, b) = and-true _ _ h in
+      let (a, b) = and_parts _ _ h in
       (knows h' q a, elim (or-true _ _ b) [ inl x ↦ inl (knows g p x) | inr y ↦ inr (owes refl y) ])
 
 module _ (net : Net) (nodes : List Node) where

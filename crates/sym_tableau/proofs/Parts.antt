@@ -1,8 +1,9 @@
 -- The parts of a net with oracles.
-use Rattle.std.proofs.Common.{◌≡◌, ℕ, zero, suc, ◌+◌, ◌*◌, ◌/◌, ◌<◌, ◌≤◌, Bool, true, false, ◌&&◌, cond, nat_lt, List, ◌∷◌, map, length, length-append, inl, inr, refl, sym, ap, ◌∙◌, subst, arith}
-use Rattle.std.proofs.lemmas.Bool.{cases_eq}
+use Rattle.std.proofs.Common.{◌≡◌, ℕ, zero, suc, ◌+◌, ◌*◌, ◌/◌, ◌<◌, ◌≤◌, true, false, ◌&&◌, nat_lt, List, ◌∷◌, map, length, length-append, inl, inr, refl, sym, ap, ◌∙◌, subst, arith}
+use Rattle.std.proofs.lemmas.Bool.{cases_eq, false_from_ne_true}
 use Rattle.std.proofs.lemmas.Bool.Decides.{Decides-ltb}
 use Rattle.std.proofs.lemmas.List.{get_or_append_left, get_or-append-add, length-map}
+use Rattle.hy_base.proofs.Truths.{counted-if, more-if}
 use Rattle.ltl_closure.specs.Nodes.{Node, node_at}
 use Rattle.aig_net.specs.declared.parts.And.{And}
 use Rattle.aig_net.specs.declared.parts.Reset.TheVariants.{Zero}
@@ -11,15 +12,7 @@ use Rattle.aig_net.specs.Wires.{Wire, listed, wire_value, wire_at, made_each}
 use Rattle.sym_tableau.specs.Oracles.{is_temporal, oracles_below, oracles, moved, moved_literal, moved_and, oracle, attached_latches, attached_resets, attached_first, member_wire, members, promises, ends, kept_wires, fair_wires, attach}
 use Rattle.aig_net.proofs.Literals.{value-same, value-under, value-even}
 use Rattle.aig_net.proofs.Wiring.{all-right, each-right}
-use Rattle.aig_net.proofs.Listed.{append-listed, at-listed, each-map, length-listed, listed-append, map-each, not_true}
-
-below-of : (b : Bool) (a : ℕ) → b ≡ true → a < cond b (suc a) a
-below-of true a e = omega arith
-below-of false a e = absurd (cc)
-
-more-of : (b : Bool) (a : ℕ) → a ≤ cond b (suc a) a
-more-of true a = omega arith
-more-of false a = omega arith
+use Rattle.aig_net.proofs.Listed.{append-listed, at-listed, each-map, length-listed, listed-append, map-each}
 
 pub oracle-below : (nodes : List Node) (n k : ℕ) → k < n → is_temporal (node_at nodes k) ≡ true →
     oracles_below nodes k < oracles_below nodes n
@@ -29,11 +22,11 @@ oracle-below nodes (suc n) k lt is =
       | inl e ↦
           let P : ℕ → Type 0 = λ k. is_temporal (node_at nodes k) ≡ true → oracles_below nodes
           k < oracles_below nodes (suc n) in
-          subst P (sym e) (below-of (is_temporal (node_at nodes n)) (oracles_below nodes n)) is
+          subst P (sym e) (counted-if (is_temporal (node_at nodes n)) (oracles_below nodes n)) is
       | inr apart ↦ omega (
         arith,
         oracle-below nodes n k (omega arith) is,
-        more-of
+        more-if
             (is_temporal (node_at nodes n)) (oracles_below nodes n),
       )
     ]
@@ -58,7 +51,7 @@ module _ (net : Net) (nodes : List Node) where
 
   pub moved-early : (u : ℕ) → u ≤ net.inputs → moved net nodes u ≡ u
   moved-early u le =
-      let e : nat_lt net.inputs u ≡ false = not_true _
+      let e : nat_lt net.inputs u ≡ false = false_from_ne_true _
       (λ is. omega (arith, (Decides-ltb net.inputs u).0 is)) in
       rw e refl
 

@@ -1,16 +1,18 @@
 -- Whether members hold, as truth values, and the rules of their nodes.
 use Rattle.std.proofs.Common.{◌≡◌, ℕ, suc, ◌+◌, ◌<◌, ◌≤◌, ◌↔◌, Bool, true, false, inl, inr, refl, sym, ◌∙◌, subst, add-one}
+use Rattle.std.proofs.lemmas.Bool.{and_from, not_from_false}
+use Rattle.hy_base.proofs.Truths.{same-truth}
 use Rattle.hy_formula.specs.Temporal.{endless, Words, Decided, IsDecided, Repeats}
 use Rattle.hy_formula.specs.Normals.{Normal, HoldsAt}
 use Rattle.ltl_closure.specs.Nodes as node
-use Rattle.ltl_closure.specs.Nodes.{Node, always, never, and, or, next, weak_next, until, release, node_at, form_of, PartsBelow, Numbers, Local}
+use Rattle.ltl_closure.specs.Nodes.{Node, always, never, and, or, next, weak_next, until, release, form_of, PartsBelow, Local}
 use Rattle.hy_formula.proofs.Unrolling.{until-unrolled, held-unrolled, decided-normal, plain, plain-right}
 use Rattle.hy_formula.proofs.Repeating.{Steady, steady-tree}
 use Rattle.aig_net.specs.Nets.{Valuation, literal_value}
 use Rattle.aig_net.specs.Wires.{wire_value}
 use Rattle.sym_tableau.specs.Oracles.{is_temporal, foretold, member_wire}
 use Rattle.aig_net.proofs.Literals.{value-opposite}
-use Rattle.aig_net.proofs.Listed.{true-and, true-not, true-or-left, true-or-right}
+use Rattle.aig_net.proofs.Listed.{true-or-left, true-or-right}
 
 pub as-bool : {P : Type 0} → Decided P → Bool
 as-bool (inl p) = true
@@ -21,11 +23,6 @@ unfolding as-bool
 as-bool-right (inl p) = (λ e. p, λ p. refl)
 as-bool-right (inr n) = (λ e. absurd (cc), λ p. absurd (n p))
 
-pub bool-same : (a b : Bool) → (a ≡ true → b ≡ true) → (b ≡ true → a ≡ true) → a ≡ b
-bool-same true b f g = sym (f refl)
-bool-same false true f g = g refl
-bool-same false false f g = refl
-
 -- ---- the wire of a node, by the rule of the node
 
 module _ (v : Valuation) (constant : v 0 ≡ false) (signal : ℕ → ℕ → ℕ) (lit : ℕ → ℕ) (o k : ℕ)
@@ -34,22 +31,22 @@ module _ (v : Valuation) (constant : v 0 ≡ false) (signal : ℕ → ℕ → �
   pub from-local : (node : Node) → PartsBelow k node → (is_temporal node ≡ true → N
       (foretold k node) → literal_value v o ≡ true) → Local T N letter k node → wire_value v
       (member_wire signal lit o node) ≡ true
-  from-local always below owes h = true-not (v 0) constant
+  from-local always below owes h = not_from_false (v 0) constant
   from-local never below owes h = absurd h
   from-local (node.literal true n x) below owes h = sym (reads n x) ∙ h
-  from-local (node.literal false n x) below owes h = value-opposite v (signal n x) ∙ true-not
+  from-local (node.literal false n x) below owes h = value-opposite v (signal n x) ∙ not_from_false
       (literal_value v (signal n x)) (sym (reads n x) ∙ h)
-  from-local (and g h') (p, q) owes (a, b) = true-and _ _ (knows g p a) (knows h' q b)
+  from-local (and g h') (p, q) owes (a, b) = and_from _ _ (knows g p a) (knows h' q b)
   from-local (or g h') (p, q) owes (inl a) = true-or-left _ _ (knows g p a)
   from-local (or g h') (p, q) owes (inr b) = true-or-right _ _ (knows h' q b)
   from-local (next g) below owes h = owes refl h
   from-local (weak_next g) below owes h = owes refl h
   from-local (until g h') (p, q) owes (inl a) = true-or-left _ _ (knows h' q a)
-  from-local (until g h') (p, q) owes (inr (a, b)) = true-or-right _ _ (true-and _ _ (knows g p a)
+  from-local (until g h') (p, q) owes (inr (a, b)) = true-or-right _ _ (and_from _ _ (knows g p a)
       (owes refl b))
-  from-local (release g h') (p, q) owes (a, inl b) = true-and _ _ (knows h' q a)
+  from-local (release g h') (p, q) owes (a, inl b) = and_from _ _ (knows h' q a)
       (true-or-left _ _ (knows g p b))
-  from-local (release g h') (p, q) owes (a, inr b) = true-and _ _ (knows h' q a) (true-or-right _ _
+  from-local (release g h') (p, q) owes (a, inr b) = and_from _ _ (knows h' q a) (true-or-right _ _
       (owes refl b))
 
 -- ---- what holds, by the rule of the node
@@ -128,7 +125,7 @@ module _ (form : ℕ → Normal) (words : Words) (decided : IsDecided endless wo
   truth-steady s c r k i le =
       let p = plain-right endless words decided (form k) in
       let steady : Steady s c _ = steady-tree s c words r (plain (form k)) in
-      bool-same (truth k (i + c)) (truth k i)
+      same-truth (truth k (i + c)) (truth k i)
       (λ e. (truth-right k i).1
       ((p i).1 ((steady i le).0 ((p (i + c)).0 ((truth-right k (i + c)).0 e)))))
       (λ e. (truth-right k (i + c)).1

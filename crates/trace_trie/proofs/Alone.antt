@@ -1,6 +1,8 @@
 -- A trace that passes alone, and a child that stands alone.
 use Rattle.std.proofs.Common.{◌≡◌, ℕ, zero, suc, ◌+◌, ◌-◌, ◌<◌, ◌≤◌, true, false, cond, List, [], ◌∷◌, ◌++◌, length, length-drop, drop, slice_get, Some, refl, sym, ap, ◌∙◌, subst, arith}
 use Rattle.std.specs.List.{Contains}
+use Rattle.hy_base.proofs.Members.{contains-here}
+use Rattle.hy_base.proofs.Places.{drop-at}
 use Rattle.hy_bits.specs.Letter.{Letter}
 use Rattle.trace_trie.specs.Numbered.{Numbered, same_letter, in_order}
 use Rattle.trace_trie.specs.Kids.{Kid, AreKids, behind, spread}
@@ -8,9 +10,7 @@ use Rattle.trace_trie.specs.Forests.{passing, ends_alone, kids_alone, kids_of, I
 use Rattle.trace_trie.specs.declared.forest.Branch.{Branch}
 use Rattle.trace_trie.specs.declared.forest.Branch.TheVariants.{Tail}
 use Rattle.trace_trie.proofs.Forked.{AtChild}
-use Rattle.trace_trie.proofs.Holding.{contains-here}
 use Rattle.trace_trie.proofs.Kids.{behind-one}
-use Rattle.trace_trie.proofs.Lettering.{drop-at}
 
 -- ---- a trace
 

@@ -4,8 +4,8 @@ use Rattle.std.proofs.lemmas.Bool.{eqb-true, eqb-false}
 use Rattle.std.specs.List.{filter}
 use Rattle.hy_bits.specs.Letter.{Letter}
 use Rattle.hy_formula.specs.Quantifiers.{Each}
+use Rattle.hy_formula.proofs.Each.{each-append, each-filter, each-like}
 use Rattle.trace_trie.specs.Numbered.{Numbered, IsAscending, with_number, without_number}
-use Rattle.trace_trie.proofs.Each.{each-append, each-filter, each-like}
 
 pub ascending-push : (xs : List Numbered) (p : Numbered) → IsAscending xs → Each (λ (q : Numbered). q.0 < p.0) xs → IsAscending (xs ++ p ∷ [])
 ascending-push [] p h k = (tt, tt)

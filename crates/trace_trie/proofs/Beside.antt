@@ -2,12 +2,13 @@
 use Rattle.std.proofs.Common.{◌≡◌, ◌≢◌, ℕ, zero, suc, ◌<◌, Bool, true, false, cond, List, [], ◌∷◌, ◌++◌, length, length-append, append-nil, map, drop, slice_get, Option, Some, None, refl, sym, ap, ◌∙◌, subst, arith}
 use Rattle.std.specs.List.{Contains, filter}
 use denote.Ref.{Bor}
+use Rattle.std.proofs.lemmas.List.Elements.{Contains-append_left, Contains-append_right}
+use Rattle.hy_base.proofs.Members.{contains-here}
 use Rattle.hy_bits.specs.Letter.{Letter}
 use Rattle.hy_formula.specs.Quantifiers.{Each}
+use Rattle.hy_formula.proofs.Each.{each-append, each-like}
 use Rattle.trace_trie.specs.Numbered.{Numbered, same_letter, begins, tail, under}
 use Rattle.trace_trie.specs.Cursors.{AreDistinct, AreLetters, GoesOn, and_new_letter, and_waiting, left_waiting, letter_where_none, new_letter}
-use Rattle.trace_trie.proofs.Each.{each-append, each-like}
-use Rattle.trace_trie.proofs.Holding.{contains-here, contains-left, contains-right}
 use Rattle.trace_trie.proofs.Lettering.{equal-letter, letter-itself}
 use Rattle.trace_trie.proofs.Rests.{under-append}
 
@@ -45,7 +46,7 @@ distinct-push (b ∷ letters) a h k = (
 goes-left : (letters more : List Letter) (t : List Letter) → GoesOn letters t
     → GoesOn (letters ++ more) t
 goes-left letters more [] h = tt
-goes-left letters more (a ∷ t) h = contains-left a letters more h
+goes-left letters more (a ∷ t) h = Contains-append_left letters more a h
 
 -- ---- the letters
 
@@ -90,7 +91,7 @@ module _ {letters : List Letter} {rests : List Numbered} (are : AreLetters lette
       (distinct-push letters a are.distinct (each-like (λ (b : Letter). 0 < length (under b rests))
       (λ (b : Letter). b ≢ a) apart letters are.some)) (here, tt)
       (subst (GoesOn (letters ++ a ∷ [])) (sym is)
-      (contains-right a letters (a ∷ []) (contains-here a [])))
+      (Contains-append_right letters (a ∷ []) a (contains-here a [])))
     where
       apart : (b : Letter) → 0 < length (under b rests) → b ≢ a
       apart b lt same =
@@ -175,4 +176,4 @@ newest-passes {newest} {p} rests is =
     let P : Option (ℕ × Bor (List Letter)) → Type 0 =
     λ q. Contains (and_waiting rests q) (p.0, p.1.now) in
     subst P (sym is)
-    (contains-right (p.0, p.1.now) rests ((p.0, p.1.now) ∷ []) (contains-here (p.0, p.1.now) []))
+    (Contains-append_right rests ((p.0, p.1.now) ∷ []) (p.0, p.1.now) (contains-here (p.0, p.1.now) []))

@@ -2,15 +2,17 @@
 use Rattle.std.proofs.Common.{◌≡◌, ◌≢◌, ℕ, zero, suc, ◌<◌, cond, List, [], ◌∷◌, ◌++◌, length, append-nil, drop, slice_get, Some, refl, sym, ap, ◌∙◌, subst, inl, inr, arith}
 use Rattle.std.specs.Option.{IfSome, IfNone}
 use Rattle.std.specs.List.{Contains}
+use Rattle.std.proofs.lemmas.List.Elements.{Contains-append_left, Contains-append_right}
+use Rattle.std.proofs.lemmas.Option.{same_Some}
+use Rattle.hy_base.proofs.Members.{contains-here, contains-later, contains-cases, contains-none}
 use Rattle.hy_bits.specs.Letter.{Letter}
 use Rattle.hy_formula.specs.Quantifiers.{Each}
+use Rattle.hy_formula.proofs.Each.{each-like}
 use Rattle.trace_trie.specs.Numbered.{Numbered, same_letter, led_by, ended, under, in_order, first_number}
 use Rattle.trace_trie.specs.Kids.{Kid, AreKids, behind, kid_letters, spread}
 use Rattle.trace_trie.specs.Forests.{passing, ends_alone, kids_alone}
 use Rattle.trace_trie.specs.Cursors.{AreLetters}
 use Rattle.trace_trie.proofs.Alone.{alone-rests, alone-kids}
-use Rattle.trace_trie.proofs.Each.{each-like}
-use Rattle.trace_trie.proofs.Holding.{contains-here, contains-later, contains-cases, contains-none, contains-left, contains-right}
 use Rattle.trace_trie.proofs.Lettering.{letter-itself, same-false}
 use Rattle.trace_trie.proofs.Ordering.{in-order-under, each-in-order, length-in-order, contains-in-order}
 use Rattle.trace_trie.proofs.Rests.{spread-append, spread-some, under-passing, letters-distinct, letters-some, letters-whole}
@@ -47,24 +49,15 @@ module _ (ends : List Numbered) (kids : List Kid) where
 
 letter-at : (P : Letter → Type 0) (ks : List Kid) (i : ℕ) (a : Letter) → Each (λ (k : Kid). P k.0) ks → slice_get (kid_letters ks) i ≡ Some a → P a
 letter-at P [] i a h e = absurd (cc)
-letter-at P (k ∷ ks) zero a h e = subst P (some-is k.0 a e) h.0
-  where
-    some-is : (b a : Letter) → Some b ≡ Some a → b ≡ a
-    some-is b a e = cc
+letter-at P (k ∷ ks) zero a h e = subst P (same_Some k.0 a e) h.0
 letter-at P (k ∷ ks) (suc i) a h e = letter-at P ks i a h.1 e
 
 kid-at : (ks : List Kid) (i : ℕ) (a : Letter) (k : Kid) → AreKids ks → slice_get ks i ≡ Some k → slice_get (kid_letters ks) i ≡ Some a → behind a ks ≡ k.1
 kid-at [] i a k h e f = absurd (cc)
 kid-at (o ∷ ks) zero a k h e f =
-    let same : o.0 ≡ a = letter-is o.0 a f in
+    let same : o.0 ≡ a = same_Some o.0 a f in
     let P : Letter → Type 0 = λ (q : Letter). cond (same_letter q o.0) o.1 (behind q ks) ≡ o.1 in
-    subst P same (ap (λ b. cond b o.1 (behind o.0 ks)) (letter-itself o.0)) ∙ ap (λ (q : Kid). q.1) (kid-is o k e)
-  where
-    letter-is : (b a : Letter) → Some b ≡ Some a → b ≡ a
-    letter-is b a e = cc
-
-    kid-is : (o k : Kid) → Some o ≡ Some k → o ≡ k
-    kid-is o k e = cc
+    subst P same (ap (λ b. cond b o.1 (behind o.0 ks)) (letter-itself o.0)) ∙ ap (λ (q : Kid). q.1) (same_Some o k e)
 kid-at (o ∷ ks) (suc i) a k h e f =
     let apart : a ≡ o.0 → ⊥ = letter-at (λ (b : Letter). b ≢ o.0) ks i a h.1 f in
     ap (λ b. cond b o.1 (behind a ks)) (same-false a o.0 (λ s. apart (sym s))) ∙ kid-at ks i a k h.2 e f
@@ -97,23 +90,20 @@ module _ (a : Letter) (ends : List Numbered) (kids : List Kid) where
       by-cases : (ps : List Numbered) → first_number ps ≡ Some n → Contains (passing ps kids) (n, [])
       by-cases [] e = absurd (cc)
       by-cases (p ∷ ps) e =
-          let same : p.0 ≡ n = some-is p.0 n e in
+          let same : p.0 ≡ n = same_Some p.0 n e in
           let P : ℕ → Type 0 = λ (q : ℕ). Contains (passing (p ∷ ps) kids) (q, []) in
           subst P same (contains-here (p.0, []) (ended ps ++ spread kids))
-        where
-          some-is : (b a : ℕ) → Some b ≡ Some a → b ≡ a
-          some-is b a e = cc
 
   pub any-behind : (n : ℕ) → ((t : List Letter) × Contains (spread kids) (n, t)) → (t : List Letter) × Contains (spread ((a, passing ends kids) ∷ [])) (n, t)
-  any-behind n (t, c) = (a ∷ t, within n t (contains-right (n, t) (ended ends) (spread kids) c))
+  any-behind n (t, c) = (a ∷ t, within n t (Contains-append_right (ended ends) (spread kids) (n, t) c))
 
 pub any-left : (l r : List Kid) (n : ℕ) → ((t : List Letter) × Contains (spread l) (n, t)) → (t : List Letter) × Contains (spread (l ++ r)) (n, t)
 any-left l r n (t, c) =
     let P : List Numbered → Type 0 = λ (q : List Numbered). Contains q (n, t) in
-    (t, subst P (sym (spread-append l r)) (contains-left (n, t) (spread l) (spread r) c))
+    (t, subst P (sym (spread-append l r)) (Contains-append_left (spread l) (spread r) (n, t) c))
 
 pub any-passing : (ends : List Numbered) (kids : List Kid) (n : ℕ) → ((t : List Letter) × Contains (spread kids) (n, t)) → (t : List Letter) × Contains (in_order (passing ends kids)) (n, t)
-any-passing ends kids n (t, c) = (t, contains-in-order (n, t) (passing ends kids) (contains-right (n, t) (ended ends) (spread kids) c))
+any-passing ends kids n (t, c) = (t, contains-in-order (n, t) (passing ends kids) (Contains-append_right (ended ends) (spread kids) (n, t) c))
 
 -- ---- where one trace alone passes
 

@@ -3,9 +3,9 @@ use Rattle.std.proofs.Common.{◌≡◌, ◌≢◌, ℕ, ◌<◌, Bool, true, fa
 use Rattle.std.specs.FinSet.{contains}
 use Rattle.hy_bits.specs.Letter.{Letter}
 use Rattle.hy_formula.specs.Quantifiers.{Each}
+use Rattle.hy_formula.proofs.Each.{each-append, each-left, each-right, each-like}
 use Rattle.trace_trie.specs.Numbered.{Numbered, same_letter}
 use Rattle.trace_trie.specs.Kids.{Kid, AreKids, IsSwapped, behind, kid_of}
-use Rattle.trace_trie.proofs.Each.{each-append, each-left, each-right, each-like}
 use Rattle.trace_trie.proofs.Lettering.{equal-letter, letter-itself, same-false, apart-by}
 
 -- ---- what is behind a letter

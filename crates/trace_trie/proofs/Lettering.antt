@@ -1,23 +1,19 @@
 -- Letters are equal where the test says so.
-use Rattle.std.proofs.Common.{◌≡◌, ℕ, zero, suc, ◌+◌, ◌<◌, List, [], ◌∷◌, length, drop, slice_get, Some, add-one, Bool, true, false, refl, sym, ap, ◌∙◌, subst, inl, inr}
+use Rattle.std.proofs.Common.{◌≡◌, ℕ, ◌+◌, ◌<◌, List, [], ◌∷◌, length, drop, slice_get, Some, true, false, refl, sym, ap, ◌∙◌, subst, inl, inr}
 use Rattle.std.proofs.lemmas.Bool.{and_parts, and_from, cases_Bool}
 use Rattle.std.specs.FinSet.{is_subset, contains, is_subset-contains, contains-is_subset, same_set, nat_cmp-IsAntisymmetric}
 use Rattle.std.specs.Cmp.{nat_cmp_total}
+use Rattle.hy_base.proofs.Truths.{same-truth}
+use Rattle.hy_base.proofs.Places.{drop-at}
 use Rattle.hy_bits.specs.Letter.{Letter}
 use Rattle.hy_bits.specs.Sets.{AreBelow}
 use Rattle.trace_trie.specs.Numbered.{same_letter}
-
--- two tests agree where each is true if the other is
-agree : (b c : Bool) → (b ≡ true → c ≡ true) → (c ≡ true → b ≡ true) → b ≡ c
-agree true c f g = sym (f refl)
-agree false true f g = g refl
-agree false false f g = refl
 
 pub equal-letter : (a b : Letter) → same_letter a b ≡ true → a ≡ b
 equal-letter a b e =
     let (p, q) = and_parts (is_subset a b) (is_subset b a) e in
     same_set nat_cmp_total nat_cmp-IsAntisymmetric a b
-    (λ k. agree (contains a k) (contains b k) (is_subset-contains nat_cmp_total a b p k) (is_subset-contains nat_cmp_total b a q k))
+    (λ k. same-truth (contains a k) (contains b k) (is_subset-contains nat_cmp_total a b p k) (is_subset-contains nat_cmp_total b a q k))
 
 pub letter-itself : (a : Letter) → same_letter a a ≡ true
 letter-itself a =
@@ -40,20 +36,9 @@ apart-by a b name lacks has same =
 pub same-below : (a b : Letter) → AreBelow 64 a → AreBelow 64 b → ((k : ℕ) → k < 64 → contains a k ≡ contains b k) → a ≡ b
 same-below a b h g same =
     same_set nat_cmp_total nat_cmp-IsAntisymmetric a b
-    (λ k. agree (contains a k) (contains b k) (λ e. sym (same k (h k e)) ∙ e) (λ e. same k (g k e) ∙ e))
+    (λ k. same-truth (contains a k) (contains b k) (λ e. sym (same k (h k e)) ∙ e) (λ e. same k (g k e) ∙ e))
 
 -- ---- what is left of a trace
-
-pub drop-at : {A : Type 0} (t : List A) (i : ℕ) (a : A) → slice_get t i ≡ Some a → drop i t ≡ a ∷ drop (i + 1) t
-drop-at t i a e = rw add-one (next t i a e)
-  where
-    next : {A : Type 0} (t : List A) (i : ℕ) (a : A) → slice_get t i ≡ Some a → drop i t ≡ a ∷ drop (suc i) t
-    next [] i a e = absurd (cc)
-    next (b ∷ t) zero a e = ap (λ q. q ∷ t) (some-is b a e)
-      where
-        some-is : {A : Type 0} (b a : A) → Some b ≡ Some a → b ≡ a
-        some-is b a e = cc
-    next (b ∷ t) (suc i) a e = next t i a e
 
 pub drop-end : {A : Type 0} (t : List A) (i : ℕ) → i ≡ length t → drop i t ≡ []
 drop-end t i e = ap (λ k. drop k t) e ∙ all t

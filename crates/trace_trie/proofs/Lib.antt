@@ -1,11 +1,9 @@
 pub mod Alone
 pub mod Ascending
 pub mod Beside
-pub mod Each
 pub mod Finding
 pub mod Following
 pub mod Forked
-pub mod Holding
 pub mod Kids
 pub mod Lettering
 pub mod Numbering

@@ -29,10 +29,6 @@ pub with-first : (n : ℕ) (xs ys : List Numbered) → Each (λ (p : Numbered). 
 with-first n [] ys h = with-none n ys h
 with-first n (x ∷ xs) ys h = ap (λ l. cond (eqb x.0 n) (Some x.1) l) (with-first n xs ys h)
 
-pub none-left : (xs : List Numbered) → length xs ≡ 0 → xs ≡ []
-none-left [] e = refl
-none-left (x ∷ xs) e = absurd (omega arith)
-
 pub rest-at : (n : ℕ) (xs : List Numbered) (i : ℕ) (x : Numbered) → i < length xs → x ≡ get_or xs i x → n ≤ x.0
     → rest_from n (drop i xs) ≡ x ∷ drop (suc i) xs
 rest-at n xs i x lt is le =

@@ -2,12 +2,12 @@
 use Rattle.std.proofs.Common.{◌≡◌, suc, ◌<◌, ◌≤◌, Bool, true, false, cond, ltb, List, [], ◌∷◌, ◌++◌, length, map, refl, sym, ap, ◌∙◌, subst, inl, inr, arith}
 use Rattle.std.proofs.lemmas.Bool.{ltb-true, ltb-false, lt-ltb, le-ltb, cases_Bool}
 use Rattle.std.specs.List.{filter, Contains}
+use Rattle.hy_base.proofs.Members.{contains-here, contains-later, contains-cases, contains-none}
 use Rattle.hy_bits.specs.Letter.{Letter}
 use Rattle.hy_formula.specs.Quantifiers.{Each}
+use Rattle.hy_formula.proofs.Each.{each-filter, each-like, each-at, each-from}
 use Rattle.trace_trie.specs.Numbered.{Numbered, begins, tail, under, put_in_order, in_order}
 use Rattle.trace_trie.specs.Kids.{IsMore}
-use Rattle.trace_trie.proofs.Each.{each-like, each-filter}
-use Rattle.trace_trie.proofs.Holding.{contains-here, contains-later, contains-cases, contains-none, each-at, each-from}
 
 -- ---- what holds of each pair
 

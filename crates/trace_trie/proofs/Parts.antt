@@ -1,11 +1,11 @@
 -- What is known of a list of traces by number that has two parts.
 use Rattle.std.proofs.Common.{◌≡◌, ℕ, ◌<◌, ◌≤◌, List, [], ◌∷◌, ◌++◌, length, length-append, sym, ap, ◌∙◌, subst, arith}
 use Rattle.hy_formula.specs.Quantifiers.{Each}
+use Rattle.hy_formula.proofs.Each.{each-right, each-like}
 use Rattle.trace_trie.specs.Numbered.{Numbered, with_number, without_number}
 use Rattle.trace_trie.specs.NumberTrees.{pairs, IsSplit}
 use Rattle.trace_trie.specs.declared.numbers.NumberTree.{NumberTree}
 use Rattle.trace_trie.specs.declared.numbers.NumberTree.TheVariants.{Two}
-use Rattle.trace_trie.proofs.Each.{each-like, each-right}
 use Rattle.trace_trie.proofs.Numbering.{without-other, without-append, with-first, with-second}
 
 pub record AtTwo (list : List Numbered) (split : ℕ) (l r : List Numbered) : Type 0 where

@@ -2,17 +2,18 @@
 use Rattle.std.proofs.Common.{◌≡◌, ℕ, ◌+◌, ◌<◌, true, false, List, [], ◌∷◌, ◌++◌, length, length-append, append_assoc, append-nil, drop, slice_get, Some, refl, ap, sym, ◌∙◌, subst, arith}
 use Rattle.std.proofs.lemmas.List.{map-append}
 use Rattle.std.specs.FinSet.{contains}
+use Rattle.hy_base.proofs.Places.{drop-at}
 use Rattle.hy_bits.specs.Letter.{Letter}
 use Rattle.hy_formula.specs.Quantifiers.{Each}
+use Rattle.hy_formula.proofs.Each.{each-append, each-left, each-right}
 use Rattle.trace_trie.specs.Numbered.{Numbered, same_letter, letters_in, led_by, ended}
 use Rattle.trace_trie.specs.Kids.{Kid, AreKids, IsSwapped, IsMore, behind, spread}
 use Rattle.trace_trie.specs.Forests.{passing}
 use Rattle.trace_trie.specs.ForestsFall.{letters-append, letters-led, letters-ended, letters-spread, some-left, some-right}
 use Rattle.trace_trie.proofs.Alone.{child-here}
-use Rattle.trace_trie.proofs.Each.{each-append, each-left, each-right}
 use Rattle.trace_trie.proofs.Forked.{AtFork, AtChild}
 use Rattle.trace_trie.proofs.Kids.{kids-append}
-use Rattle.trace_trie.proofs.Lettering.{equal-letter, letter-itself, drop-at, drop-end}
+use Rattle.trace_trie.proofs.Lettering.{equal-letter, letter-itself, drop-end}
 use Rattle.trace_trie.proofs.Rests.{spread-append, spread-each, each-behind, more-led, more-within, more-spread}
 
 -- ---- one more

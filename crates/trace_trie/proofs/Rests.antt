@@ -4,14 +4,14 @@ use Rattle.std.proofs.lemmas.Bool.{cases_Bool}
 use Rattle.std.proofs.lemmas.List.{map-append}
 use Rattle.std.proofs.lemmas.List.Elements.{filter-append}
 use Rattle.std.specs.List.{filter, Contains}
+use Rattle.hy_base.proofs.Members.{contains-here, contains-later}
 use Rattle.hy_bits.specs.Letter.{Letter}
 use Rattle.hy_formula.specs.Quantifiers.{Each}
+use Rattle.hy_formula.proofs.Each.{each-append, each-left, each-right, each-map, each-unmap, each-like}
 use Rattle.trace_trie.specs.Numbered.{Numbered, same_letter, begins, tail, under, led_by, ended, without_number}
 use Rattle.trace_trie.specs.Kids.{Kid, AreKids, IsSwapped, IsMore, behind, kid_of, kid_letters, spread}
 use Rattle.trace_trie.specs.Forests.{passing}
 use Rattle.trace_trie.specs.Cursors.{AreDistinct, GoesOn}
-use Rattle.trace_trie.proofs.Each.{each-append, each-left, each-right, each-like, each-map, each-unmap}
-use Rattle.trace_trie.proofs.Holding.{contains-here, contains-later}
 use Rattle.trace_trie.proofs.Numbering.{without-other, without-append}
 use Rattle.trace_trie.proofs.Lettering.{equal-letter, letter-itself}
 use Rattle.trace_trie.proofs.Kids.{behind-none}

@@ -1,10 +1,10 @@
 -- Lists whose last trace may wait.
 use Rattle.std.proofs.Common.{◌≡◌, ℕ, ◌<◌, not, cond, eqb, true, false, Bool, List, [], ◌∷◌, ◌++◌, Option, Some, None, refl, sym, ap, ◌∙◌}
 use Rattle.hy_bits.specs.Letter.{Letter}
+use Rattle.hy_formula.proofs.Each.{each-right, each-filter}
 use Rattle.trace_trie.specs.Numbered.{Numbered, IsAscending, rest_from, with_number, without_number}
 use Rattle.trace_trie.specs.Newests.{waiting, IsLast}
 use Rattle.trace_trie.specs.declared.newest.Newest.{Newest}
-use Rattle.trace_trie.proofs.Each.{each-right, each-filter}
 use Rattle.trace_trie.proofs.Following.{rest-none, rest-some}
 
 pub with-some : (n : ℕ) (xs ys : List Numbered) (t : List Letter) → with_number n xs ≡ Some t

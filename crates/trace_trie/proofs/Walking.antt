@@ -3,12 +3,14 @@ use Rattle.std.proofs.Common.{◌≡◌, ◌↔◌, ℕ, ◌+◌, ◌<◌, Bool,
 use Rattle.std.proofs.lemmas.Bool.{ne_eqb}
 use Rattle.std.specs.List.{Contains, filter}
 use mathlib.Core.Logic.Iff as iff
+use Rattle.hy_base.proofs.Members.{contains-here, contains-later, contains-cases, contains-none}
+use Rattle.hy_base.proofs.Places.{drop-at}
 use Rattle.hy_bits.specs.Letter.{Letter}
+use Rattle.hy_formula.proofs.Each.{each-at}
 use Rattle.trace_trie.specs.Numbered.{Numbered, same_letter, begins, tail, under, ended, in_order, IsHeld}
 use Rattle.trace_trie.specs.Kids.{Kid, AreKids, behind, spread}
 use Rattle.trace_trie.specs.Forests.{passing}
-use Rattle.trace_trie.proofs.Holding.{contains-here, contains-later, contains-cases, contains-none, each-at}
-use Rattle.trace_trie.proofs.Lettering.{equal-letter, letter-itself, drop-at, drop-end}
+use Rattle.trace_trie.proofs.Lettering.{equal-letter, letter-itself, drop-end}
 use Rattle.trace_trie.proofs.Ordering.{in-order-under, contains-in-order, contains-unorder}
 use Rattle.trace_trie.proofs.Rests.{spread-some, under-passing}
 

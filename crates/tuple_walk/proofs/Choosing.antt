@@ -1,8 +1,10 @@
 -- What is known of tuples where one place of them is known further.
 use Rattle.std.proofs.Common.{◌≡◌, ◌⊎◌, ℕ, zero, suc, ◌+◌, ◌<◌, ◌≤◌, List, [], ◌∷◌, ◌++◌, length, map, take, set, get_or, slice_get, Option, Some, None, inl, inr, refl, sym, ap, ◌∙◌, subst, arith, length-append}
 use Rattle.std.specs.List.{Contains}
+use Rattle.std.proofs.lemmas.List.{length-set}
+use Rattle.hy_base.proofs.Members.{contains-here, contains-later, contains-cases, contains-none, from-take, map-of, map-from}
 use Rattle.hy_bits.specs.Letter.{Letter}
-use Rattle.hy_formula.proofs.Tuples.{contains-here, contains-later, contains-cases, contains-none}
+use Rattle.hy_formula.proofs.Each.{each-at, each-append, each-like}
 use Rattle.hy_finite.specs.declared.lengths.Lengths.{Lengths}
 use Rattle.hy_finite.specs.declared.lengths.Lengths.TheVariants.{Min, Pad}
 use Rattle.hy_finite.specs.Traces.{Trace, judged}
@@ -13,7 +15,7 @@ use Rattle.tuple_walk.specs.Finds.{traces_of}
 use Rattle.tuple_walk.specs.JointPrefixes.{Row, entry, rows_of}
 use Rattle.tuple_walk.specs.Places.{IsWay, HasNoGap}
 use Rattle.tuple_walk.specs.Searches.{AreFrom, IsTupleOf, AreRejected, AreAccepted, AreAcceptedBy, IsAccepted, IsPrefixIn, AreSteps, entry_in, BeginsBy, AreStepsBy}
-use Rattle.tuple_walk.proofs.Lists.{map-of, map-from, each-at, each-like, each-append, apart-append}
+use Rattle.tuple_walk.proofs.Lists.{apart-append}
 
 -- ---- one list changed
 
@@ -88,18 +90,6 @@ take-cases (x ∷ xs) (suc k) a b e c = elim (contains-cases x b (take (suc k) x
     | inl before ↦ inl (contains-later x b (take k xs) before)
     | inr same ↦ inr same
   ]
-]
-
-pub from-take : {A : Type 0} (xs : List A) (k : ℕ) (b : A) → Contains (take k xs) b → Contains xs b
-from-take [] k b c = absurd (contains-none b (none k c))
-  where
-    none : (k : ℕ) → Contains (take k []) b → Contains [] b
-    none zero c = c
-    none (suc k) c = c
-from-take (x ∷ xs) zero b c = absurd (contains-none b c)
-from-take (x ∷ xs) (suc k) b c = elim (contains-cases x b (take k xs) c) [
-  | inl is ↦ let P = Contains (x ∷ xs) in subst P is (contains-here x xs)
-  | inr later ↦ contains-later x b xs (from-take xs k b later)
 ]
 
 take-longer : {A : Type 0} (xs : List A) (k : ℕ) (b : A) → Contains (take k xs) b
@@ -246,17 +236,12 @@ entry-first : (ts : List Trace) (i k : ℕ) → i < length ts → 0 < k
 entry-first ts i zero lt some = absurd (omega arith)
 entry-first ts i (suc k) lt some = entry-at ts i lt
 
-length-set_any : {A : Type 0} (xs : List A) (i : ℕ) (x : A) → length (set xs i x) ≡ length xs
-length-set_any [] i x = refl
-length-set_any (y ∷ ys) zero x = refl
-length-set_any (y ∷ ys) (suc i) x = ap suc (length-set_any ys i x)
-
 entry-set : (lengths : Lengths) (ls : List (List Numbered)) (i : ℕ) (e : Option Letter)
     (w : List Numbered) → i < length ls → ((p : Numbered) → Contains w p → entry p.1 ≡ e)
     → (rows : List Row) → IsPrefixIn lengths (set ls i w) rows → entry_in i rows ≡ e
 entry-set lengths ls i e w lt first rows (tuple, h, pre) =
     let long : i < length tuple =
-    omega (arith, length-tuple (set ls i w) tuple h, length-set_any ls i w) in
+    omega (arith, length-tuple (set ls i w) tuple h, length-set ls i w) in
     let (p, c, is) = map-from (λ (p : Numbered). p.1) w (get_or tuple i [])
     (tuple-set_at ls i w tuple lt h) in
     ap (entry_in i) pre.same

@@ -1,8 +1,8 @@
 -- Where tuples have no position left.
 use Rattle.std.proofs.Common.{◌≡◌, ℕ, zero, suc, ◌<◌, true, false, List, [], ◌∷◌, length, map, inl, inr, refl, sym, ap, ◌∙◌, subst, arith}
 use Rattle.std.specs.List.{Contains}
+use Rattle.hy_base.proofs.Members.{contains-here, contains-later, contains-cases, contains-none, map-from}
 use Rattle.hy_formula.specs.Quantifiers.{Each}
-use Rattle.hy_formula.proofs.Tuples.{contains-here, contains-later, contains-cases, contains-none}
 use Rattle.hy_finite.specs.declared.lengths.Lengths.{Lengths}
 use Rattle.hy_finite.specs.declared.lengths.Lengths.TheVariants.{Min, Pad}
 use Rattle.hy_finite.specs.Traces.{Trace, judged, trace_words}
@@ -12,8 +12,8 @@ use Rattle.trace_trie.specs.Numbered.{Numbered, tail}
 use Rattle.tuple_walk.specs.Finds.{numbers_of, traces_of}
 use Rattle.tuple_walk.specs.Places.{HasEnded}
 use Rattle.tuple_walk.specs.Searches.{state_over, AreFrom, IsTupleOf, AreRejected, AreAccepted, IsAccepted, CanStop, AreEnded}
-use Rattle.tuple_walk.proofs.Lists.{map-from}
 use Rattle.tuple_walk.proofs.Stepping.{all-judged}
+use Rattle.tuple_walk.proofs.Choosing.{length-tuple}
 
 pub ended-trace : (l : List Numbered) → Contains (traces_of l) [] → HasEnded l
 ended-trace l c =
@@ -45,18 +45,11 @@ all-ended (l ∷ k ∷ ls) ([] ∷ u ∷ ts) h e =
     (ended-trace l h.0, all-ended (k ∷ ls) (u ∷ ts) h.1 (omega arith))
 all-ended (l ∷ k ∷ ls) ((a ∷ t) ∷ u ∷ ts) h e = absurd (omega arith)
 
-length-of : (ls : List (List Numbered)) (ts : List Trace) → IsTupleOf ls ts
-    → length ts ≡ length ls
-length-of [] [] h = refl
-length-of [] (t ∷ ts) h = absurd h
-length-of (l ∷ ls) [] h = absurd h
-length-of (l ∷ ls) (t ∷ ts) h = ap suc (length-of ls ts h.1)
-
 -- where none can stop each tuple has a position
 pub goes-on : (lengths : Lengths) (ls : List (List Numbered)) → 0 < length ls
     → (¬ CanStop lengths ls) → (ts : List Trace) → IsTupleOf ls ts → ¬ (judged lengths ts ≡ 0)
 goes-on Min ls some none_so ts h e =
-    let long = all-judged Min ts (omega (arith, length-of ls ts h))
+    let long = all-judged Min ts (omega (arith, length-tuple ls ts h))
     (none-ended ls ts (λ l c ended. none_so (l, c, ended)) h) in
     omega arith
 goes-on Pad ls some none_so ts h e = none_so (all-ended ls ts h e)

@@ -5,12 +5,13 @@ use Rattle.std.proofs.lemmas.Bool.{cases_eq}
 use Rattle.std.specs.Borrow.{Bor}
 use Rattle.std.specs.FinSet.{empty, contains}
 use Rattle.std.specs.Int.Bits.{or_zero_l}
+use Rattle.std.proofs.lemmas.List.{take_all}
+use Rattle.hy_base.proofs.Members.{contains-here, contains-cases, contains-none, contains-one}
 use Rattle.hy_bits.specs.Letter.{Letter}
 use Rattle.hy_formula.specs.Quantifiers.{Each}
-use Rattle.hy_formula.proofs.Tuples.{contains-here, contains-cases, contains-none}
 use Rattle.hy_finite.specs.declared.lengths.Lengths.{Lengths}
-use Rattle.hy_finite.specs.declared.lengths.Lengths.TheVariants.{Min, Pad}
 use Rattle.hy_finite.specs.Traces.{Trace, of_two, judged, trace_words}
+use Rattle.hy_finite.proofs.JudgedLength.{of_two-assoc}
 use Rattle.fin_monitor.specs.Codes.{code_of, part_of, joint_letter}
 use Rattle.fin_monitor.specs.Machines.{Machine, IsMonitor, next_state, settled_state, code_at}
 use Rattle.fin_monitor.proofs.CodeBits.{code-lt}
@@ -21,11 +22,9 @@ use Rattle.tuple_walk.specs.JointPrefixes.{Row, rows_of}
 use Rattle.tuple_walk.specs.Places.{AreSome}
 use Rattle.tuple_walk.specs.Searches.{state_over, AreFrom, IsTupleOf, IsAccepted, IsRejected, AreAccepted, IsSearch, AreEnded, AreApart, IsPrefixIn, AreSteps}
 use Rattle.tuple_walk.proofs.Ending.{ended-from}
-use Rattle.tuple_walk.proofs.Nexts.{take-whole}
 use Rattle.tuple_walk.proofs.Scanning.{code-more, code-none}
 use Rattle.tuple_walk.proofs.Starting.{over-next}
 use Rattle.tuple_walk.proofs.Stepping.{pairs-tuple, tuple-pairs}
-use Rattle.tuple_walk.proofs.Ways.{contains-one}
 
 -- ---- lists of one member each
 
@@ -60,7 +59,7 @@ pub all-ones : (ls : List (List Numbered)) (rests : List (Bor Trace)) (ps : List
     (i k : ℕ) → length ls ≤ i → k ≡ i → take i ls ≡ ones ps → traces_of ps ≡ left_of (take i rests)
     → (ls ≡ ones ps) × (left_of (take k rests) ≡ traces_of ps)
 all-ones ls rests ps i k le same is traces = (
-  sym (take-whole i ls le) ∙ is,
+  sym (take_all i ls le) ∙ is,
   ap (λ j. left_of (take j rests)) same ∙ sym traces,
 )
 
@@ -150,11 +149,6 @@ module _ (lengths : Lengths) (ps : List Numbered) (ls : List (List Numbered))
 
 -- ---- the length on which a tuple is judged
 
-two-of_two : (lengths : Lengths) (a b c : ℕ)
-    → of_two lengths a (of_two lengths b c) ≡ of_two lengths (of_two lengths a b) c
-two-of_two Min a b c = omega arith
-two-of_two Pad a b c = omega arith
-
 pub judged-more : (lengths : Lengths) (ts : List Trace) (i : ℕ) (t : Trace) → 0 < i
     → slice_get ts i ≡ Some t
     → judged lengths (take (suc i) ts) ≡ of_two lengths (judged lengths (take i ts)) (length t)
@@ -166,7 +160,7 @@ judged-more lengths (u ∷ v ∷ ts) (suc zero) t lt e =
     ap (λ (x : Trace). of_two lengths (length u) (length x)) is
 judged-more lengths (u ∷ v ∷ ts) (suc (suc i)) t lt e =
     ap (of_two lengths (length u)) (judged-more lengths (v ∷ ts) (suc i) t (omega arith) e)
-    ∙ two-of_two lengths (length u) (judged lengths (take (suc i) (v ∷ ts))) (length t)
+    ∙ of_two-assoc lengths (length u) (judged lengths (take (suc i) (v ∷ ts))) (length t)
 
 -- ---- what is left of traces
 

@@ -1,52 +1,10 @@
 -- Members of lists, and lists of different members.
-use Rattle.std.proofs.Common.{◌≡◌, ℕ, zero, suc, ◌<◌, ◌≤◌, List, [], ◌∷◌, ◌++◌, length, map, take, set, slice_get, Some, inl, inr, refl, sym, ap, ◌∙◌, subst, arith}
+use Rattle.std.proofs.Common.{◌≡◌, ℕ, zero, suc, ◌<◌, ◌≤◌, List, [], ◌∷◌, ◌++◌, length, map, take, slice_get, Some, inl, inr, refl, sym, ap, ◌∙◌, subst, arith}
 use Rattle.std.specs.List.{Contains}
 use Rattle.std.proofs.lemmas.List.Elements.{Contains-append_cases}
+use Rattle.hy_base.proofs.Members.{contains-here, contains-later, contains-cases, contains-none, map-from}
 use Rattle.hy_formula.specs.Quantifiers.{Each}
-use Rattle.hy_formula.proofs.Tuples.{contains-here, contains-later, contains-cases, contains-none}
 use Rattle.tuple_walk.specs.Searches.{AreApart}
-
-pub map-of : {A B : Type 0} (f : A → B) (xs : List A) (x : A) → Contains xs x
-    → Contains (map f xs) (f x)
-map-of f [] x c = absurd (contains-none x c)
-map-of {A} {B} f (y ∷ ys) x c =
-    elim (contains-cases y x ys c) [
-      | inl e ↦
-          let P : A → Type 0 = λ q. Contains (f y ∷ map f ys) (f q) in
-          subst P e (contains-here (f y) (map f ys))
-      | inr later ↦ contains-later (f y) (f x) (map f ys) (map-of f ys x later)
-    ]
-
-pub map-from : {A B : Type 0} (f : A → B) (xs : List A) (y : B) → Contains (map f xs) y
-    → (x : A) × Contains xs x × (f x ≡ y)
-map-from f [] y c = absurd (contains-none y c)
-map-from f (x ∷ xs) y c =
-    elim (contains-cases (f x) y (map f xs) c) [
-      | inl e ↦ (x, contains-here x xs, e)
-      | inr later ↦
-          let (z, d, e) = map-from f xs y later in (z, contains-later x z xs d, e)
-    ]
-
-pub long-map : {A B : Type 0} (f : A → B) (xs : List A) → length (map f xs) ≡ length xs
-long-map f [] = refl
-long-map f (x ∷ xs) = ap suc (long-map f xs)
-
-pub map-take : {A B : Type 0} (f : A → B) (k : ℕ) (xs : List A)
-    → map f (take k xs) ≡ take k (map f xs)
-map-take f zero xs = refl
-map-take f (suc k) [] = refl
-map-take f (suc k) (x ∷ xs) = ap (λ ys. f x ∷ ys) (map-take f k xs)
-
-pub map-set : {A B : Type 0} (f : A → B) (xs : List A) (i : ℕ) (x : A)
-    → map f (set xs i x) ≡ set (map f xs) i (f x)
-map-set f [] i x = refl
-map-set f (y ∷ ys) zero x = refl
-map-set f (y ∷ ys) (suc i) x = ap (λ zs. f y ∷ zs) (map-set f ys i x)
-
-pub map-more : {A B : Type 0} (f : A → B) (xs : List A) (x : A)
-    → map f (xs ++ x ∷ []) ≡ map f xs ++ f x ∷ []
-map-more f [] x = refl
-map-more f (y ∷ ys) x = ap (λ zs. f y ∷ zs) (map-more f ys x)
 
 pub take-more : {A : Type 0} (xs : List A) (i : ℕ) (x : A) → slice_get xs i ≡ Some x
     → take (suc i) xs ≡ take i xs ++ x ∷ []
@@ -62,15 +20,6 @@ get-contains (y ∷ ys) zero x e =
     let P = Contains (y ∷ ys) in
     subst P same (contains-here y ys)
 get-contains (y ∷ ys) (suc i) x e = contains-later y x ys (get-contains ys i x e)
-
-pub each-at : {A : Type 0} (P : A → Type 0) (xs : List A) (x : A) → Each P xs → Contains xs x
-    → P x
-each-at P [] x h c = absurd (contains-none x c)
-each-at P (y ∷ ys) x h c =
-    elim (contains-cases y x ys c) [
-      | inl e ↦ subst P e h.0
-      | inr later ↦ each-at P ys x h.1 later
-    ]
 
 pub each-get : {A : Type 0} (P : A → Type 0) (n i : ℕ) (xs : List A) (x : A) → i < n
     → slice_get xs i ≡ Some x → Each P (take n xs) → P x
@@ -88,21 +37,6 @@ each-more P (suc n) zero (y ∷ ys) x lt e p h =
     let same : y ≡ x = cc in (subst P (sym same) p, tt)
 each-more P (suc n) (suc i) (y ∷ ys) x lt e p h =
     (h.0, each-more P n i ys x (omega arith) e p h.1)
-
-pub each-map : {A B : Type 0} (P : B → Type 0) (f : A → B) (xs : List A)
-    → Each (λ x. P (f x)) xs → Each P (map f xs)
-each-map P f [] h = tt
-each-map P f (x ∷ xs) h = (h.0, each-map P f xs h.1)
-
-pub each-append : {A : Type 0} (P : A → Type 0) (xs ys : List A) → Each P xs → Each P ys
-    → Each P (xs ++ ys)
-each-append P [] ys h k = k
-each-append P (x ∷ xs) ys h k = (h.0, each-append P xs ys h.1 k)
-
-pub each-like : {A : Type 0} (P Q : A → Type 0) → ((x : A) → P x → Q x) → (xs : List A)
-    → Each P xs → Each Q xs
-each-like P Q f [] h = tt
-each-like P Q f (x ∷ xs) h = (f x h.0, each-like P Q f xs h.1)
 
 -- ---- different members
 

@@ -1,8 +1,8 @@
 -- How many letters are left at most.
 use Rattle.std.proofs.Common.{◌≡◌, ℕ, zero, suc, ◌+◌, ◌-◌, ◌<◌, ◌≤◌, max, Bool, true, false, ◌||◌, List, [], ◌∷◌, length, map, set, get_or, inl, inr, refl, ap, arith}
 use Rattle.std.specs.List.{Contains, list_any}
+use Rattle.hy_base.proofs.Members.{contains-here, contains-later, contains-cases, contains-none}
 use Rattle.hy_formula.specs.Quantifiers.{Each}
-use Rattle.hy_formula.proofs.Tuples.{contains-here, contains-later, contains-cases, contains-none}
 use Rattle.hy_finite.specs.declared.lengths.Lengths.{Lengths}
 use Rattle.trace_trie.specs.Numbered.{Numbered, tail}
 use Rattle.tuple_walk.specs.declared.place.Taken.{Taken}

@@ -1,6 +1,7 @@
 -- One place further on a walk, and the next step.
 use Rattle.std.proofs.Common.{◌≡◌, ℕ, zero, suc, ◌+◌, ◌<◌, ◌≤◌, true, false, List, [], ◌∷◌, length, map, take, drop, set, slice_get, get_or, Option, Some, None, IfSome, IfNone, refl, sym, ap, ◌∙◌, subst, arith}
 use Rattle.std.specs.List.{list_any}
+use Rattle.std.proofs.lemmas.List.{length-map, length-take-le}
 use Rattle.hy_bits.specs.Letter.{Letter}
 use Rattle.hy_formula.specs.Quantifiers.{Each}
 use Rattle.hy_finite.specs.declared.lengths.Lengths.{Lengths}
@@ -14,21 +15,15 @@ use Rattle.tuple_walk.specs.Finds.{numbers_of}
 use Rattle.tuple_walk.specs.JointPrefixes.{entry}
 use Rattle.tuple_walk.specs.Places.{whole_of, IsOpen, IsMoved, IsWay, AreSome, HasNoGap, taken_of, letter_or, is_letter}
 use Rattle.tuple_walk.specs.Searches.{IsTupleOf, AreRejected, AreAccepted, AreAcceptedBy, IsAccepted, IsSearch, CanStop, AreEnded, AreSteps, AreStepsBy}
-use Rattle.tuple_walk.proofs.Lists.{long-map}
 use Rattle.tuple_walk.proofs.Choosing.{rejected-part, accepted-way, accepted-more, accepted-all, none-gaps, steps-more, steps-gap}
 use Rattle.tuple_walk.proofs.Ending.{stop-rejected, from-none}
 use Rattle.tuple_walk.proofs.Longest.{longest, longest-set}
 use Rattle.tuple_walk.proofs.Placing.{wholes-set, some-set, at-place}
 use Rattle.tuple_walk.proofs.Stepping.{left_at, tuple-forward, none-judged, taken-code, step-accepted, step-rejected}
 
-pub long-take : {A : Type 0} (n : ℕ) (xs : List A) → n ≤ length xs → length (take n xs) ≡ n
-long-take zero xs le = refl
-long-take (suc n) [] le = absurd (omega arith)
-long-take (suc n) (x ∷ xs) le = ap suc (long-take n xs (omega arith))
-
 pub long-places : (n : ℕ) (f : Place → List Numbered) (ps : List Place) → n ≤ length ps
     → length (map f (take n ps)) ≡ n
-long-places n f ps le = long-map f (take n ps) ∙ long-take n ps le
+long-places n f ps le = length-map (take n ps) f ∙ length-take-le n ps le
 
 module _ (n i : ℕ) (ps next : List Place) (p x : Place) (lt : i < n) (le : n ≤ length ps)
     (at : slice_get ps i ≡ Some p) (opens : Each IsOpen (drop i (take n ps)))
@@ -197,12 +192,6 @@ pub at-some : {A : Type 0} (xs : List A) (k : ℕ) → k < length xs
 at-some [] k lt = absurd (omega arith)
 at-some (x ∷ xs) zero lt = (x, refl)
 at-some (x ∷ xs) (suc k) lt = at-some xs k (omega arith)
-
-pub take-whole : {A : Type 0} (k : ℕ) (xs : List A) → length xs ≤ k → take k xs ≡ xs
-take-whole zero [] le = refl
-take-whole (suc k) [] le = refl
-take-whole zero (x ∷ xs) le = absurd (omega arith)
-take-whole (suc k) (x ∷ xs) le = ap (λ ys. x ∷ ys) (take-whole k xs (omega arith))
 
 pub gap-search : (m : Machine) (lengths : Lengths) (q n i : ℕ) (ps next : List Place)
     (p x : Place) (lt : i < n) (le : n ≤ length ps) (at : slice_get ps i ≡ Some p)

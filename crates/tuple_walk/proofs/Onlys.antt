@@ -2,9 +2,10 @@
 use Rattle.std.proofs.Common.{◌≡◌, ◌⊎◌, ℕ, zero, suc, ◌<◌, ◌≤◌, false, List, [], ◌∷◌, length, map, take, slice_get, Option, Some, None, IfNone, inl, inr, refl, sym, ap, ◌∙◌, subst, arith}
 use Rattle.std.specs.List.{Contains}
 use Rattle.std.specs.Option.{is_some}
+use Rattle.hy_base.proofs.Members.{contains-none, map-from, contains-one}
 use Rattle.hy_bits.specs.Letter.{Letter}
 use Rattle.hy_formula.specs.Quantifiers.{Each}
-use Rattle.hy_formula.proofs.Tuples.{contains-none}
+use Rattle.hy_formula.proofs.Each.{each-at, each-like}
 use Rattle.hy_finite.specs.declared.lengths.Lengths.{Lengths}
 use Rattle.hy_finite.specs.declared.lengths.Lengths.TheVariants.{Min, Pad}
 use Rattle.hy_finite.specs.Traces.{Trace, judged}
@@ -15,12 +16,10 @@ use Rattle.tuple_walk.specs.declared.place.Place.{Place}
 use Rattle.tuple_walk.specs.Finds.{traces_of}
 use Rattle.tuple_walk.specs.Places.{whole_of, IsWay, IsOnly, AreOnly, AreSome, HasNoGap}
 use Rattle.tuple_walk.specs.Searches.{AreFrom, IsTupleOf, IsSearch, IsPrefixIn, AreSteps}
-use Rattle.tuple_walk.proofs.Lists.{map-from, each-at, each-like}
 use Rattle.tuple_walk.proofs.Choosing.{part-traces}
 use Rattle.tuple_walk.proofs.Ending.{ended-trace}
 use Rattle.tuple_walk.proofs.Longest.{longest, longest_in, in-most, in-least}
 use Rattle.tuple_walk.proofs.Stepping.{left_at}
-use Rattle.tuple_walk.proofs.Ways.{contains-one}
 
 goes-on : (letters : List Letter) (rests : List Numbered) → AreLetters letters rests
     → (a : Letter) (t : Trace) → Contains (traces_of rests) (a ∷ t) → Contains letters a

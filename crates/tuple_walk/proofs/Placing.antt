@@ -1,11 +1,11 @@
 -- Four places of which the first ones are looked at.
 use Rattle.std.proofs.Common.{◌≡◌, ℕ, zero, suc, ◌+◌, ◌<◌, List, [], ◌∷◌, length, map, take, drop, set, slice_get, get_or, Some, refl, sym, ap, ◌∙◌, subst, arith}
+use Rattle.std.proofs.lemmas.List.{map-set}
 use Rattle.hy_formula.specs.Quantifiers.{Each}
 use Rattle.trace_trie.specs.Numbered.{Numbered}
 use Rattle.tuple_walk.specs.declared.place.Place.{Place}
 use Rattle.tuple_walk.specs.Four.{letters_in}
 use Rattle.tuple_walk.specs.Places.{whole_behind, whole_of, letters_at, open_at, IsOpen, AreSome}
-use Rattle.tuple_walk.proofs.Lists.{map-set}
 use Rattle.tuple_walk.proofs.Stepping.{left_at}
 
 take-set : {A : Type 0} (n : ℕ) (xs : List A) (i : ℕ) (x : A)

@@ -7,9 +7,9 @@ use Rattle.std.specs.FinSet.{empty, contains, contains-empty}
 use Rattle.std.specs.Ordering.{nat_cmp}
 use Rattle.std.proofs.Math.Bool.{or-false}
 use Rattle.std.proofs.lemmas.Bool.{OnFalse_at, OnFalse_from, cases_eq, ne_eqb}
+use Rattle.hy_base.proofs.Members.{contains-here, contains-later}
 use Rattle.hy_bits.specs.Letter.{Letter}
 use Rattle.hy_formula.specs.Quantifiers.{Each}
-use Rattle.hy_formula.proofs.Tuples.{contains-here, contains-later}
 use Rattle.hy_finite.specs.declared.lengths.Lengths.{Lengths}
 use Rattle.hy_finite.specs.Traces.{Trace, judged}
 use Rattle.fin_monitor.specs.Codes.{IndexedAtom, one_if, code_of, part_of, joint_letter}

@@ -1,10 +1,12 @@
 -- The tuples with a given trace at one place, and all others from a list.
-use Rattle.std.proofs.Common.{◌≡◌, ℕ, zero, suc, ◌+◌, ◌*◌, ◌-◌, ◌<◌, ◌≤◌, true, false, List, [], ◌∷◌, length, map, take, set, replicate, get_or, Option, Some, None, IfSome, IfNone, inl, inr, refl, sym, ap, ◌∙◌, subst, arith}
+use Rattle.std.proofs.Common.{◌≡◌, ℕ, zero, suc, ◌+◌, ◌*◌, ◌-◌, ◌<◌, ◌≤◌, true, false, List, [], ◌∷◌, length, map, take, set, replicate, get_or, Option, Some, None, IfSome, IfNone, refl, sym, ap, ◌∙◌, subst, arith}
 use Rattle.std.specs.List.{Contains}
 use Rattle.std.proofs.Math.Nat.{add-mul, mul-le-mul_right}
 use Rattle.std.specs.FinSet.{empty, contains}
+use Rattle.std.proofs.lemmas.List.{map-set, take-replicate, take-map}
+use Rattle.hy_base.proofs.Members.{contains-here, contains-later, contains-none, map-of, map-from, contains-one}
 use Rattle.hy_formula.specs.Quantifiers.{Each, IsTuple}
-use Rattle.hy_formula.proofs.Tuples.{contains-here, contains-later, contains-cases, contains-none}
+use Rattle.hy_formula.proofs.Each.{each-at}
 use Rattle.hy_finite.specs.declared.lengths.Lengths.{Lengths}
 use Rattle.hy_finite.specs.Traces.{Trace, judged, trace_words, Meets}
 use Rattle.fin_monitor.specs.Codes.{code_of}
@@ -16,13 +18,8 @@ use Rattle.tuple_walk.specs.Finds.{numbers_of, traces_of, AreViolating, IsFirst,
 use Rattle.tuple_walk.specs.JointPrefixes.{Row, IsPrefixOf, IsJointPrefix, IsFirstPrefix}
 use Rattle.tuple_walk.specs.Places.{AreSome, IsOpen, starts}
 use Rattle.tuple_walk.specs.Searches.{state_over, AreFrom, IsTupleOf, AreRejected, AreAccepted, IsSearch, IsPrefixIn, AreSteps}
-use Rattle.tuple_walk.proofs.Lists.{map-take, map-set, map-of, map-from, each-at, apart-most}
+use Rattle.tuple_walk.proofs.Lists.{apart-most}
 use Rattle.tuple_walk.proofs.Stepping.{left_at, all-judged, tuple-pairs}
-
-take-replicate : {A : Type 0} (n k : ℕ) (x : A) → n ≤ k → take n (replicate k x) ≡ replicate n x
-take-replicate zero k x le = refl
-take-replicate (suc n) zero x le = absurd (omega arith)
-take-replicate (suc n) (suc k) x le = ap (λ xs. x ∷ xs) (take-replicate n k x (omega arith))
 
 pub starts-right : (list : List Numbered) (x : Numbered) (n k p : ℕ) → n ≤ k → p < n
     → take n (set (replicate k list) p (x ∷ [])) ≡ starts list x n p
@@ -36,12 +33,6 @@ starts-right list x (suc n) (suc k) (suc p) le lt =
 some-in : {A : Type 0} (xs : List A) (x : A) → Contains xs x → 0 < length xs
 some-in [] x c = absurd (contains-none x c)
 some-in (y ∷ ys) x c = omega arith
-
-the-one : {A : Type 0} (x y : A) → Contains (x ∷ []) y → x ≡ y
-the-one x y c = elim (contains-cases x y [] c) [
-  | inl e ↦ e
-  | inr later ↦ absurd (contains-none y later)
-]
 
 module _ (list : List Numbered) (x : Numbered) (is : Contains list x) where
   some-copies : (n : ℕ) → AreSome (replicate n list)
@@ -69,7 +60,7 @@ module _ (list : List Numbered) (x : Numbered) (is : Contains list x) where
   from-starts (suc n) zero [] lt h = absurd h
   from-starts (suc n) zero (q ∷ ps) lt h =
       let t = from-copies n ps h.1 in
-      let e = the-one x q h.0 in
+      let e = contains-one x q h.0 in
       let P : Numbered → Type 0 = Contains list in
       let Q : Numbered → Type 0 = Contains (q ∷ ps) in (
         record { count = ap suc t.count; members = (subst P e is, t.members) },
@@ -134,7 +125,7 @@ pub start-rests : (n : ℕ) (ps all : List Place) (place : ℕ) (alone : Place)
     (ls : List (List Numbered)) (l : List Numbered) → ps ≡ set all place alone
     → map left_at all ≡ ls → left_at alone ≡ l → map left_at (take n ps) ≡ take n (set ls place l)
 start-rests n ps all place alone ls l e f g =
-    map-take left_at n ps ∙ ap (take n) (start-lists ps all place alone ls l e f g)
+    sym (take-map left_at n ps) ∙ ap (take n) (start-lists ps all place alone ls l e f g)
 
 -- nothing is taken at any of these
 pub start-open : (other alone : Place) (place : ℕ) (ps : List Place)

@@ -2,12 +2,15 @@
 use Rattle.std.proofs.Common.{◌≡◌, ℕ, zero, suc, ◌+◌, ◌-◌, ◌<◌, true, false, List, [], ◌∷◌, length, map, get_or, Some, refl, sym, ap, ◌∙◌, subst, arith}
 use Rattle.std.specs.List.{Contains, list_any}
 use Rattle.std.specs.FinSet.{empty, contains}
+use Rattle.std.proofs.lemmas.List.{length-map}
+use Rattle.hy_base.proofs.Members.{contains-here, map-of, map-from}
 use Rattle.hy_bits.specs.Letter.{Letter as NameSet}
 use Rattle.hy_formula.specs.Quantifiers.{Each}
-use Rattle.hy_formula.proofs.Tuples.{contains-here}
+use Rattle.hy_formula.proofs.Each.{each-at, each-map, each-like}
 use Rattle.hy_finite.specs.declared.lengths.Lengths.{Lengths}
 use Rattle.hy_finite.specs.declared.lengths.Lengths.TheVariants.{Min, Pad}
 use Rattle.hy_finite.specs.Traces.{Trace, of_two, judged, trace_words}
+use Rattle.hy_finite.proofs.JudgedLength.{of_two-some}
 use Rattle.fin_monitor.specs.Codes.{code_of, joint_letter}
 use Rattle.fin_monitor.specs.Machines.{Machine, next_state, is_accepting, code_at}
 use Rattle.trace_trie.specs.Numbered.{Numbered, tail}
@@ -19,7 +22,7 @@ use Rattle.tuple_walk.specs.JointPrefixes.{Row, entry, rows_of}
 use Rattle.tuple_walk.specs.Places.{rests_of, whole_behind, whole_of, IsMovedTo, IsMoved, AreSome, taken_entry, taken_of, letter_or, is_letter}
 use Rattle.tuple_walk.specs.Searches.{state_over, AreFrom, IsTupleOf, AreRejected, AreAccepted, IsPrefixIn, AreSteps}
 use Rattle.tuple_walk.proofs.Ways.{long-led}
-use Rattle.tuple_walk.proofs.Lists.{long-map, map-of, map-from, each-at, each-map, each-like, apart-map}
+use Rattle.tuple_walk.proofs.Lists.{apart-map}
 
 abbrev pub left_at : Place → List Numbered
 left_at p = rests_of p.spot
@@ -164,16 +167,12 @@ judged-tail lengths (t ∷ u ∷ ts) =
     (λ i. of_two lengths (length-tail t i) (judged-tail lengths (u ∷ ts) i))
     ∙ less-of_two lengths (length t) (judged lengths (u ∷ ts))
 
-some-of_two : (lengths : Lengths) (a b : ℕ) → 0 < a → 0 < b → 0 < of_two lengths a b
-some-of_two Min a b h k = omega arith
-some-of_two Pad a b h k = omega arith
-
 pub all-judged : (lengths : Lengths) (ts : List Trace) → 0 < length ts
     → Each (λ (t : Trace). 0 < length t) ts → 0 < judged lengths ts
 all-judged lengths [] some h = absurd (omega arith)
 all-judged lengths (t ∷ []) some h = h.0
 all-judged lengths (t ∷ u ∷ ts) some h =
-    some-of_two lengths (length t) (judged lengths (u ∷ ts)) h.0
+    of_two-some lengths (length t) (judged lengths (u ∷ ts)) h.0
     (all-judged lengths (u ∷ ts) (omega arith) h.1)
 
 any-judged : (ts : List Trace) → list_any is_letter (map entry ts) ≡ true → 0 < judged Pad ts
@@ -350,5 +349,5 @@ module _ (m : Machine) (lengths : Lengths) (q code next : ℕ) (places : List Pl
           (λ rows. IsPrefixIn lengths (map whole_of places) (behind_row rows)) prefix-behind
           s.visited s.inside),
     );
-    many = omega (arith, s.many, long-map behind_row s.visited);
+    many = omega (arith, s.many, length-map s.visited behind_row);
   }

@@ -1,8 +1,8 @@
 -- What may come behind a letter, and past the end of a trace.
 use Rattle.std.proofs.Common.{◌≡◌, ℕ, suc, ◌<◌, Bool, true, false, cond, List, [], ◌∷◌, length, map, Some, None, inl, inr, refl, sym, ap, ◌∙◌, subst, arith}
 use Rattle.std.specs.List.{Contains, filter}
+use Rattle.hy_base.proofs.Members.{contains-here, contains-later, contains-cases, contains-none, map-of, map-from, contains-one}
 use Rattle.hy_bits.specs.Letter.{Letter}
-use Rattle.hy_formula.proofs.Tuples.{contains-here, contains-later, contains-cases, contains-none}
 use Rattle.hy_finite.specs.Traces.{Trace}
 use Rattle.trace_trie.specs.Numbered.{Numbered, same_letter, begins, tail, under, led_by}
 use Rattle.trace_trie.proofs.Lettering.{equal-letter, letter-itself}
@@ -10,14 +10,6 @@ use Rattle.tuple_walk.specs.Finds.{traces_of}
 use Rattle.tuple_walk.specs.JointPrefixes.{entry}
 use Rattle.trace_trie.specs.Cursors.{AreLetters}
 use Rattle.tuple_walk.specs.Places.{first_letter, IsWay}
-use Rattle.tuple_walk.proofs.Lists.{map-of, map-from}
-
--- the only member
-pub contains-one : {A : Type 0} (x y : A) → Contains (x ∷ []) y → x ≡ y
-contains-one x y c = elim (contains-cases x y [] c) [
-  | inl e ↦ e
-  | inr later ↦ absurd (contains-none y later)
-]
 
 from-under : (a : Letter) (rests : List Numbered) (p : Numbered)
     → Contains (led_by a (under a rests)) p → Contains rests p

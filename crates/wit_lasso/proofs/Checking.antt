@@ -66,12 +66,6 @@ module _ (net : Net) (good : IsNet net) (n : ℕ) (some : 0 < n) (t : Tableau) (
 
 -- ---- a formula
 
-each-at : {A : Type 0} (P : A → Type 0) (xs : List A) → Each P xs → (d : A) (c : ℕ) →
-    c < length xs → P (get_or xs c d)
-each-at P [] all d c lt = absurd (omega arith)
-each-at P (x ∷ xs) (p, all) d zero lt = p
-each-at P (x ∷ xs) (p, all) d (suc c) lt = each-at P xs all d c (omega arith)
-
 at-each : {A : Type 0} (P : A → Type 0) (xs : List A) (d : A) →
     ((c : ℕ) → c < length xs → P (get_or xs c d)) → Each P xs
 at-each P [] d all = tt

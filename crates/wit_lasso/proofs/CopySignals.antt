@@ -1,13 +1,13 @@
 -- The signals of the copies: that of a name and a copy.
 use Rattle.std.proofs.Common.{◌≡◌, ℕ, zero, suc, ◌+◌, ◌<◌, ◌≤◌, Bool, true, false, ◌&&◌, cond, nat_eq, List, [], ◌∷◌, ◌++◌, Option, Some, None, unwrap_or, All, inl, inr, refl, sym, ap, ◌∙◌, subst, arith}
 use Rattle.std.specs.Option.{option_map}
-use Rattle.std.proofs.lemmas.Bool.{cases_eq}
+use Rattle.std.proofs.lemmas.Bool.{cases_eq, ne_eqb}
 use Rattle.std.proofs.lemmas.Bool.Decides.{Decides-eqb}
+use Rattle.hy_base.proofs.Truths.{and-false, and-true}
 use Rattle.aig_net.specs.declared.signals.Signal.{Signal}
 use Rattle.aig_net.specs.Nets.{Net, Below, variables}
 use Rattle.aig_net.specs.Signals.{literal_of}
 use Rattle.aig_net.specs.Wires.{listed}
-use Rattle.aig_net.proofs.Listed.{not_true}
 use Rattle.self_compose.specs.Copies.{compose, copy_literal}
 use Rattle.self_compose.proofs.Copying.{each-copied}
 use Rattle.self_compose.proofs.Tuples.{copy-below}
@@ -15,17 +15,6 @@ use Rattle.sym_tableau.specs.Oracles.{signal_in}
 use Rattle.sym_tableau.specs.Places.{AreWithin}
 use Rattle.sym_tableau.proofs.Rooms.{signal-below}
 use Rattle.wit_lasso.specs.FormulaNets.{AreOwn, copy_signal, copy_signals}
-
-other : (a c : ℕ) → (a ≡ c → ⊥) → nat_eq a c ≡ false
-other a c apart = not_true _ (λ is. apart ((Decides-eqb a c).0 is))
-
-and-false : (b : Bool) → (b && false) ≡ false
-and-false true = refl
-and-false false = refl
-
-and-true : (b : Bool) → (b && true) ≡ b
-and-true true = refl
-and-true false = refl
 
 module _ (n name : ℕ) (s : Signal) (rest : List Signal) where
   abbrev own : ℕ → Signal
@@ -35,7 +24,7 @@ module _ (n name : ℕ) (s : Signal) (rest : List Signal) where
       literal_of (listed a m own ++ rest) name c ≡ literal_of rest name c
   past zero a c lt = refl
   past (suc m) a c lt =
-      let no : nat_eq a c ≡ false = other a c (λ e. omega (arith, e, lt)) in
+      let no : nat_eq a c ≡ false = ne_eqb a c (λ e. omega (arith, e, lt)) in
       ap (λ b. cond (nat_eq s.name name && b) (Some (copy_literal n a s.literal))
       (literal_of (listed (suc a) m own ++ rest) name c)) no
       ∙ ap (λ b. cond b (Some (copy_literal n a s.literal))
@@ -61,7 +50,7 @@ module _ (n name : ℕ) (s : Signal) (rest : List Signal) where
             ∙ ap (λ o. cond (nat_eq s.name name) (Some (copy_literal n c s.literal)) o)
             (past m (suc c) c (omega arith)))
         | inr apart ↦
-            let no : nat_eq a c ≡ false = other a c apart in
+            let no : nat_eq a c ≡ false = ne_eqb a c apart in
             ap (λ b. cond (nat_eq s.name name && b) (Some (copy_literal n a s.literal))
             (literal_of (listed (suc a) m own ++ rest) name c)) no
             ∙ ap (λ b. cond b (Some (copy_literal n a s.literal))

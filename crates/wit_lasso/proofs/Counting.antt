@@ -1,5 +1,5 @@
 -- The free latches of copies of a net with oracles.
-use Rattle.std.proofs.Common.{◌≡◌, ℕ, zero, suc, ◌+◌, ◌*◌, ◌<◌, ◌≤◌, Bool, true, false, cond, length, refl, sym, ap, ◌∙◌, arith, inl, inr}
+use Rattle.std.proofs.Common.{◌≡◌, ℕ, zero, suc, ◌+◌, ◌*◌, ◌<◌, ◌≤◌, Bool, true, false, cond, length, refl, ap, ◌∙◌, arith, inl, inr}
 use Rattle.std.proofs.lemmas.Bool.{cases_eq}
 use Rattle.aig_net.specs.declared.parts.Reset.TheVariants.{Zero}
 use Rattle.aig_net.specs.Nets.{Net, IsNet, reset_at}
@@ -17,27 +17,6 @@ none-below test zero off = refl
 none-below test (suc n) off =
     ap (λ b. cond b (suc (count_below test n)) (count_below test n)) (off n (omega arith))
     ∙ none-below test n (λ k lt. off k (omega arith))
-
--- what passes is counted
-pub count-less : (test : ℕ → Bool) (n j : ℕ) → j < n → test j ≡ true →
-    count_below test j < count_below test n
-count-less test zero j lt is = absurd (omega arith)
-count-less test (suc n) j lt is =
-    elim (cases_eq j n) [
-      | inl e ↦
-          let here : test n ≡ true = ap test (sym e) ∙ is in
-          let same = ap (count_below test) e in
-          let up : count_below test (suc n) ≡ suc (count_below test n) =
-          ap (λ b. cond b (suc (count_below test n)) (count_below test n)) here in
-          omega (arith, same, up)
-      | inr apart ↦
-          let less = count-less test n j (omega (arith, apart)) is in
-          omega (arith, less, more (test n) (count_below test n))
-    ]
-  where
-    more : (b : Bool) (c : ℕ) → c ≤ cond b (suc c) c
-    more true c = omega arith
-    more false c = omega arith
 
 -- what is counted behind s where nothing is below
 behind : (test other : ℕ → Bool) (s n : ℕ) → ((k : ℕ) → k < s → test k ≡ false) →

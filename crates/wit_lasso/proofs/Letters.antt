@@ -1,8 +1,8 @@
 -- What is seen of a valuation, one signal more at a time; and of rows and of a run.
-use Rattle.std.proofs.Common.{◌≡◌, ◌≢◌, ℕ, zero, suc, ◌+◌, ◌-◌, ◌%◌, ◌<◌, ◌≤◌, Bool, true, false, ◌&&◌, cond, List, [], ◌∷◌, ◌++◌, length, drop, take, map, get_or, slice_get, IsTrue, Some, unwrap_or, inl, inr, refl, sym, ap, ◌∙◌, subst, arith, length-append}
+use Rattle.std.proofs.Common.{◌≡◌, ◌≢◌, ℕ, zero, suc, ◌+◌, ◌-◌, ◌%◌, ◌<◌, ◌≤◌, Bool, true, false, cond, List, [], ◌∷◌, ◌++◌, length, drop, take, map, get_or, slice_get, IsTrue, Some, unwrap_or, inl, inr, refl, sym, ap, ◌∙◌, subst, arith, length-append}
 use Rattle.std.proofs.Math.Nat.{mod-lt}
 use Rattle.std.proofs.Math.Seq.{drop-cons}
-use Rattle.std.proofs.lemmas.Bool.{cases_eq, cases_lt, ltb-true}
+use Rattle.std.proofs.lemmas.Bool.{cases_eq, cases_lt, ltb-true, false_from_ne_true, and_parts, and_from, cond-true, cond-false}
 use Rattle.std.proofs.lemmas.Bool.Decides.{Decides-eqb}
 use Rattle.std.proofs.lemmas.List.{get_or_append_left, get_or-append-add, length-map, map-append, take_more}
 use Rattle.std.specs.FinSet.{contains, contains-empty, empty, insert, remove}
@@ -19,28 +19,12 @@ use Rattle.aig_net.specs.Following.{row_at}
 use Rattle.aig_net.specs.Nets.{Net, Valuation, literal_value, row, variables}
 use Rattle.aig_net.specs.Signals.{are_signals, is_for, literal_of, shown}
 use Rattle.aig_net.specs.Simulations.{IsExecutionOf, valuations}
-use Rattle.aig_net.proofs.Listed.{at-map, not_true}
+use Rattle.aig_net.proofs.Listed.{at-map}
 use Rattle.aig_net.proofs.Rounds as rounds
 use Rattle.sym_tableau.specs.Places.{AreWithin}
 use Rattle.wit_lasso.specs.Seeing.{AreSeen, Counts, IsSeen, ShowsTrace}
 
 -- ---- one signal
-
-and-both : (a b : Bool) → (a && b) ≡ true → (a ≡ true) × (b ≡ true)
-and-both true b e = (refl, e)
-and-both false b e = absurd (cc)
-
-both-and : (a b : Bool) → a ≡ true → b ≡ true → (a && b) ≡ true
-both-and true b e h = h
-both-and false b e h = absurd (cc)
-
-cond-true : {A : Type 0} (b : Bool) (x y : A) → b ≡ true → cond b x y ≡ x
-cond-true true x y e = refl
-cond-true false x y e = absurd (cc)
-
-cond-false : {A : Type 0} (b : Bool) (x y : A) → b ≡ false → cond b x y ≡ y
-cond-false true x y e = absurd (cc)
-cond-false false x y e = refl
 
 module _ (s : Signal) (letter : Letter) where
   counts-by : (v : Valuation) (later : Letter) (b : Bool) → s.var ≡ 0 →
@@ -54,11 +38,11 @@ module _ (s : Signal) (letter : Letter) where
             subst P (sym e) (here ∙ sym is
             ∙ sym (cond-true (is_for s.name 0 s) (literal_value v s.literal)
             (contains letter s.name)
-            (both-and _ _ ((Decides-eqb s.name s.name).1 refl) ((Decides-eqb s.var 0).1 own))))
+            (and_from _ _ ((Decides-eqb s.name s.name).1 refl) ((Decides-eqb s.var 0).1 own))))
         | inr apart ↦
             others name apart
             ∙ sym (cond-false (is_for name 0 s) (literal_value v s.literal) (contains letter name)
-            (not_true _ (λ h. apart (sym ((Decides-eqb s.name name).0 (and-both _ _ h).0)))))
+            (false_from_ne_true _ (λ h. apart (sym ((Decides-eqb s.name name).0 (and_parts _ _ h).0)))))
       ]
 
   pub counts_true : (v : Valuation) → s.var ≡ 0 → literal_value v s.literal ≡ true →
@@ -74,19 +58,19 @@ module _ (s : Signal) (letter : Letter) where
   pub counts_none : (v : Valuation) → (s.var ≡ 0 → ⊥) → Counts s v letter letter
   counts_none v other name =
       sym (cond-false (is_for name 0 s) (literal_value v s.literal) (contains letter name)
-      (not_true _ (λ h. other ((Decides-eqb s.var 0).0 (and-both _ _ h).1))))
+      (false_from_ne_true _ (λ h. other ((Decides-eqb s.var 0).0 (and_parts _ _ h).1))))
 
 -- ---- all signals, from the last to the first
 
-pub name-small : (signals : List Signal) (i : ℕ) (s : Signal) → IsTrue (are_signals signals) →
+pub small_name : (signals : List Signal) (i : ℕ) (s : Signal) → IsTrue (are_signals signals) →
     slice_get signals i ≡ Some s → s.name < 64
-name-small [] i s are e = absurd (cc)
-name-small (x ∷ signals) zero s are e =
+small_name [] i s are e = absurd (cc)
+small_name (x ∷ signals) zero s are e =
     let P : Signal → Type 0 = λ x. x.name < 64 in
     let same : x ≡ s = cc in
-    subst P same (ltb-true x.name 64 (and-both _ _ (and-both _ _ are).0).0)
-name-small (x ∷ signals) (suc i) s are e =
-    name-small signals i s (and-both _ _ are).1 e
+    subst P same (ltb-true x.name 64 (and_parts _ _ (and_parts _ _ are).0).0)
+small_name (x ∷ signals) (suc i) s are e =
+    small_name signals i s (and_parts _ _ are).1 e
 
 pub got : {A : Type 0} (xs : List A) (i : ℕ) (x d : A) → slice_get xs i ≡ Some x →
     (i < length xs) × (get_or xs i d ≡ x)

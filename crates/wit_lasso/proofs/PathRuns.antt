@@ -1,8 +1,8 @@
 -- The runs that are read off the rows of a path are those of the lassos for which it stands.
 use Rattle.std.proofs.Common.{◌≡◌, ℕ, zero, suc, ◌+◌, ◌-◌, ◌*◌, ◌^◌, ◌<◌, ◌≤◌, Bool, true, false, not, ◌&&◌, cond, List, [], ◌∷◌, map, take, drop, length, inl, inr, refl, sym, ap, ◌∙◌, subst, arith}
-use Rattle.std.proofs.Math.Nat.{mul-le-mul_left}
 use Rattle.std.proofs.lemmas.Bool.{cases_lt}
 use Rattle.std.proofs.lemmas.List.{get_or-drop, get_or-take, length-drop, length-take-le}
+use Rattle.hy_base.proofs.Places.{below-row}
 use Rattle.aig_net.specs.declared.parts.Reset.{Reset}
 use Rattle.aig_net.specs.declared.parts.Reset.TheVariants.{Zero, One, Free}
 use Rattle.aig_net.specs.declared.run.Run.{Run}
@@ -10,7 +10,7 @@ use Rattle.aig_net.specs.Nets.{Net, IsNet, Valuation, latch_variable, literal_va
 use Rattle.aig_net.specs.Executions.{Word, lasso_of, part, step_at}
 use Rattle.aig_net.specs.Following.{row_at}
 use Rattle.aig_net.specs.Wires.{listed, wire_value}
-use Rattle.aig_net.proofs.Listed.{at-listed, length-listed}
+use Rattle.aig_net.proofs.Listed.{at-listed, length-listed, true-or-left, true-or-right}
 use Rattle.aig_net.proofs.Literals.{value-even}
 use Rattle.self_compose.specs.Copies.{compose, place}
 use Rattle.self_compose.proofs.Copying.{length-copied}
@@ -20,14 +20,15 @@ use Rattle.live_safe.specs.declared.safe_net.Path.{Path}
 use Rattle.live_safe.specs.declared.safe_net.SafeNet.{SafeNet}
 use Rattle.live_safe.specs.Paths.{IsBadPath}
 use Rattle.live_safe.specs.Safe as safe
-use Rattle.live_safe.specs.Safe.{begun, effective, free_input, has_begun, safe_inputs, safe_latches, saved, set_at, shown, shown_word, to_safe}
+use Rattle.live_safe.specs.Safe.{begun, effective, free_input, has_begun, safe_inputs, safe_latches, saved, shown, to_safe}
 use Rattle.live_safe.proofs.SafeGates.{many-safe-latches, next_saved-value, shown-latch, variable-early}
 use Rattle.live_safe.proofs.Starts.{start-false}
-use Rattle.live_safe.proofs.Unfolding.{is-set-begun, on-first}
+use Rattle.live_safe.proofs.Unfolding.{is-set-begun, on-first, copy-stays}
+use Rattle.live_safe.proofs.Shapes.{count-below}
 use Rattle.wit_lasso.specs.FormulaNets.{Tableau, tableau_net}
 use Rattle.wit_lasso.specs.PathParts.{AreRows, free_before, is_free_at, own_inputs, own_latches, own_run, start_value, take_place}
 use Rattle.wit_lasso.specs.Unfoldings.{AreUnfolded, IsRunOf, IsSafeOf, GoesToBad, IsUnfolding, Saves, ShowsInputs, copy_lasso, copy_word, inputs_of, latches_of}
-use Rattle.wit_lasso.proofs.Counting.{count-less, free-there, inputs-are, place-is, reset-there}
+use Rattle.wit_lasso.proofs.Counting.{free-there, inputs-are, place-is, reset-there}
 use Rattle.wit_lasso.proofs.PathLassos.{copy-is, lasso-at, some-saves}
 use Rattle.wit_lasso.proofs.Steps.{listed-same}
 
@@ -59,15 +60,6 @@ module _ (tab : Net) (k : ℕ) (word : Word) (bad : IsBadPath (to_safe tab) k wo
   neither true b e h = absurd (cc)
   neither false true e h = absurd (cc)
 
-  first-true : (a b : Bool) → a ≡ true → not (not a && not b) ≡ true
-  first-true true b e = refl
-  first-true false b e = absurd (cc)
-
-  then-true : (a b : Bool) → b ≡ true → not (not a && not b) ≡ true
-  then-true true true e = refl
-  then-true false true e = refl
-  then-true a false e = absurd (cc)
-
   not-yet : (n : ℕ) → n ≤ k → ((i : ℕ) → i < n → taken i ≡ false) → is-saved n ≡ false
   not-yet zero le off = saved-first
   not-yet (suc n) le off =
@@ -78,11 +70,11 @@ module _ (tab : Net) (k : ℕ) (word : Word) (bad : IsBadPath (to_safe tab) k wo
       is-saved (suc (n + d)) ≡ true
   from-then n lt on zero le =
       let e : n + 0 ≡ n = omega arith in
-      ap (λ i. is-saved (suc i)) e ∙ saved-next n lt ∙ then-true _ _ on
+      ap (λ i. is-saved (suc i)) e ∙ saved-next n lt ∙ true-or-right _ _ on
   from-then n lt on (suc d) le =
       let e : n + suc d ≡ suc (n + d) = omega arith in
       ap (λ i. is-saved (suc i)) e ∙ saved-next (suc (n + d)) (omega arith)
-      ∙ first-true _ _ (from-then n lt on d (omega arith))
+      ∙ true-or-left _ _ (from-then n lt on d (omega arith))
 
   -- the first step whose input `take` is true saves
   pub start-saves : (start : ℕ) → start ≤ k → ((i : ℕ) → i < start → taken i ≡ false) →
@@ -123,9 +115,6 @@ rows-part f g word (x ∷ rows) s same =
 part-long : (g : Valuation → List Bool) (word : Word) (s a b : ℕ) → a ≡ b →
     map g (part word s a) ≡ map g (part word s b)
 part-long g word s a b e = ap (λ n. map g (part word s n)) e
-
-below-row : (n c j m : ℕ) → c < n → j < m → j * n + c < m * n
-below-row n c j m few lt = let l : n * suc j ≤ n * m = mul-le-mul_left n lt in omega (arith, l, few)
 
 -- ---- one path
 
@@ -180,11 +169,6 @@ module _ (net : Net) (good : IsNet net) (n : ℕ) (some : 0 < n) (t : Tableau) (
       let u : ℕ = suc (length tab.fairs + (length tab.latches + length tab.latches)) in
       value-even (word 0) (suc (safe_inputs tab + u))
       ∙ start-false tab (word 0) bad.starts u (omega (arith, one))
-
-  choice-first : (b r x : Bool) → b ≡ false → not (not (b && r) && not (not b && x)) ≡ x
-  choice-first false r true e = refl
-  choice-first false r false e = refl
-  choice-first true r x e = absurd (cc)
 
   -- the latch of the copies that is latch j of copy c
   abbrev there : ℕ → ℕ → ℕ
@@ -260,13 +244,13 @@ module _ (net : Net) (good : IsNet net) (n : ℕ) (some : 0 < n) (t : Tableau) (
           get_or-drop at-free (row_at rows 0) u false ∙ ap (row (row_at rows 0)) at-row
           ∙ shows.rows 0 v pos (within f) ∙ sym (value-even (word 0) (suc v))
           ∙ ap (literal_value (word 0)) (sym same)
-          ∙ sym (choice-first _ _ _ (set-there Free e refl)) ∙ wire-of Free e
+          ∙ sym (copy-stays _ _ _ (set-there Free e refl)) ∙ wire-of Free e
         where
           within : safe_inputs tab ≡ net.inputs * n + oracles t.nodes + suc
               (free_before net.resets (length net.resets) * n) →
               tab.inputs + suc (free_before net.resets j * n + c) < (to_safe tab).net.inputs
           within f =
-              let less' = count-less (is_free_at net.resets) (length net.resets) j less
+              let less' = count-below (is_free_at net.resets) (length net.resets) j less
               (ap safe.is_free e) in
               let row = below-row n c (free_before net.resets j)
               (free_before net.resets (length net.resets)) few less' in

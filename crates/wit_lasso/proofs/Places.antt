@@ -6,8 +6,8 @@ use Rattle.aig_net.specs.declared.parts.Reset.{Reset}
 use Rattle.aig_net.specs.Nets.{reset_at}
 use Rattle.live_safe.specs.Safe.{is_free}
 use Rattle.live_safe.proofs.Counting.{count-upto, count-within}
+use Rattle.live_safe.proofs.Shapes.{count-below}
 use Rattle.wit_lasso.specs.PathParts.{free_before, is_free_at}
-use Rattle.wit_lasso.proofs.Counting.{count-less}
 
 pub few_free : (resets : List Reset) (j : ℕ) → free_before resets j ≤ j
 few_free resets j = count-upto (is_free_at resets) j
@@ -29,7 +29,7 @@ pub free_place : (resets : List Reset) (n c j : ℕ) → j < length resets →
     is_free (reset_at resets j) ≡ true → c < n →
     free_before resets j * n + c < free_before resets (length resets) * n
 free_place resets n c j lt is few =
-    let less = count-less (is_free_at resets) (length resets) j lt is in
+    let less = count-below (is_free_at resets) (length resets) j lt is in
     let l : n * suc (free_before resets j) ≤ n * free_before resets (length resets) =
     mul-le-mul_left n less in
     omega (arith, l, few)

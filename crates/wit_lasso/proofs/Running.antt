@@ -1,12 +1,11 @@
 -- The run of a lasso execution is that of values which agree with it.
-use Rattle.std.proofs.Common.{◌≡◌, ℕ, zero, suc, ◌+◌, ◌-◌, ◌/◌, ◌%◌, ◌<◌, ◌≤◌, Bool, false, ◌&&◌, List, [], ◌∷◌, ◌++◌, map, take, drop, length, inl, inr, refl, sym, ap, ◌∙◌, subst, arith, length-append}
+use Rattle.std.proofs.Common.{◌≡◌, ℕ, zero, suc, ◌+◌, ◌-◌, ◌%◌, ◌<◌, ◌≤◌, Bool, false, List, [], ◌∷◌, ◌++◌, map, take, drop, length, inl, inr, refl, sym, ap, ◌∙◌, subst, arith, length-append}
 use Rattle.std.proofs.Math.Nat.{mod-lt}
 use Rattle.std.proofs.lemmas.Bool.{cases_lt}
 use Rattle.std.proofs.lemmas.List.{ext_get_or, get_or-drop, get_or-take, length-drop, length-map, length-take-le, map-append}
-use Rattle.aig_net.specs.declared.parts.And.{And}
 use Rattle.aig_net.specs.declared.run.Run.{Run}
 use Rattle.aig_net.specs.declared.run.ValueLasso.{ValueLasso}
-use Rattle.aig_net.specs.Nets.{Net, IsNet, Valuation, AllBelow, AllTrue, IsRight, IsStart, IsStep, ResetTo, and_at, and_value, first_and, latch_variable, literal_at, literal_value, reset_at, row, variables}
+use Rattle.aig_net.specs.Nets.{Net, IsNet, Valuation, IsStep, latch_variable, literal_at, literal_value, row, variables}
 use Rattle.aig_net.specs.Executions.{Lasso, IsLassoExecution, gone, no_values, step_at, steps, value_in}
 use Rattle.aig_net.specs.Following.{AreFull, row_at}
 use Rattle.aig_net.specs.Rows.{input_row, latch_row}
@@ -15,44 +14,10 @@ use Rattle.aig_net.specs.Wires.{listed}
 use Rattle.aig_net.proofs.Listed.{at-listed, at-map, length-listed}
 use Rattle.aig_net.proofs.Literals.{value-same}
 use Rattle.aig_net.proofs.Rounds.{in-cycle, in-stem}
+use Rattle.aig_net.proofs.Likeness.{true-alike, start-alike, right-alike, step-alike, Alike}
 use Rattle.wit_lasso.specs.Unfoldings.{IsRunOf, inputs_of, latches_of}
 
--- The valuations agree on the variables of the net.
-abbrev pub Alike : Net → Valuation → Valuation → Type 0
-Alike net v w = (u : ℕ) → u < variables net → v u ≡ w u
-
 module _ (net : Net) (good : IsNet net) where
-  true-same : (literals : List ℕ) (v w : Valuation) → AllBelow (variables net) literals →
-      Alike net v w → AllTrue literals v → AllTrue literals w
-  true-same literals v w all same is j lt =
-      sym (value-same v w (literal_at literals j) (same _ (all j lt))) ∙ is j lt
-
-  start-same : (v w : Valuation) → Alike net v w → IsStart net v → IsStart net w
-  start-same v w same starts j lt =
-      let P : Bool → Type 0 = ResetTo (reset_at net.resets j) in
-      subst P (same (latch_variable net j) (omega arith)) (starts j lt)
-
-  and-same : (v w : Valuation) (a : And) → v (a.left / 2) ≡ w (a.left / 2) →
-      v (a.right / 2) ≡ w (a.right / 2) → and_value v a ≡ and_value w a
-  and-same v w a l r =
-      ap (λ b. b && literal_value v a.right) (value-same v w a.left l)
-      ∙ ap (λ b. literal_value w a.left && b) (value-same v w a.right r)
-
-  right-same : (v w : Valuation) → Alike net v w → IsRight net v → IsRight net w
-  right-same v w same right = record {
-    constant = sym (same 0 (omega arith)) ∙ right.constant;
-    gates = λ j lt.
-        let (l, r) = good.ordered j lt in
-        sym (same (first_and net + j) (omega arith)) ∙ right.gates j lt
-        ∙ and-same v w (and_at net.ands j) (same _ (omega (arith, l))) (same _ (omega (arith, r)));
-  }
-
-  step-same : (v w v' w' : Valuation) → Alike net v v' → Alike net w w' → IsStep net v w →
-      IsStep net v' w'
-  step-same v w v' w' same same' goes j lt =
-      sym (same' (latch_variable net j) (omega arith)) ∙ goes j lt
-      ∙ value-same v v' (literal_at net.latches j) (same _ (good.latches j lt))
-
   -- ---- rows of values
 
   full_row : Valuation → List Bool
@@ -137,9 +102,9 @@ module _ (net : Net) (good : IsNet net) where
         (at-map row [] no_values (map full_row list) i (omega (arith, many, lt))
         ∙ ap row (at-map full_row no_values [] list i lt)))
 
-    step-alike : (i : ℕ) → i < steps lasso → Alike net (step_at lasso i) (step_at made i)
+    made-alike : (i : ℕ) → i < steps lasso → Alike net (step_at lasso i) (step_at made i)
     unfolding values
-    step-alike i lt =
+    made-alike i lt =
         let joined : map row (map full_row (lasso.stem ++ lasso.cycle)) ≡ made.stem ++ made.cycle =
         ap (map row) (map-append full_row lasso.stem lasso.cycle)
         ∙ map-append row (map full_row lasso.stem) (map full_row lasso.cycle) in
@@ -155,16 +120,16 @@ module _ (net : Net) (good : IsNet net) where
     unfolding values
     made-is is = record {
       some = let b = cycles in omega (arith, b, is.some);
-      starts = start-same (step_at lasso 0) (step_at made 0)
-          (step-alike 0 (omega (arith, is.some))) is.starts;
+      starts = start-alike net good (step_at lasso 0) (step_at made 0)
+          (made-alike 0 (omega (arith, is.some))) is.starts;
       right = λ i lt. let few : i < steps lasso = omega (arith, whole, lt) in
-          right-same (step_at lasso i) (step_at made i) (step-alike i few) (is.right i few);
+          right-alike net good (step_at lasso i) (step_at made i) (made-alike i few) (is.right i few);
       kept = λ i lt. let few : i < steps lasso = omega (arith, whole, lt) in
-          true-same net.constraints (step_at lasso i) (step_at made i) good.constraints
-          (step-alike i few) (is.kept i few);
+          true-alike net good net.constraints (step_at lasso i) (step_at made i) good.constraints
+          (made-alike i few) (is.kept i few);
       goes = λ i lt. let few : suc i < steps lasso = omega (arith, whole, lt) in
-          step-same (step_at lasso i) (step_at lasso (suc i)) (step_at made i)
-          (step_at made (suc i)) (step-alike i (omega (arith, few))) (step-alike (suc i) few)
+          step-alike net good (step_at lasso i) (step_at lasso (suc i)) (step_at made i)
+          (step_at made (suc i)) (made-alike i (omega (arith, few))) (made-alike (suc i) few)
           (is.goes i few);
       back =
           let P : ℕ → ℕ → Type 0 = λ x y. IsStep net (step_at made x) (step_at made y) in
@@ -172,10 +137,10 @@ module _ (net : Net) (good : IsNet net) where
           let R : ℕ → Type 0 = P (steps lasso - 1) in
           let last : steps lasso - 1 ≡ steps made - 1 = omega (arith, whole) in
           subst Q last (subst R (sym stems)
-          (step-same (step_at lasso (steps lasso - 1)) (step_at lasso (length lasso.stem))
+          (step-alike net good (step_at lasso (steps lasso - 1)) (step_at lasso (length lasso.stem))
           (step_at made (steps lasso - 1)) (step_at made (length lasso.stem))
-          (step-alike (steps lasso - 1) (omega (arith, is.some)))
-          (step-alike (length lasso.stem) (omega (arith, is.some))) is.back));
+          (made-alike (steps lasso - 1) (omega (arith, is.some)))
+          (made-alike (length lasso.stem) (omega (arith, is.some))) is.back));
       fair = λ j lt.
           let (k, below, here) = is.fair j lt in (
             k,

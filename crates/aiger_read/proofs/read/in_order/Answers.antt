@@ -1,10 +1,10 @@
 use Rattle.std.proofs.Common.{◌≡◌, ℕ, ◌≤◌, ◌∷◌, ◌++◌, ◌/◌, ◌∙◌, List, length, take, ap, arith, sym, map}
-use Rattle.std.proofs.lemmas.List.{take_all}
+use Rattle.std.proofs.lemmas.List.{take_all, map-append}
 use Rattle.aig_order.specs.Gates.{gate_at}
 use Rattle.aiger_body.specs.declared.content.Content.{Content}
 use Rattle.aiger_body.specs.declared.content.Latch.{Latch}
 use Rattle.aiger_body.specs.Files.{own_literal, own_variables}
-use Rattle.aiger_body.proofs.Known.{map-twice, map-joined}
+use Rattle.aiger_body.proofs.Known.{map-twice}
 use Rattle.aiger_read.proofs.read.in_order.Goals as goal
 
 -- the constant, and the variables of inputs and latches
@@ -12,7 +12,7 @@ own-list : (c : Content) (list : List ℕ) (i : ℕ) → length c.latches ≤ i 
 own-list c list i all is =
     is ∙ ap (λ l. (0 ∷ map (λ x. x / 2) c.inputs) ++ map (λ (x : Latch). x.own / 2) l) (take_all i c.latches all)
     ∙ ap (λ l. (0 ∷ map (λ x. x / 2) c.inputs) ++ l) (sym (map-twice own_literal (λ x. x / 2) c.latches))
-    ∙ ap (λ l. 0 ∷ l) (sym (map-joined (λ x. x / 2) c.inputs (map own_literal c.latches)))
+    ∙ ap (λ l. 0 ∷ l) (sym (map-append (λ x. x / 2) c.inputs (map own_literal c.latches)))
 
 pub returns : goal.returns
 returns c =

@@ -1,10 +1,11 @@
 use Rattle.std.proofs.Common.{◌≡◌, ◌+◌, ℕ, suc, ◌∷◌, [], length, ap, ◌∙◌, arith}
 use Rattle.std.specs.FinSet.{empty}
+use Rattle.std.proofs.lemmas.List.{get_or_default}
 use Rattle.hy_formula.specs.Temporal.{Words}
 use Rattle.hy_finite.specs.Traces.{trace_words}
 use Rattle.fin_monitor.specs.Machines.{Machine, next_state, state_after}
 use Rattle.fin_monitor.specs.Seen.{machine_of}
-use Rattle.dominance.proofs.Meaning.{one-code, other-default}
+use Rattle.dominance.proofs.Meaning.{one-code}
 use Rattle.dominance.proofs.compare.satisfies.Goals as goal
 
 pub loop-letter-preserved : goal.loop-letter-preserved
@@ -13,7 +14,7 @@ loop-letter-preserved g c =
     let i : ℕ = c.loop-letter.letter-index in
     let words : Words = trace_words (c.args.t.now ∷ []) in
     let letter = c.letter-item.is
-    ∙ other-default c.args.t.now i c.letter-item.result empty c.loop-letter-test.true in
+    ∙ get_or_default c.args.t.now i c.letter-item.result empty c.loop-letter-test.true in
     record {
       within = c.step-q.ensures.within;
       state = c.step-q.ensures.next

@@ -1,10 +1,11 @@
 use Rattle.std.proofs.Common.{List, ◌++◌, ◌∷◌, [], map, take, sym, ap, ◌∙◌, subst}
 use Rattle.std.specs.Prelude.{replicate}
 use Rattle.std.proofs.lemmas.Bool.{ne_eqb}
+use Rattle.std.proofs.lemmas.List.{take_all}
 use Rattle.fin_monitor.specs.Codes.{IndexedAtom, plain_atom}
 use Rattle.fin_monitor.specs.Seen.{machine_of}
 use Rattle.dominance.specs.Choices.{Row, AreRows}
-use Rattle.dominance.proofs.Asking.{rows-none, rows-same, rows-double, taken-all, atom-taken, atom-small}
+use Rattle.dominance.proofs.Asking.{rows-none, rows-same, rows-double, atom-taken, atom-small}
 use Rattle.dominance.proofs.rows.rows.Goals as goal
 use Rattle.dominance.proofs.rows.rows.Goals.{then-a-place+in_ok-double, else-a-place}
 
@@ -45,5 +46,5 @@ loop-a-preserved c =
 pub returns : goal.returns
 returns c =
     let P : List IndexedAtom → Type 0 = λ l. AreRows l c.args.place c.loop-a.rows in
-    let all = taken-all c.atoms-a-items.result.now c.loop-a.a-index c.loop-a-test.false in
+    let all = take_all c.loop-a.a-index c.atoms-a-items.result.now c.loop-a-test.false in
     subst P (ap (λ l. map plain_atom l) all ∙ c.atoms-a-items.ensures.atoms) c.loop-a.invariant

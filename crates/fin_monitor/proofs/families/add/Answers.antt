@@ -1,8 +1,8 @@
 use Rattle.std.proofs.Common.{◌≡◌, [], ◌∷◌, ◌++◌, true, false, take, drop, List, sym, ap, ◌∙◌, subst, arith}
 use Rattle.std.specs.List.{list_any}
+use Rattle.hy_base.proofs.Members.{any-from}
 use Rattle.fin_monitor.specs.Duties.{Duty, within, AreAlike}
 use Rattle.fin_monitor.specs.Lefts.{kept, IsFamily, IsPlaceFor}
-use Rattle.fin_monitor.proofs.Lists.{any-from}
 use Rattle.fin_monitor.proofs.FamilySteps.{alike-same, family-kept, family-put, alike-put}
 use Rattle.fin_monitor.proofs.families.add.Goals as goal
 

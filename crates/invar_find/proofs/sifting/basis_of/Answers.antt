@@ -1,7 +1,8 @@
 use Rattle.std.proofs.Common.{List, sym, subst, ◌∙◌}
+use Rattle.hy_base.proofs.Members.{contains-none}
 use Rattle.cnf_frames.specs.declared.facts.Fact.{Fact}
 use Rattle.cnf_frames.specs.Facts.{AllIn}
-use Rattle.invar_find.proofs.Sublists.{contains-none, in-more}
+use Rattle.invar_find.proofs.Sublists.{in-more}
 use Rattle.invar_find.proofs.sifting.basis_of.Goals as goal
 use Rattle.invar_find.proofs.sifting.basis_of.Goals.{then-mark_last+in_ok-push, else-mark_last}
 

@@ -1,5 +1,5 @@
 use Rattle.std.proofs.Common.{sym, ◌∙◌, subst}
-use Rattle.hy_lasso.proofs.LassoWords.{any-default}
+use Rattle.std.proofs.lemmas.List.{get_or_default}
 use Rattle.aig_net.specs.declared.run.Run.{Run}
 use Rattle.aig_net.specs.declared.run.ValueLasso.{ValueLasso}
 use Rattle.aig_net.specs.Simulations.{IsExecutionOf}
@@ -10,8 +10,7 @@ use Rattle.mc_core.proofs.judging.traces_of.Goals as goal
 pub visible-requires-clause-run : goal.visible-requires-clause-run
 visible-requires-clause-run c =
     let P : Run → Type 0 = λ r. (values : ValueLasso) × IsExecutionOf c.args.net.now r values in
-    subst P (any-default c.args.runs.now c.loop-run.run-index c.loop-run-test.true no_run
-    c.run-item.result ∙ sym c.run-item.is)
+    subst P (get_or_default c.args.runs.now c.loop-run.run-index no_run c.run-item.result c.loop-run-test.true ∙ sym c.run-item.is)
     (c.requires.runs c.loop-run.run-index c.loop-run-test.true)
 
 pub loop-run-preserved : goal.loop-run-preserved

@@ -1,7 +1,7 @@
 use Rattle.std.proofs.Common.{[], ◌∷◌, length, inl, inr, sym, ap, ◌∙◌, subst, arith, length-append}
 use Rattle.std.specs.List.{Contains}
 use Rattle.std.proofs.lemmas.List.Elements.{Contains-append_cases}
-use Rattle.hy_formula.proofs.Tuples.{contains-cases, contains-none}
+use Rattle.hy_base.proofs.Members.{contains-cases, contains-none}
 use Rattle.step_counts.proofs.runs.repeated.Goals as goal
 
 pub loop-k-preserved : goal.loop-k-preserved

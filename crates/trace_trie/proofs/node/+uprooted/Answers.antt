@@ -1,12 +1,13 @@
 use Rattle.std.proofs.Common.{◌≡◌, ◌<◌, ◌+◌, ◌≤◌, List, [], ◌∷◌, length, sym, ap, ◌∙◌, subst, drop, arith}
+use Rattle.hy_base.proofs.Places.{drop-at}
 use Rattle.hy_bits.specs.Letter.{Letter}
 use Rattle.hy_formula.specs.Quantifiers.{Each}
+use Rattle.hy_formula.proofs.Each.{each-right, each-like}
 use Rattle.trace_trie.specs.Numbered.{Numbered, ended, without_number}
 use Rattle.trace_trie.specs.Kids.{behind, spread}
 use Rattle.trace_trie.specs.Forests.{passing}
-use Rattle.trace_trie.proofs.Each.{each-right, each-like}
 use Rattle.trace_trie.proofs.Rests.{each-behind, without-ended, without-spread}
-use Rattle.trace_trie.proofs.Lettering.{drop-at, drop-end}
+use Rattle.trace_trie.proofs.Lettering.{drop-end}
 use Rattle.trace_trie.proofs.node.+uprooted.Goals as goal
 
 tail-is : (a : Letter) (t u : List Letter) → a ∷ t ≡ a ∷ u → t ≡ u

@@ -3,7 +3,7 @@ use Rattle.hy_bits.specs.Letter.{Letter}
 use Rattle.aig_net.specs.declared.signals.Signal.{Signal}
 use Rattle.aig_net.specs.Nets.{Below, row}
 use Rattle.wit_lasso.specs.Seeing.{IsSeen}
-use Rattle.wit_lasso.proofs.Letters.{got, name-small, seen-more, seen-none}
+use Rattle.wit_lasso.proofs.Letters.{got, small_name, seen-more, seen-none}
 use Rattle.wit_lasso.proofs.seeing.letter_of.Goals as goal
 
 pub loop-i-init : goal.loop-i-init
@@ -24,7 +24,7 @@ loop-i-preserved c =
 
 pub with_signal-letter-requires-clause-name : goal.with_signal-letter-requires-clause-name
 with_signal-letter-requires-clause-name c =
-    name-small c.args.signals.now (c.loop-i.i - 1) c.at.result.now c.len-i.ensures.signals
+    small_name c.args.signals.now (c.loop-i.i - 1) c.at.result.now c.len-i.ensures.signals
     c.at.ensures
 
 pub with_signal-letter-requires-clause-within : goal.with_signal-letter-requires-clause-within

@@ -1,6 +1,6 @@
 use Rattle.std.proofs.Common.{◌≡◌, ℕ, ◌∙◌, ◌&&◌, ◌++◌, Bool, true, false, List, Some, refl, sym, ap}
 use Rattle.std.specs.Prelude.{slice_get, slice_set}
-use Rattle.aig_order.proofs.Firsts.{both-and, not-false}
+use Rattle.std.proofs.lemmas.Bool.{and_from, not_from_false}
 use Rattle.aig_order.proofs.Reach.{read-at}
 use Rattle.aiger_body.specs.declared.header.Header.{Header}
 use Rattle.aiger_body.specs.Texts.{is_ended, is_feed, line_text}
@@ -11,9 +11,9 @@ use Rattle.aiger_read.proofs.names.Reading.keep.Goals as goal
 -- a symbol line of what is not marked is kept
 kept-so : (h : Header) (line : List ℕ) (marks : List Bool) (s : Symbol) → symbol_of (line_text line) ≡ Some s → is_ended is_feed line ≡ true → is_symbol h (Some s) ≡ true → is_marked h marks (Some s) ≡ false → is_kept h line marks ≡ true
 kept-so h line marks s said whole good fresh =
-    both-and (is_ended is_feed line && is_symbol h (symbol_of (line_text line))) _
-    (both-and (is_ended is_feed line) _ whole (ap (is_symbol h) said ∙ good))
-    (not-false _ (ap (is_marked h marks) said ∙ fresh))
+    and_from (is_ended is_feed line && is_symbol h (symbol_of (line_text line))) _
+    (and_from (is_ended is_feed line) _ whole (ap (is_symbol h) said ∙ good))
+    (not_from_false _ (ap (is_marked h marks) said ∙ fresh))
 
 pub returns : goal.returns
 returns c =

@@ -1,9 +1,9 @@
 use Rattle.std.proofs.Common.{◌+◌, ℕ, sym, ◌∙◌, subst}
 use Rattle.std.proofs.lemmas.Option.{get_or_from_slice_get}
+use Rattle.std.proofs.lemmas.Result.{on_ok_weaker}
 use Rattle.fair_search.specs.declared.pass.Place.TheVariants.{New}
 use Rattle.fair_search.specs.declared.pass.Pass.{Pass}
 use Rattle.fair_search.specs.Passing.{Goes}
-use Rattle.fair_search.proofs.Lists.{ok-then}
 use Rattle.fair_search.proofs.Looking.{begin_new, begin_seen}
 use Rattle.fair_search.proofs.pass.Pass.begin.Goals as goal
 
@@ -14,7 +14,7 @@ returns-in-New-clause-goes g c =
     ∙ c.in-New.is in
     let P : Pass → Type 0 = λ q. Goes c.args.g.now p q c.args.steps.now (c.args.steps.now + 1) in
     let Q : ℕ → Type 0 = λ s. Goes c.args.g.now p c.open.new.self c.args.steps.now s in
-    ok-then c.open.result
+    on_ok_weaker c.open.result
     (λ e.
     subst Q (sym c.member_at-node.ensures.step)
     (subst P (sym e) (begin_new c.args.g.now p c.requires.pass c.args.steps.now c.requires.idle

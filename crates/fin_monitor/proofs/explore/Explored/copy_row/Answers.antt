@@ -1,12 +1,12 @@
 use Rattle.std.proofs.Common.{◌≡◌, ◌∷◌, [], ◌+◌, ◌*◌, ◌^◌, ◌<◌, ◌≤◌, List, ℕ, suc, get_or, map, length, sym, ap, subst, arith, length-append}
 use Rattle.std.proofs.Math.Nat.{mod-eq_of_lt, mul-le-mul_right}
+use Rattle.std.proofs.lemmas.Option.{get_or_from_slice_get}
 use Rattle.fin_monitor.specs.Codes.{plain_atom}
 use Rattle.fin_monitor.specs.Duties.{residual_at}
 use Rattle.fin_monitor.specs.Lefts.{kept_lists}
 use Rattle.fin_monitor.specs.Tables.{row_of, IsExplored}
 use Rattle.fin_monitor.proofs.Exploring.{explored-push, copied-row, row-power}
 use Rattle.fin_monitor.proofs.CodeBits.{small-power}
-use Rattle.fin_monitor.proofs.Masks.{get-some}
 use Rattle.fin_monitor.proofs.Stepping.{kept-length}
 use Rattle.fin_monitor.proofs.explore.Explored.copy_row.Goals as goal
 
@@ -33,7 +33,7 @@ loop-code-preserved g c =
     let F : ℕ → Type 0 = λ x. first * x < 18446744073709551616 in
     let D : ℕ → Type 0 = λ x. get_or table (x + code) 0 ≡ next in
     let E : ℕ → Type 0 = λ x. get_or table (first * x + code) 0 ≡ next in
-    let at : get_or table (first * row_of atoms + code) 0 ≡ next = subst E (sym w) (subst D (mod-eq_of_lt (subst F w fits)) (get-some 0 table _ next c.at-next.ensures)) in
+    let at : get_or table (first * row_of atoms + code) 0 ≡ next = subst E (sym w) (subst D (mod-eq_of_lt (subst F w fits)) (get_or_from_slice_get table _ next 0 c.at-next.ensures)) in
     let (inside, follows) = copied-row nodes c.args.root atoms list table row first code next inv.explored (omega (arith, long, m, e, less)) less c.requires.alike at in
     let P : List ℕ → Type 0 = IsExplored nodes c.args.root atoms list in
     let added = c.in_ok-push.ensures.added in

@@ -1,4 +1,5 @@
 use Rattle.std.proofs.Common.{◌≡◌, ◌∷◌, [], ◌+◌, ◌*◌, ◌^◌, ◌<◌, ◌≤◌, List, ℕ, bit_and, get_or, map, length, refl, sym, ap, ◌∙◌, subst, arith, length-append}
+use Rattle.std.proofs.lemmas.Option.{get_or_from_slice_get}
 use Rattle.hy_formula.specs.Quantifiers.{Each}
 use Rattle.fin_monitor.specs.Codes.{plain_atom}
 use Rattle.fin_monitor.specs.Duties.{residual_at}
@@ -7,7 +8,6 @@ use Rattle.fin_monitor.specs.Reductions.{LeaveAlike}
 use Rattle.fin_monitor.specs.Tables.{row_of, AreAllLefts, IsExplored}
 use Rattle.fin_monitor.proofs.Exploring.{Ready, explored-push, copied, row-power}
 use Rattle.fin_monitor.proofs.CodeBits.{small-power}
-use Rattle.fin_monitor.proofs.Masks.{get-some}
 use Rattle.fin_monitor.proofs.Stepping.{kept-length}
 use Rattle.fin_monitor.proofs.explore.Explored.fill_row.Goals as goal
 use Rattle.fin_monitor.proofs.explore.Explored.fill_row.Goals.{then-asked-code+in_ok-next, else-asked-code}
@@ -48,7 +48,7 @@ loop-code-preserved g c =
       | else-asked-code w' ↦
           let low : ℕ = bit_and code c.asked_in-mask.result in
           let B : ℕ → Type 0 = λ n. AreAsked nodes atoms c.args.masks.now n in
-          let at : get_or c.loop-code.self.table (c.len-first.result + low) 0 ≡ w'.at.result.now = get-some 0 c.loop-code.self.table (c.len-first.result + low) _ w'.at.ensures in
+          let at : get_or c.loop-code.self.table (c.len-first.result + low) 0 ≡ w'.at.result.now = get_or_from_slice_get c.loop-code.self.table (c.len-first.result + low) _ 0 w'.at.ensures in
           let R : ℕ → Type 0 = λ x. c.len-first.result ≡ row * x in
           let first : c.len-first.result ≡ row * row_of atoms = subst R (sym w) (c.len-first.ensures ∙ c.requires.rows) in
           let D : ℕ → Type 0 = λ x. get_or c.loop-code.self.table (x + low) 0 ≡ w'.at.result.now in

@@ -1,10 +1,11 @@
 use Rattle.std.proofs.Common.{◌<◌, ◌≤◌, ◌*◌, ℕ, map, length, sym, subst, arith}
+use Rattle.std.proofs.lemmas.Result.{IfErr-weaker}
 use Rattle.hy_formula.specs.Quantifiers.{Each}
 use Rattle.fin_monitor.specs.Codes.{plain_atom, letter_of}
 use Rattle.fin_monitor.specs.Duties.{residual_at, later}
 use Rattle.fin_monitor.specs.Lefts.{kept_lists}
 use Rattle.fin_monitor.specs.Tables.{row_of, AreAllLefts, Puts, Follows, IsPutRefusal, IsTableRefusal}
-use Rattle.fin_monitor.proofs.Exploring.{same-back, follows-put, put-refusal, row-power, ok-both, on-ok, err-map}
+use Rattle.fin_monitor.proofs.Exploring.{same-back, follows-put, put-refusal, row-power, ok-both, on-ok}
 use Rattle.fin_monitor.proofs.Outdoing.{step-alike}
 use Rattle.fin_monitor.proofs.Stepping.{kept-length}
 use Rattle.fin_monitor.proofs.explore.Explored.follow.Goals as goal
@@ -30,6 +31,5 @@ returns g c =
           let E : ℕ → Type 0 = λ w. length c.number.new.self.residuals.keys * w ≤ 4194304 in
           follows-put nodes c.args.root atoms old new r n c.args.self.now.table puts c.requires.explored c.in_ok-left.ensures.family reach c.args.row code there
           (subst D (sym (kept-length c.number.new.self.residuals.keys)) (subst E (sym (row-power c.args.judge.now.atoms.now)) few)) same);
-      refused = err-map (IsPutRefusal old r (length c.args.judge.now.atoms.now)) (IsTableRefusal nodes c.args.root atoms) c.number.result
-          (put-refusal nodes c.args.root atoms old r c.args.self.now.table (length c.args.judge.now.atoms.now) (sym (row-power c.args.judge.now.atoms.now)) c.requires.explored c.in_ok-left.ensures.family reach) c.number.ensures.refused;
+      refused = IfErr-weaker c.number.result (IsPutRefusal old r (length c.args.judge.now.atoms.now)) (IsTableRefusal nodes c.args.root atoms) (put-refusal nodes c.args.root atoms old r c.args.self.now.table (length c.args.judge.now.atoms.now) (sym (row-power c.args.judge.now.atoms.now)) c.requires.explored c.in_ok-left.ensures.family reach) c.number.ensures.refused;
     }

@@ -1,9 +1,9 @@
 use Rattle.std.proofs.Common.{rules, ◌≡◌, ◌+◌, ◌<◌, bit_and, List, ℕ, length, map, get_or, refl, sym, ap, ◌∙◌, subst, arith}
 use Rattle.std.proofs.lemmas.List.{length-set}
+use Rattle.std.proofs.lemmas.Option.{get_or_from_slice_get}
 use Rattle.fin_monitor.specs.Codes.{plain_atom}
 use Rattle.fin_monitor.specs.Duties.{Duty}
 use Rattle.fin_monitor.specs.Lefts.{kept_lists, AreLefts, IsAsked}
-use Rattle.fin_monitor.proofs.Masks.{get-some}
 use Rattle.fin_monitor.proofs.Stepping.{AreTurned, turned-start, turned-kept, turned-set, kept-length, kept-set}
 use Rattle.fin_monitor.proofs.lefts.Lefts.turn.Goals as goal
 use Rattle.fin_monitor.proofs.lefts.Lefts.turn.Goals.{then-code-mask+in_ok-list, else-code-mask}
@@ -36,7 +36,7 @@ pub loop-k-preserved : goal.loop-k-preserved
 loop-k-preserved g c =
     let inv = c.loop-k.invariant in
     let inside : c.loop-k.k < length (kept_lists c.loop-k.self.lists) = omega (arith, kept-length c.loop-k.self.lists, inv.long, c.requires.long, c.requires.masks, c.len-k-end.ensures, c.loop-k-test.true) in
-    let at : get_or c.args.masks.now c.loop-k.k 0 ≡ c.at-mask.result.now = get-some 0 c.args.masks.now c.loop-k.k _ c.at-mask.ensures in
+    let at : get_or c.args.masks.now c.loop-k.k 0 ≡ c.at-mask.result.now = get_or_from_slice_get c.args.masks.now c.loop-k.k _ 0 c.at-mask.ensures in
     let P : ℕ → Type 0 = IsAsked c.args.judge.now.closure.now.nodes (map plain_atom c.args.judge.now.atoms.now) c.loop-k.k in
     let asked = subst P at (c.requires.asked c.loop-k.k (omega (arith, c.len-k-end.ensures, c.loop-k-test.true))) in
     elim c.if-code-mask.branch [

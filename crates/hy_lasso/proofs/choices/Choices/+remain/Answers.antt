@@ -1,10 +1,11 @@
 use Rattle.std.proofs.Common.{◌≡◌, ℕ, ◌+◌, ◌++◌, ◌∷◌, [], Bool, not, List, length, drop, sym, ap, ◌∙◌, subst, arith}
 use Rattle.std.specs.Bool.{Decides}
+use Rattle.hy_base.proofs.Places.{drop-at}
 use Rattle.hy_formula.specs.Trees.{tree_of}
 use Rattle.hy_formula.specs.declared.prefix.Quant.{Quant}
 use Rattle.hy_lasso.specs.Words.{picked, Remains}
 use Rattle.hy_lasso.proofs.Periods.{judged-picked}
-use Rattle.hy_lasso.proofs.Choosing.{Tries, found, none, drop-here, drop-all, beq-same, tries-of, remains-none, meaning-like, only-memory}
+use Rattle.hy_lasso.proofs.Choosing.{Tries, found, none, drop-all, beq-same, tries-of, remains-none, meaning-like, only-memory}
 use Rattle.hy_lasso.proofs.choices.Choices.+remain.Goals as goal
 
 pub returns-then-chosen-len-clause-meaning : goal.returns-then-chosen-len-clause-meaning
@@ -33,7 +34,7 @@ returns-then-holds-wanted-clause-meaning fuel c =
     let B : Bool → Type 0 = λ b. Tries list body (picked list c.args.tuple.now) (drop (length c.args.tuple.now + 1) prefix) b c.loop-k.k in
     let D : List Quant → Type 0 = λ qs. Decides c.stops_at-wanted.result (Remains list body (picked list c.args.tuple.now) qs) in
     let at = rw c.len-chosen.ensures at c.at.ensures in
-    subst D (sym (drop-here prefix (length c.args.tuple.now) c.at.result at))
+    subst D (sym (drop-at prefix (length c.args.tuple.now) c.at.result at))
     (rw c.stops_at-wanted.ensures (found _ _ _ _ c.at.result c.loop-k.k (omega arith) (subst B (beq-same _ _ c.if-holds-wanted.true ∙ c.stops_at-wanted.ensures) tried)))
 
 pub returns-clause-meaning : goal.returns-clause-meaning
@@ -44,5 +45,5 @@ returns-clause-meaning fuel c =
     let D : List Quant → Type 0 = λ qs. Decides (not c.stops_at-wanted.result) (Remains list body (picked list c.args.tuple.now) qs) in
     let at = rw c.len-chosen.ensures at c.at.ensures in
     let end : c.loop-k.k ≡ length list = omega (arith, c.loop-k-test.false, c.len-k-end.ensures) in
-    subst D (sym (drop-here prefix (length c.args.tuple.now) c.at.result at))
+    subst D (sym (drop-at prefix (length c.args.tuple.now) c.at.result at))
     (rw c.stops_at-wanted.ensures (none _ _ _ _ c.at.result (rw (end, c.len-chosen.ensures, c.stops_at-wanted.ensures) at c.loop-k.invariant.1)))

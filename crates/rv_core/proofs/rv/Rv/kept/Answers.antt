@@ -1,7 +1,7 @@
 use Rattle.std.proofs.Common.{◌≡◌, ◌<◌, ◌≤◌, Bool, if◌then◌else◌, List, length, ap, sym, subst, arith}
 use Rattle.hy_formula.specs.Quantifiers.{Each}
+use Rattle.hy_formula.proofs.Each as each
 use Rattle.trace_trie.specs.Numbered.{Numbered}
-use Rattle.dominance.proofs.Elements as members
 use Rattle.rv_core.specs.Keeping.{kept_at}
 use Rattle.rv_core.specs.Seen.{held}
 use Rattle.rv_core.proofs.Places.{each-at}
@@ -25,7 +25,7 @@ prove-unreachable-requires c =
     (λ (list : List Numbered). Each (λ (q : Numbered). q.0 < c.args.self.now.traces) list)
     c.args.self.now.kept c.args.spec list c.args.self.now.below.1 c.at-version.ensures in
     let lt : c.in-Some.number < c.args.self.now.traces =
-    members.each-at (λ (q : Numbered). q.0 < c.args.self.now.traces) list p below
+    each.each-at (λ (q : Numbered). q.0 < c.args.self.now.traces) list p below
     (rest-contains c.loop-number.from list p more e) in
     omega arith
 

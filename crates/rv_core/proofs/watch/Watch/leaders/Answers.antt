@@ -1,7 +1,7 @@
 use Rattle.std.proofs.Common.{◌≡◌, ◌<◌, true, false, ◌+◌, List, length, ap, sym, ◌∙◌, subst, arith}
 use Rattle.hy_formula.specs.Quantifiers.{Each}
+use Rattle.hy_formula.proofs.Each.{each-filter, each-at}
 use Rattle.trace_trie.specs.Numbered.{Numbered}
-use Rattle.dominance.proofs.Elements.{each-at, each-filter}
 use Rattle.rv_core.specs.Arrivals.{IsOver, IsUnder, over}
 use Rattle.rv_core.specs.Seen.{watched}
 use Rattle.rv_core.proofs.Places.{ok-more}
@@ -73,8 +73,7 @@ loop-other-preserved c =
                 c.loop-other.left p more c.loop-other.invariant.sifted ascending e not_over
                 (c.in_ok-is_over-2.ensures.0 w.if-branch-2.true));
             below = subst Q (sym same)
-                (each-filter _ (λ (p : Numbered). p.0 < c.args.number) c.loop-other.left
-                c.loop-other.invariant.below);
+                (each-filter (λ (p : Numbered). p.0 < c.args.number) _ c.loop-other.left c.loop-other.invariant.below);
           }
       | else-branch-2 w ↦
           let not_under : ¬ IsUnder rule true m t p =

@@ -1,5 +1,6 @@
 use Rattle.std.proofs.Common.{◌≡◌, ◌-◌, ◌<◌, ◌≤◌, ℕ, List, [], ◌∷◌, length, length-drop, take, drop, slice_get, Option, Some, Bor, sym, ap, ◌∙◌, subst, arith}
 use Rattle.std.proofs.Math.Seq.{take-length}
+use Rattle.std.proofs.lemmas.Option.{same_Some}
 use Rattle.hy_bits.specs.Letter.{Letter}
 use Rattle.trace_trie.specs.Cursors.{and_new_letter, and_waiting, new_letter, rests_at}
 use Rattle.trace_trie.specs.Numbered.{under}
@@ -7,9 +8,6 @@ use Rattle.trace_trie.specs.Points.{kid_letters_of, rests_of}
 use Rattle.trace_trie.proofs.Alone.{slice_get-left, slice_get-right}
 use Rattle.trace_trie.proofs.Beside.{child-beside, child-new}
 use Rattle.trace_trie.proofs.cursor.Cursor.child.Goals as goal
-
-letter-is : (b a : Letter) → Some b ≡ Some a → b ≡ a
-letter-is b a e = cc
 
 pub returns-then-i-len : goal.returns-then-i-len
 returns-then-i-len c =
@@ -25,7 +23,7 @@ returns-then-i-len c =
     subst P (sym c.in-Some.is) (λ a e.
     let at : slice_get letters c.args.i ≡ Some a =
     sym (slice_get-left letters (new_letter rests t) c.args.i within) ∙ e in
-    let is : c.letter.result ≡ a = letter-is c.letter.result a (sym c.letter.ensures ∙ at) in
+    let is : c.letter.result ≡ a = same_Some c.letter.result a (sym c.letter.ensures ∙ at) in
     child-beside rests n a t (rests_of c.child-then-i-len.result) c.behind.result
     (c.child-then-i-len.ensures a at)
     (c.behind.ensures ∙ ap (λ (q : Letter). under q ((n, t) ∷ [])) is))

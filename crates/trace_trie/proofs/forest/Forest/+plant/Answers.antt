@@ -2,10 +2,10 @@ use Rattle.std.proofs.Common.{◌≡◌, ◌+◌, ◌<◌, List, [], ◌∷◌, 
 use Rattle.std.proofs.lemmas.Result.{on_ok_weaker}
 use Rattle.hy_bits.specs.Letter.{Letter}
 use Rattle.hy_formula.specs.Quantifiers.{Each}
+use Rattle.hy_formula.proofs.Each.{each-left, each-right, each-unmap}
 use Rattle.trace_trie.specs.Numbered.{Numbered, letters_in, ended}
 use Rattle.trace_trie.specs.Kids.{Kid, AreKids, IsMore, spread}
 use Rattle.trace_trie.specs.Forests.{passing}
-use Rattle.trace_trie.proofs.Each.{each-left, each-right, each-unmap}
 use Rattle.trace_trie.proofs.Forked.{at_fork, at_child, fork_is}
 use Rattle.trace_trie.proofs.Planting.{more-same, more-first, more-second, more-passing, more-end, more-below, each-first, each-second, above-child, fall-first, fall-second, fall-child, fork-first, fork-second}
 use Rattle.trace_trie.proofs.forest.Forest.+plant.Goals as goal

@@ -2,11 +2,11 @@ use Rattle.std.proofs.Common.{◌≡◌, ◌<◌, ◌+◌, List, [], ◌∷◌, 
 use Rattle.std.proofs.lemmas.Result.{IfOk-weaker}
 use Rattle.hy_bits.specs.Letter.{Letter}
 use Rattle.hy_formula.specs.Quantifiers.{Each}
+use Rattle.hy_formula.proofs.Each.{each-left, each-right, each-unmap}
 use Rattle.trace_trie.specs.Numbered.{Numbered, ended}
 use Rattle.trace_trie.specs.Kids.{Kid, IsMore, IsSwapped, behind, spread}
 use Rattle.trace_trie.specs.Forests.{passing, kids_alone}
 use Rattle.trace_trie.proofs.Alone.{tail-alone, child-itself, child-here}
-use Rattle.trace_trie.proofs.Each.{each-left, each-right, each-unmap}
 use Rattle.trace_trie.proofs.Lettering.{letter-itself}
 use Rattle.trace_trie.proofs.Planting.{more-put, more-end, more-passing}
 use Rattle.trace_trie.proofs.Rests.{each-behind, more-none}

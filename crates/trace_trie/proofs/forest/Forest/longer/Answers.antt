@@ -1,8 +1,9 @@
 use Rattle.std.proofs.Common.{◌≡◌, ◌-◌, ◌+◌, List, ◌∷◌, [], drop, slice_get, Some, sym, ap, ◌∙◌, arith}
+use Rattle.hy_base.proofs.Places.{drop-at}
 use Rattle.hy_bits.specs.Letter.{Letter}
 use Rattle.trace_trie.specs.Numbered.{Numbered}
 use Rattle.trace_trie.specs.Forests.{passing, kids_alone}
-use Rattle.trace_trie.proofs.Lettering.{drop-at, equal-letter}
+use Rattle.trace_trie.proofs.Lettering.{equal-letter}
 use Rattle.trace_trie.proofs.forest.Forest.longer.Goals as goal
 
 pub returns-in_ok-trace-in-Some : goal.returns-in_ok-trace-in-Some

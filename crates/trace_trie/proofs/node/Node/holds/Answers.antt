@@ -2,11 +2,11 @@ use Rattle.std.proofs.Common.{◌≡◌, ◌↔◌, ◌+◌, ◌-◌, Bool, IsTr
 use Rattle.std.proofs.Math.Seq.{take-length}
 use Rattle.std.proofs.lemmas.Option.{slice_get_read}
 use mathlib.Core.Logic.Iff as iff
+use Rattle.hy_base.proofs.Members.{contains-none}
 use Rattle.hy_bits.specs.Letter.{Letter}
 use Rattle.trace_trie.specs.Numbered.{IsHeld}
 use Rattle.trace_trie.specs.Forests.{passing}
 use Rattle.trace_trie.specs.Grown.{left_in}
-use Rattle.trace_trie.proofs.Holding.{contains-none}
 use Rattle.trace_trie.proofs.Walking.{alone-held, ended-held, down-next, down-end}
 use Rattle.trace_trie.proofs.node.Node.holds.Goals as goal
 

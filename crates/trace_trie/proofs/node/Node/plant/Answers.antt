@@ -1,8 +1,8 @@
 use Rattle.std.proofs.Common.{◌<◌}
 use Rattle.std.proofs.lemmas.Result.{on_ok_weaker}
+use Rattle.hy_formula.proofs.Each.{each-right}
 use Rattle.trace_trie.specs.Numbered.{Numbered, ended}
 use Rattle.trace_trie.specs.Kids.{spread}
-use Rattle.trace_trie.proofs.Each.{each-right}
 use Rattle.trace_trie.proofs.Ordering.{in-order-more}
 use Rattle.trace_trie.proofs.Planting.{more-passing}
 use Rattle.trace_trie.proofs.node.Node.plant.Goals as goal

@@ -1,7 +1,7 @@
 use Rattle.std.proofs.Common.{◌≡◌, ◌≤◌, ◌<◌, List, [], ◌∷◌, ◌++◌, length, length-append, inl, inr, refl, subst, sym, ap, ◌∙◌, arith}
 use Rattle.hy_formula.specs.Quantifiers.{Each}
+use Rattle.hy_formula.proofs.Each.{each-append}
 use Rattle.trace_trie.specs.Numbered.{Numbered}
-use Rattle.trace_trie.proofs.Each.{each-append}
 use Rattle.trace_trie.proofs.Parts.{at_two, split-le, all-second, shorter-second}
 use Rattle.trace_trie.proofs.numbers.Numbers.+add.Goals as goal
 

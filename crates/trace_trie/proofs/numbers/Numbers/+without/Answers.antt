@@ -1,7 +1,7 @@
 use Rattle.std.proofs.Common.{◌≡◌, ◌≤◌, ◌<◌, List, not, eqb, subst, sym, ap, ◌∙◌}
 use Rattle.hy_formula.specs.Quantifiers.{Each}
+use Rattle.hy_formula.proofs.Each.{each-filter}
 use Rattle.trace_trie.specs.Numbered.{Numbered, without_number}
-use Rattle.trace_trie.proofs.Each.{each-filter}
 use Rattle.trace_trie.proofs.Parts.{at_two, without-below, without-above}
 use Rattle.trace_trie.proofs.numbers.Numbers.+without.Goals as goal
 

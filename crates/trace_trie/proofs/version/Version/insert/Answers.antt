@@ -1,8 +1,8 @@
 use Rattle.std.proofs.Common.{◌≡◌, ◌≤◌, List, [], ◌∷◌, ◌++◌, length, sym, ap, ◌∙◌, subst, arith}
 use Rattle.hy_bits.specs.Letter.{Letter}
+use Rattle.hy_formula.proofs.Each.{each-append}
 use Rattle.trace_trie.specs.Numbered.{Numbered}
 use Rattle.trace_trie.specs.Versions.{IsVersion}
-use Rattle.trace_trie.proofs.Each.{each-append}
 use Rattle.trace_trie.proofs.Ascending.{ascending-push}
 use Rattle.trace_trie.proofs.version.Version.insert.Goals as goal
 

@@ -1,9 +1,9 @@
 use Rattle.std.proofs.Common.{◌≡◌, ◌≤◌, not, eqb, List, ◌++◌, length, sym, ap, ◌∙◌, subst}
 use Rattle.hy_formula.specs.Quantifiers.{Each}
+use Rattle.hy_formula.proofs.Each.{each-left, each-filter}
 use Rattle.trace_trie.specs.Numbered.{Numbered, with_number, without_number}
 use Rattle.trace_trie.specs.Newests.{waiting}
 use Rattle.trace_trie.specs.Versions.{IsVersion}
-use Rattle.trace_trie.proofs.Each.{each-left, each-filter}
 use Rattle.trace_trie.proofs.Ascending.{ascending-filter, only-number, without-none}
 use Rattle.trace_trie.proofs.Numbering.{without-append}
 use Rattle.trace_trie.proofs.version.Version.without.Goals as goal

@@ -1,7 +1,7 @@
 use Rattle.std.proofs.Common.{◌≡◌, ℕ, [], sym, subst}
 use Rattle.std.proofs.lemmas.Option.{IfSome_then}
 use Rattle.std.specs.List.{Contains}
-use Rattle.hy_formula.proofs.Tuples.{contains-here}
+use Rattle.hy_base.proofs.Members.{contains-here}
 use Rattle.hy_finite.specs.Traces.{Trace}
 use Rattle.trace_trie.specs.Cursors.{rests_at}
 use Rattle.tuple_walk.specs.declared.spot.Spot.{Spot}

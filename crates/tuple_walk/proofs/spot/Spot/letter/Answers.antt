@@ -1,10 +1,11 @@
 use Rattle.std.proofs.Common.{◌≡◌, ◌<◌, length, List, slice_get, Some, sym, ◌∙◌, subst}
 use Rattle.hy_bits.specs.Letter.{Letter as NameSet}
+use Rattle.hy_formula.proofs.Each.{each-at}
 use Rattle.trace_trie.specs.Cursors.{letters_of, rests_at}
 use Rattle.trace_trie.specs.Numbered.{Numbered, under, led_by}
 use Rattle.tuple_walk.specs.declared.spot.Spot.{Spot}
 use Rattle.tuple_walk.specs.Places.{rests_of, letters_at, IsWay}
-use Rattle.tuple_walk.proofs.Lists.{each-at, get-contains}
+use Rattle.tuple_walk.proofs.Lists.{get-contains}
 use Rattle.tuple_walk.proofs.Ways.{letter-way}
 use Rattle.tuple_walk.proofs.spot.Spot.letter.Goals as goal
 

@@ -1,8 +1,9 @@
 use Rattle.std.proofs.Common.{◌≡◌, ◌+◌, ◌-◌, ◌<◌, ◌≤◌, ℕ, List, [], length, map, take, slice_get, Some, None, refl, sym, ap, ◌∙◌, subst, arith}
 use Rattle.std.proofs.lemmas.Bool.{eqb-true, OnTrue_at, OnFalse_at}
+use Rattle.std.proofs.lemmas.List.{take_all}
+use Rattle.hy_base.proofs.Members.{contains-none}
 use Rattle.hy_bits.specs.Letter.{Letter}
 use Rattle.hy_formula.specs.Quantifiers.{Each}
-use Rattle.hy_formula.proofs.Tuples.{contains-none}
 use Rattle.fin_monitor.specs.Machines.{settled_state}
 use Rattle.trace_trie.specs.Cursors.{AreLetters}
 use Rattle.trace_trie.specs.Numbered.{Numbered}
@@ -13,7 +14,7 @@ use Rattle.tuple_walk.specs.Walks.{machine_in, places_in, rests_in, wholes_in}
 use Rattle.tuple_walk.proofs.Choosing.{no-steps_by, steps-letters}
 use Rattle.tuple_walk.proofs.Ending.{settled-accepted}
 use Rattle.tuple_walk.proofs.Longest.{longest, longest-step}
-use Rattle.tuple_walk.proofs.Nexts.{next-longest, next-some, next-rejected, next-more, next-steps, next-gap, no-gap-accepted, tuple-search, chosen-search, no-letter, step-search, at-some, take-whole, gap-search}
+use Rattle.tuple_walk.proofs.Nexts.{next-longest, next-some, next-rejected, next-more, next-steps, next-gap, no-gap-accepted, tuple-search, chosen-search, no-letter, step-search, at-some, gap-search}
 use Rattle.tuple_walk.proofs.Onlys.{only-longest, only-some, only-search, only-steps}
 use Rattle.tuple_walk.proofs.Placing.{moved-more, open-less, at-letters, open-wholes, opened-left, opened-open}
 use Rattle.tuple_walk.proofs.Stepping.{left_at, some-left, step-steps, taken-code}
@@ -336,7 +337,7 @@ choose_letter-returns-clause-searched g t c =
     let long = ap length (at-letters c.args.i ps c.at.result c.at.ensures) in
     let P : List Letter → Type 0 = λ l. AreAcceptedBy (machine_in w) w.lengths c.args.q c.args.i l
     (wholes_in w c.args.places.now) in
-    subst P (take-whole c.loop-k.k letters
+    subst P (take_all c.loop-k.k letters
     (omega (arith, long, c.len-k-end.ensures, c.loop-k-test.false)))
     c.loop-k.invariant.accepted
 

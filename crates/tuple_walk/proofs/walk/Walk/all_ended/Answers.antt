@@ -1,8 +1,8 @@
 use Rattle.std.proofs.Common.{◌≤◌, [], not, get_or, sym, ap, ◌∙◌, subst, arith, below_more}
+use Rattle.hy_formula.proofs.Each.{each-at}
 use Rattle.tuple_walk.specs.Four.{four}
 use Rattle.tuple_walk.specs.Places.{HasEnded}
 use Rattle.tuple_walk.specs.Walks.{machine_in, rests_in}
-use Rattle.tuple_walk.proofs.Lists.{each-at}
 use Rattle.tuple_walk.proofs.Nexts.{long-places}
 use Rattle.tuple_walk.proofs.Placing.{at-left}
 use Rattle.tuple_walk.proofs.Scanning.{at-member, has-ended, none-ended, each-from}

@@ -1,11 +1,11 @@
 use Rattle.std.proofs.Common.{◌≡◌, ◌+◌, ◌≤◌, ℕ, suc, take, subst, arith}
 use Rattle.std.proofs.lemmas.Bool.{OnTrue_at}
+use Rattle.std.proofs.lemmas.List.{length-take-le, take_all}
 use Rattle.hy_formula.specs.Quantifiers.{Each}
 use Rattle.tuple_walk.specs.Alone.{IsAlone}
 use Rattle.tuple_walk.specs.Four.{four}
 use Rattle.tuple_walk.specs.Walks.{machine_in}
 use Rattle.tuple_walk.proofs.Lists.{each-more}
-use Rattle.tuple_walk.proofs.Nexts.{long-take, take-whole}
 use Rattle.tuple_walk.proofs.walk.Walk.are_alone.Goals as goal
 
 pub loop-i-init : goal.loop-i-init
@@ -26,6 +26,6 @@ returns c =
     let n = (machine_in c.args.self.now).variables in
     let ps = four c.args.places.now in
     let few : n ≤ 4 = c.args.self.now.monitor.now.right.few in
-    let long = long-take n ps few in
-    subst (Each IsAlone) (take-whole c.loop-i.i (take n ps)
+    let long = length-take-le n ps few in
+    subst (Each IsAlone) (take_all c.loop-i.i (take n ps)
     (omega (arith, c.vars-i-end.ensures.vars, long))) c.loop-i.invariant

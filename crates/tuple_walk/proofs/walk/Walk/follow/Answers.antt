@@ -2,6 +2,7 @@ use Rattle.std.proofs.Common.{◌≡◌, ◌+◌, ◌-◌, ◌<◌, ◌≤◌, �
 use Rattle.std.specs.Borrow.{Bor}
 use Rattle.std.proofs.Math.Seq.{take-suc-set}
 use Rattle.std.proofs.lemmas.Bool.{OnTrue_at, OnFalse_at}
+use Rattle.std.proofs.lemmas.List.{map_push}
 use Rattle.hy_finite.specs.Traces.{Trace, judged}
 use Rattle.trace_trie.specs.Numbered.{Numbered}
 use Rattle.tuple_walk.specs.Alone.{IsAlone, left_of}
@@ -10,7 +11,7 @@ use Rattle.tuple_walk.specs.Four.{four}
 use Rattle.tuple_walk.specs.Searches.{IsAccepted, IsRejected}
 use Rattle.tuple_walk.specs.Walks.{machine_in, rests_in}
 use Rattle.tuple_walk.proofs.Following.{ones, ones-more, all-ones, ones-accepted, ones-rejected, ones-steps}
-use Rattle.tuple_walk.proofs.Lists.{map-more, take-more, each-get}
+use Rattle.tuple_walk.proofs.Lists.{take-more, each-get}
 use Rattle.tuple_walk.proofs.Nexts.{long-places}
 use Rattle.tuple_walk.proofs.Scanning.{get-map}
 use Rattle.tuple_walk.proofs.Stepping.{left_at}
@@ -44,9 +45,9 @@ loop-i-preserved g c =
       take-more rests i (left_at c.at.result) there
           ∙ (λ j. same j ++ is j ∷ [])
           ∙ sym (ones-more ps x),
-      map-more (λ (p : Numbered). p.1) ps x
+      map_push (λ (p : Numbered). p.1) ps x
           ∙ ap (λ (l : List Trace). l ++ x.1 ∷ []) traces
-          ∙ sym (map-more (λ (r : Bor Trace). r.now) (take i c.loop-i.rests) c.rest.result)
+          ∙ sym (map_push (λ (r : Bor Trace). r.now) (take i c.loop-i.rests) c.rest.result)
           ∙ ap left_of (sym (take-suc-set c.loop-i.rests i c.rest.result lt)),
     ) in
     (length-set c.loop-i.rests i c.rest.result ∙ long, (ps ++ x ∷ [], lists, lefts))

@@ -1,6 +1,6 @@
 use Rattle.std.proofs.Common.{◌-◌, ℕ, [], ◌∷◌, refl, sym, subst}
 use Rattle.std.proofs.lemmas.Bool.{OnTrue_at, OnFalse_at}
-use Rattle.hy_formula.proofs.Tuples.{contains-here}
+use Rattle.hy_base.proofs.Members.{contains-here}
 use Rattle.trace_trie.specs.Numbered.{Numbered}
 use Rattle.tuple_walk.specs.Searches.{IsAccepted, IsRejected}
 use Rattle.tuple_walk.specs.Walks.{machine_in}

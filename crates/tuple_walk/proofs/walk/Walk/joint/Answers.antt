@@ -1,12 +1,11 @@
 use Rattle.std.proofs.Common.{◌≡◌, ◌+◌, ◌<◌, ◌≤◌, suc, List, map, take, bit_or, sym, ap, ◌∙◌, arith}
+use Rattle.std.proofs.lemmas.List.{length-map, length-take-le, take_all}
 use Rattle.hy_bits.specs.Letter.{Letter}
 use Rattle.fin_monitor.specs.Codes.{code_of, part_of, joint_letter}
 use Rattle.fin_monitor.proofs.CodeBits.{code-lt}
 use Rattle.tuple_walk.specs.Four.{four}
 use Rattle.tuple_walk.specs.Places.{letter_or, letter_taken, taken_of}
 use Rattle.tuple_walk.specs.Walks.{machine_in, places_in}
-use Rattle.tuple_walk.proofs.Lists.{long-map}
-use Rattle.tuple_walk.proofs.Nexts.{long-take, take-whole}
 use Rattle.tuple_walk.proofs.Scanning.{code-more, code-none, get-map, get-unmap, map-twice}
 use Rattle.tuple_walk.proofs.walk.Walk.joint.Goals as goal
 
@@ -37,11 +36,11 @@ returns-clause-code c =
     let ps = four c.args.places.now in
     let few : n ≤ 4 = w.monitor.now.right.few in
     let letters : List Letter = map letter_or (map taken_of (take n ps)) in
-    let long = long-map letter_or (map taken_of (take n ps)) ∙ long-map taken_of (take n ps)
-    ∙ long-take n ps few in
+    let long = length-map (map taken_of (take n ps)) letter_or ∙ length-map (take n ps) taken_of
+    ∙ length-take-le n ps few in
     c.loop-i.invariant
     ∙ ap (λ (l : List Letter). code_of (joint_letter l) (machine_in w).atoms)
-    (take-whole c.loop-i.i letters (omega (arith, c.vars-i-end.ensures.vars, long)))
+    (take_all c.loop-i.i letters (omega (arith, c.vars-i-end.ensures.vars, long)))
 
 pub returns-clause-within : goal.returns-clause-within
 returns-clause-within c =

@@ -1,10 +1,10 @@
 use Rattle.std.proofs.Common.{◌≡◌, ◌+◌, suc, take, slice_get, Some, bit_or, sym, ap, ◌∙◌, arith}
+use Rattle.std.proofs.lemmas.List.{take_all}
 use Rattle.fin_monitor.specs.Codes.{code_of, part_of, joint_letter}
 use Rattle.fin_monitor.proofs.CodeBits.{code-lt}
 use Rattle.tuple_walk.specs.Alone.{left_of}
 use Rattle.tuple_walk.specs.Walks.{machine_in}
 use Rattle.tuple_walk.proofs.Following.{letters_at_position, left-there, letter-there, long-letters, position-code}
-use Rattle.tuple_walk.proofs.Nexts.{take-whole}
 use Rattle.tuple_walk.proofs.Scanning.{code-more, code-none}
 use Rattle.tuple_walk.proofs.walk.Walk.joint_at.Goals as goal
 
@@ -34,7 +34,7 @@ returns-clause-code c =
     let ts = left_of c.args.rests.now in
     let letters = letters_at_position c.args.i ts in
     c.loop-var.invariant
-    ∙ ap (λ l. code_of (joint_letter l) m.atoms) (take-whole c.loop-var.var letters
+    ∙ ap (λ l. code_of (joint_letter l) m.atoms) (take_all c.loop-var.var letters
     (omega (
       arith,
       long-letters c.args.i c.args.rests.now,

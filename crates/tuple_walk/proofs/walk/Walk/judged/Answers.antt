@@ -1,10 +1,9 @@
 use Rattle.std.proofs.Common.{◌≡◌, ◌+◌, suc, length, take, sym, ap, ◌∙◌, arith}
 use Rattle.std.specs.Borrow.{Bor}
+use Rattle.std.proofs.lemmas.List.{length-map, take_all}
 use Rattle.hy_finite.specs.Traces.{Trace, of_two, judged}
 use Rattle.tuple_walk.specs.Alone.{left_of}
 use Rattle.tuple_walk.proofs.Following.{left-there, judged-first, judged-more}
-use Rattle.tuple_walk.proofs.Lists.{long-map}
-use Rattle.tuple_walk.proofs.Nexts.{take-whole}
 use Rattle.tuple_walk.proofs.walk.Walk.judged.Goals as goal
 
 pub loop-i-init : goal.loop-i-init
@@ -29,5 +28,5 @@ pub returns : goal.returns
 returns c =
     let lefts = left_of c.args.rests.now in
     c.loop-i.invariant
-    ∙ ap (judged c.args.self.now.lengths) (take-whole c.loop-i.i lefts
-    (omega (arith, long-map (λ (q : Bor Trace). q.now) c.args.rests.now)))
+    ∙ ap (judged c.args.self.now.lengths) (take_all c.loop-i.i lefts
+    (omega (arith, length-map c.args.rests.now (λ (q : Bor Trace). q.now))))

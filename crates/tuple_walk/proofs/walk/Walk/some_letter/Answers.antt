@@ -1,10 +1,9 @@
 use Rattle.std.proofs.Common.{◌≡◌, ◌+◌, ◌≤◌, suc, map, take, refl, sym, ap, ◌∙◌, arith}
 use Rattle.std.specs.List.{list_any}
+use Rattle.std.proofs.lemmas.List.{length-map, length-take-le, take_all}
 use Rattle.tuple_walk.specs.Four.{four}
 use Rattle.tuple_walk.specs.Places.{taken_of, has_taken, is_letter}
 use Rattle.tuple_walk.specs.Walks.{machine_in}
-use Rattle.tuple_walk.proofs.Lists.{long-map}
-use Rattle.tuple_walk.proofs.Nexts.{long-take, take-whole}
 use Rattle.tuple_walk.proofs.Scanning.{any-more, any-of, get-map, get-unmap}
 use Rattle.tuple_walk.proofs.walk.Walk.some_letter.Goals as goal
 
@@ -39,6 +38,6 @@ returns c =
     let n = (machine_in w).variables in
     let ps = four c.args.places.now in
     let few : n ≤ 4 = w.monitor.now.right.few in
-    let long = long-map taken_of (take n ps) ∙ long-take n ps few in
-    sym (ap (list_any is_letter) (sym (take-whole c.loop-i.i (map taken_of (take n ps))
+    let long = length-map (take n ps) taken_of ∙ length-take-le n ps few in
+    sym (ap (list_any is_letter) (sym (take_all c.loop-i.i (map taken_of (take n ps))
     (omega (arith, c.vars-i-end.ensures.vars, long)))) ∙ c.loop-i.invariant)

@@ -1,13 +1,14 @@
 use Rattle.std.proofs.Common.{◌≡◌, ◌+◌, ◌<◌, ◌≤◌, ℕ, suc, List, [], ◌∷◌, ◌++◌, length, set, take, Option, IfNone, refl, sym, ap, ◌∙◌, subst, arith, length-set}
 use Rattle.std.proofs.Math.Seq.{take-suc-set}
+use Rattle.std.proofs.lemmas.List.{map_push, take_all}
+use Rattle.hy_formula.proofs.Each.{each-at}
 use Rattle.trace_trie.specs.Numbered.{Numbered}
 use Rattle.tuple_walk.specs.Finds.{numbers_of}
 use Rattle.tuple_walk.specs.Four.{four}
 use Rattle.tuple_walk.specs.Places.{AreSome}
 use Rattle.tuple_walk.specs.Searches.{AreEnded}
 use Rattle.tuple_walk.specs.Walks.{machine_in, rests_in}
-use Rattle.tuple_walk.proofs.Lists.{map-more, each-at}
-use Rattle.tuple_walk.proofs.Nexts.{long-places, take-whole}
+use Rattle.tuple_walk.proofs.Nexts.{long-places}
 use Rattle.tuple_walk.proofs.Scanning.{at-member, ended-more}
 use Rattle.tuple_walk.proofs.Stepping.{left_at}
 use Rattle.tuple_walk.proofs.walk.Walk.tuple_of.Goals as goal
@@ -47,7 +48,7 @@ loop-i-preserved c =
     let (e, f) = subst P one (
       ended-more n i (four c.args.places.now) c.at.result ps (number, t)
           (omega (arith, c.vars-count.ensures.vars)) c.at.ensures ended here done,
-      map-more (λ (p : Numbered). p.0) ps (number, t)
+      map_push (λ (p : Numbered). p.0) ps (number, t)
           ∙ ap (λ l. l ++ number ∷ []) same
           ∙ sym (take-suc-set c.loop-i.numbers i number lt),
     ) in
@@ -63,6 +64,6 @@ returns-clause-some c =
     let all : c.loop-i.i ≡ c.vars-count.result = omega arith in
     let P : List (List Numbered) → Type 0 = λ ls. AreEnded ls ps in (
       ps,
-      subst P (take-whole c.loop-i.i rests (omega (arith, c.vars-count.ensures.vars, long))) ended,
+      subst P (take_all c.loop-i.i rests (omega (arith, c.vars-count.ensures.vars, long))) ended,
       same ∙ ap (λ k. take k c.loop-i.numbers) all ∙ sym c.new.ensures,
     )

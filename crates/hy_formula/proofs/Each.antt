@@ -1,9 +1,24 @@
 -- What holds of each element of a list.
-use Rattle.std.proofs.Common.{Bool, true, false, cond, List, [], ◌∷◌, ◌++◌, map}
-use Rattle.std.specs.List.{filter}
+use Rattle.std.proofs.Common.{ℕ, zero, suc, ◌<◌, Bool, true, false, cond, List, [], ◌∷◌, ◌++◌, length, map, get_or, inl, inr, subst, arith}
+use Rattle.std.specs.List.{Contains, filter}
+use Rattle.hy_base.proofs.Members.{contains-here, contains-later, contains-cases, contains-none}
 use Rattle.hy_formula.specs.Quantifiers.{Each}
 
 module _ {A : Type 0} (P : A → Type 0) where
+  pub each-from : (xs : List A) → ((x : A) → Contains xs x → P x) → Each P xs
+  each-from [] h = tt
+  each-from (x ∷ xs) h = (h x (contains-here x xs), each-from xs (λ y c. h y (contains-later x y xs c)))
+
+  pub each-at : (xs : List A) (x : A) → Each P xs → Contains xs x → P x
+  each-at [] x h c = absurd (contains-none x c)
+  each-at (y ∷ ys) x h c =
+      elim (contains-cases y x ys c) [ inl e ↦ subst P e h.0 | inr later ↦ each-at ys x h.1 later ]
+
+  pub each-place : (xs : List A) (d : A) → Each P xs → (k : ℕ) → k < length xs → P (get_or xs k d)
+  each-place [] d h k lt = absurd (omega arith)
+  each-place (x ∷ xs) d h zero lt = h.0
+  each-place (x ∷ xs) d h (suc k) lt = each-place xs d h.1 k (omega arith)
+
   pub each-append : (xs ys : List A) → Each P xs → Each P ys → Each P (xs ++ ys)
   each-append [] ys h k = k
   each-append (x ∷ xs) ys h k = (h.0, each-append xs ys h.1 k)
@@ -32,6 +47,7 @@ module _ {A : Type 0} (P : A → Type 0) where
       step true k = (h.0, k)
       step false k = k
 
-pub each-like : {A : Type 0} (P Q : A → Type 0) → ((x : A) → P x → Q x) → (xs : List A) → Each P xs → Each Q xs
+pub each-like : {A : Type 0} (P Q : A → Type 0) → ((x : A) → P x → Q x) → (xs : List A)
+    → Each P xs → Each Q xs
 each-like P Q f [] h = tt
 each-like P Q f (x ∷ xs) h = (f x h.0, each-like P Q f xs h.1)
