@@ -1,5 +1,5 @@
 -- Where no and depends on itself, all are taken.
-use Rattle.std.proofs.Common.{◌≡◌, ℕ, zero, suc, ◌+◌, ◌-◌, ◌<◌, ◌≤◌, ◌⊎◌, true, false, min, inl, inr, refl, sym, ◌∙◌, subst, arith, Option, Some, None, List, [], ◌∷◌, ◌++◌, length, get_or, length-append, append-nil}
+use Rattle.std.proofs.Common.{◌≡◌, ℕ, zero, suc, ◌+◌, ◌-◌, ◌<◌, ◌≤◌, ◌⊎◌, true, false, inl, inr, refl, sym, ◌∙◌, subst, arith, Option, Some, None, List, [], ◌∷◌, ◌++◌, length, get_or, length-append, append-nil}
 use Rattle.std.specs.Prelude.{option_to_list}
 use Rattle.std.proofs.lemmas.Bool.{cases_lt, and_parts, and_from, or_left, or_right, or_cases, not-true, not_from_false, cases_Bool}
 use Rattle.hy_base.proofs.Places.{two-equal}
@@ -8,11 +8,6 @@ use Rattle.aig_order.specs.Firsts.{holds}
 use Rattle.aig_order.specs.Gates.{uses, waits, is_next, next_gate, taken, order, IsOrder, IsComplete, depends}
 use Rattle.aig_order.proofs.Firsts.{below-none, some-any, any-some, place-holds}
 use Rattle.aig_order.proofs.Orders.{taken-order, distinct}
-
--- ---- of more numbers than there are below n, two are equal
-
-abbrev squeezed : ℕ → ℕ → ℕ
-squeezed v x = x - min 1 (x - v)
 
 module _ (gates : List Gate) where
   -- ---- dependence by few ands between

@@ -124,29 +124,6 @@ pub record IsRest (marks : List Bool) (old new : List ℕ) : Type 0 where
 pub rest_all : (marks : List Bool) (old : List ℕ) → IsRest marks old old
 rest_all marks old = record { within = λ j lt e. e; rest = λ j lt e f. e }
 
-module _ (marks : List Bool) (old now new : List ℕ) (k : ℕ) (is : IsRest marks old now) (popped : (j : ℕ) → j < 2 ^ 32 → has now j ≡ (nat_eq j k || has new j)) where
-  popped-within : (j : ℕ) → j < 2 ^ 32 → has new j ≡ true → has old j ≡ true
-  popped-within j lt e = is.within j lt (popped j lt ∙ or_right (nat_eq j k) _ e)
-
-  popped-rest : (j : ℕ) → j < 2 ^ 32 → has old j ≡ true → slice_index_or marks j false ≡ false → (j ≡ k → ⊥) → has new j ≡ true
-  popped-rest j lt e fresh apart =
-      elim (or_cases (nat_eq j k) (has new j) (sym (popped j lt) ∙ is.rest j lt e fresh)) [ inl same ↦ absurd (apart (eqb-true j k same)) | inr found ↦ found ]
-
-  -- one that is taken is passed over
-  pub rest_passed : slice_index_or marks k false ≡ true → IsRest marks old new
-  rest_passed marked = record { within = popped-within; rest = λ j lt e fresh. popped-rest j lt e fresh (λ same. let also : slice_index_or marks j false ≡ true = ap (λ n. slice_index_or marks n false) same ∙ marked in cc) }
-
-  -- and one that is not is the least
-  pub rest_least : k < 2 ^ 32 → slice_index_or marks k false ≡ false → ((j : ℕ) → j < 2 ^ 32 → has now j ≡ true → k ≤ j) → IsLeast marks old new k
-  rest_least small fresh least = record {
-    small = small;
-    ready = is.within k small (popped k small ∙ or_left _ _ (eq-eqb k k refl));
-    fresh = fresh;
-    least = λ j lt e free. least j lt (is.rest j lt e free);
-    within = popped-within;
-    rest = popped-rest;
-  }
-
 pub rest_none : (marks : List Bool) (old new : List ℕ) → IsRest marks old new → ((j : ℕ) → has new j ≡ false) → (j : ℕ) → j < 2 ^ 32 → has old j ≡ true → slice_index_or marks j false ≡ true
 rest_none marks old new is none j lt e =
     elim (cases_Bool (slice_index_or marks j false)) [ inl marked ↦ marked | inr free ↦ let found = is.rest j lt e free in let no_one = none j in absurd (cc) ]
@@ -292,14 +269,6 @@ module _ (gates : List Gate) (users : List ℕ) (p : ℕ) (list : List ℕ) (mar
       ]
     ];
   }
-
-pub take_last : (gates : List Gate) (users : List ℕ) (p : ℕ) (list : List ℕ) (marks : List Bool) (ready : List ℕ) → AreReadied gates users p list marks ready → length users ≤ p → AreTaken gates list marks ready
-take_last gates users p list marks ready are all = record {
-  long = are.long;
-  marked = are.marked;
-  sound = are.sound;
-  full = λ j lt e. elim (are.full j lt e) [ inl there ↦ there | inr (q, le, less, is) ↦ absurd (omega arith) ];
-}
 
 -- ---- the whole order
 

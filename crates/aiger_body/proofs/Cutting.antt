@@ -1,12 +1,11 @@
 -- The piece that stands at a place, and where the next one stands.
-use Rattle.std.proofs.Common.{◌≡◌, ℕ, zero, suc, ◌+◌, ◌≤◌, Bool, List, [], ◌∷◌, length, take, drop, refl, ◌∙◌, ap, arith, length-append}
+use Rattle.std.proofs.Common.{◌≡◌, ℕ, zero, suc, ◌+◌, Bool, List, [], ◌∷◌, length, take, drop, refl, ◌∙◌, ap, arith, length-append}
 use Rattle.std.specs.List.{concat}
 use Rattle.std.proofs.lemmas.List.{take-append-le}
 use Rattle.std.proofs.Math.Seq.{take-length}
 use Rattle.aiger_body.specs.Texts.{pieces, piece_at, place}
 use Rattle.aiger_body.specs.Words.{first_len}
 use Rattle.aiger_body.proofs.Places.{split, pieces-from}
-use Rattle.aiger_body.proofs.Pieces.{pieces-concat}
 
 front-of : (ends : ℕ → Bool) (xs : List ℕ) (ps : List (List ℕ)) → pieces ends xs ≡ ps → take (length (piece_at ps 0)) xs ≡ piece_at ps 0
 front-of ends xs [] e = refl
@@ -40,12 +39,3 @@ pub piece_next : (ends : ℕ → Bool) (bytes : List ℕ) (k at : ℕ) (rest pie
 piece_next ends bytes k at rest piece len is back long front =
     let here = piece_here ends bytes k at rest piece len is back long front in
     omega (arith, place_next (pieces ends bytes) k, is, ap length here)
-
--- no place is past the end
-pub place_within : (ends : ℕ → Bool) (bytes : List ℕ) (k : ℕ) → place (pieces ends bytes) k ≤ length bytes
-place_within ends bytes k = omega (arith, front-short (pieces ends bytes) k, ap length (pieces-concat ends bytes))
-  where
-    front-short : (ps : List (List ℕ)) (k : ℕ) → place ps k ≤ length (concat ps)
-    front-short ps zero = omega arith
-    front-short [] (suc k) = omega arith
-    front-short (p ∷ ps) (suc k) = omega (arith, front-short ps k, length-append p (concat (take k ps)), length-append p (concat ps))

@@ -128,9 +128,6 @@ module _ (h : Header) (bytes : List ℕ) (base j at : ℕ) (rest : List ℕ) (is
     within = omega (arith, within, number.place, is.place, is.within, ap length back, length-drop base bytes);
   }
 
-  pub group_inside : at - base ≤ length rest
-  group_inside = omega (arith, number.within, number.place, is.place, is.within, ap length back, length-drop base bytes)
-
 module _ (h : Header) (bytes : List ℕ) (j : ℕ) (group : List ℕ) (same : group ≡ piece_at (groups h bytes) j) where
   pub group_long : (b : Bool) → b ≡ nat_le 128 (slice_index group 9) → nat_le 128 (slice_index (piece_at (groups h bytes) j) 9) ≡ b
   group_long b e = ap (λ g. nat_le 128 (slice_index g 9)) (sym same) ∙ sym e

@@ -111,7 +111,3 @@ fits_of h clear short =
       | inl form ↦ omega (arith, eqb-true _ _ (sym (ap (λ b. cond b (nat_eq h.top (h.inputs + h.latches + h.ands)) (nat_le (h.inputs + h.latches + h.ands) h.top)) form) ∙ e))
       | inr form ↦ omega (arith, leb-true _ _ (sym (ap (λ b. cond b (nat_eq h.top (h.inputs + h.latches + h.ands)) (nat_le (h.inputs + h.latches + h.ands) h.top)) form) ∙ e))
     ]
-
--- and is large enough
-pub large_of : (h : Header) → of_header h ≡ None → is_header h ≡ true
-large_of h clear = not-false (is_header h) (when-none _ _ (none-both (when (not (is_header h)) (fault HeaderFault 0)) _ clear).0)

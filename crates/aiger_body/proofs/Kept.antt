@@ -113,9 +113,6 @@ module _ (h : Header) (bytes : List ℕ) where
   abbrev Fs : List ℕ
   Fs = map first_number (rs Fairs)
 
-  abbrev Gs : List Gate
-  Gs = map gate_of (rs Gates)
-
   kept-1 : kept 1 ≡ Six Is [] [] [] 0 [] []
   kept-1 = keep-inputs (rs Inputs) empty
 

@@ -1,5 +1,5 @@
 -- There are at most b to the power n rows of n values below b.
-use Rattle.std.proofs.Common.{◌≡◌, ℕ, ◌+◌, ◌-◌, ◌*◌, ◌^◌, ◌/◌, ◌%◌, ◌<◌, ◌≤◌, min, List, [], ◌∷◌, length, get_or, inl, inr, refl, sym, ap, ◌∙◌, subst, arith}
+use Rattle.std.proofs.Common.{◌≡◌, ℕ, ◌+◌, ◌-◌, ◌*◌, ◌^◌, ◌/◌, ◌%◌, ◌<◌, ◌≤◌, List, [], ◌∷◌, length, get_or, inl, inr, refl, sym, ap, ◌∙◌, subst, arith}
 use Rattle.std.specs.List.{Contains}
 use Rattle.std.proofs.Math.Arith.{digits_lt, digits_div, digits_mod}
 use Rattle.std.proofs.Math.Nat.{pow-zero, pow-succ', mul_comm}
@@ -7,10 +7,6 @@ use Rattle.std.proofs.lemmas.Bool.{cases_lt}
 use Rattle.std.proofs.lemmas.List.Elements.{Contains-append_right, Contains-get_or}
 use Rattle.hy_base.proofs.Places.{two-equal}
 use Rattle.chain_check.specs.Rows.{IsRow, AreRows, IsWithoutRepeats}
-
--- x, or one less above v
-abbrev squeezed : ℕ → ℕ → ℕ
-squeezed v x = x - min 1 (x - v)
 
 -- a row as a number
 abbrev pub number_of : ℕ → List ℕ → ℕ

@@ -9,31 +9,19 @@ use Rattle.hy_formula.specs.declared.classes.Class.TheVariants.{Other}
 use Rattle.hy_formula.specs.declared.prefix.Quant.{Quant}
 use Rattle.ltl_closure.specs.declared.closure_error.ClosureError.{ClosureError}
 use Rattle.ltl_closure.specs.declared.closure_error.ClosureError.TheVariants as closures
-use Rattle.ltl_tableau.specs.declared.tableau_error.TableauError.{TableauError}
 use Rattle.ltl_tableau.specs.declared.tableau_error.TableauError.TheVariants as tableaus
 use Rattle.ea_reduce.specs.declared.reduce_error.ReduceError.{ReduceError}
 use Rattle.ea_reduce.specs.declared.reduce_error.ReduceError.TheVariants as plans
 use Rattle.ea_reduce.specs.Plans.{PlainPlan, plain_plan, reduction, implication}
 use Rattle.ea_reduce.specs.Fulfilled.{IsOfOneKind, IsFulfillable}
-use Rattle.ea_reduce.specs.Refused.{HasFewMaps, RefusesReduction, RefusesImplication}
+use Rattle.ea_reduce.specs.Refused.{HasFewMaps, RefusesImplication}
 use Rattle.ea_core.specs.declared.decision.Decision.{Decision}
 use Rattle.ea_core.specs.declared.ea_error.EaError.{EaError}
 use Rattle.ea_core.specs.declared.ea_error.EaError.TheVariants.{Prefix, Limit, States, Memory}
 use Rattle.ea_core.specs.Decided.{Implies}
-use Rattle.ea_core.specs.Undecided.{most_members, HasFewMembers, IsCounted, IsWithin, HasFewBranches, HasManyBranches, of_plan, of_closure, of_tableau, RefusesClosure, RefusesClosures, RefusesSearch, RefusesSearches, Undecided, UndecidedImplication, UndecidedEquivalence}
+use Rattle.ea_core.specs.Undecided.{most_members, HasFewMembers, IsCounted, IsWithin, HasFewBranches, of_plan, of_closure, RefusesClosure, RefusesClosures, RefusesSearch, RefusesSearches, Undecided, UndecidedImplication, UndecidedEquivalence}
 
 module _ (prefix : List Quant) (body : Tree) (states : ℕ) where
-  pub formula-plan : (e : ReduceError) → RefusesReduction prefix (reduction prefix body) e → Undecided prefix body states (of_plan e)
-  formula-plan (plans.Prefix second found) h = h
-  formula-plan (plans.Limit limit) (taken, is, many) = (taken, inl (is, many))
-  formula-plan plans.Memory h = tt
-
-  pub formula-closure : class_of prefix ≢ Other → HasFewMaps (reduction prefix body) → (e : EaError) → RefusesClosure (reduction prefix body) e → Undecided prefix body states e
-  formula-closure taken few (Prefix second found) h = absurd h
-  formula-closure taken few (Limit limit) (is, many) = (taken, inr (is, few, many))
-  formula-closure taken few States h = absurd h
-  formula-closure taken few Memory h = tt
-
   pub formula-search : class_of prefix ≢ Other → IsCounted (reduction prefix body) → (e : EaError) → RefusesSearch (reduction prefix body) states e → Undecided prefix body states e
   formula-search taken counted (Prefix second found) h = absurd h
   formula-search taken counted (Limit limit) h = absurd h
@@ -46,16 +34,6 @@ module _ (first : List Quant) (body : Tree) (second : List Quant) (other : Tree)
 
   abbrev back : PlainPlan
   back = implication second other first body
-
-  pub implication-plan : (e : ReduceError) → RefusesImplication first second there e → UndecidedImplication first body second other states (of_plan e)
-  implication-plan (plans.Prefix which found) h = h
-  implication-plan (plans.Limit limit) (one, two, is, many) = (one, two, inl (is, many))
-  implication-plan plans.Memory h = tt
-
-  pub equivalence-plan : (e : ReduceError) → RefusesImplication first second there e → UndecidedEquivalence first body second other states (of_plan e)
-  equivalence-plan (plans.Prefix which found) h = h
-  equivalence-plan (plans.Limit limit) (one, two, is, many) = (one, two, inl (is, inl many))
-  equivalence-plan plans.Memory h = tt
 
   module _ (one : IsOfOneKind first) (two : IsOfOneKind second) where
     pub implication-closure : HasFewMaps there → (e : EaError) → RefusesClosure there e → UndecidedImplication first body second other states e
@@ -90,31 +68,11 @@ module _ (first : List Quant) (body : Tree) (second : List Quant) (other : Tree)
     equivalence-searches counted counted' implied States (inr (few, none, many)) = (one, two, counted, counted', inr (few, implied none, many))
     equivalence-searches counted counted' implied Memory h = tt
 
--- two closures, and two searches, of which the first or the second is refused
-pub first-closure : (plan converse : PlainPlan) (e : EaError) → RefusesClosure plan e → RefusesClosures plan converse e
-first-closure plan converse (Prefix which found) h = h
-first-closure plan converse (Limit limit) (is, many) = (is, inl many)
-first-closure plan converse States h = h
-first-closure plan converse Memory h = tt
-
-pub second-closure : (plan converse : PlainPlan) (e : EaError) → RefusesClosure converse e → RefusesClosures plan converse e
-second-closure plan converse (Prefix which found) h = h
-second-closure plan converse (Limit limit) (is, many) = (is, inr many)
-second-closure plan converse States h = h
-second-closure plan converse Memory h = tt
-
 pub first-search : (plan converse : PlainPlan) (states : ℕ) (e : EaError) → RefusesSearch plan states e → RefusesSearches plan converse states e
 first-search plan converse states (Prefix which found) h = h
 first-search plan converse states (Limit limit) h = h
 first-search plan converse states States many = inl many
 first-search plan converse states Memory h = tt
-
-pub second-search : (plan converse : PlainPlan) (states : ℕ) (e : EaError) → HasFewBranches plan states → (¬ IsFulfillable plan)
-    → RefusesSearch converse states e → RefusesSearches plan converse states e
-second-search plan converse states (Prefix which found) few none h = h
-second-search plan converse states (Limit limit) few none h = h
-second-search plan converse states States few none many = inr (few, none, many)
-second-search plan converse states Memory few none h = tt
 
 -- a closure that is not made
 pub closure-refused : {T : Type 0} (plan : Plan) (e : ClosureError)
@@ -123,12 +81,6 @@ closure-refused plan closures.Limit h =
     let P : List Task → Type 0 = λ ts. most_members < length (task_nodes ts) in
     (refl, subst P (plain-tasks plan.jobs) (h refl))
 closure-refused plan closures.Memory h = tt
-
--- a tableau that is not built
-pub tableau-refused : {T : Type 0} (plan : PlainPlan) (states : ℕ) (e : TableauError)
-    → (IsErrOf {T = T} (Err e) tableaus.States → HasManyBranches plan states) → RefusesSearch plan states (of_tableau e)
-tableau-refused plan states tableaus.States h = h refl
-tableau-refused plan states tableaus.Memory h = tt
 
 -- ---- by the results of the last step
 

@@ -314,14 +314,6 @@ pub record IsSearched (g : Shape) (from to before : ℕ) (now : Spread) (head af
 
 module _ (g : Shape) (from to before : ℕ) (p : Spread) (head after : ℕ)
     (is : IsSearched g from to before p head after) where
-  pub searched_within : after ≤ before + edges g
-  searched_within = omega (
-    arith,
-    is.counted,
-    sum_by-take-le (outgoing g) p.reached head,
-    total g p.seen p.reached is.spread,
-  )
-
   module _ (lt : head < length p.reached) (last : ℕ)
       (most : last ≤ after + length (successors_of g (reached_at p.reached head).node)) where
     pub search_within : last ≤ before + edges g

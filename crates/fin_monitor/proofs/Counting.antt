@@ -1,14 +1,10 @@
 -- How many residuals are reached.
-use Rattle.std.proofs.Common.{◌≡◌, ◌-◌, ◌<◌, ◌≤◌, ℕ, min, List, length, inl, inr, subst, arith}
+use Rattle.std.proofs.Common.{◌≡◌, ◌-◌, ◌<◌, ◌≤◌, ℕ, List, length, inl, inr, subst, arith}
 use Rattle.std.proofs.lemmas.Bool.{cases_lt}
 use Rattle.hy_base.proofs.Places.{two-equal}
 use Rattle.ltl_closure.specs.Nodes.{Node}
 use Rattle.fin_monitor.specs.Duties.{Duty, Same, SomeReached, AreReached, residual_at}
 use Rattle.fin_monitor.proofs.Exploring.{same-back, same-through}
-
--- x, or one less above v
-abbrev squeezed : ℕ → ℕ → ℕ
-squeezed v x = x - min 1 (x - v)
 
 module _ (nodes : List Node) (root : ℕ) (some all : List (List Duty)) (s : SomeReached nodes root some) (a : AreReached nodes root all) where
   found : (i : ℕ) → (q : ℕ) × (i < length some → (q < length all) × Same (residual_at some i) (residual_at all q))

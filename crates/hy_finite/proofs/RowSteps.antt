@@ -130,10 +130,6 @@ module _ (rule : Rule) (old new : List ℕ) (base other k : ℕ) (carry : Bool)
                 ∙ word-bits le l q step j r small same
           ]
 
-pub applied-all : (rule : Rule) (old new : List ℕ) (base other k : ℕ) (carry : Bool)
-    → Applying rule old new base other k carry → IsApplied rule old new base other k
-applied-all rule old new base other k carry done = record { kept = done.kept; said = done.said }
-
 -- The rows above the row that was written are let go.
 pub applied-taken : (rule : Rule) (old new : List ℕ) (at behind wide : ℕ) (kept : List ℕ)
     (base width : ℕ)

@@ -1,4 +1,4 @@
--- Truth values that decide facts, and what until says at a position by what it says at the next one.
+-- What until says at a position by what it says at the next one.
 use Rattle.std.proofs.Common.{◌≡◌, ℕ, suc, ◌<◌, ◌≤◌, Bool, true, false, not, ◌&&◌, ◌||◌, inl, inr, refl, sym, subst, arith}
 use Rattle.std.specs.Bool.{Decides}
 use Rattle.std.proofs.lemmas.Bool.{cases_eq}

@@ -77,15 +77,6 @@ gathered_more table lines n left list new line rest before first (inr (said, say
           (subst B first before.back (lasso ∷ more) (inr (said, more, says, refl, say))));
     }
 
--- the first line that is no text
-pub gathered_fault : (table : List (List ℕ)) (bytes : List ℕ) (n : ℕ) (left : List (List ℕ))
-    (list : List (Lasso Letter)) (line : List ℕ) (rest : List (List ℕ))
-    → Gathered table (lines_of bytes) n left list → left ≡ line ∷ rest → IsFaulty line
-    → IsLassosAnswer table bytes (Err (Syntax n))
-gathered_fault table bytes n left list line rest before first faulty =
-    let P : List (List ℕ) → Type 0 = λ ls. FirstFault IsText IsFaulty n ls n in
-    inl (before.fault n (subst P (sym first) (inl (faulty, refl))))
-
 -- no line is left
 pub gathered_all : (table : List (List ℕ)) (bytes : List ℕ) (n : ℕ) (left : List (List ℕ))
     (list : List (Lasso Letter)) → Gathered table (lines_of bytes) n left list → left ≡ []

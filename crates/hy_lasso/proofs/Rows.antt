@@ -50,9 +50,6 @@ says-at s row some i lt = Decides-at _ _ (sym (around-first s (length row) row s
 -- ---- once round the cycle, from its end to the place s
 
 module _ (s : ℕ) (P : ℕ → Type 0) (row : List Bool) where
-  pub seam-begin : Decides false (IsUntil (below (length row)) P (Says s row) (length row))
-  seam-begin = (λ e. absurd (cc), λ (j, from, within, here, all). absurd (omega arith))
-
   pub seam-more : (q p later v : Bool) (i j : ℕ) → s < length row → Decides later (IsUntil (below (length row)) P (Says s row) j) → suc i ≡ j → i < length row → q ≡ value_at row i → Decides p (P i) → v ≡ (q || (p && later)) → Decides v (IsUntil (below (length row)) P (Says s row) i)
   seam-more q p later v i j some here next lt dq dp e =
       let later_here : Decides later (IsUntil (below (length row)) P (Says s row) (i + 1)) =

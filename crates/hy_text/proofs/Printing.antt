@@ -1,5 +1,5 @@
 -- Printing the names of a set, and the sets of a word, one after another: what is printed so far and what is left.
-use Rattle.std.proofs.Common.{◌≡◌, ℕ, zero, suc, get_or, ◌+◌, ◌<◌, ◌≤◌, Bool, true, false, List, [], ◌∷◌, ◌++◌, length, map, drop, slice_get, Some, refl, sym, ap, ◌∙◌, append_assoc, append-nil, add-one}
+use Rattle.std.proofs.Common.{◌≡◌, ℕ, get_or, ◌+◌, ◌<◌, ◌≤◌, Bool, true, false, List, [], ◌∷◌, ◌++◌, length, map, drop, slice_get, Some, refl, sym, ap, ◌∙◌, append_assoc, append-nil, add-one}
 use Rattle.std.specs.List.{join_with_byte}
 use Rattle.std.proofs.lemmas.Option.{slice_get-get_or}
 use Rattle.std.specs.FinSet as set
@@ -14,11 +14,6 @@ pub joined_pieces : (b : ℕ) (xs : List (List ℕ)) → join_with_byte b xs ≡
 joined_pieces b [] = refl
 joined_pieces b (x ∷ []) = sym (append-nil x)
 joined_pieces b (x ∷ y ∷ xs) = ap (λ l. x ++ b ∷ l) (joined_pieces b (y ∷ xs))
-
-left_behind : {A : Type 0} (xs : List A) (i : ℕ) (x : A) → slice_get xs i ≡ Some x → drop i xs ≡ x ∷ drop (suc i) xs
-left_behind {A = A} [] i x e = cc
-left_behind {A = A} (y ∷ ys) zero x e = cc
-left_behind {A = A} (y ∷ ys) (suc i) x e = left_behind ys i x e
 
 -- a name that is in the letter, and one that is not
 pub member_at : (table : List (List ℕ)) (letter : Letter) (i : ℕ) (name : List ℕ) → slice_get table i ≡ Some name → set.contains letter i ≡ true → members_from i letter (drop i table) ≡ name ∷ members_from (i + 1) letter (drop (i + 1) table)

@@ -1,5 +1,5 @@
 -- Events, given to a monitor one after another.
-use Rattle.std.proofs.Common.{◌≡◌, ℕ, suc, ◌+◌, ◌<◌, ◌≤◌, ◌^◌, Bool, true, false, nat_lt, if◌then◌else◌, List, [], ◌∷◌, length, Option, Some, None, Ok, Err, Result, inl, inr, refl, sym, subst, ◌∙◌, arith}
+use Rattle.std.proofs.Common.{◌≡◌, ℕ, suc, ◌+◌, ◌≤◌, Bool, true, false, nat_lt, if◌then◌else◌, List, [], ◌∷◌, length, Option, Some, None, Ok, Err, Result, inl, inr, refl, sym, subst, ◌∙◌, arith}
 use Rattle.std.proofs.lemmas.List.{length-append}
 use Rattle.hy_base.specs.Limits.{most}
 use Rattle.hy_bits.specs.Letter.{Letter}
@@ -250,12 +250,6 @@ module _ (lengths : Lengths) (drop : Bool) (specs : List Spec) (start old : Sour
     stands = before.stands;
     comes = λ a is. before.back [] a none is;
   }
-
-  pub few-arrived : count_left start < 2 ^ 31 → m.arrived < 2 ^ 31
-  few-arrived short =
-      let few = before.few in
-      let count = before.stands.count in
-      omega (arith, few, count, short)
 
 -- Behind the last event the events come to what the monitor says for each history that it stands for.
 pub through-comes : (lengths : Lengths) (drop : Bool) (specs : List Spec) (source : Source) (m : Held) (a : Answer)

@@ -104,15 +104,6 @@ module _ (net : Net) (k : ℕ) (path : Word) (bad : IsBadPath (to_safe net) k pa
 
   -- ---- `begun`
 
-  begun-at : (P : ℕ → Type 0) → has_begun net ≡ true →
-      ((j : ℕ) → j < length begun-latches → P (get_or begun-latches j 0)) → P 1
-  begun-at P e all = at (has_begun net) e all
-    where
-      at : (b : Bool) → b ≡ true → ((j : ℕ) → j < length (begun_nexts b) →
-          P (get_or (begun_nexts b) j 0)) → P 1
-      at true e all = all 0 (omega arith)
-      at false e all = absurd (cc)
-
   some-begun : has_begun net ≡ true → 0 < length begun-latches
   some-begun e = at (has_begun net) e
     where

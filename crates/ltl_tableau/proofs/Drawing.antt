@@ -91,9 +91,6 @@ module _ (nodes : List Node) (b : Branch) (k : ℕ) (list list' : List ℕ) (so_
             | inr apart ↦ subst Q (sym is) ((so_far q).1 (omega arith, p))
           ]
 
-pub postponed-all : (nodes : List Node) (b : Branch) (k : ℕ) (list : List ℕ) → length nodes ≤ k → ((q : ℕ) → Contains list q ↔ ((q < k) × (postpones nodes b q ≡ true))) → (q : ℕ) → Contains list q ↔ (postpones nodes b q ≡ true)
-postponed-all nodes b k list end so_far q = (λ h. ((so_far q).0 h).1, λ p. (so_far q).1 (let lt = postpones-below nodes b q p in omega arith, p))
-
 -- ---- the place of a set
 
 module _ (p : Members → Bool) where

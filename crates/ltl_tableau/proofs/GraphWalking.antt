@@ -23,8 +23,6 @@ use Rattle.ltl_tableau.specs.Walks.{no_branch, gone, IsWalk, IsAccepting}
 use Rattle.ltl_tableau.proofs.Drawing.{postpones-below}
 use Rattle.ltl_tableau.proofs.Exploring.{contains-at, place-of}
 
--- ---- lists
-
 -- ---- places of a stem and a cycle
 
 place-in_stem : (stem cycle : List ℕ) (i : ℕ) → i < length stem

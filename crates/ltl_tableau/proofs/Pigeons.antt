@@ -1,14 +1,10 @@
--- Of more numbers than there are values below a bound, two are equal; and sets by numbers.
-use Rattle.std.proofs.Common.{◌≡◌, ℕ, zero, suc, ◌+◌, ◌-◌, ◌*◌, ◌^◌, ◌<◌, Bool, true, false, min, inl, inr, refl, sym, ◌∙◌, subst, arith}
+-- Sets as numbers: those of members below n have numbers below 2 to the power n, and equal numbers are of equal sets.
+use Rattle.std.proofs.Common.{◌≡◌, ℕ, zero, suc, ◌+◌, ◌-◌, ◌*◌, ◌^◌, ◌<◌, Bool, true, false, inl, inr, refl, sym, ◌∙◌, subst, arith}
 use Rattle.std.specs.FinSet.{contains, same_set, nat_cmp-IsAntisymmetric}
 use Rattle.std.specs.Cmp.{nat_cmp_total}
 use Rattle.std.proofs.Math.Nat.{pow-succ'}
 use Rattle.std.proofs.lemmas.Bool.{cases_eq, cases_lt, false_from_ne_true}
 use Rattle.ltl_tableau.specs.Branches.{Members, Has}
-
--- x, or one less above v
-abbrev squeezed : ℕ → ℕ → ℕ
-squeezed v x = x - min 1 (x - v)
 
 abbrev pub bit_of : Bool → ℕ
 bit_of true = 1

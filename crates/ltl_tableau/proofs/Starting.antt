@@ -1,11 +1,11 @@
 -- The branches of a set, from the beginning.
-use Rattle.std.proofs.Common.{◌≡◌, ℕ, ◌<◌, ◌≤◌, false, List, length, Option, Some, None, sym, ap, ◌∙◌, subst, arith}
+use Rattle.std.proofs.Common.{◌≡◌, ℕ, ◌<◌, ◌≤◌, false, List, length, Some, None, sym, ap, ◌∙◌, subst, arith}
 use Rattle.std.specs.FinSet.{empty, contains}
 use Rattle.ltl_closure.specs.Nodes.{Node, node_at, PartsBelow}
 use Rattle.ltl_tableau.specs.declared.settle.Draft.{Draft}
 use Rattle.ltl_tableau.specs.Branches.{Members, branches_below}
 use Rattle.ltl_tableau.specs.Ways.{ways, AreDead}
-use Rattle.ltl_tableau.specs.Drafts.{Settles, HasNone, Begins, IsReady}
+use Rattle.ltl_tableau.specs.Drafts.{Settles, HasNone, Begins}
 use Rattle.ltl_tableau.proofs.Sets.{has-none}
 use Rattle.ltl_tableau.proofs.WaysLemmas.{within-itself}
 use Rattle.ltl_tableau.proofs.OneSet.{from-start}
@@ -34,8 +34,3 @@ module _ (nodes : List Node) (parts : (k : ℕ) → k < length nodes → PartsBe
         ready = (omega (arith, s.below, below), s.dead, within-itself new.work.held);
         same = subst P (sym (s.next ∙ next)) (subst Q (sym s.below) (sym (s.same empty) ∙ all-ways));
       }
-
--- the draft holds what it holds from the beginning
-pub ready-same : {w : ℕ} (nodes : List Node) (n : ℕ) (base held : Members) (start : Option (Draft w)) → held ≡ base
-    → IsReady nodes n base start → IsReady nodes n held start
-ready-same nodes n base held start e r = let P : Members → Type 0 = λ b. IsReady nodes n b start in subst P (sym e) r

@@ -1,11 +1,10 @@
 -- The facts that are kept name latches.
-use Rattle.std.proofs.Common.{ℕ, zero, suc, ◌<◌, List, [], ◌∷◌, ◌++◌, length, Contains, inl, inr, refl, subst, arith}
+use Rattle.std.proofs.Common.{ℕ, List, ◌++◌, length, Contains, inl, inr, refl, subst, arith}
 use Rattle.std.proofs.lemmas.List.Elements.{Contains-append_cases}
-use Rattle.hy_base.proofs.Members.{contains-later, contains-cases, contains-none}
+use Rattle.hy_base.proofs.Members.{contains-later, contains-cases}
 use Rattle.live_safe.specs.declared.safe_net.SafeNet.{SafeNet}
 use Rattle.cnf_frames.specs.declared.facts.Fact.{Fact}
 use Rattle.cnf_frames.specs.Facts.{IsIn}
-use Rattle.cnf_frames.specs.Queries.{for_each}
 use Rattle.invar_find.specs.declared.kept.Kept.{Kept}
 use Rattle.invar_find.specs.Kepts as kepts
 use Rattle.invar_find.specs.Parts.{IsSublist, none, leaves, takes}
@@ -19,23 +18,6 @@ module _ (P : Fact → Type 0) where
   each-append : (xs ys : List Fact) → Each P xs → Each P ys → Each P (xs ++ ys)
   each-append xs ys a b f h =
       elim (Contains-append_cases xs ys f h) [ inl x ↦ a f x | inr y ↦ b f y ]
-
-  each-two : (x y : Fact) → P x → P y → Each P (x ∷ y ∷ [])
-  each-two x y p q f h =
-      elim (contains-cases x f (y ∷ []) h) [
-        | inl e ↦ subst P e p
-        | inr more ↦ elim (contains-cases y f [] more) [
-          | inl e ↦ subst P e q
-          | inr rest ↦ absurd (contains-none f rest)
-        ]
-      ]
-
-  each-for : (g : ℕ → List Fact) (n : ℕ) → ((j : ℕ) → j < n → Each P (g j)) →
-      Each P (for_each g n)
-  each-for g zero all = λ f h. absurd (contains-none f h)
-  each-for g (suc n) all =
-      each-append (for_each g n) (g n) (each-for g n (λ j lt. all j (omega arith)))
-      (all n (omega arith))
 
   each-part : {some all : List Fact} → IsSublist some all → Each P all → Each P some
   each-part none each = each

@@ -6,11 +6,11 @@ use Rattle.std.proofs.lemmas.List.Elements.{Contains-append_cases, All-push}
 use Rattle.hy_formula.specs.Trees.{Tree}
 use Rattle.aig_net.specs.declared.signals.Signal.{Signal}
 use Rattle.aig_net.specs.Nets.{Net}
-use Rattle.aig_net.specs.Signals.{are_signals, has_signal, is_for, literal_of}
+use Rattle.aig_net.specs.Signals.{has_signal, is_for, literal_of}
 use Rattle.mc_core.specs.declared.meaning.Meaning.{Meaning}
 use Rattle.mc_core.specs.declared.meaning.Meaning.TheVariants.{Nothing, Literal, Several}
 use Rattle.mc_core.specs.Meanings.{AreBelow, Means}
-use Rattle.mc_core.specs.Names.{AreSignals, HasLiteral, IsFirstBad, IsOnly, has_name, name_at}
+use Rattle.mc_core.specs.Names.{HasLiteral, IsFirstBad, IsOnly, has_name, name_at}
 
 -- a list whose names are below k has none of it
 lacks : (signals : List Signal) (k : ℕ) → All (λ s. s.name < k) signals →
@@ -49,15 +49,6 @@ has-last (x ∷ xs) s own = at (is_for s.name 0 x) (has-last xs s own)
     at false h = h
 
 module _ (net : Net) (names : List (List ℕ)) (body : Tree) where
-  pub below_none : AreBelow net names body 0 []
-  below_none = record {
-    own = λ k d lt. absurd (omega arith);
-    each = λ s (k, lt, _). absurd (omega (arith, lt));
-    every = λ j lt. absurd (omega arith);
-    below = λ k d lt. absurd (omega arith);
-    only = λ j lt. absurd (omega arith);
-  }
-
   pub fresh_name : (k : ℕ) (signals : List Signal) → AreBelow net names body k signals →
       has_signal signals k 0 ≡ false
   fresh_name k signals are = lacks signals k are.below
@@ -111,16 +102,6 @@ module _ (net : Net) (names : List (List ℕ)) (body : Tree) where
           | inr apart ↦ are.only j (omega (arith, lt, apart)) h
         ];
       })
-
-  pub below_all : (signals : List Signal) → IsTrue (are_signals signals) →
-      ((k : ℕ) → has_name body k ≡ true → k < 64) → AreBelow net names body 64 signals →
-      AreSignals net names body signals
-  below_all signals distinct few are = record {
-    distinct = distinct;
-    own = are.own;
-    each = are.each;
-    every = λ k h. are.every k (few k h) h;
-  }
 
   pub literal_only : (name : List ℕ) (m : Meaning) (l : ℕ) → Means (HasLiteral net name) m →
       m ≡ Literal l → IsOnly net name l

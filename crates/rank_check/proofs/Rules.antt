@@ -20,9 +20,6 @@ and_some (Some j) P holds = (j, refl, holds)
 and_some None P holds = absurd holds
 
 module _ (g : Shape) (r : Ranks) where
-  pub ranked-starts : IsRanked g r → All (λ v. IsSome (rank_of r v)) (members_of g 0)
-  ranked-starts ranked = all_from _ (members_of g 0) ranked.starts
-
   follows-at : IsRanked g r → (v k : ℕ) → v < length g.nodes → rank_of r v ≡ Some k
       → (reason : Option ℕ) → Explains g r k reason → FollowsAt g r v k reason
   follows-at ranked v k there is (Some until) why = (

@@ -1,5 +1,5 @@
 -- Lists place by place.
-use Rattle.std.proofs.Common.{◌≡◌, ℕ, zero, suc, ◌+◌, ◌<◌, List, [], ◌∷◌, ◌++◌, take, slice_get, Option, Some, None, IfNone, Result, Ok, Err, IfOk, refl, ap, subst, add-one, arith}
+use Rattle.std.proofs.Common.{◌≡◌, ℕ, zero, suc, ◌+◌, List, [], ◌∷◌, ◌++◌, take, slice_get, Option, Some, None, IfNone, Result, Ok, Err, IfOk, refl, ap, subst, add-one}
 use Rattle.hy_formula.specs.Quantifiers.{Each}
 
 -- the elements up to a place and the one there
@@ -30,13 +30,6 @@ module _ {A : Type 0} (P : A → Type 0) where
   pub each-push : (xs : List A) (x : A) → Each P xs → P x → Each P (xs ++ x ∷ [])
   each-push [] x all p = (p, tt)
   each-push (y ∷ ys) x (q, all) p = (q, each-push ys x all p)
-
-pub front-at : {A : Type 0} (n : ℕ) (xs : List A) (i : ℕ) (x : A) → i < n → slice_get xs i ≡ Some x
-    → slice_get (take n xs) i ≡ Some x
-front-at zero xs i x lt at = absurd (omega arith)
-front-at (suc n) [] i x lt at = absurd (cc)
-front-at (suc n) (y ∷ ys) zero x lt at = at
-front-at (suc n) (y ∷ ys) (suc i) x lt at = front-at n ys i x (omega arith) at
 
 pub none-more : {A P Q : Type 0} (r : Option A) → (P → Q) → IfNone r P → IfNone r Q
 none-more None f p = f p

@@ -1,5 +1,5 @@
 -- What a monitor stands for after each change of what it holds.
-use Rattle.std.proofs.Common.{◌≡◌, ℕ, zero, suc, ◌+◌, ◌<◌, Bool, List, [], ◌∷◌, ◌++◌, length, map, slice_get, Some, Result, Ok, Err, OnOk, OnErr, refl, sym, ap, ◌∙◌, subst, arith}
+use Rattle.std.proofs.Common.{◌≡◌, ℕ, zero, suc, ◌+◌, ◌<◌, Bool, List, [], ◌∷◌, ◌++◌, length, map, slice_get, Some, refl, sym, ap, ◌∙◌, subst, arith}
 use Rattle.std.proofs.lemmas.List.{length-append, length-map}
 use Rattle.std.proofs.lemmas.Option.{slice_get_within}
 use Rattle.hy_formula.specs.Quantifiers.{Each}
@@ -294,17 +294,6 @@ saves-long rule drop specs later (x ∷ xs) (p ∷ ps) (is, rest) =
     ap suc (saves-long rule drop specs p.arrived xs ps rest)
 
 -- ---- what a monitor holds fits together
-
--- a save more, where it is not refused
-pub within-pushed : {E : Type 0} (r : Result (Unit {0}) E) (n : ℕ) (saves new : List Saved)
-    (x : Saved) → AreBelow n x.arrived x.kept
-    → OnOk r (new ≡ saves ++ x ∷ []) → OnErr r (new ≡ saves) → AreWithin n saves → AreWithin n new
-within-pushed (Ok u) n saves new x below added same w =
-    let P : List Saved → Type 0 = AreWithin n in
-    subst P (sym added)
-    (each-append (λ (s : Saved). AreBelow n s.arrived s.kept) saves (x ∷ []) w (below, tt))
-within-pushed (Err u) n saves new x below added same w =
-    let P : List Saved → Type 0 = AreWithin n in subst P (sym same) w
 
 pub within-popped : (n : ℕ) (saves new : List Saved) (x : Saved) → saves ≡ new ++ x ∷ []
     → AreWithin n saves → AreBelow n x.arrived x.kept × AreWithin n new

@@ -1,22 +1,20 @@
 -- One more clause is watched.
-use Rattle.std.proofs.Common.{◌≡◌, ◌≢◌, ℕ, suc, ◌+◌, ◌-◌, ◌*◌, ◌<◌, ◌≤◌, ◌⊎◌, List, [], ◌∷◌, ◌++◌, length, get_or, set, take, replicate, inl, inr, refl, sym, ap, ◌∙◌, subst, arith, get_or-set_same, get_or-set_other}
-use Rattle.std.specs.Prelude.{ℤ, pos, negsuc, neg_ℤ, Option}
+use Rattle.std.proofs.Common.{◌≡◌, ◌≢◌, ℕ, ◌+◌, ◌-◌, ◌<◌, ◌⊎◌, List, [], ◌∷◌, ◌++◌, length, get_or, set, take, inl, inr, refl, sym, ap, ◌∙◌, subst, arith, get_or-set_same, get_or-set_other}
+use Rattle.std.specs.Prelude.{ℤ, Option}
 use Rattle.std.specs.List.{Contains}
 use Rattle.std.proofs.lemmas.Bool.{cases_eq, cases_lt}
-use Rattle.std.proofs.lemmas.List.{length-set, length_push, length-append, length-take-le, length-replicate, get_or-replicate, get_or_past, get_or_append_left, get_or_push, get_or_default, get_or-take}
+use Rattle.std.proofs.lemmas.List.{length-set, length_push, get_or_append_left, get_or_push}
 use Rattle.std.proofs.lemmas.List.Elements.{Contains-append_left, Contains-push, Contains-push_cases}
 use Rattle.chain_check.specs.Clauses.{Clause, IsLiteral}
 use Rattle.sat_core.specs.declared.solver.Solver.{Solver}
 use Rattle.sat_core.specs.declared.watches.Pair.{Pair}
 use Rattle.sat_core.specs.declared.watches.Watches.{Watches}
-use Rattle.sat_core.specs.Trails.{AreSettled, IsSettled}
-use Rattle.sat_core.specs.Solvers.{IsReady, GoesOn}
+use Rattle.sat_core.specs.Solvers.{IsReady}
 use Rattle.sat_core.specs.Lists.{place_of}
-use Rattle.sat_core.specs.Watches.{StandsAt, IsCovered, IsFixed, IsWatched, IsHeld, IsWatching, no_pair, IsReplacement, IsOther, AreAdded}
+use Rattle.sat_core.specs.Watches.{IsHeld, IsWatching, no_pair, AreAdded}
 use Rattle.sat_core.specs.Lessons.{IsSecond, IsTaught}
 use Rattle.sat_core.proofs.Resolving.{consistent-trail}
-use Rattle.chain_check.proofs.Literals.{same-or-not, twice}
-use Rattle.sat_core.proofs.Covering.{place-of, there-at, stands-more, watched-settled, fixed-settled, watched-implied, fixed-implied, watched-decided, fixed-decided, watched-back, fixed-back, watched-next, covered-open, covered-none, covered-late}
+use Rattle.sat_core.proofs.Covering.{place-of, covered-open, covered-none, covered-late}
 use Rattle.sat_core.proofs.Holding.{place-inside, held-on, watching-taught}
 
 -- a number that is added to the lists of two literals
@@ -215,10 +213,6 @@ module _ (s t : Solver) (w : Watches) (c : Clause) (top : ℤ) (second : Option 
   the-clause' : get_or t.clauses (length w.pairs.items) [] ≡ c
   the-clause' = ap (λ cs. get_or cs (length w.pairs.items) []) clauses ∙
       get_or_push s.clauses c [] (length w.pairs.items) (sym long)
-
-  its-last : Contains (get_or t.clauses (length w.pairs.items) []) top
-  its-last = let P : Clause → Type 0 = λ d. Contains d top in
-      subst P (sym the-clause') taught.has_top
 
   room : length w.pairs.items < length t.clauses
   room = omega (arith, long, ap length clauses, length_push s.clauses c)

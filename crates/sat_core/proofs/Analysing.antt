@@ -187,14 +187,6 @@ module _ (trail : List ℤ) (start p : ℕ) (seen : List Bool) (lower : List ℤ
     reached = is.reached;
   }
 
-pub more-seen : (seen : List Bool) (q : ℕ) → q < length seen → AreMore seen (set seen q true)
-more-seen seen q inside i e =
-    elim (cases_eq i q) [
-      | inl same ↦ let P : ℕ → Type 0 = λ k. get_or (set seen q true) k false ≡ true in
-          subst P (sym same) (get_or-set_same seen q true false inside)
-      | inr apart ↦ get_or-set_other seen q i true false apart ∙ e
-    ]
-
 -- the place is left behind
 pub pass-unseen : (trail : List ℤ) (start p : ℕ) (seen : List Bool) (lower : List ℤ)
     (highest unsettled : ℕ) → IsAnalysis trail start (suc p) seen lower highest unsettled →

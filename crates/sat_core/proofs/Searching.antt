@@ -87,24 +87,6 @@ all-satisfied s values ready settled full is c there =
               (subst P same ((is.right v (omega (arith, right.1))).0 yes')))
         ])
 
--- the measures
-pub less-left : (k l n x y : ℕ) → l < k → x ≤ n → y ≤ n →
-    (k - (l + 1)) * (n + 1) + (n - y) < (k - l) * (n + 1) + (n - x)
-less-left k l n x y lt le le' =
-    let d : ℕ = k - (l + 1) in
-    let e : k - l ≡ d + 1 = omega arith in
-    let P : ℕ → Type 0 = λ q. (k - (l + 1)) * (n + 1) + (n - y) < q * (n + 1) + (n - x) in
-    subst P (sym e) (split d (omega arith))
-  where
-    split : (d : ℕ) → d ≡ k - (l + 1) → (k - (l + 1)) * (n + 1) + (n - y) < (d + 1) * (n + 1) +
-        (n - x)
-    split d e =
-        let P : ℕ → Type 0 = λ q. q * (n + 1) + (n - y) < (d + 1) * (n + 1) + (n - x) in
-        subst P e (below d)
-      where
-        below : (d : ℕ) → d * (n + 1) + (n - y) < (d + 1) * (n + 1) + (n - x)
-        below d = omega arith
-
 pub less-open : (m n x y : ℕ) → x < y → y ≤ n → m + (n - y) < m + (n - x)
 less-open m n x y lt le = omega arith
 

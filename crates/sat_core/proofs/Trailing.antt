@@ -7,7 +7,6 @@ use Rattle.std.proofs.lemmas.List.{length-take-le, length_push, take-append-le, 
 use Rattle.std.proofs.lemmas.List.Elements.{Contains-append_left, Contains-push_cases, Contains-get_or}
 use Rattle.std.proofs.lemmas.Option.{slice_get_within, get_or_from_slice_get, slice_get-get_or}
 use Rattle.hy_base.proofs.Places.{two-equal}
-use Rattle.hy_base.proofs.Members.{from-take}
 use Rattle.chain_check.specs.Clauses.{Clause, IsLiteral, IsNew}
 use Rattle.chain_check.specs.Chains.{IsUnit, IsNumbered, Refutes, ends, goes}
 use Rattle.sat_core.specs.Trails.{IsOpenIn, IsSettled, AreSettled, IsStep, IsTrail}
@@ -130,12 +129,6 @@ module _ (variables : ℕ) (clauses : List Clause) (trail : List ℤ) (reasons l
             let s = (is.steps j (omega arith)).right in
             absurd (apart-places i j lt (omega arith) (omega (arith, e, r.0, s.0)))
       ]
-
-  front-open : (n : ℕ) (l : ℤ) → IsOpenIn trail l → IsOpenIn (take n trail) l
-  front-open n l open' = (
-    λ h. open'.0 (from-take trail n l h),
-    λ h. open'.1 (from-take trail n (neg_ℤ l) h),
-  )
 
 settled-same : (clauses : List Clause) (xs ys : List ℤ) → xs ≡ ys → AreSettled clauses xs →
     AreSettled clauses ys

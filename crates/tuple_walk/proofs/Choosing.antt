@@ -250,9 +250,6 @@ entry-set lengths ls i e w lt first rows (tuple, h, pre) =
     ∙ first p c
 
 module _ (lengths : Lengths) (ls : List (List Numbered)) (i : ℕ) where
-  pub no-steps : AreSteps lengths ls 0
-  no-steps = record { visited = []; apart = tt; inside = tt; many = omega arith }
-
   pub no-steps_by : (letters : List Letter) → AreStepsBy lengths i letters ls 0
   no-steps_by letters =
       record { visited = []; apart = tt; inside = tt; begin = tt; many = omega arith }
@@ -298,11 +295,6 @@ module _ (lengths : Lengths) (ls : List (List Numbered)) (i : ℕ) where
         (λ rows (b, among, is). (b, from-take letters k b among, is)) s.visited s.begin;
     many = s.many;
   }
-
-  pub steps-any : (letters : List Letter) (made : ℕ) → AreStepsBy lengths i letters ls made
-      → AreSteps lengths ls made
-  steps-any letters made s =
-      record { visited = s.visited; apart = s.apart; inside = s.inside; many = s.many }
 
   pub steps-gap : (letters : List Letter) (w : List Numbered) → i < length ls
       → IsWay (get_or ls i []) None w → (before more : ℕ)

@@ -98,16 +98,6 @@ letter-way a rests some = record {
         (map-of (λ (q : Numbered). q.1) (led_by a (under a rests)) (n, a ∷ t)
         (to-under a rests n t (subst P is d)))
 
--- the only trace, with its letter taken
-pub alone-way : (n : ℕ) (a : Letter) (t : Trace)
-    → IsWay ((n, a ∷ t) ∷ []) (Some a) ((n, a ∷ t) ∷ [])
-alone-way n a t = record {
-  some = omega arith;
-  part = λ p c. c;
-  first = λ p c. ap (λ (q : Numbered). entry q.1) (sym (contains-one (n, a ∷ t) p c));
-  whole = λ u c e. c;
-}
-
 pub gap-way : (n : ℕ) (rests : List Numbered) → Contains rests (n, [])
     → IsWay rests None ((n, []) ∷ [])
 gap-way n rests c = record {
