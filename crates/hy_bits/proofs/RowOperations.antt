@@ -1,6 +1,6 @@
 -- What the operations on words of 64 bits do to the sets that the words are.
-use Rattle.std.proofs.Common.{◌≡◌, ◌≢◌, ℕ, zero, suc, ◌+◌, ◌*◌, ◌/◌, ◌%◌, ◌^◌, ◌<◌, ◌≤◌, true, false, ◌||◌, max, List, [], ◌∷◌, length, get_or, set, replicate, nat_eq, refl, sym, ap, ◌∙◌, inl, inr, subst, arith, bit_and, bit_or}
-use Rattle.std.specs.Int.{bit_at}
+use Rattle.std.proofs.Common.{◌≡◌, ◌≢◌, ℕ, zero, suc, ◌+◌, ◌-◌, ◌*◌, ◌/◌, ◌%◌, ◌^◌, ◌<◌, ◌≤◌, true, false, ◌||◌, max, List, [], ◌∷◌, length, get_or, set, replicate, nat_eq, refl, sym, ap, ◌∙◌, inl, inr, subst, arith, bit_and, bit_or, w64, Some}
+use Rattle.std.specs.Int.{bit_at, trailing_zeros}
 use Rattle.std.specs.Ordering.{nat_cmp}
 use Rattle.std.specs.Cmp.{nat_cmp_total, nat_cmp_is, both_ways}
 use Rattle.std.specs.Cmp.Lexicographic.{pointwise, bytes_decides}
@@ -8,12 +8,14 @@ use Rattle.std.specs.FinSet.{empty, insert, remove, union, is_subset, contains, 
 use Rattle.std.proofs.lemmas.Bool.{eq-eqb, eqb-true, cases_eq, cases_lt}
 use Rattle.std.proofs.lemmas.List.{get_or-set_same, get_or-set_other, get_or_past, ext_get_or}
 use Rattle.std.proofs.Math.ListN.{length-set}
-use Rattle.std.proofs.lemmas.Nat.{or_lt}
+use Rattle.std.proofs.lemmas.Nat.{or_lt, pow-add}
+use Rattle.std.proofs.Math.Nat.{div-div-eq-div-mul, div-le_self, lt_of_le_of_lt}
 use Rattle.std.specs.declared.cmp.Ordering.TheVariants.{Less, Equal, Greater}
-use Rattle.std.proofs.lemmas.Nat.Bits.{bit_at_or, bit_at_and, bit_at-lt, bit_at_above, same_from_bits}
+use Rattle.std.proofs.lemmas.Nat.Bits.{bit_at-zero, bit_at_or, bit_at_and, bit_at-lt, bit_at_above, bit_at-trailing_zeros, same_from_bits}
 use Rattle.hy_bits.specs.Binary.{ones}
 use Rattle.hy_bits.specs.BinaryLaws.{contains-insert_same, contains-insert_other, contains-remove_same, contains-remove_other, same_members}
 use Rattle.hy_bits.specs.Rows.{joined, members, words_of, AreWords}
+use Rattle.hy_bits.specs.Sets.{HasNone, IsNext}
 use Rattle.hy_bits.specs.RowLaws.{bit, words_of-joined, contains-members}
 
 -- ---- no member
@@ -281,3 +283,60 @@ pub ored-words : (xs ys zs : List ℕ) → AreWords xs → AreWords ys
 ored-words xs ys zs fit_x fit_y each k =
     let P : ℕ → Type 0 = λ n. n < 2 ^ 64 in
     subst P (sym (each k)) (or_lt 64 (get_or xs k 0) (get_or ys k 0) (fit_x k) (fit_y k))
+
+-- ---- the least member from a number on
+
+-- a word that is shifted down
+bit_at-shifted : (w p t : ℕ) → bit_at (w / 2 ^ p) t ≡ bit_at w (p + t)
+bit_at-shifted w p t = ap (λ n. n % 2) (div-div-eq-div-mul w (2 ^ p) (2 ^ t) ∙ ap (λ n. w / n) (sym (pow-add 2 p t)))
+
+-- the bits from number i on, in its word
+abbrev pub rest : List ℕ → ℕ → ℕ
+rest ws i = get_or ws (i / 64) 0 / 2 ^ (i % 64)
+
+module _ (ws : List ℕ) (fit : AreWords ws) (from i : ℕ) (le : from ≤ i) (none : HasNone (members ws) from i) where
+  contains-shifted : (t : ℕ) → i % 64 + t < 64 → contains (members ws) (i + t) ≡ nat_eq (bit_at (rest ws i) t) 1
+  contains-shifted t low =
+      let word : (i + t) / 64 ≡ i / 64 = omega arith in
+      let place : (i + t) % 64 ≡ i % 64 + t = omega arith in
+      contains-members ws (i + t) fit
+      ∙ (λ j. nat_eq (bit_at (get_or ws (word j) 0) (place j)) 1)
+      ∙ ap (λ b. nat_eq b 1) (sym (bit_at-shifted (get_or ws (i / 64) 0) (i % 64) t))
+
+  -- none up to another one in its word, if the bits say so
+  none-more : (t : ℕ) → i % 64 + t ≤ 64 → ((k : ℕ) → k < t → bit_at (rest ws i) k ≡ 0) → HasNone (members ws) from (i + t)
+  none-more t low zeros q ge lt =
+      elim (cases_lt q i) [
+        | inl before ↦ none q ge before
+        | inr behind ↦
+            let e : i + (q - i) ≡ q = omega arith in
+            sym (ap (contains (members ws)) e) ∙ contains-shifted (q - i) (omega arith) ∙ ap (λ b. nat_eq b 1) (zeros (q - i) (omega arith))
+      ]
+
+  pub none-past : rest ws i ≡ 0 → HasNone (members ws) from ((i / 64 + 1) * 64)
+  none-past nothing =
+      let P : ℕ → Type 0 = HasNone (members ws) from in
+      subst P (omega arith) (none-more (64 - i % 64) (omega arith) (λ k lt. ap (λ w. bit_at w k) nothing ∙ bit_at-zero k))
+
+  pub next-found : 0 < rest ws i → IsNext (members ws) from (Some (i + trailing_zeros w64 (rest ws i)))
+  next-found some =
+      let fits : rest ws i < 2 ^ 64 = lt_of_le_of_lt (div-le_self (get_or ws (i / 64) 0) (2 ^ (i % 64))) (fit (i / 64)) in
+      let (_, one, zeros) = bit_at-trailing_zeros w64 (rest ws i) some fits in
+      let t : ℕ = trailing_zeros w64 (rest ws i) in
+      elim (cases_lt (i % 64 + t) 64) [
+        | inl low ↦ (omega arith, contains-shifted t low ∙ ap (λ b. nat_eq b 1) one, none-more t (omega arith) zeros)
+        | inr high ↦
+            let found = sym (bit_at-shifted (get_or ws (i / 64) 0) (i % 64) t) ∙ one in
+            absurd (cc (found, bit_at_above (get_or ws (i / 64) 0) 64 (i % 64 + t) (fit (i / 64)) high))
+      ]
+
+-- past all words
+pub none-left : (ws : List ℕ) → AreWords ws → (n from i : ℕ) → length ws ≡ n → 64 * n ≤ i → HasNone (members ws) from i → (q : ℕ) → from ≤ q → contains (members ws) q ≡ false
+none-left ws fit n from i long past none q ge =
+    elim (cases_lt q i) [
+      | inl before ↦ none q ge before
+      | inr behind ↦
+          contains-members ws q fit
+          ∙ ap (λ w. nat_eq (bit_at w (q % 64)) 1) (get_or_past ws (q / 64) 0 (omega (arith, long)))
+          ∙ ap (λ b. nat_eq b 1) (bit_at-zero (q % 64))
+    ]

@@ -12,7 +12,7 @@ use Rattle.std.proofs.Math.Arith.{lt_of_le-ne}
 use Rattle.std.proofs.Math.Nat.{le_refl, lt_irrefl, lt-suc_self, zero-lt-suc, not-suc-le-zero, le_of_suc-le, le_of_suc-le-suc, lt_of_lt_of_le, lt_of_le_of_lt, le_trans, le-max_left, le-max_right, zero-max, max-zero}
 use Rattle.std.proofs.Math.Pow.{pow_mono}
 use Rattle.std.proofs.lemmas.Nat.{pow_below}
-use Rattle.std.proofs.lemmas.Bool.{eqb-true, eqb-false, ne_eqb, eq-eqb, cases_eq, cases_lt}
+use Rattle.std.proofs.lemmas.Bool.{ne_eqb, eq-eqb, cases_eq, cases_lt}
 use Rattle.std.proofs.lemmas.Nat.Bits.{bit_at_or, bit_at-zero, bit_at-pow_same, bit_at-pow_other, bit_at-lt, bit_at_above, same_from_bits}
 use Rattle.hy_bits.specs.Sets.{NumberSet}
 use Rattle.hy_bits.specs.Binary.{has_one, ones_below, ones, number_below, above_all, number}

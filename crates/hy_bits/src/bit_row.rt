@@ -8,7 +8,7 @@ ghost use Rattle.std.specs.Hash as fed;
 ghost use Rattle.hy_bits.specs.Binary.{number};
 ghost use Rattle.hy_bits.specs.Rows.{words_of};
 ghost use Rattle.hy_bits.specs.RowLaws.{same_input};
-ghost use Rattle.hy_bits.specs.Sets.{AreBelow};
+ghost use Rattle.hy_bits.specs.Sets.{AreBelow, IsNext};
 
 use std::cmp::Ordering;
 use std::hash::{Hash, Hasher};
@@ -66,6 +66,22 @@ impl<const W: usize> BitRow<W> {
         ensures { result ≡ set.contains self.now i }
     {
         (self.words[i / 64] >> (i % 64)) & 1 == 1
+    }
+
+    /// The least member from a number on, in time linear in W.
+    pub fn next_from(&self, from: usize) -> Option<usize>
+        requires { W ≤ 16 }
+        ensures { IsNext self.now from result }
+    {
+        let mut i = from;
+        while i < 64 * W {
+            let rest = self.words[i / 64] >> (i % 64);
+            if rest != 0 {
+                return Some(i + rest.trailing_zeros() as usize);
+            }
+            i = (i / 64 + 1) * 64;
+        }
+        None
     }
 
     /// This set with number `i` too.
