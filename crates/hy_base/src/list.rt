@@ -3,6 +3,7 @@ ghost use Rattle.std.specs.Prelude.{◌≡◌, ◌+◌, ◌-◌, ◌<◌, ◌≤
 use crate::memory::M;
 use std::alloc::Global;
 use std::marker::Model;
+use std::mem;
 
 /// A list of values, which contracts see as a list.
 #[derive(Drop)]
@@ -103,6 +104,15 @@ impl<T> List<T> {
         ensures { self.new ≡ slice_set self.old i x }
     {
         self.items[i] = x;
+    }
+
+    /// Puts `x` at place `i`, counted from 0, and gives the value that was there.
+    pub fn replace(&mut self, i: usize, x: T) -> T
+        requires { i < length self.old }
+        ensures old { slice_get self.old i ≡ Some result }
+        ensures new { self.new ≡ slice_set self.old i x }
+    {
+        mem::replace(&mut self.items[i], x)
     }
 
     /// Adds `x` last, in constant time but for growth. Refused for memory it changes nothing.
