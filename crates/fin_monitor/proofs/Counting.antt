@@ -1,5 +1,5 @@
 -- How many residuals are reached.
-use Rattle.std.proofs.Common.{◌≡◌, ◌-◌, ◌<◌, ◌≤◌, ℕ, List, length, inl, inr, subst, arith}
+use Rattle.std.proofs.Common.{◌≡◌, ◌<◌, ◌≤◌, ℕ, List, length, inl, inr, subst, arith}
 use Rattle.std.proofs.lemmas.Bool.{cases_lt}
 use Rattle.hy_base.proofs.Places.{two-equal}
 use Rattle.ltl_closure.specs.Nodes.{Node}

@@ -4,7 +4,7 @@ use Rattle.std.specs.FinSet.{contains}
 use Rattle.std.proofs.lemmas.Bool.{cases_eq}
 use Rattle.std.proofs.lemmas.List.{take_more, get_or_append_left, append-nil, get_or-set_same, get_or-set_other, length-set}
 use Rattle.hy_base.proofs.Places.{last-of}
-use Rattle.hy_bits.specs.Sets.{NumberSet}
+use Rattle.hy_bits.specs.Sets.{NumberSet, HasNone}
 use Rattle.ltl_closure.specs.Nodes.{Node, and, or, until, release, node_at}
 use Rattle.fin_monitor.specs.Codes.{IndexedAtom, letter_of}
 use Rattle.fin_monitor.specs.Duties.{Duty, no_duty, strongly, weakly, joined, after, after_members, after_duty, after_each, AreAlike}
@@ -101,6 +101,19 @@ unions-not lists code s k made is none nodes atoms long lefts =
     let here : AreAlike made (after_members nodes (letter_of atoms code) s (suc k)) = subst R (sym none) (is nodes atoms long lefts) in
     let step : suc k ≡ k + 1 = omega arith in
     subst Q step here
+
+-- up to a number, where no member lies between
+pub unions-skip : (lists : List (List Duty)) (code : ℕ) (s : NumberSet) (from to : ℕ) (made : List Duty) → from ≤ to → HasNone s from to → IsUnionsBelow lists code s from made → IsUnionsBelow lists code s to made
+unions-skip lists code s from zero made le none is = let P : ℕ → Type 0 = λ n. IsUnionsBelow lists code s n made in let e : from ≡ 0 = omega arith in subst P e is
+unions-skip lists code s from (suc to) made le none is =
+    let P : ℕ → Type 0 = λ n. IsUnionsBelow lists code s n made in
+    elim (cases_eq from (suc to)) [
+      | inl e ↦ subst P e is
+      | inr apart ↦
+          let before = unions-skip lists code s from to made (omega arith) (λ q ge lt. none q ge (omega arith)) is in
+          let step : to + 1 ≡ suc to = omega arith in
+          subst P step (unions-not lists code s to made before (none to (omega arith) (omega arith)))
+    ]
 
 -- ---- residuals
 

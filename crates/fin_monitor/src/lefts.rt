@@ -39,14 +39,15 @@ impl<const W: usize> Lefts<W> {
     {
         let mut lists = List::new(alloc);
         for k in 0..judge.closure.len() {
-            let list = left(alloc, judge, &lists, 0, k as u16)?;
+            let mut list = Vec::new(alloc);
+            put_left(judge, &lists, 0, k as u16, &mut list)?;
             lists.push(list)?;
         }
         Ok(Lefts { code: 0, lists })
     }
 
     /// Turns to another code. What a member leaves is found again only where it asks a bit that
-    /// changes.
+    /// changes, in the memory of the list that was replaced before.
     pub fn turn(&mut self, alloc: Global, judge: &Judge, masks: &NumList, code: u32) -> M<()>
         requires width { W ≤ 16 }
         requires members { length judge.now.closure.now.nodes ≤ 64 * W }
@@ -66,11 +67,12 @@ impl<const W: usize> Lefts<W> {
         if self.code == code {
             return Ok(());
         }
+        let mut list = Vec::new(alloc);
         for k in 0..masks.len() {
             let mask = *masks.at(k);
             if code & mask != self.code & mask {
-                let list = left(alloc, judge, &self.lists, code, k as u16)?;
-                self.lists.set(k, list);
+                put_left(judge, &self.lists, code, k as u16, &mut list)?;
+                list = self.lists.replace(k, list);
             }
         }
         self.code = code;
@@ -102,10 +104,14 @@ impl<const W: usize> Lefts<W> {
             set.now (length self.now.lists) made.items) }
     {
         let mut made = single(alloc, Duty::none())?;
-        for k in 0..self.lists.len() {
-            if set.has(k) {
-                join(alloc, &mut made, self.lists.at(k))?;
+        let mut from = 0;
+        while let Some(k) = set.next_from(from) {
+            // Only numbers below are those of members.
+            if k >= self.lists.len() {
+                return Ok(made);
             }
+            join(alloc, &mut made, self.lists.at(k))?;
+            from = k + 1;
         }
         Ok(made)
     }
@@ -126,14 +132,14 @@ fn join<const W: usize>(alloc: Global, made: &mut Family<W>, list: &[Duty<W>]) -
     Ok(())
 }
 
-/// What member `k` leaves, by what those before it leave.
-fn left<const W: usize>(
-    alloc: Global,
+/// Puts what member `k` leaves in place of another list, by what those before it leave.
+fn put_left<const W: usize>(
     judge: &Judge,
     lists: &List<Family<W>>,
     code: u32,
     k: u16,
-) -> M<Family<W>>
+    made: &mut Family<W>,
+) -> M<()>
     requires width { W ≤ 16 }
     requires members { length judge.now.closure.now.nodes ≤ 64 * W }
     requires few { length judge.now.atoms.now ≤ 16 }
@@ -141,26 +147,27 @@ fn left<const W: usize>(
     requires long { k ≤ length lists.now }
     requires lefts { AreLefts judge.now.closure.now.nodes (map plain_atom judge.now.atoms.now) code
         (kept_lists lists.now) k }
-    ensures { IfOk result (λ list. IsLeft judge.now.closure.now.nodes
-        (map plain_atom judge.now.atoms.now) code k list.items) }
+    ensures { OnOk result (IsLeft judge.now.closure.now.nodes
+        (map plain_atom judge.now.atoms.now) code k made.new.items) }
 {
+    made.clear();
     let at = usize::from(k);
     match judge.closure.node(k) {
-        Node::True => single(alloc, Duty::none()),
-        Node::False => Ok(Vec::new(alloc)),
-        Node::Lit { atom, positive } => literal(alloc, holds(judge.atoms, atom, code) == positive),
-        Node::And(g, h) => conjunction(alloc, lists.at(g as usize), lists.at(h as usize)),
-        Node::Or(g, h) => disjunction(alloc, lists.at(g as usize), lists.at(h as usize)),
-        Node::Next(g) => single(alloc, Duty::strongly(g as usize)),
-        Node::WeakNext(g) => single(alloc, Duty::weakly(g as usize)),
+        Node::True => literal(made, true),
+        Node::False => Ok(()),
+        Node::Lit { atom, positive } => literal(made, holds(judge.atoms, atom, code) == positive),
+        Node::And(g, h) => conjunction(made, lists.at(g as usize), lists.at(h as usize)),
+        Node::Or(g, h) => disjunction(made, lists.at(g as usize), lists.at(h as usize)),
+        Node::Next(g) => obligation(made, Duty::strongly(g as usize)),
+        Node::WeakNext(g) => obligation(made, Duty::weakly(g as usize)),
         Node::Until(g, h) => until(
-            alloc,
+            made,
             &Duty::strongly(at),
             lists.at(g as usize),
             lists.at(h as usize),
         ),
         Node::Release(g, h) => release(
-            alloc,
+            made,
             &Duty::weakly(at),
             lists.at(g as usize),
             lists.at(h as usize),
@@ -169,68 +176,73 @@ fn left<const W: usize>(
 }
 
 /// What a literal leaves.
-fn literal<const W: usize>(alloc: Global, is_met: bool) -> M<Family<W>>
-    requires { W ≤ 16 }
-    ensures { IfOk result (λ made. IsFamilyOf made.items (cond is_met (no_duty ∷ []) [])) }
+fn literal<const W: usize>(made: &mut Family<W>, is_met: bool) -> M<()>
+    requires width { W ≤ 16 }
+    requires none { made.old.items ≡ [] }
+    ensures { OnOk result (IsFamilyOf made.new.items (cond is_met (no_duty ∷ []) [])) }
 {
     if is_met {
-        single(alloc, Duty::none())
-    } else {
-        Ok(Vec::new(alloc))
+        made.push(Duty::none())?;
     }
+    Ok(())
+}
+
+/// What a next leaves.
+fn obligation<const W: usize>(made: &mut Family<W>, d: Duty<W>) -> M<()>
+    requires { made.old.items ≡ [] }
+    ensures { OnOk result (IsFamilyOf made.new.items (d.entry ∷ [])) }
+{
+    made.push(d)?;
+    Ok(())
 }
 
 /// What a conjunction leaves.
-fn conjunction<const W: usize>(alloc: Global, g: &[Duty<W>], h: &[Duty<W>]) -> M<Family<W>>
-    requires { W ≤ 16 }
-    ensures { IfOk result (λ made. IsFamilyOf made.items (joined g.now h.now)) }
+fn conjunction<const W: usize>(made: &mut Family<W>, g: &[Duty<W>], h: &[Duty<W>]) -> M<()>
+    requires width { W ≤ 16 }
+    requires none { made.old.items ≡ [] }
+    ensures { OnOk result (IsFamilyOf made.new.items (joined g.now h.now)) }
 {
-    let mut made = Vec::new(alloc);
-    add_joined(&mut made, g, h)?;
-    Ok(made)
+    add_joined(made, g, h)
 }
 
 /// What a disjunction leaves.
-fn disjunction<const W: usize>(alloc: Global, g: &[Duty<W>], h: &[Duty<W>]) -> M<Family<W>>
-    requires { W ≤ 16 }
-    ensures { IfOk result (λ made. IsFamilyOf made.items (g.now ++ h.now)) }
+fn disjunction<const W: usize>(made: &mut Family<W>, g: &[Duty<W>], h: &[Duty<W>]) -> M<()>
+    requires width { W ≤ 16 }
+    requires none { made.old.items ≡ [] }
+    ensures { OnOk result (IsFamilyOf made.new.items (g.now ++ h.now)) }
 {
-    let mut made = Vec::new(alloc);
-    add_all(&mut made, g)?;
-    add_all(&mut made, h)?;
-    Ok(made)
+    add_all(made, g)?;
+    add_all(made, h)
 }
 
 /// What an until leaves.
 fn until<const W: usize>(
-    alloc: Global,
+    made: &mut Family<W>,
     again: &Duty<W>,
     g: &[Duty<W>],
     h: &[Duty<W>],
-) -> M<Family<W>>
-    requires { W ≤ 16 }
-    ensures { IfOk result (λ made. IsFamilyOf made.items
+) -> M<()>
+    requires width { W ≤ 16 }
+    requires none { made.old.items ≡ [] }
+    ensures { OnOk result (IsFamilyOf made.new.items
         (h.now ++ joined (again.now ∷ []) g.now)) }
 {
-    let mut made = Vec::new(alloc);
-    add_all(&mut made, h)?;
-    add_with(&mut made, again, g)?;
-    Ok(made)
+    add_all(made, h)?;
+    add_with(made, again, g)
 }
 
 /// What a release leaves.
 fn release<const W: usize>(
-    alloc: Global,
+    made: &mut Family<W>,
     again: &Duty<W>,
     g: &[Duty<W>],
     h: &[Duty<W>],
-) -> M<Family<W>>
-    requires { W ≤ 16 }
-    ensures { IfOk result (λ made. IsFamilyOf made.items
+) -> M<()>
+    requires width { W ≤ 16 }
+    requires none { made.old.items ≡ [] }
+    ensures { OnOk result (IsFamilyOf made.new.items
         (joined h.now g.now ++ joined (again.now ∷ []) h.now)) }
 {
-    let mut made = Vec::new(alloc);
-    add_joined(&mut made, h, g)?;
-    add_with(&mut made, again, h)?;
-    Ok(made)
+    add_joined(made, h, g)?;
+    add_with(made, again, h)
 }

@@ -1,9 +1,16 @@
-use Rattle.std.proofs.Common.{◌++◌, ◌∷◌, [], List, subst}
+use Rattle.std.proofs.Common.{rules, ◌++◌, ◌∷◌, [], List, sym, subst}
 use Rattle.fin_monitor.specs.Duties.{Duty, joined, AreAlike}
+use Rattle.fin_monitor.specs.Lefts.{IsFamily}
+use Rattle.fin_monitor.proofs.Exploring.{on-ok-map}
+use Rattle.fin_monitor.proofs.FamilySteps.{family-none}
 use Rattle.fin_monitor.proofs.Stepping.{of-two}
 use Rattle.fin_monitor.proofs.lefts.until.Goals as goal
+
+pub add_all-requires : goal.add_all-requires
+add_all-requires g c = let P : List Duty → Type 0 = IsFamily in (search rules, (c.requires.width, subst P (sym c.requires.none) family-none))
 
 pub returns : goal.returns
 returns g c =
     let P : List Duty → Type 0 = λ l. AreAlike c.add_all.new.family.items (l ++ c.args.h.now) in
-    of-two c.add_all.new.family.items c.add_with.new.family.items (c.args.h.now) (joined (c.args.again.now ∷ []) c.args.g.now) c.add_with.ensures.family (subst P c.new-made.ensures.items c.in_ok-add_all.ensures.added) c.in_ok-add_with.ensures.added
+    on-ok-map c.add_with.result c.add_with.ensures.added
+    (λ added. of-two c.add_all.new.family.items c.add_with.new.family.items (c.args.h.now) (joined (c.args.again.now ∷ []) c.args.g.now) c.add_with.ensures.family (subst P c.requires.none c.in_ok-add_all.ensures.added) added)

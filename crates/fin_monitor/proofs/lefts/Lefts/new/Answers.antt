@@ -4,8 +4,8 @@ use Rattle.fin_monitor.specs.Lefts.{kept_lists, AreLefts}
 use Rattle.fin_monitor.proofs.Stepping.{lefts-more}
 use Rattle.fin_monitor.proofs.lefts.Lefts.new.Goals as goal
 
-pub left-requires : goal.left-requires
-left-requires g c = (
+pub put_left-requires : goal.put_left-requires
+put_left-requires g c = (
   search rules,
   (
     c.requires.width,
@@ -28,9 +28,10 @@ left-requires g c = (
 pub loop-k-preserved : goal.loop-k-preserved
 loop-k-preserved g c =
     let inv = c.loop-k.invariant in
+    let list = c.put_left.new.made in
     record {
-      long = ap length c.in_ok-push.ensures.added ∙ length-append c.loop-k.lists (c.in_ok-list.list ∷ []) ∙ ap (λ n. n + 1) inv.long;
-      lefts = lefts-more c.args.judge.now.closure.now.nodes (map plain_atom c.args.judge.now.atoms.now) 0 c.loop-k.lists c.push.new.self c.in_ok-list.list c.loop-k.k inv.long c.in_ok-push.ensures.added inv.lefts c.in_ok-list.ensures;
+      long = ap length c.in_ok-push.ensures.added ∙ length-append c.loop-k.lists (list ∷ []) ∙ ap (λ n. n + 1) inv.long;
+      lefts = lefts-more c.args.judge.now.closure.now.nodes (map plain_atom c.args.judge.now.atoms.now) 0 c.loop-k.lists c.push.new.self list c.loop-k.k inv.long c.in_ok-push.ensures.added inv.lefts c.in_ok-put_left.ensures;
     }
 
 pub returns : goal.returns

@@ -6,10 +6,10 @@ use Rattle.fin_monitor.specs.Duties.{Duty}
 use Rattle.fin_monitor.specs.Lefts.{kept_lists, AreLefts, IsAsked}
 use Rattle.fin_monitor.proofs.Stepping.{AreTurned, turned-start, turned-kept, turned-set, kept-length, kept-set}
 use Rattle.fin_monitor.proofs.lefts.Lefts.turn.Goals as goal
-use Rattle.fin_monitor.proofs.lefts.Lefts.turn.Goals.{then-code-mask+in_ok-list, else-code-mask}
+use Rattle.fin_monitor.proofs.lefts.Lefts.turn.Goals.{then-code-mask+in_ok-put_left, else-code-mask}
 
-pub left-requires : goal.left-requires
-left-requires g c = (
+pub put_left-requires : goal.put_left-requires
+put_left-requires g c = (
   search rules,
   (
     c.requires.width,
@@ -40,14 +40,14 @@ loop-k-preserved g c =
     let P : ℕ → Type 0 = IsAsked c.args.judge.now.closure.now.nodes (map plain_atom c.args.judge.now.atoms.now) c.loop-k.k in
     let asked = subst P at (c.requires.asked c.loop-k.k (omega (arith, c.len-k-end.ensures, c.loop-k-test.true))) in
     elim c.if-code-mask.branch [
-      | then-code-mask+in_ok-list w ↦
+      | then-code-mask+in_ok-put_left w ↦
           let Q : List (List Duty) → Type 0 = λ l. AreTurned c.args.judge.now.closure.now.nodes (map plain_atom c.args.judge.now.atoms.now) c.args.self.now.code c.args.code l (c.loop-k.k + 1) in
           rw w.self-is
           (record {
-            long = ap length w.set.ensures ∙ length-set c.loop-k.self.lists c.loop-k.k w.in_ok-list.list ∙ inv.long;
+            long = ap length w.replace-list.ensures.new ∙ length-set c.loop-k.self.lists c.loop-k.k w.put_left.new.made ∙ inv.long;
             code = inv.code;
-            turned = subst Q (sym (ap kept_lists w.set.ensures ∙ kept-set c.loop-k.self.lists c.loop-k.k w.in_ok-list.list))
-                (turned-set c.args.judge.now.closure.now.nodes (map plain_atom c.args.judge.now.atoms.now) c.args.self.now.code c.args.code (kept_lists c.loop-k.self.lists) c.loop-k.k w.in_ok-list.list.items inside inv.turned w.in_ok-list.ensures);
+            turned = subst Q (sym (ap kept_lists w.replace-list.ensures.new ∙ kept-set c.loop-k.self.lists c.loop-k.k w.put_left.new.made))
+                (turned-set c.args.judge.now.closure.now.nodes (map plain_atom c.args.judge.now.atoms.now) c.args.self.now.code c.args.code (kept_lists c.loop-k.self.lists) c.loop-k.k w.put_left.new.made.items inside inv.turned w.in_ok-put_left.ensures);
           })
       | else-code-mask w ↦
           rw w.self-is

@@ -1,26 +1,30 @@
-use Rattle.std.proofs.Common.{◌≡◌, ◌<◌, ◌∷◌, [], ℕ, length, sym, ap, ◌∙◌, subst, arith}
-use Rattle.fin_monitor.specs.Lefts.{kept_lists, IsUnionsBelow}
-use Rattle.fin_monitor.proofs.Stepping.{list-there, unions-none, unions-has, unions-not, kept-length}
+use Rattle.std.proofs.Common.{◌<◌, ◌∷◌, [], length, sym, ap, ◌∙◌, arith}
+use Rattle.fin_monitor.specs.Lefts.{kept_lists}
+use Rattle.fin_monitor.proofs.Stepping.{list-there, unions-none, unions-has, unions-skip, kept-length}
 use Rattle.fin_monitor.proofs.lefts.Lefts.unions.Goals as goal
-use Rattle.fin_monitor.proofs.lefts.Lefts.unions.Goals.{then-has+in_ok-join, else-has}
 
 pub loop-k-init : goal.loop-k-init
-loop-k-init g c = unions-none (kept_lists c.args.self.now.lists) c.args.self.now.code c.args.set.now c.in_ok-made.made.items (c.in_ok-made.ensures ∙ ap (λ d. d ∷ []) c.none.ensures)
+loop-k-init g c = (omega arith, unions-none (kept_lists c.args.self.now.lists) c.args.self.now.code c.args.set.now c.in_ok-made.made.items (c.in_ok-made.ensures ∙ ap (λ d. d ∷ []) c.none.ensures))
+
+pub returns-then-k-len : goal.returns-then-k-len
+returns-then-k-len g c =
+    let (le, unions) = c.loop-k.invariant in
+    let (_, _, none) = c.in-Some.ensures in
+    unions-skip (kept_lists c.args.self.now.lists) c.args.self.now.code c.args.set.now c.loop-k.from (length c.args.self.now.lists) c.loop-k.made.items le (λ q ge lt. none q ge (omega (arith, c.if-k-len.true, c.len.ensures))) unions
 
 pub loop-k-preserved : goal.loop-k-preserved
 loop-k-preserved g c =
-    let inside : c.loop-k.k < length (kept_lists c.args.self.now.lists) = omega (arith, kept-length c.args.self.now.lists, c.len-k-end.ensures, c.loop-k-test.true) in
-    elim c.if-has.branch [
-      | then-has+in_ok-join w ↦
-          rw w.made-is
-          (unions-has (kept_lists c.args.self.now.lists) c.args.self.now.code c.args.set.now c.loop-k.k c.loop-k.made.items w.deref.result.now w.join.new.made.items inside c.loop-k.invariant
-          (sym c.has.ensures ∙ w.if-has.true) (list-there c.args.self.now.lists c.loop-k.k _ w.at.ensures ∙ sym w.deref.ensures.value)
-          w.in_ok-join.ensures)
-      | else-has w ↦ rw w.made-is (unions-not (kept_lists c.args.self.now.lists) c.args.self.now.code c.args.set.now c.loop-k.k c.loop-k.made.items c.loop-k.invariant (sym c.has.ensures ∙ w.if-has.false))
-    ]
+    let lists = kept_lists c.args.self.now.lists in
+    let (_, unions) = c.loop-k.invariant in
+    let (from, has, none) = c.in-Some.ensures in
+    let inside : c.in-Some.k < length lists = omega (arith, kept-length c.args.self.now.lists, c.len.ensures, c.if-k-len.false) in (
+      omega (arith, c.len.ensures, c.if-k-len.false),
+      unions-has lists c.args.self.now.code c.args.set.now c.in-Some.k c.loop-k.made.items c.deref.result.now c.join.new.made.items inside
+          (unions-skip lists c.args.self.now.code c.args.set.now c.loop-k.from c.in-Some.k c.loop-k.made.items from none unions) has
+          (list-there c.args.self.now.lists c.in-Some.k _ c.at.ensures ∙ sym c.deref.ensures.value) c.in_ok-join.ensures,
+    )
 
 pub returns : goal.returns
 returns g c =
-    let e : c.loop-k.k ≡ length c.args.self.now.lists = omega (arith, c.len-k-end.ensures, c.loop-k-test.false, c.loop-k.auto.k-end) in
-    let P : ℕ → Type 0 = λ n. IsUnionsBelow (kept_lists c.args.self.now.lists) c.args.self.now.code c.args.set.now n c.loop-k.made.items in
-    subst P e c.loop-k.invariant
+    let (le, unions) = c.loop-k.invariant in
+    unions-skip (kept_lists c.args.self.now.lists) c.args.self.now.code c.args.set.now c.loop-k.from (length c.args.self.now.lists) c.loop-k.made.items le (λ q ge _. c.in_default.ensures q ge) unions
