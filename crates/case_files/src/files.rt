@@ -8,7 +8,8 @@ use std::alloc::Global;
 use std::env;
 
 /// Tries the cases of the files that the program's arguments name. It prints a line for each file:
-/// how many cases it has, and how many differ.
+/// how many cases it has, and how many differ. It gives up at the first file that can't be read or is
+/// no UTF-8, line that is not understood, or case that can't be tried, with an error that names it.
 pub fn run_files<C: TestCase + Drop>(rt: &HostRuntime) -> Result<()> {
     for name in env::args(rt)?.skip(1) {
         run_file::<C>(rt, name.as_str()).context(format_args!("{name}"))?;
