@@ -8,8 +8,12 @@ pub mod Listed
 pub mod Literals
 pub mod Looping
 pub mod Making
+pub mod Placing
+mod Recurring
 pub mod Rounds
 mod RowLemmas
+mod RowNumbers
+pub mod Running
 mod SignalLemmas
 mod States
 pub mod Valuations

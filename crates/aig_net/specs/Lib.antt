@@ -1,7 +1,9 @@
 pub mod Executions
 pub mod Following
 pub mod Nets
+pub mod Placed
 pub mod Rows
+pub mod Running
 pub mod Signals
 pub mod Simulations
 pub mod Wires

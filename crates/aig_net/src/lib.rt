@@ -11,7 +11,7 @@ mod signals;
 mod simulation;
 
 pub use gates::value_of;
-pub use laws::{lassos_repeat, one_execution, one_valuation};
+pub use laws::{lassos_repeat, one_execution, one_run, one_valuation, parts_are_given, parts_go_along};
 pub use maker::{Gates, opposite_of};
 pub use net::Net;
 pub use parts::{And, AndList, NameList, NetParts, Reset, ResetList};
