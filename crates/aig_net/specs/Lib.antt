@@ -1,3 +1,4 @@
+pub mod Copies
 pub mod Executions
 pub mod Following
 pub mod Nets

@@ -5,7 +5,7 @@ ghost use Rattle.aig_net.specs.Nets.{Below, Net, Valuation, IsNet, IsRight, IsSt
 ghost use Rattle.aig_net.specs.Executions.{IsExecution, IsLassoExecution, Lasso, Recurs, Word, gone, lasso_of};
 ghost use Rattle.aig_net.specs.Placed.{AreAmong, IsGiven, IsPlaced, through, word_through};
 ghost use Rattle.aig_net.specs.Running.{AreGivenAlike, IsRunOn, Obeys};
-ghost use Rattle.aig_net.specs.Simulations.{IsExecutionOf};
+ghost use Rattle.aig_net.specs.Simulations.{IsExecutionOf, IsRunOf, valuations};
 ghost use Rattle.aig_net.specs.declared.run.Run.{Run};
 ghost use Rattle.aig_net.specs.declared.run.ValueLasso.{ValueLasso};
 
@@ -46,6 +46,13 @@ pub fn lassos_repeat()
 pub fn one_execution()
     ensures { (net : Net) (run : Run) (a b : ValueLasso) → IsNet net →
         IsExecutionOf net run a → IsExecutionOf net run b → a ≡ b }
+{}
+
+/// The run of a lasso execution is that of values which agree with it.
+pub fn runs_are_executions()
+    ensures { (net : Net) (lasso : Lasso) (run : Run) → IsNet net → IsLassoExecution net lasso
+        → IsRunOf net lasso run → (values : ValueLasso) × IsExecutionOf net run values
+        × ((i u : ℕ) → u < variables net → gone (valuations values) i u ≡ gone lasso i u) }
 {}
 
 /// A part goes along with the whole in which it is placed: its word obeys, starts and recurs as
