@@ -1,15 +1,22 @@
 pub mod Closings
+pub mod Copying
 pub mod Costs
 mod Executing
 mod Follows
 pub mod GateLemmas
+pub mod LassoRuns
 pub mod Likeness
 pub mod Listed
 pub mod Literals
 pub mod Looping
 pub mod Making
+pub mod Periods
+pub mod Placing
+mod Recurring
 pub mod Rounds
 mod RowLemmas
+mod RowNumbers
+pub mod Running
 mod SignalLemmas
 mod States
 pub mod Valuations

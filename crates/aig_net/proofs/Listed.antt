@@ -1,5 +1,5 @@
 -- What each item of a list has, of lists made of others; and truth values.
-use Rattle.std.proofs.Common.{◌≡◌, ℕ, zero, suc, ◌+◌, ◌-◌, ◌<◌, ◌⊎◌, Bool, true, false, not, ◌&&◌, List, [], ◌∷◌, ◌++◌, map, length, get_or, inl, inr, refl, sym, ap, ◌∙◌, subst, arith, length-append}
+use Rattle.std.proofs.Common.{◌≡◌, ℕ, zero, suc, ◌+◌, ◌-◌, ◌<◌, ◌≤◌, ◌⊎◌, Bool, true, false, not, ◌&&◌, List, [], ◌∷◌, ◌++◌, map, length, get_or, inl, inr, refl, sym, ap, ◌∙◌, subst, arith, length-append}
 use Rattle.std.proofs.lemmas.Bool.{cases_lt}
 use Rattle.std.proofs.lemmas.List.{get_or_append_left, get_or-append-add, length-map}
 use Rattle.aig_net.specs.Wires.{listed}
@@ -118,6 +118,24 @@ listed-last c zero f = let e : c ≡ c + 0 = omega arith in ap (λ x. f x ∷ []
 listed-last c (suc n) f =
     let e : suc c + n ≡ c + suc n = omega arith in
     ap (λ l. f c ∷ l) (listed-last (suc c) n f ∙ ap (λ x. listed (suc c) n f ++ f x ∷ []) e)
+
+pub last-listed : {B : Type 0} (n : ℕ) (f : ℕ → B) → listed 0 (n + 1) f ≡ listed 0 n f ++ f n ∷ []
+last-listed n f =
+    let up : n + 1 ≡ suc n = omega arith in
+    let plain : 0 + n ≡ n = omega arith in
+    ap (λ k. listed 0 k f) up ∙ listed-last 0 n f ∙ ap (λ k. listed 0 n f ++ f k ∷ []) plain
+
+pub listed_next : {B : Type 0} (f : ℕ → B) (k : ℕ) (made more : List B) (x : B) →
+    made ≡ listed 0 k f → more ≡ made ++ x ∷ [] → x ≡ f k → more ≡ listed 0 (k + 1) f
+listed_next f k made more x e added is =
+    added ∙ ap (λ l. l ++ x ∷ []) e ∙ ap (λ y. listed 0 k f ++ y ∷ []) is ∙ sym (last-listed k f)
+
+pub listed-same : {B : Type 0} (c n : ℕ) (f g : ℕ → B) →
+    ((i : ℕ) → c ≤ i → i < c + n → f i ≡ g i) → listed c n f ≡ listed c n g
+listed-same c zero f g same = refl
+listed-same c (suc n) f g same =
+    ap (λ x. x ∷ listed (suc c) n f) (same c (omega arith) (omega arith))
+    ∙ ap (λ l. g c ∷ l) (listed-same (suc c) n f g (λ i le lt. same i (omega arith) (omega arith)))
 
 -- ---- truth values
 

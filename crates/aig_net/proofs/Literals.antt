@@ -1,5 +1,5 @@
 -- Literals: their two kinds, their values and bounds, and those that stand under others.
-use Rattle.std.proofs.Common.{◌+◌, ◌≡◌, ℕ, suc, ◌*◌, ◌/◌, ◌%◌, ◌<◌, ◌⊎◌, true, false, not, cond, inl, inr, refl, sym, ap, ◌∙◌, subst, arith}
+use Rattle.std.proofs.Common.{◌+◌, ◌≡◌, ℕ, suc, ◌*◌, ◌/◌, ◌%◌, ◌<◌, ◌⊎◌, not, cond, inl, inr, refl, sym, ap, ◌∙◌, subst, arith}
 use Rattle.std.proofs.lemmas.Bool.{cases_eq}
 use Rattle.hy_base.proofs.Truths.{not-not}
 use Rattle.aig_net.specs.Nets.{is_even, opposite, under, Valuation, literal_value, Below}

@@ -1,9 +1,9 @@
 -- Wires that are made one after the other, as a loop makes them.
-use Rattle.std.proofs.Common.{◌≡◌, ℕ, zero, suc, ◌+◌, ◌-◌, ◌<◌, ◌≤◌, List, [], ◌∷◌, ◌++◌, length, refl, sym, ap, ◌∙◌, subst, arith}
+use Rattle.std.proofs.Common.{◌≡◌, ℕ, zero, suc, ◌+◌, ◌-◌, ◌<◌, ◌≤◌, List, [], ◌∷◌, ◌++◌, length, Result, Ok, Err, OnErr, refl, sym, ap, ◌∙◌, subst, arith, append_assoc, append-nil}
 use Rattle.aig_net.specs.declared.parts.And.{And}
-use Rattle.aig_net.specs.Wires.{Wire, made, made_all, Fits, FitsAll, Makes, MakesAll, both, all_of, listed}
+use Rattle.aig_net.specs.Wires.{Wire, literal, opposed, both, and_of, made, made_all, Fits, FitsAll, Makes, MakesAll, Begins, all_of, listed}
 use Rattle.aig_net.proofs.Wiring.{grows}
-use Rattle.aig_net.proofs.Listed.{listed-last}
+use Rattle.aig_net.proofs.Listed.{last-listed}
 
 pub all-ands : (first : ℕ) (ands : List And) (xs ys : List Wire) →
     (made_all first ands (xs ++ ys)).ands ≡ (made_all first (made_all first ands xs).ands ys).ands
@@ -29,12 +29,6 @@ made-last first old ands new ws w ls l all one = record {
       ∙ ap (λ x. (made first x w).literal) all.ands)
       ∙ sym (all-literals first old ws (w ∷ []));
 }
-
-pub last-listed : {B : Type 0} (n : ℕ) (f : ℕ → B) → listed 0 (n + 1) f ≡ listed 0 n f ++ f n ∷ []
-last-listed n f =
-    let up : n + 1 ≡ suc n = omega arith in
-    let plain : 0 + n ≡ n = omega arith in
-    ap (λ k. listed 0 k f) up ∙ listed-last 0 n f ∙ ap (λ k. listed 0 n f ++ f k ∷ []) plain
 
 pub next_made : (first : ℕ) (old ands new : List And) (f : ℕ →
     Wire) (j : ℕ) (ls : List ℕ) (l : ℕ) → MakesAll first old (listed 0 j f) ands ls →
@@ -75,3 +69,54 @@ fits_next first old ands f j n ls lt room all =
 pub all-of-last : (w x : Wire) (ws : List Wire) → all_of w (ws ++ x ∷ []) ≡ both (all_of w ws) x
 all-of-last w x [] = refl
 all-of-last w x (y ∷ ws) = all-of-last (both w y) x ws
+
+-- ---- wires that are begun
+
+made-behind : (first : ℕ) (ands : List And) (w : Wire) →
+    (more : List And) × ((made first ands w).ands ≡ ands ++ more)
+made-behind first ands (literal l) = ([], sym (append-nil ands))
+made-behind first ands (opposed w) = made-behind first ands w
+made-behind first ands (both x y) =
+    let (p, e) = made-behind first ands x in
+    let (q, f) = made-behind first (made first ands x).ands y in
+    let last : List And = and_of (made first ands x).literal
+    (made first (made first ands x).ands y).literal ∷ [] in (
+      p ++ (q ++ last),
+      ap (λ l. l ++ last) f ∙ append_assoc (made first ands x).ands q last
+          ∙ ap (λ l. l ++ (q ++ last)) e ∙ append_assoc ands p (q ++ last),
+    )
+
+pub begins-none : (first : ℕ) (old : List And) (w : Wire) (new : List And) → new ≡ old →
+    Begins first old w new
+begins-none first old w new is =
+    let (more, e) = made-behind first old w in
+    ([], more, is ∙ sym (append-nil old), e ∙ ap (λ l. l ++ more) (sym is))
+
+-- where the first of two wires is made
+pub begins-left : (first : ℕ) (old : List And) (x y : Wire) (new : List And) →
+    new ≡ (made first old x).ands → Begins first old (both x y) new
+begins-left first old x y new is =
+    let (p, e) = made-behind first old x in
+    let (q, f) = made-behind first (made first old x).ands y in
+    let last : List And = and_of (made first old x).literal
+    (made first (made first old x).ands y).literal ∷ [] in (
+      p,
+      q ++ last,
+      is ∙ e,
+      ap (λ l. l ++ last) f ∙ append_assoc (made first old x).ands q last
+          ∙ ap (λ l. l ++ (q ++ last)) (sym is),
+    )
+
+-- where both are, but not their and
+pub begins-both : (first : ℕ) (old : List And) (x y : Wire) (new : List And) →
+    new ≡ (made first (made first old x).ands y).ands → Begins first old (both x y) new
+begins-both first old x y new is =
+    let (p, e) = made-behind first old x in
+    let (q, f) = made-behind first (made first old x).ands y in
+    let last : List And = and_of (made first old x).literal
+    (made first (made first old x).ands y).literal ∷ [] in
+    (p ++ q, last, is ∙ f ∙ ap (λ l. l ++ q) e ∙ append_assoc old p q, ap (λ l. l ++ last) (sym is))
+
+pub on-refusal : {A E P Q : Type 0} (r : Result A E) → (P → Q) → OnErr r P → OnErr r Q
+on-refusal (Ok a) f h = tt
+on-refusal (Err e) f h = f h

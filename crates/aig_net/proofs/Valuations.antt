@@ -1,6 +1,6 @@
 -- Given the values of inputs and latches there is one valuation with right gates.
-use Rattle.std.proofs.Common.{◌≡◌, ℕ, zero, suc, ◌+◌, ◌-◌, ◌<◌, ◌/◌, Bool, true, false, cond, nat_eq, length, List, [], ◌∷◌, refl, inl, inr, sym, ap, ◌∙◌, arith}
-use Rattle.std.proofs.lemmas.Bool.{cases_lt}
+use Rattle.std.proofs.Common.{◌≡◌, ℕ, zero, suc, ◌+◌, ◌-◌, ◌<◌, ◌≤◌, ◌/◌, Bool, true, false, cond, nat_eq, length, List, [], ◌∷◌, refl, inl, inr, sym, ap, ◌∙◌, arith}
+use Rattle.std.proofs.lemmas.Bool.{cases_lt, cond-false, ne_eqb}
 use Rattle.std.proofs.lemmas.Bool.Decides.{Decides-eqb}
 use Rattle.aig_net.specs.declared.parts.And.{And}
 use Rattle.aig_net.specs.Nets.{Net, Valuation, and_value, and_at, AreRight, IsRight, AreOrdered, first_and, variables}
@@ -31,6 +31,14 @@ filled-below k [] v u lt = refl
 filled-below k (a ∷ ands) v u lt =
     filled-below (suc k) ands (with_value v k (and_value v a)) u (omega arith)
     ∙ with-other v k (and_value v a) u lt
+
+-- What is behind the last and stays.
+pub filled-behind : (k : ℕ) (ands : List And) (v : Valuation) (u : ℕ) → k + length ands ≤ u →
+    filled k ands v u ≡ v u
+filled-behind k [] v u le = refl
+filled-behind k (a ∷ ands) v u le =
+    filled-behind (suc k) ands (with_value v k (and_value v a)) u (omega arith)
+    ∙ cond-false (nat_eq u k) (and_value v a) (v u) (ne_eqb u k (omega arith))
 
 ordered-rest : (k : ℕ) (a : And) (ands : List And) → AreOrdered k (a ∷ ands) →
     AreOrdered (suc k) ands

@@ -1,7 +1,10 @@
+pub mod Copies
 pub mod Executions
 pub mod Following
 pub mod Nets
+pub mod Placed
 pub mod Rows
+pub mod Running
 pub mod Signals
 pub mod Simulations
 pub mod Wires

@@ -76,6 +76,12 @@ pub record Makes (first : ℕ) (old : List And) (w : Wire) (new : List And) (l :
   pub ands : new ≡ (made first old w).ands
   pub literal : l ≡ (made first old w).literal
 
+-- The old ands stand there, and behind them no more than the first of those that the wire needs.
+abbrev pub Begins : ℕ → List And → Wire → List And → Type 0
+Begins first old w new =
+    (more : List And) × (left : List And) × (new ≡ old ++ more)
+    × ((made first old w).ands ≡ new ++ left)
+
 -- a literal where the test is true, another where it is false
 abbrev pub choice : ℕ → ℕ → ℕ → Wire
 choice test a b =

@@ -1,8 +1,8 @@
 //! New ands after those of a net: literals that are made of others.
 
-ghost use Rattle.std.specs.Prelude.{◌≡◌, ◌<◌, ◌^◌, IfOk};
+ghost use Rattle.std.specs.Prelude.{◌≡◌, ◌<◌, ◌^◌, IfOk, OnErr};
 ghost use Rattle.aig_net.specs.Nets.{opposite};
-ghost use Rattle.aig_net.specs.Wires.{Fits, Makes, both, choice, either, equal, literal};
+ghost use Rattle.aig_net.specs.Wires.{Begins, Fits, Makes, both, choice, either, equal, literal};
 
 use crate::parts::{And, AndList};
 use hy_base::M;
@@ -28,12 +28,13 @@ pub struct Gates {
 }
 
 impl Gates {
-    /// Both literals: one and.
+    /// Both literals: one and. Refused for memory it changes nothing.
     pub fn both(&mut self, a: u32, b: u32) -> M<u32>
         requires { Fits self.old.first self.old.ands (both (literal a) (literal b)) }
         ensures made { IfOk result
             (Makes self.old.first self.old.ands (both (literal a) (literal b)) self.new.ands) }
         ensures first { self.new.first ≡ self.old.first }
+        ensures refused { OnErr result (self.new ≡ self.old) }
     {
         let variable = self.first + self.ands.len() as u32;
         self.ands.push(And {
@@ -43,35 +44,42 @@ impl Gates {
         Ok(2 * variable)
     }
 
-    /// Either literal: one and.
+    /// Either literal: one and. Refused for memory it changes nothing.
     pub fn either(&mut self, a: u32, b: u32) -> M<u32>
         requires { Fits self.old.first self.old.ands (either (literal a) (literal b)) }
         ensures made { IfOk result
             (Makes self.old.first self.old.ands (either (literal a) (literal b)) self.new.ands) }
         ensures first { self.new.first ≡ self.old.first }
+        ensures refused { OnErr result (self.new ≡ self.old) }
     {
         let neither = self.both(opposite_of(a), opposite_of(b))?;
         Ok(opposite_of(neither))
     }
 
-    /// `a` where the test is true, else `b`: three ands.
+    /// `a` where the test is true, else `b`: three ands. Refused for memory it leaves the ands of
+    /// before, and perhaps the first of those that it makes.
     pub fn choose(&mut self, test: u32, a: u32, b: u32) -> M<u32>
         requires { Fits self.old.first self.old.ands (choice test a b) }
         ensures made { IfOk result
             (Makes self.old.first self.old.ands (choice test a b) self.new.ands) }
         ensures first { self.new.first ≡ self.old.first }
+        ensures refused { OnErr result
+            (Begins self.old.first self.old.ands (choice test a b) self.new.ands) }
     {
         let on_true = self.both(test, a)?;
         let on_false = self.both(opposite_of(test), b)?;
         self.either(on_true, on_false)
     }
 
-    /// Whether the literals are equal: three ands.
+    /// Whether the literals are equal: three ands. Refused for memory it leaves the ands of before,
+    /// and perhaps the first of those that it makes.
     pub fn equal(&mut self, a: u32, b: u32) -> M<u32>
         requires { Fits self.old.first self.old.ands (equal (literal a) (literal b)) }
         ensures made { IfOk result
             (Makes self.old.first self.old.ands (equal (literal a) (literal b)) self.new.ands) }
         ensures first { self.new.first ≡ self.old.first }
+        ensures refused { OnErr result
+            (Begins self.old.first self.old.ands (equal (literal a) (literal b)) self.new.ands) }
     {
         let only_first = self.both(a, opposite_of(b))?;
         let only_second = self.both(opposite_of(a), b)?;

@@ -3,7 +3,8 @@ use Rattle.std.proofs.Common.{◌≡◌, ℕ, zero, suc, ◌+◌, ◌-◌, ◌<�
 use Rattle.aig_net.specs.declared.parts.And.{And}
 use Rattle.aig_net.specs.Wires.{Wire, literal, made, Fits, Makes, both, all_of, and_of, listed}
 use Rattle.aig_net.proofs.Wiring.{grows}
-use Rattle.aig_net.proofs.Making.{all-of-last, last-listed}
+use Rattle.aig_net.proofs.Listed.{last-listed}
+use Rattle.aig_net.proofs.Making.{all-of-last}
 use Rattle.live_safe.proofs.Sizes.{all-of-append}
 
 listed-parts : {B : Type 0} (c n d : ℕ) (f : ℕ → B) →

@@ -36,7 +36,7 @@ use Rattle.wit_lasso.specs.Satisfaction.{Satisfies}
 use Rattle.wit_lasso.specs.Seeing.{IsTraceOf}
 use Rattle.wit_lasso.specs.Unfoldings.{AreUnfolded, GoesToBad, IsSafeOf, IsUnfolding, no_run, run_at}
 use Rattle.wit_lasso.proofs.Checking.{existential-right, universal-right}
-use Rattle.wit_lasso.proofs.Running.{run-execution}
+use Rattle.aig_net.proofs.LassoRuns.{run-execution}
 use Rattle.mc_core.specs.declared.ask.Ask.{Ask}
 use Rattle.mc_core.specs.declared.checked.Checked.{Checked}
 use Rattle.mc_core.specs.Answers.{AreTraces, AreWitnesses, IsChecked, IsEvidence, IsTaken, IsUsable, answered, checked_safe, is_existential}

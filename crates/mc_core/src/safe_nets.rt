@@ -63,7 +63,7 @@ fn body_jobs(alloc: Global, body: &Body, n: u8, positive: bool) -> M<JobList>
 }
 
 /// The map of each variable to itself.
-#[tactic(auto, using(wit_lasso::proofs::Steps::listed_next))]
+#[tactic(auto, using(aig_net::proofs::Listed::listed_next))]
 fn identity(alloc: Global, n: u8) -> M<VariableMap>
     ensures { IfOk result (λ m. m ≡ identity_map n) }
 {
@@ -101,7 +101,7 @@ pub fn safe_for(
 }
 
 /// The signals of the copies: each of them in each copy.
-#[tactic(auto, using(self_compose::proofs::Copying::one_copy, crate::proofs::Copied::copy_new, wit_lasso::proofs::Letters::small_name))]
+#[tactic(auto, using(aig_net::proofs::Copying::one_copy, crate::proofs::Copied::copy_new, wit_lasso::proofs::Letters::small_name))]
 fn copy_signals(alloc: Global, signals: &Signals, n: u8) -> M<Signals>
     requires own { All (λ s. s.var ≡ 0) signals.now }
     requires small { All (λ s. s.literal / 2 * n < 2 ^ 31) signals.now }

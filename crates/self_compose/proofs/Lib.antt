@@ -1,4 +1,3 @@
-pub mod Copying
 pub mod Periods
 mod Rooms
 pub mod Tuples

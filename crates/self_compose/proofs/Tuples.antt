@@ -7,10 +7,11 @@ use Rattle.aig_net.specs.declared.parts.And.{And}
 use Rattle.aig_net.specs.declared.parts.Reset.{Reset}
 use Rattle.aig_net.specs.declared.parts.Reset.TheVariants.{Zero}
 use Rattle.aig_net.specs.Nets.{Net, no_and, Valuation, Below, literal_value, and_value, reset_at, and_at, literal_at, latch_variable, first_and, variables, IsRight, ResetTo, IsStart, IsStep, AllTrue, AllBelow, AreNames, is_name, IsNet}
+use Rattle.aig_net.specs.Copies.{copied}
 use Rattle.aig_net.specs.Executions.{Word, IsFair, IsExecution, Recurs}
-use Rattle.self_compose.specs.Copies.{place, copy_literal, copy_and, copy_reset, copy_name, compose, copied, copy, joined}
+use Rattle.self_compose.specs.Copies.{place, copy_literal, copy_and, copy_reset, copy_name, compose, copy, joined}
 use Rattle.aig_net.proofs.Literals.{value-same, value-under, value-even, below-under, below-even, renumbered}
-use Rattle.self_compose.proofs.Copying.{length-copied, each-copied, copied-each}
+use Rattle.aig_net.proofs.Copying.{length-copied, each-copied, copied-each}
 
 place-suc : (n c x y : ℕ) → y ≡ suc x → place n c y ≡ suc (x * n + c)
 place-suc n c x y e = ap (place n c) e

@@ -1,15 +1,10 @@
 -- Copies of a net side by side: item j of copy c of n stands at place j * n + c.
-use Rattle.std.specs.Prelude.{ℕ, zero, suc, ◌+◌, ◌*◌, ◌/◌, ◌%◌, false, List, [], ◌∷◌, ◌++◌}
+use Rattle.std.specs.Prelude.{ℕ, zero, suc, ◌+◌, ◌*◌, ◌/◌, ◌%◌, false, List, []}
 use Rattle.aig_net.specs.declared.parts.And.{And}
 use Rattle.aig_net.specs.declared.parts.Reset.{Reset}
+use Rattle.aig_net.specs.Copies.{copied}
 use Rattle.aig_net.specs.Nets.{Net, under}
 use Rattle.aig_net.specs.Executions.{Word}
-use Rattle.aig_net.specs.Wires.{listed}
-
--- the copies of the first item, then those of the next
-abbrev pub copied : {A B : Type 0} → ℕ → (ℕ → A → B) → List A → List B
-copied n f [] = []
-copied n f (x ∷ xs) = listed 0 n (λ c. f c x) ++ copied n f xs
 
 -- the variable of copy c of n
 abbrev pub place : ℕ → ℕ → ℕ → ℕ

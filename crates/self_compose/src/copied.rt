@@ -1,7 +1,7 @@
 //! What stands in each copy for an item of a net, and lists of these.
 
 ghost use Rattle.std.specs.Prelude.{◌≡◌, ℕ, ◌<◌, List as Sequence, length, slice_index_or, All, IfOk};
-ghost use Rattle.self_compose.specs.Copies.{copied};
+ghost use Rattle.aig_net.specs.Copies.{copied};
 
 use aig_net::{And, Reset};
 use hy_base::{List, M, Text};
@@ -85,7 +85,7 @@ impl Copied for Text {
 }
 
 /// The copies of each item, in time linear in them.
-#[tactic(auto, using(crate::proofs::Copying::one_copy))]
+#[tactic(auto, using(aig_net::proofs::Copying::one_copy))]
 pub fn copies<T: Copied + Drop>(alloc: Global, items: &[T], n: u32) -> M<List<T>>
     requires { All (T.has_room n) items.now }
     ensures { IfOk result (λ made. made ≡ copied n (T.in_copy n) items.now) }

@@ -6,5 +6,4 @@ pub mod Letters
 pub mod PathLassos
 pub mod PathRuns
 pub mod Places
-pub mod Running
 pub mod Steps

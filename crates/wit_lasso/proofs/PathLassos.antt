@@ -28,7 +28,7 @@ use Rattle.wit_lasso.specs.Unfoldings.{AreUnfolded, Saves, copy_lasso, copy_word
 use Rattle.wit_lasso.proofs.Bodies.{signed-same}
 use Rattle.wit_lasso.proofs.Checking.{old, own-execution, seen-own, lasso-says}
 use Rattle.wit_lasso.proofs.CopySignals.{own-below}
-use Rattle.wit_lasso.proofs.Running.{run-execution}
+use Rattle.aig_net.proofs.LassoRuns.{run-execution}
 use Rattle.wit_lasso.proofs.Steps.{lasso-same, near}
 
 -- one step alone saves

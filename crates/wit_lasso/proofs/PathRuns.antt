@@ -9,11 +9,13 @@ use Rattle.aig_net.specs.declared.run.Run.{Run}
 use Rattle.aig_net.specs.Nets.{Net, IsNet, Valuation, latch_variable, literal_value, reset_at, row}
 use Rattle.aig_net.specs.Executions.{Word, lasso_of, part, step_at}
 use Rattle.aig_net.specs.Following.{row_at}
+use Rattle.aig_net.specs.Copies.{own_values}
+use Rattle.aig_net.specs.Simulations.{IsRunOf, inputs_of, latches_of}
 use Rattle.aig_net.specs.Wires.{listed, wire_value}
-use Rattle.aig_net.proofs.Listed.{at-listed, length-listed, true-or-left, true-or-right}
+use Rattle.aig_net.proofs.Copying.{length-copied}
+use Rattle.aig_net.proofs.Listed.{at-listed, length-listed, listed-same, true-or-left, true-or-right}
 use Rattle.aig_net.proofs.Literals.{value-even}
 use Rattle.self_compose.specs.Copies.{compose, place}
-use Rattle.self_compose.proofs.Copying.{length-copied}
 use Rattle.sym_tableau.specs.Oracles.{moved, oracles}
 use Rattle.sym_tableau.proofs.Parts.{latch-moved, many-latches, moved-early}
 use Rattle.live_safe.specs.declared.safe_net.Path.{Path}
@@ -26,11 +28,10 @@ use Rattle.live_safe.proofs.Starts.{start-false}
 use Rattle.live_safe.proofs.Unfolding.{is-set-begun, on-first, copy-stays}
 use Rattle.live_safe.proofs.Shapes.{count-below}
 use Rattle.wit_lasso.specs.FormulaNets.{Tableau, tableau_net}
-use Rattle.wit_lasso.specs.PathParts.{AreRows, free_before, is_free_at, own_inputs, own_latches, own_run, start_value, take_place}
-use Rattle.wit_lasso.specs.Unfoldings.{AreUnfolded, IsRunOf, IsSafeOf, GoesToBad, IsUnfolding, Saves, ShowsInputs, copy_lasso, copy_word, inputs_of, latches_of}
+use Rattle.wit_lasso.specs.PathParts.{AreRows, free_before, is_free_at, own_latches, own_run, start_value, take_place}
+use Rattle.wit_lasso.specs.Unfoldings.{AreUnfolded, IsSafeOf, GoesToBad, IsUnfolding, Saves, ShowsInputs, copy_lasso, copy_word}
 use Rattle.wit_lasso.proofs.Counting.{free-there, inputs-are, place-is, reset-there}
 use Rattle.wit_lasso.proofs.PathLassos.{copy-is, lasso-at, some-saves}
-use Rattle.wit_lasso.proofs.Steps.{listed-same}
 
 -- ---- the step that saves, by the input `take`
 
@@ -152,7 +153,7 @@ module _ (net : Net) (good : IsNet net) (n : ℕ) (some : 0 < n) (t : Tableau) (
       ∙ ap (shown tab (word i)) (sym early)
 
   own-row : (i c : ℕ) → i < k → c < n →
-      own_inputs net.inputs n c (row_at rows i) ≡ inputs_of net (own c i)
+      own_values net.inputs n c (row_at rows i) ≡ inputs_of net (own c i)
   own-row i c lt few =
       listed-same 0 net.inputs (λ j. row (row_at rows i) (j * n + c)) (λ j. own c i (suc j))
       (λ j _ less. own-input i c j lt few (omega (arith, less)))
@@ -301,19 +302,19 @@ module _ (net : Net) (good : IsNet net) (n : ℕ) (some : 0 < n) (t : Tableau) (
             saves.within,
           ))));
       stem =
-          rows-part (own_inputs net.inputs n c) (inputs_of net) (own c) (take start rows) 0
+          rows-part (own_values net.inputs n c) (inputs_of net) (own c) (take start rows) 0
           (λ i lt.
           let (e, less) = front-rows i lt in
           let plain : i ≡ 0 + i = omega arith in
-          ap (own_inputs net.inputs n c) e ∙ own-row i c less few
+          ap (own_values net.inputs n c) e ∙ own-row i c less few
           ∙ ap (λ x. inputs_of net (own c x)) plain)
           ∙ part-long (inputs_of net) (own c) 0 (length (take start rows)) start
           (length-take-le start rows within);
       cycle =
-          rows-part (own_inputs net.inputs n c) (inputs_of net) (own c) (drop start rows) start
+          rows-part (own_values net.inputs n c) (inputs_of net) (own c) (drop start rows) start
           (λ i lt.
           let many = length-drop start rows in
-          ap (own_inputs net.inputs n c) (get_or-drop start rows i [])
+          ap (own_values net.inputs n c) (get_or-drop start rows i [])
           ∙ own-row (start + i) c (omega (arith, many, lt)) few)
           ∙ part-long (inputs_of net) (own c) start (length (drop start rows)) (k - start)
           (length-drop start rows);

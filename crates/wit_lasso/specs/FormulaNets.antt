@@ -3,9 +3,10 @@
 use Rattle.std.specs.Prelude.{◌≡◌, ℕ, Bool, List, [], ◌∷◌, All}
 use Rattle.hy_formula.specs.Trees.{Tree}
 use Rattle.aig_net.specs.declared.signals.Signal.{Signal}
+use Rattle.aig_net.specs.Copies.{copied}
 use Rattle.aig_net.specs.Nets.{Net, variables}
 use Rattle.aig_net.specs.Wires.{listed}
-use Rattle.self_compose.specs.Copies.{compose, copied, copy_literal}
+use Rattle.self_compose.specs.Copies.{compose, copy_literal}
 use Rattle.ltl_closure.specs.Nodes.{Node}
 use Rattle.ltl_closure.specs.Jobs.{Task, task_nodes, task_roots}
 use Rattle.sym_tableau.specs.Oracles.{attach, signal_in}

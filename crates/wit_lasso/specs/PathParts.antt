@@ -4,14 +4,11 @@ use Rattle.std.specs.Prelude.{ℕ, suc, ◌+◌, ◌-◌, ◌*◌, ◌^◌, ◌<
 use Rattle.aig_net.specs.declared.parts.Reset.{Reset}
 use Rattle.aig_net.specs.declared.parts.Reset.TheVariants.{Zero, One, Free}
 use Rattle.aig_net.specs.declared.run.Run.{Run}
+use Rattle.aig_net.specs.Copies.{own_values}
 use Rattle.aig_net.specs.Nets.{Net, reset_at, row}
 use Rattle.aig_net.specs.Following.{row_at}
 use Rattle.aig_net.specs.Wires.{listed}
 use Rattle.live_safe.specs.Safe.{count_below, is_free}
-
--- those of copy c
-abbrev pub own_inputs : ℕ → ℕ → ℕ → List Bool → List Bool
-own_inputs inputs n c given = listed 0 inputs (λ j. row given (j * n + c))
 
 abbrev pub is_free_at : List Reset → ℕ → Bool
 is_free_at resets j = is_free (reset_at resets j)
@@ -40,8 +37,8 @@ take_place net n inputs = inputs - suc (free_before net.resets (length net.reset
 abbrev pub own_run : Net → ℕ → ℕ → List (List Bool) → ℕ → ℕ → Run
 own_run net n place rows start c = record {
   first = own_latches net.resets n c (drop (suc place) (row_at rows 0));
-  stem = map (own_inputs net.inputs n c) (take start rows);
-  cycle = map (own_inputs net.inputs n c) (drop start rows);
+  stem = map (own_values net.inputs n c) (take start rows);
+  cycle = map (own_values net.inputs n c) (drop start rows);
 }
 
 -- Each row, of which there is one at least, has the inputs of the copies before the one that saves,

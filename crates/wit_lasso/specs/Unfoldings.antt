@@ -1,10 +1,10 @@
 -- The lassos of the copies of a net for which a path of a safe net stands, and their runs.
-use Rattle.std.specs.Prelude.{◌≡◌, ℕ, suc, ◌-◌, ◌<◌, ◌≤◌, Bool, true, false, List, [], map, length, slice_index_or}
+use Rattle.std.specs.Prelude.{◌≡◌, ℕ, suc, ◌-◌, ◌<◌, ◌≤◌, true, false, List, [], length, slice_index_or}
 use Rattle.aig_net.specs.declared.run.Run.{Run}
-use Rattle.aig_net.specs.Nets.{Net, Valuation, latch_variable, literal_value}
-use Rattle.aig_net.specs.Executions.{Word, Lasso, IsLassoExecution, lasso_of, step_at}
+use Rattle.aig_net.specs.Nets.{Net, literal_value}
+use Rattle.aig_net.specs.Executions.{Word, Lasso, IsLassoExecution, lasso_of}
 use Rattle.aig_net.specs.Following.{row_at}
-use Rattle.aig_net.specs.Wires.{listed}
+use Rattle.aig_net.specs.Simulations.{IsRunOf}
 use Rattle.self_compose.specs.Copies.{compose, copy}
 use Rattle.sym_tableau.specs.Oracles.{unmoved}
 use Rattle.live_safe.specs.declared.safe_net.Path.{Path}
@@ -12,19 +12,6 @@ use Rattle.live_safe.specs.declared.safe_net.SafeNet.{SafeNet}
 use Rattle.live_safe.specs.Paths.{IsBadPath}
 use Rattle.live_safe.specs.Safe.{saved, shown_word, to_safe}
 use Rattle.wit_lasso.specs.FormulaNets.{Tableau, tableau_net}
-
--- the values of the latches, and those of the inputs
-abbrev pub latches_of : Net → Valuation → List Bool
-latches_of net v = listed 0 (length net.latches) (λ j. v (latch_variable net j))
-
-abbrev pub inputs_of : Net → Valuation → List Bool
-inputs_of net v = listed 0 net.inputs (λ j. v (suc j))
-
--- The run has what is given to the net in the lasso.
-pub record IsRunOf (net : Net) (lasso : Lasso) (run : Run) : Type 0 where
-  pub first : run.first ≡ latches_of net (step_at lasso 0)
-  pub stem : run.stem ≡ map (inputs_of net) lasso.stem
-  pub cycle : run.cycle ≡ map (inputs_of net) lasso.cycle
 
 -- The safe net is that of copies of the net with the oracles of some closure.
 abbrev pub IsSafeOf : Net → ℕ → SafeNet → Type 0

@@ -10,16 +10,14 @@ ghost use Rattle.hy_formula.specs.Lassos as letters;
 ghost use Rattle.hy_lasso.specs.Words as words;
 ghost use Rattle.hy_lasso.specs.Words.{no_lasso};
 ghost use Rattle.aig_net.specs.declared.run.Run.{Run};
-ghost use Rattle.aig_net.specs.declared.run.ValueLasso.{ValueLasso};
 ghost use Rattle.aig_net.specs.declared.signals.Signal.{Signal};
-ghost use Rattle.aig_net.specs.Nets.{Net, IsNet, variables};
-ghost use Rattle.aig_net.specs.Executions.{Word, Lasso, IsLassoExecution, gone};
-ghost use Rattle.aig_net.specs.Simulations.{IsExecutionOf, valuations};
+ghost use Rattle.aig_net.specs.Nets.{Net, IsNet};
+ghost use Rattle.aig_net.specs.Executions.{Word};
 ghost use Rattle.live_safe.specs.Paths.{IsBadPath};
 ghost use Rattle.wit_lasso.specs.FormulaNets.{AreOwn, formula_safe, formula_tableau};
 ghost use Rattle.wit_lasso.specs.Satisfaction.{Satisfies};
 ghost use Rattle.wit_lasso.specs.Seeing.{IsTraceOf};
-ghost use Rattle.wit_lasso.specs.Unfoldings.{AreUnfolded, IsRunOf, run_at};
+ghost use Rattle.wit_lasso.specs.Unfoldings.{AreUnfolded, run_at};
 
 use aig_net::one_execution;
 
@@ -47,10 +45,3 @@ pub fn checked()
 {
     one_execution();
 }
-
-/// The run of a lasso execution is that of values which agree with it.
-pub fn runs_are_executions()
-    ensures { (net : Net) (lasso : Lasso) (run : Run) → IsNet net → IsLassoExecution net lasso
-        → IsRunOf net lasso run → (values : ValueLasso) × IsExecutionOf net run values
-        × ((i u : ℕ) → u < variables net → gone (valuations values) i u ≡ gone lasso i u) }
-{}

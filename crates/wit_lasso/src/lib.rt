@@ -6,6 +6,6 @@ mod laws;
 mod seeing;
 mod unfolding;
 
-pub use laws::{checked, runs_are_executions};
+pub use laws::checked;
 pub use seeing::visible;
 pub use unfolding::unfold;

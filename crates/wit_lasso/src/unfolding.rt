@@ -1,14 +1,14 @@
 //! From a path of a safe net to runs of the copies.
 
-ghost use Rattle.std.specs.Prelude.{◌≡◌, ℕ, suc, ◌+◌, ◌*◌, ◌<◌, ◌≤◌, ◌^◌, true, false, length, map, take, drop, IfOk};
+ghost use Rattle.std.specs.Prelude.{◌≡◌, ℕ, suc, ◌+◌, ◌*◌, ◌<◌, ◌≤◌, ◌^◌, true, false, length, take, drop, IfOk};
 ghost use Rattle.aig_net.specs.Nets.{row};
 ghost use Rattle.aig_net.specs.Following.{row_at};
 ghost use Rattle.aig_net.specs.Wires.{listed};
 ghost use Rattle.live_safe.specs.Safe.{is_free as free_reset};
-ghost use Rattle.wit_lasso.specs.PathParts.{AreRows, free_before, own_inputs, own_latches, own_run, start_value as value_at_start, take_place};
+ghost use Rattle.wit_lasso.specs.PathParts.{AreRows, free_before, own_latches, own_run, start_value as value_at_start, take_place};
 ghost use Rattle.wit_lasso.specs.Unfoldings.{GoesToBad, IsSafeOf, IsUnfolding};
 
-use aig_net::{Net, Reset, Row, RowList, Run, RunList};
+use aig_net::{Net, Reset, Row, Run, RunList, own_rows};
 use hy_base::{List, M};
 use live_safe::{Path, SafeNet};
 use std::alloc::Global;
@@ -33,7 +33,7 @@ pub fn unfold(alloc: Global, net: &Net, n: u8, safe: &SafeNet, path: &Path) -> M
 }
 
 /// The runs of the copies, where the step `start` is the first that saves, by the input at `place`.
-#[tactic(auto, using(crate::proofs::Steps::listed_next))]
+#[tactic(auto, using(aig_net::proofs::Listed::listed_next))]
 fn runs_of(alloc: Global, net: &Net, n: u8, rows: &[Row], place: usize, start: usize) -> M<RunList>
     requires fit { AreRows net.now n place rows.now }
     requires start { start ≤ length rows.now }
@@ -62,10 +62,12 @@ fn run_of(
     ensures { IfOk result (λ run. run ≡ own_run net.now n place rows.now start c) }
 {
     let free = &rows[0].as_slice()[place + 1..];
+    let inputs = net.inputs() as usize;
+    let (copies, copy) = (usize::from(n), usize::from(c));
     Ok(Run {
         first: start_latches(alloc, net.resets().as_slice(), n, c, free)?,
-        stem: inputs_of(alloc, &rows[..start], net.inputs(), n, c)?,
-        cycle: inputs_of(alloc, &rows[start..], net.inputs(), n, c)?,
+        stem: own_rows(alloc, &rows[..start], inputs, copies, copy)?,
+        cycle: own_rows(alloc, &rows[start..], inputs, copies, copy)?,
     })
 }
 
@@ -104,35 +106,8 @@ fn saving_step(rows: &[Row], place: usize) -> usize
     rows.len()
 }
 
-/// The inputs of copy `c` of `n` in each row.
-fn inputs_of(alloc: Global, rows: &[Row], inputs: u32, n: u8, c: u8) -> M<RowList>
-    requires copy { c < n }
-    requires long { (i : ℕ) → i < length rows.now → inputs * n ≤ length (row_at rows.now i) }
-    ensures { IfOk result (λ made. made ≡ map (own_inputs inputs n c) rows.now) }
-{
-    let mut made = List::new(alloc);
-    for given in rows {
-        made.push(own_row(alloc, given.as_slice(), inputs, n, c)?)?;
-    }
-    Ok(made)
-}
-
-/// The inputs of copy `c` of `n`.
-#[tactic(auto, using(crate::proofs::Steps::listed_next))]
-fn own_row(alloc: Global, given: &[bool], inputs: u32, n: u8, c: u8) -> M<Row>
-    requires copy { c < n }
-    requires long { inputs * n ≤ length given.now }
-    ensures { IfOk result (λ made. made ≡ own_inputs inputs n c given.now) }
-{
-    let mut made = List::new(alloc);
-    for j in 0..inputs as usize {
-        made.push(given[j * usize::from(n) + usize::from(c)])?;
-    }
-    Ok(made)
-}
-
 /// The latches of copy `c` of `n` at the start, by the inputs of the uninitialised ones.
-#[tactic(auto, using(live_safe::proofs::Counting::count_more, crate::proofs::Places::free_place, crate::proofs::Steps::listed_next))]
+#[tactic(auto, using(live_safe::proofs::Counting::count_more, crate::proofs::Places::free_place, aig_net::proofs::Listed::listed_next))]
 fn start_latches(alloc: Global, resets: &[Reset], n: u8, c: u8, free: &[bool]) -> M<Row>
     requires copy { c < n }
     requires long { free_before resets.now (length resets.now) * n ≤ length free.now }

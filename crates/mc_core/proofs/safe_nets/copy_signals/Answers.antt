@@ -1,6 +1,6 @@
 use Rattle.std.proofs.Common.{◌++◌, sym, ap, ◌∙◌}
 use Rattle.aig_net.specs.Wires.{listed}
-use Rattle.self_compose.proofs.Copying.{one_item}
+use Rattle.aig_net.proofs.Copying.{one_item}
 use Rattle.wit_lasso.specs.FormulaNets.{copy_signal}
 use Rattle.wit_lasso.proofs.Letters.{got}
 use Rattle.mc_core.proofs.Copied.{copy_new}

@@ -1,4 +1,4 @@
-use Rattle.self_compose.proofs.Copying.{one_item}
+use Rattle.aig_net.proofs.Copying.{one_item}
 use Rattle.self_compose.proofs.copied.copies.Goals as goal
 
 pub loop-item-preserved : goal.loop-item-preserved

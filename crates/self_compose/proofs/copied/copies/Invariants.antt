@@ -1,6 +1,6 @@
 use Rattle.std.proofs.Common.{◌≡◌, ◌++◌, take}
 use Rattle.aig_net.specs.Wires.{listed}
-use Rattle.self_compose.specs.Copies.{copied}
+use Rattle.aig_net.specs.Copies.{copied}
 use Rattle.self_compose.proofs.copied.copies.Given as goal
 
 -- the copies of the items so far

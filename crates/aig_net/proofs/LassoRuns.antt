@@ -9,13 +9,12 @@ use Rattle.aig_net.specs.Nets.{Net, IsNet, Valuation, IsStep, latch_variable, li
 use Rattle.aig_net.specs.Executions.{Lasso, IsLassoExecution, gone, no_values, step_at, steps, value_in}
 use Rattle.aig_net.specs.Following.{AreFull, row_at}
 use Rattle.aig_net.specs.Rows.{input_row, latch_row}
-use Rattle.aig_net.specs.Simulations.{IsExecutionOf, valuations}
+use Rattle.aig_net.specs.Simulations.{IsExecutionOf, IsRunOf, inputs_of, latches_of, valuations}
 use Rattle.aig_net.specs.Wires.{listed}
 use Rattle.aig_net.proofs.Listed.{at-listed, at-map, length-listed}
 use Rattle.aig_net.proofs.Literals.{value-same}
 use Rattle.aig_net.proofs.Rounds.{in-cycle, in-stem}
 use Rattle.aig_net.proofs.Likeness.{true-alike, start-alike, right-alike, step-alike, Alike}
-use Rattle.wit_lasso.specs.Unfoldings.{IsRunOf, inputs_of, latches_of}
 
 module _ (net : Net) (good : IsNet net) where
   -- ---- rows of values

@@ -3,9 +3,9 @@ use Rattle.std.proofs.Common.{◌≡◌, ℕ, zero, suc, ◌+◌, ◌*◌, ◌/�
 use Rattle.std.proofs.Math.Nat.{mod-lt, mod-add-div', mul-le-mul_left}
 use Rattle.std.proofs.lemmas.Bool.{cases_lt}
 use Rattle.std.proofs.lemmas.List.{get_or_append_left, get_or-append-add, take_more}
+use Rattle.aig_net.specs.Copies.{copied}
 use Rattle.aig_net.specs.Wires.{listed}
-use Rattle.aig_net.proofs.Listed.{length-listed, at-listed, listed-last}
-use Rattle.self_compose.specs.Copies.{copied}
+use Rattle.aig_net.proofs.Listed.{length-listed, at-listed, last-listed}
 
 module _ {A B : Type 0} (n : ℕ) (f : ℕ → A → B) where
   pub length-copied : (xs : List A) → length (copied n f xs) ≡ length xs * n
@@ -90,11 +90,8 @@ pub one_copy : {B : Type 0} (f : ℕ → B) (start items more : List B) (c : ℕ
     items ≡ start ++ listed 0 c f → y ≡ f c → more ≡ items ++ y ∷ [] →
     more ≡ start ++ listed 0 (c + 1) f
 one_copy f start items more c y e h m =
-    let up : c + 1 ≡ suc c = omega arith in
-    let plain : 0 + c ≡ c = omega arith in
     m ∙ ap (λ l. l ++ y ∷ []) e ∙ append_assoc start (listed 0 c f) (y ∷ [])
-    ∙ ap (λ x. start ++ (listed 0 c f ++ x ∷ [])) (h ∙ ap f (sym plain))
-    ∙ ap (λ l. start ++ l) (sym (listed-last 0 c f)) ∙ ap (λ n. start ++ listed 0 n f) (sym up)
+    ∙ ap (λ x. start ++ (listed 0 c f ++ x ∷ [])) h ∙ ap (λ l. start ++ l) (sym (last-listed c f))
 
 pub one_item : {A B : Type 0} (n : ℕ) (f : ℕ → A →
     B) (xs : List A) (y : A) (start items : List B) (i c : ℕ) → i < length xs → y ≡ get_or xs i y →
