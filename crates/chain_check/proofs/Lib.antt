@@ -7,3 +7,4 @@ pub mod Opening
 pub mod Storing
 pub mod Stepping
 pub mod Opposing
+pub mod Knowing

@@ -66,10 +66,3 @@ passed-step n before log i e P lt is follows iff =
   where
     here : drop i log ≡ e ∷ drop (i + 1) log
     here = drop_more log i e lt ∙ ap (λ x. x ∷ drop (i + 1) log) (sym is)
-
-pub not-passed : (n : ℕ) (before : List Clause) (log : List Learned) (i : ℕ) (e : Learned)
-    (P : Type 0) → i < length log → e ≡ get_or log i e → ¬ Follows n before e.clause e.chain →
-    IsPassed n before (drop i log) ↔ P → ¬ P
-not-passed n before log i e P lt is none iff p =
-    let Q : List Learned → Type 0 = IsPassed n before in
-    none (subst Q (drop_more log i e lt ∙ ap (λ x. x ∷ drop (i + 1) log) (sym is)) (iff.1 p)).0

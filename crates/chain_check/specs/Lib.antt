@@ -4,4 +4,5 @@ pub mod Logs
 pub mod Rows
 pub mod Store
 pub mod Opens
+pub mod Known
 pub mod LogTexts

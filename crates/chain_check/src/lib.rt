@@ -1,15 +1,16 @@
 //! Clauses, logs of learned clauses, and the exact checker of logs.
 #![tactic(auto)]
 
-mod checking;
+mod checker;
 mod clauses;
+mod following;
 mod laws;
 mod literal;
 mod logs;
 mod partial;
 mod printing;
 
-pub use checking::check;
+pub use checker::{Checker, check};
 pub use clauses::{Clauses, Cnf};
 pub use laws::{counted, new_clauses, passed_clauses, refuted};
 pub use literal::Literal;

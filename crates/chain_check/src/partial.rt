@@ -1,6 +1,6 @@
 //! A partial assignment with constant time look-up.
 
-ghost use Rattle.std.specs.Prelude.{◌≡◌, ◌+◌, ◌-◌, ◌<◌, ◌≤◌, ◌^◌, ℤ, [], ◌∷◌, ◌++◌, length, IsTrue, IfOk, take, slice_get, Some, ◌↔◌, List, Contains};
+ghost use Rattle.std.specs.Prelude.{◌≡◌, ◌+◌, ◌-◌, ◌<◌, ◌≤◌, ◌^◌, ℤ, [], ◌∷◌, ◌++◌, length, IsTrue, IfOk, OnOk, OnErr, take, slice_get, Some, ◌↔◌, List, Contains};
 ghost use Rattle.chain_check.specs.Clauses.{Clause, IsLiteral, AreLiterals};
 ghost use Rattle.chain_check.specs.Chains.{IsFalseIn};
 ghost use Rattle.chain_check.specs.Store.{Trues, AreMarks, IsFresh};
@@ -88,12 +88,13 @@ impl Partial {
         self.marks[l.variable()].is(l)
     }
 
-    /// Makes `l` true.
+    /// Makes `l` true. Refused for memory it changes nothing.
     pub fn make_true(&mut self, l: Literal) -> M<()>
         requires right { IsLiteral self.old.variables l }
         requires not_false { ¬ IsFalseIn self.old.literals l }
-        ensures { IfOk result (λ _. self.new ≡ record self.old
+        ensures made { OnOk result (self.new ≡ record self.old
             { literals = self.old.literals ++ l ∷ [] }) }
+        ensures refused { OnErr result (self.new ≡ self.old) }
     {
         self.literals.push(l)?;
         self.marks[l.variable()] = l;

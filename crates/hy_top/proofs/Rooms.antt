@@ -19,7 +19,8 @@ use Rattle.mc_core.specs.Answers.{HasRoom, is_existential}
 
 -- what is known of the sizes of safe nets, of nets with oracles, and of copies
 pub record AreSmall : Type 0 where
-  pub safe : (net : Net) → variables (to_safe net).net ≤ 13 * variables net + 5 * length net.fairs
+  pub safe : (net : Net) → variables (to_safe net).net
+      ≤ variables net + 12 * length net.latches + 5 * length net.fairs + 5
   pub attached : (net : Net) (nodes : List Node) (signals : ℕ → ℕ → ℕ) (roots : List ℕ)
       → variables (attach net nodes signals roots) ≤ variables net + 6 * length nodes + length roots + 1
   pub fairs : (net : Net) (nodes : List Node) (signals : ℕ → ℕ → ℕ) (roots : List ℕ)

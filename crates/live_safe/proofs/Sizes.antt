@@ -92,7 +92,8 @@ module _ (net : Net) where
       (λ j. equal (literal (raw net j)) (literal (copied_latch net j))) in
       omega (arith, parts, a, b, m, n)
 
-  pub safe-size : variables (to_safe net).net ≤ 13 * variables net + 5 * length net.fairs
+  pub safe-size : variables (to_safe net).net
+      ≤ variables net + 12 * length net.latches + 5 * length net.fairs + 5
   safe-size =
       let all = ap length (closing-ands net) in
       let last = many-made (safe_first net) (copy_stage net).ands (bad_wire net) in

@@ -29,8 +29,9 @@ pub fn paths_are_lassos()
     ensures zero { (net : Net) (j : ℕ) → reset_at (to_safe net).net.resets j ≡ Zero }
 {}
 
-/// A safe net is not much larger than its net.
+/// A safe net has few variables for each latch and fairness literal of its net, and no more for an
+/// input or an and.
 pub fn safe_nets_are_small()
     ensures { (net : Net) → variables (to_safe net).net
-        ≤ 13 * variables net + 5 * length net.fairs }
+        ≤ variables net + 12 * length net.latches + 5 * length net.fairs + 5 }
 {}

@@ -67,5 +67,9 @@ composed-size net n some =
     length-copied n (copy_and n) net.ands in
     omega (arith, a, b, some)
 
+pub composed-latches : (net : Net) (n : ℕ) →
+    length (compose net n).latches ≡ n * length net.latches
+composed-latches net n = length-copied n (copy_literal n) net.latches ∙ omega arith
+
 pub composed-fairs : (net : Net) (n : ℕ) → length (compose net n).fairs ≡ n * length net.fairs
 composed-fairs net n = length-copied n (copy_literal n) net.fairs ∙ omega arith

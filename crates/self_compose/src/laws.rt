@@ -32,9 +32,11 @@ pub fn lassos_are_tuples()
         × ((c i v : ℕ) → c < n → copy n c (gone lasso) i v ≡ gone (owns c) i v) }
 {}
 
-/// The copies have no more variables than so many nets, and as many fairness literals.
+/// The copies have no more variables than so many nets, and as many latches and fairness literals.
 pub fn copies_are_as_large()
     ensures variables { (net : Net) (n : ℕ) → 0 < n
         → variables (compose net n) ≤ n * variables net }
+    ensures latches { (net : Net) (n : ℕ)
+        → length (compose net n).latches ≡ n * length net.latches }
     ensures fairs { (net : Net) (n : ℕ) → length (compose net n).fairs ≡ n * length net.fairs }
 {}

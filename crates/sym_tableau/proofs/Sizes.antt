@@ -125,6 +125,11 @@ module _ (net : Net) (nodes : List Node) (signals : ℕ → ℕ → ℕ) (roots 
       let few = oracles-few nodes (length nodes) in
       omega (arith, fair-cost, kept-cost, members-cost, ls, few)
 
+  pub attached-latches : length (attach net nodes signals roots).latches
+      ≤ length net.latches + length nodes + 1
+  attached-latches =
+      omega (arith, many-latches net nodes, oracles-few nodes (length nodes))
+
   ends-few : length (ends nodes lit) ≤ length nodes
   ends-few = gathered-length (λ k. end_of lit k (node_at nodes k))
       (λ k. end-few k (node_at nodes k)) (length nodes)

@@ -44,6 +44,9 @@ pub fn attached_nets_are_small()
     ensures variables { (net : Net) (nodes : List Node) (signals : ℕ → ℕ → ℕ) (roots : List ℕ)
         → variables (attach net nodes signals roots)
         ≤ variables net + 6 * length nodes + length roots + 1 }
+    ensures latches { (net : Net) (nodes : List Node) (signals : ℕ → ℕ → ℕ) (roots : List ℕ)
+        → length (attach net nodes signals roots).latches
+        ≤ length net.latches + length nodes + 1 }
     ensures fairs { (net : Net) (nodes : List Node) (signals : ℕ → ℕ → ℕ) (roots : List ℕ)
         → length (attach net nodes signals roots).fairs ≤ length net.fairs + length nodes }
 {}

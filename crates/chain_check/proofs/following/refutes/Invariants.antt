@@ -1,6 +1,6 @@
 use Rattle.std.proofs.Common.{◌≡◌, ◌↔◌, ◌++◌, drop}
 use Rattle.chain_check.specs.Chains.{Refutes}
-use Rattle.chain_check.proofs.checking.refutes.Given as goal
+use Rattle.chain_check.proofs.following.refutes.Given as goal
 
 abbrev pub invariant-loop-i : goal.invariant-loop-i
 invariant-loop-i l =

@@ -1,6 +1,6 @@
 use Rattle.std.proofs.Common.{ℕ, ◌++◌, sym, subst}
 use Rattle.chain_check.specs.Clauses.{AreClauses}
-use Rattle.chain_check.proofs.checking.follows.Goals as goal
+use Rattle.chain_check.proofs.following.follows.Goals as goal
 
 pub refutes-requires : goal.refutes-requires
 refutes-requires c = let P : ℕ → Type 0 = λ n. AreClauses n

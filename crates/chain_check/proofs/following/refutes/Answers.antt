@@ -4,7 +4,7 @@ use Rattle.chain_check.specs.Store.{Trues}
 use Rattle.chain_check.specs.Chains.{Refutes}
 use Rattle.chain_check.proofs.Passing.{numbered-there}
 use Rattle.chain_check.proofs.Stepping.{stopped, at-end, onward, never, not-numbered, two-open}
-use Rattle.chain_check.proofs.checking.refutes.Goals as goal
+use Rattle.chain_check.proofs.following.refutes.Goals as goal
 
 pub returns-in_default-clause-exact : goal.returns-in_default-clause-exact
 returns-in_default-clause-exact c =
@@ -55,7 +55,7 @@ loop-i-preserved c =
       literals =
           c.loop-i.partial.literals ++ c.in-One.l ∷ [];
     } in
-    let new : c.make_true.new.self ≡ made = c.in_ok-make_true-in-One.ensures in
+    let new : c.make_true.new.self ≡ made = c.in_ok-make_true-in-One.ensures.made in
     let next = onward all c.args.partial.now.literals c.loop-i.partial.literals c.args.chain.now
     c.loop-i.i c.loop-i-test.true c.loop-i.invariant.1 c.in-Some.clause.now c.in-One.l
     c.in-Some.ensures c.in-One.ensures in

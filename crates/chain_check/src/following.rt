@@ -1,16 +1,13 @@
-//! The checker of logs: each learned clause is tried by its own chain.
+//! Whether a clause follows by its chain from those before it.
 
-ghost use Rattle.std.specs.Prelude.{◌≡◌, ◌<◌, ◌+◌, ◌++◌, ◌↔◌, [], map, neg_ℤ, IfOk, OnOk, IsTrue, MatchOption};
+ghost use Rattle.std.specs.Prelude.{◌≡◌, ◌<◌, ◌+◌, ◌++◌, ◌↔◌, [], map, neg_ℤ, IfOk, IsTrue, MatchOption};
 ghost use Rattle.chain_check.specs.Clauses.{Clause, AreClauses, AreLiterals, IsApart};
 ghost use Rattle.chain_check.specs.Chains.{IsNumbered, Refutes, Follows};
-ghost use Rattle.chain_check.specs.Logs.{IsPassed};
 
-use crate::clauses::{Clauses, Cnf};
+use crate::clauses::Clauses;
 use crate::literal::Literal;
-use crate::logs::Log;
 use crate::partial::{Open, Partial};
 use hy_base::M;
-use std::alloc::Global;
 
 /// The clause with this number, from 1, among the given and then the learned ones.
 fn numbered<'a>(given: &'a Clauses, learned: &'a Clauses, number: u32) -> Option<&'a [Literal]>
@@ -36,7 +33,7 @@ fn numbered<'a>(given: &'a Clauses, learned: &'a Clauses, number: u32) -> Option
 /// one together with its opposite.
 fn oppose(partial: &mut Partial, clause: &[i32]) -> M<bool>
     requires { partial.old.literals ≡ [] }
-    ensures variables { OnOk result (partial.new.variables ≡ partial.old.variables) }
+    ensures variables { partial.new.variables ≡ partial.old.variables }
     ensures made { IfOk result (λ right. IsTrue right →
         (partial.new.literals ≡ map neg_ℤ clause.now) ×
         AreLiterals partial.new.variables clause.now × IsApart clause.now) }
@@ -60,7 +57,7 @@ fn oppose(partial: &mut Partial, clause: &[i32]) -> M<bool>
 /// Whether the chain refutes what is true, in time linear in the sizes of its clauses.
 fn refutes(partial: &mut Partial, given: &Clauses, learned: &Clauses, chain: &[u32]) -> M<bool>
     requires { AreClauses partial.old.variables (given.now ++ learned.now) }
-    ensures variables { OnOk result (partial.new.variables ≡ partial.old.variables) }
+    ensures variables { partial.new.variables ≡ partial.old.variables }
     ensures exact { IfOk result (λ yes. IsTrue yes ↔
         Refutes (given.now ++ learned.now) partial.old.literals chain.now) }
 {
@@ -77,8 +74,9 @@ fn refutes(partial: &mut Partial, given: &Clauses, learned: &Clauses, chain: &[u
     Ok(false)
 }
 
-/// Whether the clause follows by its chain.
-fn follows(
+/// Whether the clause follows by its chain, in time linear in it and in the sizes of the clauses of
+/// the chain. What was made true for it stays so, also where memory ran out.
+pub fn follows(
     partial: &mut Partial,
     given: &Clauses,
     learned: &Clauses,
@@ -87,7 +85,7 @@ fn follows(
 ) -> M<bool>
     requires none { partial.old.literals ≡ [] }
     requires right { AreClauses partial.old.variables (given.now ++ learned.now) }
-    ensures variables { OnOk result (partial.new.variables ≡ partial.old.variables) }
+    ensures variables { partial.new.variables ≡ partial.old.variables }
     ensures exact { IfOk result (λ yes. IsTrue yes ↔
         Follows partial.old.variables (given.now ++ learned.now) clause.now chain.now) }
 {
@@ -95,28 +93,4 @@ fn follows(
         return Ok(false);
     }
     refutes(partial, given, learned, chain)
-}
-
-/// Whether each clause of the log follows by its chain, in time linear in the variables, the
-/// clauses of the log, and the sizes of the clauses of their chains.
-pub fn check(alloc: Global, cnf: &Cnf, log: &Log) -> M<bool>
-    ensures { IfOk result (λ yes. IsTrue yes ↔ IsPassed cnf.now.variables cnf.now.clauses log.now) }
-{
-    let mut partial = Partial::new(alloc, cnf.variables)?;
-    let mut learned = Clauses::new(alloc);
-    for entry in log.as_slice() {
-        let clause = entry.clause.as_slice();
-        if !follows(
-            &mut partial,
-            &cnf.clauses,
-            &learned,
-            clause,
-            entry.chain.as_slice(),
-        )? {
-            return Ok(false);
-        }
-        learned.add(clause)?;
-        partial.clear();
-    }
-    Ok(true)
 }

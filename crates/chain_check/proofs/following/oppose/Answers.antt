@@ -6,7 +6,7 @@ use Rattle.std.proofs.lemmas.Bool.{both_ways}
 use Rattle.chain_check.specs.Clauses.{IsLiteral}
 use Rattle.chain_check.specs.Store.{Trues}
 use Rattle.chain_check.proofs.Opposing.{IsOpposed, opposed-more, clash}
-use Rattle.chain_check.proofs.checking.oppose.Goals as goal
+use Rattle.chain_check.proofs.following.oppose.Goals as goal
 
 pub returns-then-is_true-clause-refused : goal.returns-then-is_true-clause-refused
 returns-then-is_true-clause-refused c =
@@ -34,7 +34,7 @@ loop-number-preserved c =
           c.loop-number.partial.literals ++ neg_ℤ c.new-l.result ∷ [];
     } in
     let opp : c.opposite.result ≡ neg_ℤ c.new-l.result = c.opposite.ensures in
-    let new : c.make_true.new.self ≡ made = c.in_ok-make_true.ensures ∙
+    let new : c.make_true.new.self ≡ made = c.in_ok-make_true.ensures.made ∙
     ap (λ z. let t : Trues = record {
       variables = c.loop-number.partial.variables;
       literals =
