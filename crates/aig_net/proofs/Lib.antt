@@ -16,6 +16,7 @@ mod Recurring
 pub mod Rounds
 mod RowLemmas
 mod RowNumbers
+mod RunRows
 pub mod Running
 mod SignalLemmas
 mod States

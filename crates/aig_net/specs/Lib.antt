@@ -4,6 +4,7 @@ pub mod Following
 pub mod Nets
 pub mod Placed
 pub mod Rows
+pub mod RunTexts
 pub mod Running
 pub mod Signals
 pub mod Simulations

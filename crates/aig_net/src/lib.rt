@@ -7,6 +7,7 @@ mod laws;
 mod maker;
 mod net;
 mod parts;
+mod printing;
 mod run;
 mod signals;
 mod simulation;
@@ -20,6 +21,7 @@ pub use laws::{
 pub use maker::{Gates, opposite_of};
 pub use net::Net;
 pub use parts::{And, AndList, NameList, NetParts, Reset, ResetList};
+pub use printing::runs_text;
 pub use run::{Row, RowList, Run, RunList, ValueLasso};
 pub use signals::{Signal, Signals};
 pub use simulation::simulate;

@@ -9,7 +9,7 @@ use Rattle.aiger_body.specs.declared.error.AigKind.{AigKind}
 use Rattle.aiger_body.specs.declared.error.AigKind.TheVariants as faults
 use Rattle.cnf_frames.specs.declared.inductions.InductionProof.{InductionProof}
 use Rattle.mc_core.specs.ProofTexts as induction
-use Rattle.hy_answer.specs.RunTexts.{runs_text}
+use Rattle.aig_net.specs.RunTexts.{runs_text}
 use Rattle.hy_base.specs.declared.limit.Kind.{Kind}
 use Rattle.hy_base.specs.declared.limit.Kind.TheVariants as kinds
 use Rattle.hy_formula.specs.declared.classes.Class.{Class}

@@ -4,7 +4,6 @@
 mod answer;
 mod output;
 mod refusal;
-mod runs;
 
 pub use answer::{Answer, Extras};
 pub use output::{out_text, status_of};

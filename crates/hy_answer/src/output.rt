@@ -6,8 +6,7 @@ ghost use Rattle.hy_lasso.specs.Printed.{printed_lassos};
 ghost use Rattle.hy_answer.specs.Outputs.{evidence_text, out_text, spaced, kept_text, shown_evidence, shown_proof, side_text, status_of, open_text};
 
 use crate::answer::{Answer, Extras};
-use crate::runs::runs_text;
-use aig_net::RunList;
+use aig_net::{RunList, runs_text};
 use cnf_frames::InductionProof;
 use ea_core::{RankProof, print_rank_proof};
 use hy_base::{M, Text};

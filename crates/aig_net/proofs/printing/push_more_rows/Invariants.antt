@@ -1,6 +1,6 @@
 use Rattle.std.proofs.Common.{◌≡◌, ◌++◌, take}
-use Rattle.hy_answer.specs.RunTexts.{more_rows}
-use Rattle.hy_answer.proofs.runs.push_more_rows.Given as goal
+use Rattle.aig_net.specs.RunTexts.{more_rows}
+use Rattle.aig_net.proofs.printing.push_more_rows.Given as goal
 
 -- the rows so far have been added
 abbrev pub invariant-loop-row : goal.invariant-loop-row

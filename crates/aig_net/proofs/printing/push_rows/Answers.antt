@@ -1,6 +1,6 @@
 use Rattle.std.proofs.Common.{append_assoc}
-use Rattle.hy_answer.proofs.Texts.{joined_rows}
-use Rattle.hy_answer.proofs.runs.push_rows.Goals as goal
+use Rattle.aig_net.proofs.RunRows.{joined_rows}
+use Rattle.aig_net.proofs.printing.push_rows.Goals as goal
 
 pub returns : goal.returns
 returns c =

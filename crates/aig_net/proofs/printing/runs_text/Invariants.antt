@@ -1,7 +1,7 @@
 use Rattle.std.proofs.Common.{◌≡◌, ◌++◌, take, length, codes, decimal}
 use Rattle.std.specs.List.{flat_map}
-use Rattle.hy_answer.specs.RunTexts.{run_text}
-use Rattle.hy_answer.proofs.runs.runs_text.Given as goal
+use Rattle.aig_net.specs.RunTexts.{run_text}
+use Rattle.aig_net.proofs.printing.runs_text.Given as goal
 
 -- the lines of the runs so far have been added
 abbrev pub invariant-loop-run : goal.invariant-loop-run

@@ -1,6 +1,6 @@
 use Rattle.std.proofs.Common.{◌≡◌, ◌++◌, map, take}
-use Rattle.hy_answer.specs.RunTexts.{digit}
-use Rattle.hy_answer.proofs.runs.push_digits.Given as goal
+use Rattle.aig_net.specs.RunTexts.{digit}
+use Rattle.aig_net.proofs.printing.push_digits.Given as goal
 
 -- the digits so far have been added
 abbrev pub invariant-loop-value : goal.invariant-loop-value

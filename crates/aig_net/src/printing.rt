@@ -1,16 +1,16 @@
-//! The text of runs of a circuit.
+//! The text of runs.
 
 ghost use Rattle.std.specs.Prelude.{◌≡◌, ◌++◌, codes, map, IfOk, OnOk};
 ghost use Rattle.std.specs.List.{flat_map};
-ghost use Rattle.hy_answer.specs.RunTexts.{digit, more_rows, row_text, rows_text, run_text, runs_text};
+ghost use Rattle.aig_net.specs.RunTexts.{digit, more_rows, row_text, rows_text, run_text, runs_text};
 
-use aig_net::{Row, Run};
+use crate::run::{Row, Run};
 use hy_base::{M, Text};
 use itoa::Buffer;
 use std::alloc::Global;
 
-/// The text of runs, in time linear in it.
-pub(crate) fn runs_text(alloc: Global, runs: &[Run]) -> M<Text>
+/// The text of runs: a line that says how many, and one for each. In time linear in it.
+pub fn runs_text(alloc: Global, runs: &[Run]) -> M<Text>
     ensures { IfOk result (λ text. text ≡ runs_text runs.now) }
 {
     let mut text = Text::new(alloc);
