@@ -13,19 +13,19 @@ use Rattle.hy_read.specs.Answers.{Plain}
 use Rattle.aig_net.specs.Nets.{Net}
 use Rattle.aig_net.specs.declared.signals.Signal.{Signal}
 use Rattle.aiger_body.specs.Outcomes as outcomes
-use Rattle.mc_core.specs.Answers.{IsAnswer, IsRefused as IsUnchecked, members}
-use Rattle.mc_core.specs.Names.{IsFirstBad, AreSignals, IsOnly, IsBadName, name_at}
+use Rattle.net_names.specs.Names.{IsFirstBad, AreSignals, IsOnly, IsBadName, name_at}
+use Rattle.formula_nets.specs.Posed.{checked_safe, members}
+use Rattle.formula_nets.proofs.SameSignals.{same-satisfaction}
+use Rattle.mc_core.specs.Answers.{IsAnswer, IsChecked, IsRefused as IsUnchecked}
 use Rattle.mc_core.specs.declared.ask.Ask.{Ask}
 use Rattle.mc_core.specs.declared.checked.Checked.{Checked}
 use Rattle.mc_core.specs.declared.checked.Checked.TheVariants as checked
-use Rattle.mc_core.specs.Answers.{IsChecked, checked_safe}
 use Rattle.cnf_frames.specs.Queries.{IsPastBy}
 use Rattle.cnf_frames.specs.declared.facts.Fact.{Fact}
 use Rattle.cnf_frames.specs.declared.queries.FrameError.TheVariants as frame
 use Rattle.invar_find.specs.Kepts as kepts
 use Rattle.k_induct.specs.Verdicts.{IsStopped}
 use Rattle.live_safe.specs.declared.safe_net.SafeNet.{SafeNet}
-use Rattle.mc_core.proofs.SameSignals.{same-satisfaction}
 use Rattle.hy_top.specs.Stages.{IsQueryLimit, IsOfCheck, Deny, Agree, other_check}
 use Rattle.mc_core.specs.declared.mc_error.McError.{McError}
 use Rattle.mc_core.specs.declared.mc_error.McError.TheVariants as errors

@@ -11,7 +11,6 @@ pub mod Monitoring
 pub mod OneAnswer
 pub mod Progress
 pub mod Reading
-pub mod Rooms
 pub mod Silence
 pub mod Sources
 pub mod StageOrder

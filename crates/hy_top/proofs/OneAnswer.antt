@@ -26,7 +26,7 @@ use Rattle.hy_top.specs.Dropping.{AgreeUncounted, counted_alike, counted_otherwi
 use Rattle.hy_top.specs.Deciding.{plan_of, plan_against, Determines, DecidesBy, DecidesOne, DecidesTwo, ComparesTwo, sat, unsat, implied, not_implied, beyond, equivalent, first_alone, second_alone, many_branches}
 use Rattle.mc_core.specs.declared.ask.Ask.{Ask}
 use Rattle.aig_net.specs.Nets.{Net}
-use Rattle.mc_core.specs.Names.{AreSignals, IsFirstBad, IsBadName, name_at}
+use Rattle.net_names.specs.Names.{AreSignals, IsFirstBad, IsBadName, name_at}
 use Rattle.hy_top.proofs.Checking.{pair_once, only-not-bad, comes_agree}
 use Rattle.hy_top.specs.Checking.{RefusesName, Checks, ComesBy}
 use Rattle.hy_top.specs.Files.{Given, RefusesText}

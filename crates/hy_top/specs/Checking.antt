@@ -13,8 +13,9 @@ use Rattle.cnf_frames.specs.declared.queries.FrameError.TheVariants as frame
 use Rattle.invar_find.specs.Kepts as kepts
 use Rattle.invar_find.specs.declared.kept.Kept.{Kept}
 use Rattle.k_induct.specs.Verdicts.{IsStopped}
-use Rattle.mc_core.specs.Answers.{IsPosed, IsChecked, IsKept, checked_safe, members}
-use Rattle.mc_core.specs.Names.{IsFirstBad, name_at}
+use Rattle.net_names.specs.Names.{IsFirstBad, name_at}
+use Rattle.formula_nets.specs.Posed.{IsPosed, checked_safe, members}
+use Rattle.mc_core.specs.Answers.{IsChecked, IsKept}
 use Rattle.mc_core.specs.declared.ask.Ask.{Ask}
 use Rattle.mc_core.specs.declared.checked.Checked.{Checked}
 use Rattle.mc_core.specs.declared.checked.Checked.TheVariants as checked

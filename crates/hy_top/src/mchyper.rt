@@ -11,14 +11,12 @@ ghost use Rattle.hy_top.specs.Runs.{Follows, extras_of};
 
 use crate::files::{circuit_in, formula_in};
 use aig_net::Net;
+use formula_nets::circuits_have_room;
 use hy_answer::Answer;
 use hy_base::{M, Memory, Shelf, Text};
 use hy_formula::{Formula, NameTable};
-use live_safe::safe_nets_are_small;
 use mc_core::{Ask, Checked, McError};
-use self_compose::copies_are_as_large;
 use std::alloc::Global;
-use sym_tableau::attached_nets_are_small;
 
 /// Most quantifiers of a formula.
 const MOST_QUANTIFIERS: u8 = 4;
@@ -65,9 +63,7 @@ fn check_formula(
     ensures { IsCheck net.now names.now (plain_formula formula.now) ask.now result }
 {
     formula.prefix.len(); // what each prefix keeps
-    safe_nets_are_small(); // and so there is room for the safe net
-    attached_nets_are_small();
-    copies_are_as_large();
+    circuits_have_room(); // and there is room for the safe net
     match mc_core::check(alloc, net, formula, names, ask) {
         Ok(checked) => checked_answer(checked),
         Err(McError::Prefix(class)) => Answer::Prefix { file: 1, class },

@@ -1,9 +1,3 @@
-pub mod Copied
+pub mod Answering
 pub mod FactsInside
-pub mod Growing
-pub mod MeaningLemmas
-pub mod NameSets
-pub mod Posing
-pub mod SameSignals
-pub mod SignalTables
 pub mod Verdicts

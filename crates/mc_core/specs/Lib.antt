@@ -1,4 +1,2 @@
 pub mod Answers
-pub mod Meanings
-pub mod Names
 pub mod ProofTexts

@@ -2,17 +2,17 @@
 
 ghost use Rattle.std.specs.Prelude.{◌≡◌, ◌<◌, ◌^◌};
 ghost use Rattle.hy_formula.specs.Trees.{tree_of};
-ghost use Rattle.mc_core.specs.Answers.{HasRoom, IsAnswer, IsTaken, is_existential};
+ghost use Rattle.formula_nets.specs.Posed.{HasRoom, IsTaken, is_existential};
+ghost use Rattle.mc_core.specs.Answers.{IsAnswer};
 
 use crate::ask::Ask;
 use crate::checked::Checked;
 use crate::judging::judge;
 use crate::mc_error::McError;
-use crate::naming::signals_of;
-use crate::safe_nets::{closure_for, safe_for};
 use aig_net::Net;
+use formula_nets::{closure_for, safe_for, signals_are_own};
 use hy_formula::{Class, Formula, NameTable, class};
-use live_safe::paths_are_lassos;
+use net_names::signals_of;
 use std::alloc::Global;
 
 /// Checks a circuit against a formula whose quantifiers are all universal or all existential, and
@@ -57,7 +57,7 @@ fn check_as(
         result }
 {
     net.variables(); // what each net keeps
-    paths_are_lassos(); // and each safe net
+    signals_are_own(); // and the signals of names
     let n = formula.prefix.len() as u8;
     let body = &formula.body;
     let closure = closure_for(alloc, body, n, existential)?;

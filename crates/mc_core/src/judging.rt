@@ -1,31 +1,25 @@
 //! Judges the safe net of a formula.
 
-ghost use Rattle.std.specs.Prelude.{◌≡◌, ℕ, ◌<◌, ◌^◌, length, IfErr, IfOk, IsTrue};
+ghost use Rattle.std.specs.Prelude.{◌≡◌, ◌<◌, ◌^◌, length, IfErr, IfOk, IsTrue};
 ghost use Rattle.hy_formula.specs.Trees.{tree_of, vars_below};
-ghost use Rattle.aig_net.specs.declared.run.ValueLasso.{ValueLasso};
-ghost use Rattle.aig_net.specs.Nets.{variables};
-ghost use Rattle.aig_net.specs.Simulations.{IsExecutionOf};
 ghost use Rattle.cnf_frames.specs.Facts.{IsSafe};
-ghost use Rattle.cnf_frames.specs.declared.queries.Asked.TheVariants.{Base};
-ghost use Rattle.k_induct.specs.Replies.{IsAnswer};
-ghost use Rattle.sym_tableau.specs.Places.{AreWithin};
 ghost use Rattle.wit_lasso.specs.FormulaNets.{AreOwn};
-ghost use Rattle.wit_lasso.specs.Unfoldings.{run_at};
-ghost use Rattle.mc_core.specs.Answers.{AreTraces, AreWitnesses, IsChecked, IsKept, IsTaken, IsUsable, IsWorkRefusal, answered, checked_safe, is_existential};
+ghost use Rattle.formula_nets.specs.Posed.{IsTaken, checked_safe, is_existential};
+ghost use Rattle.mc_core.specs.Answers.{IsChecked, IsKept, IsUsable, IsWorkRefusal, answered};
 
 use crate::ask::Ask;
 use crate::checked::Checked;
 use crate::mc_error::McError;
-use aig_net::{Net, Run, RunList, Signals};
+use aig_net::{Net, RunList, Signals};
 use cnf_frames::{FrameError, InductionProof};
-use hy_base::{List, M};
+use formula_nets::{find_witnesses, paths_decide};
+use hy_base::List;
 use hy_formula::Formula;
 use hy_lasso::LassoList;
 use invar_find::{Kept, invariants};
 use k_induct::{Verdict, prove};
-use live_safe::{Path, SafeNet};
+use live_safe::SafeNet;
 use std::alloc::Global;
-use wit_lasso::{checked, unfold, visible};
 
 /// Judges a formula by its safe net.
 pub fn judge(
@@ -51,6 +45,7 @@ pub fn judge(
 {
     net.variables(); // what each net keeps
     formula.prefix.len(); // and each prefix
+    paths_decide(); // what paths of the safe net say
     let kept = facts_for(alloc, safe, ask)?;
     match prove(alloc, safe, &kept.inv, ask.depth, ask.conflicts) {
         Ok(Verdict::Safe(proof)) => {
@@ -132,49 +127,4 @@ fn facts_for(alloc: Global, safe: &SafeNet, ask: &Ask) -> Result<Kept, McError>
         Err(FrameError::Limit(limit)) => Err(McError::Limit(limit)),
         Err(FrameError::Memory) => Err(McError::Memory),
     }
-}
-
-/// Runs, and what is seen of them.
-#[derive(Drop)]
-struct Witnesses {
-    traces: LassoList,
-    runs: RunList,
-}
-
-/// The runs for which a path to bad stands, and their visible traces.
-fn find_witnesses(
-    alloc: Global,
-    net: &Net,
-    formula: &Formula,
-    signals: &Signals,
-    safe: &SafeNet,
-    path: &Path,
-) -> M<Witnesses>
-    requires small { IsTrue (vars_below (length formula.now.prefix) (tree_of formula.now.body)) }
-    requires own { AreOwn net.now signals.now }
-    requires safe { safe.now ≡ checked_safe net.now signals.now formula.now.prefix
-        (tree_of formula.now.body) }
-    requires path { IsAnswer safe.now (Base (length path.now.inputs)) path.now }
-    ensures { IfOk result (λ w. AreWitnesses net.now signals.now (length formula.now.prefix)
-        (tree_of formula.now.body) (is_existential formula.now.prefix) w.traces w.runs) }
-{
-    net.variables(); // what each net keeps
-    checked(); // what the traces of a path's runs say
-    let runs = unfold(alloc, net, formula.prefix.len() as u8, safe, path)?;
-    let traces = traces_of(alloc, net, runs.as_slice(), signals)?;
-    Ok(Witnesses { traces, runs })
-}
-
-/// The visible traces of runs.
-fn traces_of(alloc: Global, net: &Net, runs: &[Run], signals: &Signals) -> M<LassoList>
-    requires runs { (c : ℕ) → c < length runs.now →
-        (values : ValueLasso) × IsExecutionOf net.now (run_at runs.now c) values }
-    requires within { AreWithin (variables net.now) signals.now }
-    ensures { IfOk result (AreTraces net.now signals.now runs.now) }
-{
-    let mut traces = List::new(alloc);
-    for run in runs {
-        traces.push(visible(alloc, net, run, signals)?)?;
-    }
-    Ok(traces)
 }

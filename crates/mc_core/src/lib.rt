@@ -5,16 +5,11 @@ mod ask;
 mod checked;
 mod checking;
 mod judging;
-mod laws;
 mod mc_error;
-mod meaning;
-mod naming;
 mod printing;
-mod safe_nets;
 
 pub use ask::Ask;
 pub use checked::Checked;
 pub use checking::check;
-pub use laws::same_signals;
 pub use mc_error::McError;
 pub use printing::print_proof;

@@ -2,10 +2,13 @@
 
 ghost use Rattle.std.specs.Prelude.{◌≡◌};
 ghost use Rattle.mc_core.specs.declared.mc_error.McError.TheVariants.{Memory as OutOfMemory};
+ghost use Rattle.mc_core.specs.Answers.{of_closure, of_names};
 
 use hy_base::{Kind, Limit, Memory};
 use hy_formula::Class;
 use invar_find::Kept;
+use ltl_closure::ClosureError;
+use net_names::NameError;
 
 /// Why nothing was checked. The first cause in this order is given, but for memory, which may be
 /// wanted wherever it is taken.
@@ -30,5 +33,30 @@ impl From<Memory> for McError {
 
     fn from(_e: Memory) -> McError {
         McError::Memory
+    }
+}
+
+impl From<ClosureError> for McError {
+    ghost from_gives = { λ given e. e ≡ of_closure given };
+
+    fn from(e: ClosureError) -> McError {
+        match e {
+            ClosureError::Limit => McError::Limit(Limit {
+                kind: Kind::Closure,
+                limit: Kind::Closure.most(),
+            }),
+            ClosureError::Memory => McError::Memory,
+        }
+    }
+}
+
+impl From<NameError> for McError {
+    ghost from_gives = { λ given e. e ≡ of_names given };
+
+    fn from(e: NameError) -> McError {
+        match e {
+            NameError::Bad { name, twice } => McError::Name { name, twice },
+            NameError::Memory => McError::Memory,
+        }
     }
 }

@@ -2,19 +2,11 @@ use Rattle.std.proofs.Common.{arith}
 use Rattle.hy_read.specs.Builds.{plain_formula}
 use Rattle.hy_top.specs.Checking.{spent}
 use Rattle.hy_top.proofs.Checking.{check-found, check-prefix, check-limit, check-cnf, check-name}
-use Rattle.hy_top.proofs.Rooms.{has-room}
 use Rattle.hy_top.proofs.mchyper.check_formula.Goals as goal
 
 pub check-requires-clause-room : goal.check-requires-clause-room
 check-requires-clause-room c =
-    has-room (record {
-      safe = c.safe_nets_are_small.ensures;
-      attached = c.attached_nets_are_small.ensures.variables;
-      fairs = c.attached_nets_are_small.ensures.fairs;
-      copies = c.copies_are_as_large.ensures.variables;
-      copied_fairs = c.copies_are_as_large.ensures.fairs;
-    })
-    c.args.net.now c.args.names.now c.args.formula.now.prefix _ c.requires.variables c.requires.literals
+    c.circuits_have_room.ensures c.args.net.now c.args.names.now c.args.formula.now.prefix _ c.requires.variables c.requires.literals
     (let e = c.len.ensures.len in let s = c.len.ensures.some in omega (arith, e, s)) c.requires.quantifiers
 
 pub returns-in-Ok : goal.returns-in-Ok

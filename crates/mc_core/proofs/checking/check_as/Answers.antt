@@ -1,16 +1,16 @@
-use Rattle.std.proofs.Common.{◌≡◌, ℕ, ◌≤◌, Bool, length, IfErr, Result, Err, sym, ap, ◌∙◌, subst, arith}
+use Rattle.std.proofs.Common.{◌≡◌, ℕ, ◌<◌, ◌≤◌, Bool, length, IfErr, Result, Err, sym, ap, ◌∙◌, subst, arith}
 use Rattle.std.proofs.lemmas.Result.{err_from_is_err_and}
 use Rattle.hy_base.specs.Limits.{most}
 use Rattle.hy_base.specs.declared.limit.Kind.TheVariants.{Closure}
 use Rattle.hy_formula.specs.Trees.{tree_of}
 use Rattle.aig_net.specs.Nets.{variables}
 use Rattle.live_safe.specs.declared.safe_net.SafeNet.{SafeNet}
-use Rattle.cnf_frames.specs.Facts.{IsSafe}
 use Rattle.wit_lasso.specs.FormulaNets.{body_nodes, formula_safe}
+use Rattle.formula_nets.specs.Posed.{IsPosed, checked_safe}
 use Rattle.mc_core.specs.declared.checked.Checked.{Checked}
 use Rattle.mc_core.specs.declared.mc_error.McError.{McError}
-use Rattle.mc_core.specs.Answers.{IsAnswer, IsClosureRefusal, IsPosed, IsWorkRefusal, checked_safe}
-use Rattle.mc_core.proofs.Posing.{formula-safe-is, judged, own-signals, unclosed, unnamed}
+use Rattle.mc_core.specs.Answers.{IsAnswer, IsWorkRefusal}
+use Rattle.mc_core.proofs.Answering.{judged, unclosed, unnamed}
 use Rattle.mc_core.proofs.checking.check_as.Goals as goal
 
 pub returns-in_err-closure : goal.returns-in_err-closure
@@ -18,14 +18,14 @@ returns-in_err-closure c =
     let p = err_from_is_err_and c.from_residual.result c.from_residual.ensures.1 in
     let A : Result Checked McError → Type 0 = IsAnswer c.args.net.now c.args.names.now
     c.args.formula.now.prefix (tree_of c.args.formula.now.body) c.args.ask.now in
-    let N : ℕ → Type 0 = λ n. IsClosureRefusal n (tree_of c.args.formula.now.body)
-    c.args.existential c.in_err-closure.field-0.0 in
-    let B : Bool → Type 0 = λ b. IsClosureRefusal (length c.args.formula.now.prefix)
-    (tree_of c.args.formula.now.body) b c.in_err-closure.field-0.0 in
+    let N : ℕ → Type 0 = λ n. most Closure < length (body_nodes n
+    (tree_of c.args.formula.now.body) c.args.existential) in
+    let B : Bool → Type 0 = λ b. most Closure < length (body_nodes
+    (length c.args.formula.now.prefix) (tree_of c.args.formula.now.body) b) in
     subst A (sym (p.1 ∙ ap (λ (e : McError). Err e) p.2))
     (unclosed c.args.net.now c.args.names.now c.args.formula.now.prefix
     (tree_of c.args.formula.now.body) c.args.ask.now c.in_err-closure.field-0.0 c.requires.taken
-    (subst B c.requires.kind (subst N c.len-n.ensures.len c.in_err-closure.ensures.refused)))
+    (λ h. subst B c.requires.kind (subst N c.len-n.ensures.len (c.in_err-closure.ensures.limit h))))
 
 pub returns-in_err-signals : goal.returns-in_err-signals
 returns-in_err-signals c =
@@ -45,7 +45,7 @@ returns-in_err-signals c =
 
 pub safe_for-requires-clause-own : goal.safe_for-requires-clause-own
 safe_for-requires-clause-own c =
-    own-signals c.args.net.now c.args.names.now (tree_of c.args.formula.now.body)
+    c.signals_are_own.ensures c.args.net.now c.args.names.now (tree_of c.args.formula.now.body)
     c.in_ok-signals.signals c.variables.ensures.net c.in_ok-signals.ensures.signals
 
 pub safe_for-requires-clause-room : goal.safe_for-requires-clause-room
@@ -69,26 +69,16 @@ safe_for-requires-clause-room c =
 
 pub judge-requires-clause-own : goal.judge-requires-clause-own
 judge-requires-clause-own c =
-    own-signals c.args.net.now c.args.names.now (tree_of c.args.formula.now.body)
+    c.signals_are_own.ensures c.args.net.now c.args.names.now (tree_of c.args.formula.now.body)
     c.in_ok-signals.signals c.variables.ensures.net c.in_ok-signals.ensures.signals
 
 pub judge-requires-clause-safe : goal.judge-requires-clause-safe
 judge-requires-clause-safe c =
-    c.in_ok-safe.ensures
+    c.in_ok-safe.ensures.made
     ∙ ap (λ n. formula_safe c.args.net.now c.in_ok-signals.signals n
     (tree_of c.args.formula.now.body) c.args.existential) c.len-n.ensures.len
     ∙ ap (formula_safe c.args.net.now c.in_ok-signals.signals (length c.args.formula.now.prefix)
     (tree_of c.args.formula.now.body)) c.requires.kind
-
-pub judge-requires-clause-good : goal.judge-requires-clause-good
-judge-requires-clause-good c =
-    let P : SafeNet → Type 0 = IsSafe in
-    subst P (sym c.in_ok-safe.ensures)
-    (formula-safe-is c.args.net.now c.in_ok-signals.signals c.len-n.result
-    (tree_of c.args.formula.now.body) c.args.existential c.variables.ensures.net
-    (own-signals c.args.net.now c.args.names.now (tree_of c.args.formula.now.body)
-    c.in_ok-signals.signals c.variables.ensures.net c.in_ok-signals.ensures.signals)
-    (let s = c.len-n.ensures.some in omega (arith, s)) c.paths_are_lassos.ensures.latches)
 
 pub returns : goal.returns
 returns c =
@@ -103,7 +93,7 @@ returns c =
       signals_are = c.in_ok-signals.ensures.signals;
     } in
     let same : c.in_ok-safe.safe ≡ checked_safe c.args.net.now c.in_ok-signals.signals
-    c.args.formula.now.prefix (tree_of c.args.formula.now.body) = c.in_ok-safe.ensures
+    c.args.formula.now.prefix (tree_of c.args.formula.now.body) = c.in_ok-safe.ensures.made
     ∙ ap (λ n. formula_safe c.args.net.now c.in_ok-signals.signals n
     (tree_of c.args.formula.now.body) c.args.existential) c.len-n.ensures.len
     ∙ ap (formula_safe c.args.net.now c.in_ok-signals.signals (length c.args.formula.now.prefix)

@@ -9,8 +9,9 @@ use Rattle.live_safe.specs.Paths.{IsBadPath}
 use Rattle.cnf_frames.specs.declared.inductions.InductionProof.{InductionProof}
 use Rattle.cnf_frames.specs.Proofs.{IsInductionProof}
 use Rattle.k_induct.specs.Verdicts.{IsSafeProof, IsShortest}
-use Rattle.mc_core.specs.Answers.{answered, is_existential}
-use Rattle.mc_core.proofs.Verdicts.{induction-proof, path-answer, proof-answer}
+use Rattle.formula_nets.specs.Posed.{is_existential}
+use Rattle.mc_core.specs.Answers.{answered}
+use Rattle.mc_core.proofs.Verdicts.{goes-to-bad, induction-proof, path-answer, proof-answer}
 use Rattle.mc_core.proofs.judging.judge.Goals as goal
 
 pub returns-in-Ok-Safe-clause-checked : goal.returns-in-Ok-Safe-clause-checked
@@ -29,9 +30,11 @@ returns-in-Ok-Safe-clause-checked c =
     } in
     let N : SafeNet → Type 0 = λ s. (k : ℕ) (word : Word) → ¬ IsBadPath s k word in
     let I : SafeNet → Type 0 = λ s. IsInductionProof s proof in
-    proof-answer c.args.net.now c.variables.ensures.net c.args.signals.now c.requires.own prefix
-    (tree_of c.args.formula.now.body) some c.requires.small c.requires.taken c.args.ask.now proof
-    (subst N c.requires.safe is.good)
+    proof-answer c.args.net.now c.args.signals.now prefix (tree_of c.args.formula.now.body)
+    c.args.ask.now proof
+    (c.paths_decide.ensures.none c.args.net.now c.args.signals.now prefix
+    (tree_of c.args.formula.now.body) c.variables.ensures.net c.requires.own some c.requires.small
+    c.requires.taken (subst N c.requires.safe is.good))
     (subst I c.requires.safe (induction-proof c.args.safe.now c.in_ok-kept.kept
     c.args.ask.now.depth c.in-Ok-Safe.proof c.in_ok-kept.ensures.usable is))
     is.within c.answer.result
@@ -42,6 +45,12 @@ returns-in-Ok-Safe-clause-checked c =
     ∙ ap (λ (r : List Run). answered (not (is_existential prefix)) [] r (Some proof))
     c.new-in-Ok-Safe.ensures)
 
+pub find_witnesses-requires-clause-path : goal.find_witnesses-requires-clause-path
+find_witnesses-requires-clause-path c =
+    let is : IsShortest c.args.safe.now c.args.ask.now.depth c.in-Ok-Path.path =
+    rw c.in-Ok-Path.field-0-is at c.in-Ok-Path.ensures.verdict in
+    goes-to-bad c.args.safe.now c.in-Ok-Path.path is.bad
+
 pub returns-in_ok-found-in-Ok-Path-clause-checked : goal.returns-in_ok-found-in-Ok-Path-clause-checked
 returns-in_ok-found-in-Ok-Path-clause-checked c =
     let some : 0 < length c.args.formula.now.prefix =
@@ -50,10 +59,12 @@ returns-in_ok-found-in-Ok-Path-clause-checked c =
     rw c.in-Ok-Path.field-0-is at c.in-Ok-Path.ensures.verdict in
     let (word, bad, _, _) = is.bad in
     let P : SafeNet → Type 0 = λ s. IsBadPath s (length c.in-Ok-Path.path.inputs) word in
-    path-answer c.args.net.now c.variables.ensures.net c.args.signals.now c.requires.own
-    c.args.formula.now.prefix (tree_of c.args.formula.now.body) some c.requires.small
-    c.requires.taken c.args.ask.now (length c.in-Ok-Path.path.inputs) word
-    (subst P c.requires.safe bad) c.in_ok-found-in-Ok-Path.found.traces
+    path-answer c.args.net.now c.args.signals.now c.args.formula.now.prefix
+    (tree_of c.args.formula.now.body) c.args.ask.now
+    (c.paths_decide.ensures.some c.args.net.now c.args.signals.now c.args.formula.now.prefix
+    (tree_of c.args.formula.now.body) c.variables.ensures.net c.requires.own some c.requires.small
+    c.requires.taken (length c.in-Ok-Path.path.inputs) word (subst P c.requires.safe bad))
+    c.in_ok-found-in-Ok-Path.found.traces
     c.in_ok-found-in-Ok-Path.found.runs c.in_ok-found-in-Ok-Path.ensures
     c.answer-in-Ok-Path.result
     (c.answer-in-Ok-Path.ensures

@@ -1,0 +1,159 @@
+//! The safe net of a formula.
+
+ghost use Rattle.std.specs.Prelude.{All, ◌≡◌, ◌+◌, ◌*◌, ◌/◌, ◌<◌, ◌≤◌, ◌^◌, [], ◌∷◌, IsErrOf, IsTrue, IfOk, OnOk, length};
+ghost use Rattle.hy_base.specs.Limits.{most};
+ghost use Rattle.hy_base.specs.declared.limit.Kind.TheVariants.{Closure as OfClosure};
+ghost use Rattle.hy_formula.specs.Trees.{tree_of, vars_below};
+ghost use Rattle.aig_net.specs.Nets.{IsNet, variables};
+ghost use Rattle.ltl_closure.specs.Jobs.{IsMapped, closure_of, tasks_of};
+ghost use Rattle.self_compose.specs.Copies.{compose as composed, copy_literal as literal_in_copy};
+ghost use Rattle.sym_tableau.specs.Oracles.{attach as attached, signal_in};
+ghost use Rattle.sym_tableau.specs.Places.{AreWithin};
+ghost use Rattle.live_safe.specs.Safe as safe;
+ghost use Rattle.cnf_frames.specs.Facts.{IsSafe};
+ghost use Rattle.wit_lasso.specs.FormulaNets.{AreOwn, body_nodes, body_task, copy_signals as signals_of_copies, formula_net, formula_safe, identity_map};
+
+use aig_net::{Net, Signal, Signals};
+use hy_base::{List, M};
+use hy_formula::Body;
+use live_safe::{SafeNet, paths_are_lassos, to_safe};
+use ltl_closure::{Closure, ClosureError, Job, JobList, MapList, VariableMap};
+use self_compose::compose;
+use std::alloc::Global;
+use sym_tableau::attach;
+
+/// The closure of the body of a formula of `n` variables, negated where `positive` is false. `Limit`
+/// comes exactly where it has more than 1,024 members. In time linear in the body.
+pub fn closure_for(
+    alloc: Global,
+    body: &Body,
+    n: u8,
+    positive: bool,
+) -> Result<Closure, ClosureError>
+    requires { IsTrue (vars_below n (tree_of body.now)) }
+    ensures closure { IfOk result (λ c.
+        c ≡ closure_of (body_task n (tree_of body.now) positive ∷ [])) }
+    ensures few { OnOk result
+        (length (body_nodes n (tree_of body.now) positive) ≤ most OfClosure) }
+    ensures limit { IsErrOf result ClosureError.Limit
+        → most OfClosure < length (body_nodes n (tree_of body.now) positive) }
+{
+    let jobs = body_jobs(alloc, body, n, positive)?;
+    Closure::new(alloc, &jobs)
+}
+
+/// The body as one job, each variable standing for itself.
+fn body_jobs(alloc: Global, body: &Body, n: u8, positive: bool) -> M<JobList>
+    requires { IsTrue (vars_below n (tree_of body.now)) }
+    ensures tasks { IfOk result (λ jobs.
+        tasks_of jobs ≡ body_task n (tree_of body.now) positive ∷ []) }
+    ensures mapped { IfOk result (λ jobs. All IsMapped jobs) }
+{
+    let mut maps = MapList::new(alloc);
+    maps.push(identity(alloc, n)?)?;
+    let mut jobs = JobList::new(alloc);
+    jobs.push(Job {
+        body: body.copy(alloc)?,
+        positive,
+        maps,
+    })?;
+    Ok(jobs)
+}
+
+/// The map of each variable to itself.
+#[tactic(auto, using(aig_net::proofs::Listed::listed_next))]
+fn identity(alloc: Global, n: u8) -> M<VariableMap>
+    ensures { IfOk result (λ m. m ≡ identity_map n) }
+{
+    let mut map = List::new(alloc);
+    for variable in 0..n {
+        map.push(variable)?;
+    }
+    Ok(map)
+}
+
+/// The copies of a net with the oracles of a formula of `n` variables, whose closure and signals
+/// these are. In time and memory linear in the net and the closure.
+pub fn net_for(
+    alloc: Global,
+    net: &Net,
+    n: u8,
+    body: &Body,
+    positive: bool,
+    closure: &Closure,
+    signals: &Signals,
+) -> M<Net>
+    requires some { 0 < n }
+    requires closure { closure.now ≡ closure_of (body_task n (tree_of body.now) positive ∷ []) }
+    requires own { AreOwn net.now signals.now }
+    requires room { variables (formula_net net.now signals.now n (tree_of body.now) positive)
+        ≤ 2 ^ 31 }
+    ensures { IfOk result (λ made.
+        made ≡ formula_net net.now signals.now n (tree_of body.now) positive) }
+{
+    net.variables(); // what each net keeps
+    let copies = compose(alloc, net, n)?;
+    let own = copy_signals(alloc, signals, n)?;
+    attach(alloc, &copies, closure, &own)
+}
+
+/// The safe net of a formula of `n` variables, whose closure and signals these are. In time and
+/// memory linear in the net and the closure.
+pub fn safe_for(
+    alloc: Global,
+    net: &Net,
+    n: u8,
+    body: &Body,
+    positive: bool,
+    closure: &Closure,
+    signals: &Signals,
+) -> M<SafeNet>
+    requires some { 0 < n }
+    requires closure { closure.now ≡ closure_of (body_task n (tree_of body.now) positive ∷ []) }
+    requires own { AreOwn net.now signals.now }
+    requires room { variables (formula_safe net.now signals.now n (tree_of body.now) positive).net
+        ≤ 2 ^ 31 }
+    ensures made { IfOk result (λ made.
+        made ≡ formula_safe net.now signals.now n (tree_of body.now) positive) }
+    ensures safe { IfOk result IsSafe }
+{
+    net.variables(); // what each net keeps
+    paths_are_lassos(); // and each safe net
+    let whole = net_for(alloc, net, n, body, positive, closure, signals)?;
+    to_safe(alloc, &whole)
+}
+
+/// The signals of the copies: each of them in each copy.
+#[tactic(auto, using(aig_net::proofs::Copying::one_copy, crate::proofs::Copied::copy_new, wit_lasso::proofs::Letters::small_name))]
+fn copy_signals(alloc: Global, signals: &Signals, n: u8) -> M<Signals>
+    requires own { All (λ s. s.var ≡ 0) signals.now }
+    requires small { All (λ s. s.literal / 2 * n < 2 ^ 31) signals.now }
+    ensures { IfOk result (λ made. made ≡ signals_of_copies n signals.now) }
+{
+    let mut made = Signals::new(alloc);
+    for i in 0..signals.len() {
+        let signal = *signals.at(i);
+        for c in 0..n {
+            made.push(Signal {
+                name: signal.name,
+                var: c,
+                literal: copy_literal(signal.literal, u32::from(n), u32::from(c)),
+            })?;
+        }
+    }
+    Ok(made)
+}
+
+/// The literal in copy `c` of `n`.
+fn copy_literal(literal: u32, n: u32, c: u32) -> u32
+    requires few { c < n }
+    requires room { literal / 2 * n < 2 ^ 31 }
+    ensures { result ≡ literal_in_copy n c literal }
+{
+    let variable = literal / 2;
+    if variable == 0 {
+        literal
+    } else {
+        2 * ((variable - 1) * n + c + 1) + literal % 2
+    }
+}

@@ -1,7 +1,0 @@
-use Rattle.std.proofs.Common.{◌+◌, ◌*◌}
-use Rattle.mc_core.specs.Meanings.{Means}
-use Rattle.mc_core.proofs.MeaningLemmas.{Below}
-use Rattle.mc_core.proofs.meaning.of_variables.Given as goal
-
-abbrev pub invariant-loop-j : goal.invariant-loop-j
-invariant-loop-j l = Means (Below l.names l.name (λ j. 2 * (l.first + j)) l.j) l.found
