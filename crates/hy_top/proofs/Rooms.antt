@@ -12,8 +12,8 @@ use Rattle.live_safe.specs.Safe.{to_safe}
 use Rattle.wit_lasso.specs.FormulaNets.{body_nodes, body_roots, copy_signals, formula_net}
 use Rattle.hy_base.specs.declared.shelf.Shelf.{Ghosts}
 use Rattle.hy_read.specs.Answers.{Plain}
-use Rattle.hy_top.specs.Contents.{one_formula}
-use Rattle.hy_top.specs.Steps.{Takes}
+use Rattle.hy_files.specs.Contents.{one_formula}
+use Rattle.hy_files.specs.Steps.{Takes}
 use Rattle.hy_top.proofs.FirstSpecs.{read-few}
 use Rattle.mc_core.specs.Answers.{HasRoom, is_existential}
 

@@ -9,10 +9,10 @@ ghost use Rattle.hy_words.specs.Commands.{check};
 ghost use Rattle.hy_top.specs.Checking.{IsCheck, checked_answer};
 ghost use Rattle.hy_top.specs.Runs.{Follows, extras_of};
 
-use crate::files::{circuit_in, formula_in};
 use aig_net::Net;
-use hy_answer::Answer;
+use hy_answer::{Answer, fault_answer};
 use hy_base::{M, Memory, Shelf, Text};
+use hy_files::{circuit_in, formula_in};
 use hy_formula::{Formula, NameTable};
 use live_safe::safe_nets_are_small;
 use mc_core::{Ask, Checked, McError};
@@ -41,11 +41,11 @@ pub fn check<S: Shelf>(
 {
     let net = match circuit_in(alloc, shelf, files.0) {
         Ok(net) => net,
-        Err(answer) => return answer,
+        Err(fault) => return fault_answer(0, fault),
     };
-    match formula_in(alloc, shelf, files.1, 1, MOST_QUANTIFIERS, names) {
+    match formula_in(alloc, shelf, files.1, MOST_QUANTIFIERS, names) {
         Ok(formula) => check_formula(alloc, &net, &formula, names, ask),
-        Err(answer) => answer,
+        Err(fault) => fault_answer(1, fault),
     }
 }
 
