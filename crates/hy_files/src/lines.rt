@@ -123,7 +123,10 @@ pub fn write_name<E: Sink>(err: &mut E, name: &[u8], twice: bool) -> Result<(), 
     ensures given { OnOk result (GivesWhole E.Sink err.old err.new (name_line name.now twice)) }
     ensures refused { OnErr result (FailsToGive E.Sink err.old err.new (name_line name.now twice)) }
 {
-    write_pieces(err, &[b"error E12: ", name, b" ", fault_of_name(twice), b"\n"])
+    write_pieces(
+        err,
+        &[b"error E12: ", name, b" ", fault_of_name(twice), b"\n"],
+    )
 }
 
 /// Writes a line about a file, of these pieces.
