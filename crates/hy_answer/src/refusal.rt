@@ -7,7 +7,7 @@ ghost use Rattle.hy_answer.specs.Refusals.{fault_answer};
 ghost use Rattle.hy_answer.specs.Outputs.{error_line};
 
 use crate::answer::Answer;
-use hy_base::{BYTES_LIMIT, Kind, Sink, SinkFailed, write_all};
+use hy_base::{BYTES_LIMIT, Kind, Sink, SinkFailed, write_all, write_pieces};
 use hy_files::{FileFault, name_of_file, write_class, write_fault, write_limit, write_name};
 use itoa::Buffer;
 

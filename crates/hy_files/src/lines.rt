@@ -116,6 +116,17 @@ fn write_syntax<E: Sink>(err: &mut E, name: &str, token: u32, byte: u32) -> Resu
     )
 }
 
+/// Writes the line of a name with what is wrong with it.
+fn write_wrong_name<E: Sink>(err: &mut E, name: &[u8], fault: &[u8]) -> Result<(), SinkFailed>
+    ensures keeps { KeepsSink E.Sink err.old err.new }
+    ensures given { OnOk result (GivesWhole E.Sink err.old err.new
+        (codes "error E12: " ++ name.now ++ codes " " ++ fault.now ++ codes "\n")) }
+    ensures refused { OnErr result (FailsToGive E.Sink err.old err.new
+        (codes "error E12: " ++ name.now ++ codes " " ++ fault.now ++ codes "\n")) }
+{
+    write_pieces(err, &[b"error E12: ", name, b" ", fault, b"\n"])
+}
+
 /// Writes the line of a formula's name that stands for nothing in the circuit, or `twice` for
 /// different literals.
 pub fn write_name<E: Sink>(err: &mut E, name: &[u8], twice: bool) -> Result<(), SinkFailed>
@@ -123,10 +134,7 @@ pub fn write_name<E: Sink>(err: &mut E, name: &[u8], twice: bool) -> Result<(), 
     ensures given { OnOk result (GivesWhole E.Sink err.old err.new (name_line name.now twice)) }
     ensures refused { OnErr result (FailsToGive E.Sink err.old err.new (name_line name.now twice)) }
 {
-    write_pieces(
-        err,
-        &[b"error E12: ", name, b" ", fault_of_name(twice), b"\n"],
-    )
+    write_wrong_name(err, name, fault_of_name(twice))
 }
 
 /// Writes a line about a file, of these pieces.
@@ -217,7 +225,7 @@ pub fn write_fault<E: Sink>(err: &mut E, name: &str, fault: FileFault) -> Result
 }
 
 /// The name of file `file` of the command; no name where there is none of that number.
-fn name_of_file<'a>(names: &[&'a str], file: u8) -> &'a str
+pub fn name_of_file<'a>(names: &[&'a str], file: u8) -> &'a str
     ensures { result.now ≡ name_of_file (plain names.now) file }
 {
     let i = file as usize;
