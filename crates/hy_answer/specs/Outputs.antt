@@ -1,20 +1,13 @@
 -- The text that each answer prints, its error line, and its status.
-use Rattle.std.specs.Prelude.{◌⊎◌, ℕ, zero, suc, Bool, Option, Some, None, List, [], ◌∷◌, ◌++◌, map, codes, decimal, nat_eq, if◌then◌else◌, slice_index_or}
+use Rattle.std.specs.Prelude.{ℕ, zero, suc, Option, Some, None, List, [], ◌∷◌, ◌++◌, map, codes, decimal, nat_eq, if◌then◌else◌}
 use Rattle.std.specs.List.{join_with_byte, flat_map}
-use Rattle.std.specs.Borrow.{Bor}
-use Rattle.hy_base.specs.Sink.{GivesWhole, FailsToGive}
-use Rattle.hy_base.specs.declared.sink.Sink.{Ghosts}
 use Rattle.aig_net.specs.declared.run.Run.{Run}
-use Rattle.aiger_body.specs.declared.error.AigKind.{AigKind}
-use Rattle.aiger_body.specs.declared.error.AigKind.TheVariants as faults
 use Rattle.cnf_frames.specs.declared.inductions.InductionProof.{InductionProof}
 use Rattle.mc_core.specs.ProofTexts as induction
 use Rattle.aig_net.specs.RunTexts.{runs_text}
-use Rattle.hy_base.specs.declared.limit.Kind.{Kind}
-use Rattle.hy_base.specs.declared.limit.Kind.TheVariants as kinds
-use Rattle.hy_formula.specs.declared.classes.Class.{Class}
-use Rattle.hy_formula.specs.declared.classes.Class.TheVariants as classes
 use Rattle.hy_lasso.specs.Printed.{printed_lassos}
+use Rattle.hy_files.specs.ErrorLines.{fault_line, class_line, limit_line, name_line, memory_line, name_of_file}
+use Rattle.hy_files.specs.declared.fault.FileFault.TheVariants as faults
 use Rattle.ea_core.specs.declared.rank_proof.RankProof.{RankProof}
 use Rattle.ea_core.specs.ProofTexts.{proof_text}
 use Rattle.hy_answer.specs.declared.answer.Answer.{Answer}
@@ -86,7 +79,7 @@ out_text extras names (Unbound file byte) = []
 out_text extras names (Prefix file class) = []
 out_text extras names (Line file line) = []
 out_text extras names (Session line) = []
-out_text extras names (Circuit kind byte) = []
+out_text extras names (Circuit file kind byte) = []
 out_text extras names (Name name twice) = []
 out_text extras names (OpenFault file) = []
 out_text extras names (ReadFault file) = []
@@ -96,70 +89,23 @@ out_text extras names (CnfLimit kind limit kept) = []
 out_text extras names (States n) = []
 out_text extras names Memory = []
 
-abbrev pub kind_text : Kind → List ℕ
-kind_text kinds.Bytes = codes "bytes"
-kind_text kinds.Specs = codes "specs"
-kind_text kinds.Quantifiers = codes "quantifiers"
-kind_text kinds.Parens = codes "parens"
-kind_text kinds.Height = codes "height"
-kind_text kinds.Names = codes "names"
-kind_text kinds.Instances = codes "instances"
-kind_text kinds.Closure = codes "closure"
-kind_text kinds.Joint = codes "joint"
-kind_text kinds.Atoms = codes "atoms"
-kind_text kinds.Table = codes "table"
-kind_text kinds.Length = codes "length"
-kind_text kinds.Sessions = codes "sessions"
-kind_text kinds.Saves = codes "saves"
-kind_text kinds.Variables = codes "variables"
-kind_text kinds.CnfVariables = codes "cnf-variables"
-kind_text kinds.CnfLiterals = codes "cnf-literals"
-
-abbrev pub class_text : Class → List ℕ
-class_text classes.Exists = codes "exists"
-class_text classes.Forall = codes "forall"
-class_text classes.ExistsForall = codes "exists-forall"
-class_text classes.Other = codes "other"
-
--- what is wrong with a circuit
-abbrev pub circuit_text : AigKind → List ℕ
-circuit_text faults.Header = codes "header"
-circuit_text faults.Literal = codes "literal"
-circuit_text faults.Redefined = codes "redefined"
-circuit_text faults.Undefined = codes "undefined"
-circuit_text faults.Cycle = codes "cycle"
-circuit_text faults.Delta = codes "delta"
-circuit_text faults.Truncated = codes "truncated"
-circuit_text faults.Symbol = codes "symbol"
-
--- what is wrong with a name: nothing has it, or different literals do
-abbrev pub fault_of_name : Bool → List ℕ
-fault_of_name twice = if twice then codes "twice" else (codes "none")
-
--- the name of a file of the command, as its words have it
-abbrev pub name_of_file : List (List ℕ) → ℕ → List ℕ
-name_of_file names file = slice_index_or names file []
-
 -- what `err` receives, where the command has files of these names
 abbrev pub error_line : List (List ℕ) → Answer → List ℕ
 error_line names Words = codes "error E1: words\n"
-error_line names (Syntax file token byte) =
-    codes "error E2 " ++ name_of_file names file ++ codes ": token " ++ decimal token ++ codes " byte " ++ decimal byte ++ codes "\n"
-error_line names (Unbound file byte) = codes "error E3 " ++ name_of_file names file ++ codes ": byte " ++ decimal byte ++ codes "\n"
-error_line names (Prefix file class) = codes "error E4 " ++ name_of_file names file ++ codes ": prefix " ++ class_text class ++ codes "\n"
-error_line names (Line file line) = codes "error E9 " ++ name_of_file names file ++ codes ": line " ++ decimal line ++ codes "\n"
+error_line names (Syntax file token byte) = fault_line (name_of_file names file) (faults.Syntax token byte)
+error_line names (Unbound file byte) = fault_line (name_of_file names file) (faults.Unbound byte)
+error_line names (Prefix file class) = class_line (name_of_file names file) class
+error_line names (Line file line) = fault_line (name_of_file names file) (faults.Line line)
 error_line names (Session line) = codes "error E10: line " ++ decimal line ++ codes "\n"
-error_line names (Circuit kind byte) =
-    codes "error E11 " ++ name_of_file names 0 ++ codes ": " ++ circuit_text kind ++ codes " byte " ++ decimal byte ++ codes "\n"
-error_line names (Name name twice) = codes "error E12: " ++ name ++ codes " " ++ fault_of_name twice ++ codes "\n"
-error_line names (OpenFault file) = codes "error E7 " ++ name_of_file names file ++ codes "\n"
-error_line names (ReadFault file) = codes "error E6 " ++ name_of_file names file ++ codes "\n"
+error_line names (Circuit file kind byte) = fault_line (name_of_file names file) (faults.Circuit kind byte)
+error_line names (Name name twice) = name_line name twice
+error_line names (OpenFault file) = fault_line (name_of_file names file) faults.Open
+error_line names (ReadFault file) = fault_line (name_of_file names file) faults.Read
 error_line names WriteFault = codes "error E8\n"
-error_line names (Limit kind limit) = codes "error E5: " ++ kind_text kind ++ codes " " ++ decimal limit ++ codes "\n"
-error_line names (CnfLimit kind limit kept) =
-    codes "error E5: " ++ kind_text kind ++ codes " " ++ decimal limit ++ codes "\n"
+error_line names (Limit kind limit) = limit_line kind limit
+error_line names (CnfLimit kind limit kept) = limit_line kind limit
 error_line names (States n) = codes "error E13: states " ++ decimal n ++ codes "\n"
-error_line names Memory = codes "error: memory\n"
+error_line names Memory = memory_line
 error_line names (Sat list) = []
 error_line names (Unsat proof) = []
 error_line names (Implied proof) = []
@@ -197,7 +143,7 @@ status_of (Unbound file byte) = 2
 status_of (Prefix file class) = 2
 status_of (Line file line) = 2
 status_of (Session line) = 2
-status_of (Circuit kind byte) = 2
+status_of (Circuit file kind byte) = 2
 status_of (Name name twice) = 2
 status_of (OpenFault file) = 3
 status_of (ReadFault file) = 3
@@ -206,12 +152,3 @@ status_of (Limit kind limit) = 5
 status_of (CnfLimit kind limit kept) = 5
 status_of (States n) = 5
 status_of Memory = 6
-
--- The sink was given the line, or less of it and a put failed.
-abbrev pub Received : {E : Type 0} → Ghosts E → E → E → List ℕ → Type 0
-Received g old new line = GivesWhole g old new line ⊎ FailsToGive g old new line
-
--- the names that slices hold
-abbrev pub plain : List (Bor (List ℕ)) → List (List ℕ)
-plain [] = []
-plain (name ∷ names) = name.now ∷ plain names

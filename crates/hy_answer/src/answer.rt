@@ -116,8 +116,9 @@ pub enum Answer {
     Session {
         line: u32,
     },
-    /// The first file is no circuit: what is wrong, and at which byte.
+    /// A file is no circuit: what is wrong, and at which byte.
     Circuit {
+        file: u8,
         kind: AigKind,
         byte: u32,
     },

@@ -7,4 +7,4 @@ mod refusal;
 
 pub use answer::{Answer, Extras};
 pub use output::{out_text, status_of};
-pub use refusal::{fault_answer, line_answer, text_answer, write_error};
+pub use refusal::{fault_answer, write_error};

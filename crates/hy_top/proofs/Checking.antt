@@ -34,21 +34,20 @@ use Rattle.hy_answer.specs.declared.answer.Answer.TheVariants as answers
 use Rattle.hy_answer.specs.Outputs.{out_text}
 use Rattle.hy_words.specs.Commands.{Command, check}
 use Rattle.hy_top.specs.Checking.{HasPair, ComesBy, found, facts_stop, paths_stop, checked_answer, IsCheck, untaken, large_closure, bad_name, done, spent}
-use Rattle.hy_top.specs.Circuits.{IsCircuit}
 use Rattle.hy_top.specs.Classes.{is_of_one_kind}
-use Rattle.hy_top.specs.Contents.{one_formula, circuit}
+use Rattle.hy_files.specs.Contents.{one_formula, circuit, IsCircuit}
 use Rattle.hy_top.specs.Files.{Given, HasFormulas}
 use Rattle.hy_top.specs.Runs.{Follows, extras_of}
 use Rattle.hy_top.specs.Stages.{First, here, later, count, closure, joint, atoms, table, work, Passed, stages_of_formulas}
 use Rattle.hy_top.specs.Stages.{names as names_stage}
-use Rattle.hy_top.specs.Steps.{Takes, TakesCircuit, Ends}
+use Rattle.hy_files.specs.Steps.{Takes, TakesCircuit}
 use Rattle.std.specs.Bool.{IsTrue}
 use Rattle.std.specs.List.{Contains}
 use Rattle.hy_base.proofs.Members.{contains-here, contains-later}
 use Rattle.aig_net.specs.Signals.{has_signal, literal_of}
 use Rattle.hy_top.proofs.Bodies.{closure_passed, atoms_passed, table_passed}
 use Rattle.hy_top.proofs.Formulas.{class_passed, instances_passed}
-use Rattle.hy_top.proofs.Progress.{Progress, begun, goes_on, ends_here, answers_behind, runs_short, texts_once}
+use Rattle.hy_top.proofs.Progress.{Progress, Ends, begun, goes_on, ends_here, answers_behind, runs_short, texts_once}
 use Rattle.hy_top.proofs.Reading.{bytes_once}
 
 -- ---- classes

@@ -28,7 +28,7 @@ use Rattle.hy_words.specs.Commands.{Command, decide, imply, compare, files_of}
 use Rattle.hy_formula.specs.Trees.{Tree}
 use Rattle.fin_monitor.specs.Limits.{HasSmallClosure, HasFewAtoms, HasSmallTable}
 use Rattle.hy_top.specs.Classes.{FirstUntaken, AreTaken, is_decided, is_of_one_kind}
-use Rattle.hy_top.specs.Contents.{one_formula}
+use Rattle.hy_files.specs.Contents.{one_formula}
 use Rattle.hy_top.specs.Deciding.{plan_of, plan_against, plans_of, sat, unsat, implied, not_implied, beyond, equivalent, first_alone, second_alone, many_branches}
 use Rattle.hy_top.specs.Deciding.{Determines, Outcome, untaken, many_instances, large_closure, done, spent, refusal_answer}
 use Rattle.hy_top.specs.Files.{Given, HasTexts, HasFormulas}
@@ -37,10 +37,10 @@ use Rattle.hy_top.specs.Judging.{IsJudging}
 use Rattle.hy_top.specs.Monitoring.{monitored, EachPlain}
 use Rattle.hy_top.specs.Runs.{Follows, extras_of}
 use Rattle.hy_top.specs.Stages.{work, First, here, later, ComesTo, stages_of_formulas}
-use Rattle.hy_top.specs.Steps.{Takes, Ends}
+use Rattle.hy_files.specs.Steps.{Takes}
 use Rattle.hy_top.proofs.Bodies.{closure_passed, atoms_passed, table_passed}
 use Rattle.hy_top.proofs.Formulas.{class_passed, instances_passed}
-use Rattle.hy_top.proofs.Progress.{Progress, begun, goes_on, ends_here, answers_behind, runs_short}
+use Rattle.hy_top.proofs.Progress.{Progress, Ends, begun, goes_on, ends_here, answers_behind, runs_short}
 
 few_maps : (plans : List PlainPlan) → Each IsCounted plans → Each HasFewMaps plans
 few_maps [] all = tt

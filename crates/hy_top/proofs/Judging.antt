@@ -16,16 +16,16 @@ use Rattle.hy_answer.specs.declared.answer.Answer.{Answer}
 use Rattle.hy_answer.specs.declared.answer.Answer.TheVariants as answers
 use Rattle.hy_answer.specs.Outputs.{out_text}
 use Rattle.hy_words.specs.Commands.{Command, judge}
-use Rattle.hy_top.specs.Contents.{one_formula, lassos}
+use Rattle.hy_files.specs.Contents.{one_formula, lassos}
 use Rattle.hy_top.specs.Files.{Given, HasFormulas}
 use Rattle.hy_top.specs.Judging.{HasLassos, Judges, holds, fails, IsJudgement, satisfies, violates, too_joint, spent}
 use Rattle.hy_top.specs.Runs.{Follows, extras_of}
 use Rattle.hy_top.specs.Stages.{names as names_stage}
 use Rattle.hy_top.specs.Stages.{Passed, count, joint, atoms, table, work, First, here, later}
-use Rattle.hy_top.specs.Steps.{Takes, Ends, TakesLassos}
+use Rattle.hy_files.specs.Steps.{Takes, TakesLassos}
 use Rattle.hy_top.proofs.Bodies.{closure_passed, atoms_passed, table_passed}
 use Rattle.hy_top.proofs.Formulas.{class_passed, instances_passed}
-use Rattle.hy_top.proofs.Progress.{Progress, begun, goes_on, ends_here, answers_behind, runs_short, texts_once, texts_still}
+use Rattle.hy_top.proofs.Progress.{Progress, Ends, begun, goes_on, ends_here, answers_behind, runs_short, texts_once, texts_still}
 use Rattle.hy_top.proofs.Reading.{bytes_once}
 use Rattle.hy_lasso.proofs.OneAnswer.{one_answer}
 

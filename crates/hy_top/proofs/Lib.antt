@@ -2,7 +2,6 @@ pub mod Bodies
 pub mod Checking
 pub mod Counting
 pub mod Deciding
-pub mod Ending
 pub mod EventSteps
 pub mod FirstSpecs
 pub mod Formulas

@@ -20,7 +20,8 @@ use Rattle.hy_answer.specs.Outputs.{out_text}
 use Rattle.hy_words.specs.Commands.{Command, monitor, monitor_made, files_of}
 use Rattle.hy_top.specs.Checking.{IsChecking}
 use Rattle.hy_top.specs.Classes.{is_universal, takes, file_of, FirstUntaken, AreTaken}
-use Rattle.hy_top.specs.Contents.{specifications, events}
+use Rattle.hy_files.specs.Contents.{specifications, events}
+use Rattle.hy_files.specs.Faults.{line_fault}
 use Rattle.hy_top.specs.Deciding.{plans_of}
 use Rattle.hy_top.specs.Files.{Given, HasTexts, HasFormulas}
 use Rattle.hy_top.specs.Judging.{IsJudging}
@@ -28,12 +29,12 @@ use Rattle.hy_top.specs.Monitoring.{AreUniversal, SomePlain, EachPlain, SomeBody
 use Rattle.hy_top.specs.Runs.{Follows, extras_of}
 use Rattle.hy_top.specs.Stages.{names as names_stage}
 use Rattle.hy_top.specs.Stages.{First, here, later, count, closure, joint, atoms, table, work, stages_of_formulas, ComesTo}
-use Rattle.hy_top.specs.Steps.{Takes, TakesEvents, Ends}
+use Rattle.hy_files.specs.Steps.{Takes, TakesEvents}
+use Rattle.hy_files.specs.Steps as steps
 use Rattle.hy_top.specs.Watching.{IsLinesAnswer}
 use Rattle.hy_top.proofs.Bodies.{closure_passed, atoms_passed, table_passed}
-use Rattle.hy_top.proofs.Ending.{events-end}
 use Rattle.hy_top.proofs.Formulas.{class_passed, instances_passed}
-use Rattle.hy_top.proofs.Progress.{Progress, begun, goes_on, ends_here, answers_behind, runs_short, texts_still}
+use Rattle.hy_top.proofs.Progress.{Progress, Ends, begun, goes_on, ends_here, answers_behind, runs_short, texts_still}
 
 -- Events that are so are so by another measure too.
 pub outcome-by : {A B : List Placed → Type 0} (lengths : Lengths) (drop : Bool) (formulas : List Plain) (a : Answer) → ((es : List Placed) → A es → B es)
@@ -202,8 +203,8 @@ module _ {S : Type 0} (g : Ghosts S) (old mid new : S) (specs file : List ℕ) (
       let Q : List ℕ → Type 0 = λ b. IsOutcome lengths drop formulas (IsEventFile names b) a in
       events_follow bytes (record { read = came; lines = subst P same good }) a (subst Q same outcome)
   lines_follow bytes read came same a (inr (fault, refusal, e)) =
-      let P : Answer → Type 0 = λ b. Ends g mid new file 4 names 1 events b in
-      ends_at_events a (subst P (sym e) (events-end g mid new file 4 names 1 bytes read came same fault refusal))
+      let P : List ℕ → Type 0 = λ b. IsRefusal b fault in
+      ends_at_events a (line_fault fault, steps.refused bytes (line_fault fault) came (fault, subst P same refusal, refl), e)
 
 -- ---- made traces
 

@@ -21,7 +21,7 @@ use Rattle.hy_answer.specs.declared.answer.Answer.{Answer}
 use Rattle.hy_answer.specs.declared.answer.Answer.TheVariants as answers
 use Rattle.hy_words.specs.Commands.{Command, monitor, monitor_made, judge, decide, imply, compare, check}
 use Rattle.hy_top.specs.Classes.{takes, file_of, RefusesClass, FirstUntaken}
-use Rattle.hy_top.specs.Contents.{content_of, most_quantifiers, IsRefused}
+use Rattle.hy_top.specs.Contents.{content_of, most_quantifiers}
 use Rattle.hy_top.specs.Dropping.{AgreeUncounted, counted_alike, counted_otherwise}
 use Rattle.hy_top.specs.Deciding.{plan_of, plan_against, Determines, DecidesBy, DecidesOne, DecidesTwo, ComparesTwo, sat, unsat, implied, not_implied, beyond, equivalent, first_alone, second_alone, many_branches}
 use Rattle.mc_core.specs.declared.ask.Ask.{Ask}
@@ -39,7 +39,9 @@ use Rattle.hy_top.proofs.Formulas.{of_formulas, untaken_once}
 use Rattle.hy_top.proofs.Judging.{lassos_once}
 use Rattle.hy_top.proofs.Progress.{texts_once}
 use Rattle.hy_top.proofs.Reading.{bytes_once}
-use Rattle.hy_top.proofs.Texts.{refused_once}
+use Rattle.hy_files.specs.Contents.{IsRefused}
+use Rattle.hy_files.proofs.Texts.{refused_once}
+use Rattle.hy_answer.specs.Refusals.{fault_answer}
 use Rattle.hy_top.proofs.Counting.{clean-once}
 
 agree : {a b : Answer} → a ≡ b → Agree a b
@@ -201,9 +203,11 @@ module _ (command : Command) (given : Given) where
   text_agrees k a b one two =
       let names = (texts_once command given k one.formulas two.formulas one.names two.names one.before two.before).1 in
       let bytes = bytes_once given k one.bytes two.bytes one.came two.came in
-      let P : List (List ℕ) → Type 0 = λ n. IsRefused (most_quantifiers command) n k two.bytes (content_of command k) a in
-      let Q : List ℕ → Type 0 = λ b. IsRefused (most_quantifiers command) one.names k b (content_of command k) a in
-      refused_once (most_quantifiers command) two.names k two.bytes (content_of command k) a b (subst P names (subst Q bytes one.refused)) two.refused
+      let P : List (List ℕ) → Type 0 = λ n. IsRefused (most_quantifiers command) n two.bytes (content_of command k) one.fault in
+      let Q : List ℕ → Type 0 = λ b. IsRefused (most_quantifiers command) one.names b (content_of command k) one.fault in
+      let fault =
+      refused_once (most_quantifiers command) two.names two.bytes (content_of command k) one.fault two.fault (subst P names (subst Q bytes one.refused)) two.refused in
+      one.answered ∙ ap (fault_answer k) fault ∙ sym two.answered
 
   class_agrees : (a b : Answer) → RefusesClass command given a → RefusesClass command given b → a ≡ b
   class_agrees a b one two =

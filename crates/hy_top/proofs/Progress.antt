@@ -6,20 +6,28 @@ use Rattle.hy_base.specs.declared.reading.FileError.{FileError}
 use Rattle.hy_base.specs.declared.reading.FileError.TheVariants as errors
 use Rattle.hy_base.specs.declared.shelf.Shelf.{Ghosts}
 use Rattle.hy_read.specs.Answers.{Plain}
+use Rattle.hy_files.specs.Contents.{Content, IsText, IsRefused}
+use Rattle.hy_files.specs.Faults.{read_fault}
+use Rattle.hy_files.specs.Steps.{Takes, Fails, unread, spent, refused}
+use Rattle.hy_files.specs.declared.fault.FileFault.{FileFault}
+use Rattle.hy_files.proofs.Texts.{text_once, text_not_refused}
 use Rattle.hy_answer.specs.declared.answer.Answer.{Answer}
 use Rattle.hy_answer.specs.declared.answer.Answer.TheVariants as answers
 use Rattle.hy_answer.specs.Outputs.{out_text}
 use Rattle.hy_answer.specs.Refusals.{fault_answer}
 use Rattle.hy_words.specs.Commands.{Command, files_of}
-use Rattle.hy_top.specs.Contents.{content_of, most_quantifiers, IsText, IsRefused}
+use Rattle.hy_top.specs.Contents.{content_of, most_quantifiers}
 use Rattle.hy_top.specs.Files.{Given, HasText, HasTexts, HasAll}
 use Rattle.hy_top.specs.Runs.{Reads, Follows, decided, short, IsTextDue, extras_of}
 use Rattle.hy_top.specs.Stages.{Stage, opening, reading, size, text, work, Passed, AllPassed, First, here, IsRight, stages_of, stages_of_file, stages_of_files, stages_of_formulas}
-use Rattle.hy_top.specs.Steps.{Takes, Ends, unread, spent, refused}
 use Rattle.hy_top.proofs.Reading.{bytes_once, came_still, came_last, read_last}
 use Rattle.hy_top.proofs.StageOrder.{pass, stop, read_before, was_refused}
-use Rattle.hy_top.proofs.Silence.{IsSilent, refused-silent}
-use Rattle.hy_top.proofs.Texts.{text_once, text_not_refused}
+use Rattle.hy_top.proofs.Silence.{IsSilent, fault-silent}
+
+-- A run ends at file k, which is to be of this content: it is not taken, and its fault is so answered.
+abbrev pub Ends : {S : Type 0} → Ghosts S → S → S → List ℕ → ℕ → List (List ℕ) → ℕ → Content → Answer → Type 0
+Ends g old new name quantifiers names k content a =
+    (fault : FileFault) × Fails g old new name quantifiers names content fault × (a ≡ fault_answer k fault)
 
 module _ (command : Command) where
   -- ---- files that are texts
@@ -53,9 +61,9 @@ module _ (command : Command) where
   text_passed given k before more old new has last a refuses =
       let known = (texts_once given k refuses.formulas before refuses.names old refuses.before has).1 in
       let bytes = bytes_once given k refuses.bytes last.bytes refuses.came last.came in
-      let P : List ℕ → Type 0 = λ b. IsRefused (most_quantifiers command) refuses.names k b (content_of command k) a in
-      let Q : List (List ℕ) → Type 0 = λ n. IsRefused (most_quantifiers command) n k last.bytes (content_of command k) a in
-      text_not_refused (most_quantifiers command) old k last.bytes (content_of command k) more new a last.is (subst Q known (subst P bytes refuses.refused))
+      let P : List ℕ → Type 0 = λ b. IsRefused (most_quantifiers command) refuses.names b (content_of command k) refuses.fault in
+      let Q : List (List ℕ) → Type 0 = λ n. IsRefused (most_quantifiers command) n last.bytes (content_of command k) refuses.fault in
+      text_not_refused (most_quantifiers command) old last.bytes (content_of command k) more new refuses.fault last.is (subst Q known (subst P bytes refuses.refused))
 
   all_append : (given : Given) (stages more : List Stage) → AllPassed command given stages → AllPassed command given more
       → AllPassed command given (stages ++ more)
@@ -175,7 +183,7 @@ module _ {S : Type 0} (g : Ghosts S) (command : Command) (old : S) where
 
   ends_unread : (mid new : S) (given : Given) (formulas : List Plain) (names shown : List (List ℕ)) (name : List ℕ) (error : FileError)
       → Progress mid given formulas names → slice_get (files_of command) (length given) ≡ Some name → ReadsFile g mid new name (Err error)
-      → Follows g old new command (fault_answer error (length given)) (out_text (extras_of command) shown (fault_answer error (length given)))
+      → Follows g old new command (fault_answer (length given) (read_fault error)) (out_text (extras_of command) shown (fault_answer (length given) (read_fault error)))
   ends_unread mid new given formulas names shown name errors.OpenFailed progress there came =
       ends_by mid new given formulas names shown name (Err errors.OpenFailed) _ progress there came
       (was_refused command (given ++ Err errors.OpenFailed ∷ []) (length given) errors.OpenFailed (came_last given (Err errors.OpenFailed)) (λ e. cc)) (λ extras n. refl)
@@ -188,19 +196,18 @@ module _ {S : Type 0} (g : Ghosts S) (command : Command) (old : S) where
   ends_unread mid new given formulas names shown name errors.Memory progress there came =
       short _ (reads_next mid new given formulas names name (Err errors.Memory) progress there came)
 
-  -- A run that ends at the next file has come to its answer.
-  pub ends_here : (mid new : S) (given : Given) (formulas : List Plain) (names shown : List (List ℕ)) (name : List ℕ) (a : Answer)
+  fails_here : (mid new : S) (given : Given) (formulas : List Plain) (names shown : List (List ℕ)) (name : List ℕ) (fault : FileFault)
       → Progress mid given formulas names → slice_get (files_of command) (length given) ≡ Some name
-      → Ends g mid new name (most_quantifiers command) names (length given) (content_of command (length given)) a
-      → Follows g old new command a (out_text (extras_of command) shown a)
-  ends_here mid new given formulas names shown name _ progress there (unread error came) =
+      → Fails g mid new name (most_quantifiers command) names (content_of command (length given)) fault
+      → Follows g old new command (fault_answer (length given) fault) (out_text (extras_of command) shown (fault_answer (length given) fault))
+  fails_here mid new given formulas names shown name _ progress there (unread error came) =
       ends_unread mid new given formulas names shown name error progress there came
-  ends_here mid new given formulas names shown name _ progress there (spent bytes came) =
+  fails_here mid new given formulas names shown name _ progress there (spent bytes came) =
       short _ (reads_next mid new given formulas names name (Ok bytes) progress there came)
-  ends_here mid new given formulas names shown name _ progress there (refused bytes answer came is) =
+  fails_here mid new given formulas names shown name _ progress there (refused bytes fault came is) =
       let now = given ++ Ok bytes ∷ [] in
-      ends_by mid new given formulas names shown name (Ok bytes) answer progress there came
-      (pass command now (opening (length given) ∷ reading (length given) ∷ size (length given) ∷ []) _ answer
+      ends_by mid new given formulas names shown name (Ok bytes) (fault_answer (length given) fault) progress there came
+      (pass command now (opening (length given) ∷ reading (length given) ∷ size (length given) ∷ []) _ (fault_answer (length given) fault)
       (read_before command now (length given) bytes (came_last given (Ok bytes)))
       (here (record {
         formulas = formulas;
@@ -208,9 +215,20 @@ module _ {S : Type 0} (g : Ghosts S) (command : Command) (old : S) where
         before = texts_still command given (Ok bytes ∷ []) (length given) formulas names progress.texts;
         bytes = bytes;
         came = came_last given (Ok bytes);
+        fault = fault;
         refused = is;
+        answered = refl;
       })))
-      (refused-silent (most_quantifiers command) names (length given) bytes (content_of command (length given)) answer is)
+      (fault-silent (length given) fault)
+
+  -- A run that ends at the next file has come to its answer.
+  pub ends_here : (mid new : S) (given : Given) (formulas : List Plain) (names shown : List (List ℕ)) (name : List ℕ) (a : Answer)
+      → Progress mid given formulas names → slice_get (files_of command) (length given) ≡ Some name
+      → Ends g mid new name (most_quantifiers command) names (length given) (content_of command (length given)) a
+      → Follows g old new command a (out_text (extras_of command) shown a)
+  ends_here mid new given formulas names shown name a progress there (fault, fails, e) =
+      let P : Answer → Type 0 = λ b. Follows g old new command b (out_text (extras_of command) shown b) in
+      subst P (sym e) (fails_here mid new given formulas names shown name fault progress there fails)
 
   -- A run that ends at the first file has come to its answer.
   pub ends_first : (new : S) (shown : List (List ℕ)) (name : List ℕ) (a : Answer) → slice_get (files_of command) 0 ≡ Some name

@@ -3,6 +3,7 @@ use Rattle.std.proofs.Common.{◌≡◌, ℕ, List, [], ◌∷◌, ◌++◌, Ok,
 use Rattle.hy_base.specs.declared.reading.FileError.{FileError}
 use Rattle.hy_base.specs.declared.reading.FileError.TheVariants as errors
 use Rattle.hy_answer.specs.declared.answer.Answer.{Answer}
+use Rattle.hy_files.specs.Faults.{read_fault}
 use Rattle.hy_answer.specs.Refusals.{fault_answer}
 use Rattle.hy_words.specs.Commands.{Command}
 use Rattle.hy_top.specs.Files.{Given, Came}
@@ -39,7 +40,7 @@ module _ (command : Command) (given : Given) where
   )
 
   -- A file that was not read answers by its fault, unless memory ran out.
-  pub was_refused : (k : ℕ) (error : FileError) → Came given k (Err error) → (error ≡ errors.Memory → ⊥) → First command given (stages_of_file k) (fault_answer error k)
+  pub was_refused : (k : ℕ) (error : FileError) → Came given k (Err error) → (error ≡ errors.Memory → ⊥) → First command given (stages_of_file k) (fault_answer k (read_fault error))
   was_refused k errors.OpenFailed came some = here (came, refl)
   was_refused k errors.ReadFailed came some =
       later (λ a met. let both : Err errors.ReadFailed ≡ Err errors.OpenFailed = came_once given k came met.0 in cc) (here (came, refl))

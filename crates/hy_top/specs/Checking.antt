@@ -19,10 +19,10 @@ use Rattle.mc_core.specs.Answers.{IsChecked, IsKept}
 use Rattle.mc_core.specs.declared.ask.Ask.{Ask}
 use Rattle.mc_core.specs.declared.checked.Checked.{Checked}
 use Rattle.mc_core.specs.declared.checked.Checked.TheVariants as checked
+use Rattle.hy_files.specs.Contents.{IsCircuit}
 use Rattle.hy_answer.specs.declared.answer.Answer.{Answer}
 use Rattle.hy_answer.specs.declared.answer.Answer.TheVariants.{Holds, Violated, UnknownDepth, UnknownConflicts, Name, Prefix, Limit, CnfLimit, Memory}
 use Rattle.hy_words.specs.Commands.{Command, monitor, monitor_made, judge, decide, imply, compare, check}
-use Rattle.hy_top.specs.Circuits.{IsCircuit}
 use Rattle.hy_top.specs.Classes.{is_of_one_kind}
 use Rattle.hy_top.specs.Files.{Given, Came, HasAll}
 

@@ -2,9 +2,12 @@
 use Rattle.std.specs.Prelude.{◌≡◌, ℕ, zero, suc, List, [], ◌++◌, length, Some, Ok, slice_get}
 use Rattle.hy_base.specs.Shelf.{Read}
 use Rattle.hy_read.specs.Answers.{Plain}
+use Rattle.hy_files.specs.Contents.{IsText, IsRefused}
+use Rattle.hy_files.specs.declared.fault.FileFault.{FileFault}
 use Rattle.hy_answer.specs.declared.answer.Answer.{Answer}
+use Rattle.hy_answer.specs.Refusals.{fault_answer}
 use Rattle.hy_words.specs.Commands.{Command, files_of}
-use Rattle.hy_top.specs.Contents.{content_of, most_quantifiers, IsText, IsRefused}
+use Rattle.hy_top.specs.Contents.{content_of, most_quantifiers}
 
 -- what came of reading the files, by their places, as far as they were read
 abbrev pub Given : Type 0
@@ -35,11 +38,13 @@ HasAll command given formulas names = HasTexts command given (length (files_of c
 abbrev pub HasFormulas : Command → Given → List Plain → Type 0
 HasFormulas command given formulas = (names : List (List ℕ)) × HasAll command given formulas names
 
--- The text of file k is refused, where those before it are taken.
+-- The text of file k is refused, where those before it are taken, and so is answered.
 pub record RefusesText (command : Command) (given : Given) (k : ℕ) (answer : Answer) : Type 0 where
   pub formulas : List Plain
   pub names : List (List ℕ)
   pub before : HasTexts command given k formulas names
   pub bytes : List ℕ
   pub came : Came given k (Ok bytes)
-  pub refused : IsRefused (most_quantifiers command) names k bytes (content_of command k) answer
+  pub fault : FileFault
+  pub refused : IsRefused (most_quantifiers command) names bytes (content_of command k) fault
+  pub answered : answer ≡ fault_answer k fault

@@ -1,5 +1,4 @@
 pub mod Checking
-pub mod Circuits
 pub mod Classes
 pub mod Contents
 pub mod Deciding
@@ -9,5 +8,4 @@ pub mod Judging
 pub mod Monitoring
 pub mod Runs
 pub mod Stages
-pub mod Steps
 pub mod Watching

@@ -12,9 +12,10 @@ use Rattle.rv_core.specs.Held.{Held, StandsFor}
 use Rattle.rv_core.specs.Histories.{History, goes, step, arrives}
 use Rattle.rv_core.specs.declared.rv_error.RvError.{RvError}
 use Rattle.rv_core.specs.declared.rv_error.RvError.TheVariants as errors
+use Rattle.hy_files.specs.Faults.{line_fault}
 use Rattle.hy_answer.specs.declared.answer.Answer.{Answer}
 use Rattle.hy_answer.specs.declared.answer.Answer.TheVariants.{Session, Limit, Memory}
-use Rattle.hy_answer.specs.Refusals.{line_answer}
+use Rattle.hy_answer.specs.Refusals.{fault_answer}
 use Rattle.hy_read.specs.Answers.{Plain}
 use Rattle.hy_top.specs.Monitoring.{Comes, EventsCome, IsNoViolation, IsOutcome, whole_traces}
 use Rattle.hy_top.specs.declared.source.Source.{Source}
@@ -95,4 +96,4 @@ pub record IsThrough (lengths : Lengths) (drop : Bool) (specs : List Spec) (sour
 abbrev pub IsLinesAnswer : Lengths → Bool → List Plain → List (List ℕ) → List ℕ → Answer → Type 0
 IsLinesAnswer lengths drop formulas names bytes answer =
     (IsCheckAnswer bytes (Ok tt) × IsOutcome lengths drop formulas (IsEventFile names bytes) answer)
-    ⊎ ((fault : LineError) × IsRefusal bytes fault × (answer ≡ line_answer 1 fault))
+    ⊎ ((fault : LineError) × IsRefusal bytes fault × (answer ≡ fault_answer 1 (line_fault fault)))

@@ -10,10 +10,10 @@ ghost use Rattle.hy_top.specs.Deciding.{Outcome, refusal_answer};
 ghost use Rattle.hy_top.specs.Judging.{IsJudgement};
 ghost use Rattle.hy_top.specs.Runs.{Follows, extras_of};
 
-use crate::files::{formula_in, lassos_in};
 use ea_core::{Both, Decision, EaError};
-use hy_answer::Answer;
+use hy_answer::{Answer, fault_answer};
 use hy_base::Shelf;
+use hy_files::{formula_in, lassos_in};
 use hy_formula::{Formula, NameTable};
 use hy_lasso::{HoldsError, LassoList, holds};
 use std::alloc::Global;
@@ -35,13 +35,13 @@ pub fn judge<S: Shelf>(
         Follows S.Shelf shelf.old shelf.new command result
         (out_text (extras_of command) names.new result) }
 {
-    let formula = match formula_in(alloc, shelf, formula, 0, MOST_QUANTIFIERS, names) {
+    let formula = match formula_in(alloc, shelf, formula, MOST_QUANTIFIERS, names) {
         Ok(formula) => formula,
-        Err(answer) => return answer,
+        Err(fault) => return fault_answer(0, fault),
     };
-    match lassos_in(alloc, shelf, lassos, 1, names) {
+    match lassos_in(alloc, shelf, lassos, names) {
         Ok(list) => judge_list(alloc, &formula, &list),
-        Err(answer) => answer,
+        Err(fault) => fault_answer(1, fault),
     }
 }
 
@@ -78,9 +78,9 @@ pub fn decide<S: Shelf>(
         Follows S.Shelf shelf.old shelf.new command result
         (out_text (extras_of command) names.new result) }
 {
-    match formula_in(alloc, shelf, formula, 0, MOST_QUANTIFIERS, names) {
+    match formula_in(alloc, shelf, formula, MOST_QUANTIFIERS, names) {
         Ok(formula) => decide_formula(alloc, &formula, states),
-        Err(answer) => answer,
+        Err(fault) => fault_answer(0, fault),
     }
 }
 
@@ -113,13 +113,13 @@ pub fn imply<S: Shelf>(
         Follows S.Shelf shelf.old shelf.new command result
         (out_text (extras_of command) names.new result) }
 {
-    let first = match formula_in(alloc, shelf, files.0, 0, MOST_QUANTIFIERS, names) {
+    let first = match formula_in(alloc, shelf, files.0, MOST_QUANTIFIERS, names) {
         Ok(formula) => formula,
-        Err(answer) => return answer,
+        Err(fault) => return fault_answer(0, fault),
     };
-    match formula_in(alloc, shelf, files.1, 1, MOST_QUANTIFIERS, names) {
+    match formula_in(alloc, shelf, files.1, MOST_QUANTIFIERS, names) {
         Ok(second) => imply_formula(alloc, &first, &second, states),
-        Err(answer) => answer,
+        Err(fault) => fault_answer(1, fault),
     }
 }
 
@@ -152,13 +152,13 @@ pub fn compare<S: Shelf>(
         Follows S.Shelf shelf.old shelf.new command result
         (out_text (extras_of command) names.new result) }
 {
-    let first = match formula_in(alloc, shelf, files.0, 0, MOST_QUANTIFIERS, names) {
+    let first = match formula_in(alloc, shelf, files.0, MOST_QUANTIFIERS, names) {
         Ok(formula) => formula,
-        Err(answer) => return answer,
+        Err(fault) => return fault_answer(0, fault),
     };
-    match formula_in(alloc, shelf, files.1, 1, MOST_QUANTIFIERS, names) {
+    match formula_in(alloc, shelf, files.1, MOST_QUANTIFIERS, names) {
         Ok(second) => compare_formulas(alloc, &first, &second, states),
-        Err(answer) => answer,
+        Err(fault) => fault_answer(1, fault),
     }
 }
 

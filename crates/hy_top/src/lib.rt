@@ -2,7 +2,6 @@
 #![tactic(auto)]
 
 mod eahyper;
-mod files;
 mod host;
 mod laws;
 mod mchyper;

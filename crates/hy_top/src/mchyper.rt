@@ -9,11 +9,11 @@ ghost use Rattle.hy_words.specs.Commands.{check};
 ghost use Rattle.hy_top.specs.Checking.{IsCheck, checked_answer};
 ghost use Rattle.hy_top.specs.Runs.{Follows, extras_of};
 
-use crate::files::{circuit_in, formula_in};
 use aig_net::Net;
 use formula_nets::circuits_have_room;
-use hy_answer::Answer;
+use hy_answer::{Answer, fault_answer};
 use hy_base::{M, Memory, Shelf, Text};
+use hy_files::{circuit_in, formula_in};
 use hy_formula::{Formula, NameTable};
 use mc_core::{Ask, Checked, McError};
 use std::alloc::Global;
@@ -39,11 +39,11 @@ pub fn check<S: Shelf>(
 {
     let net = match circuit_in(alloc, shelf, files.0) {
         Ok(net) => net,
-        Err(answer) => return answer,
+        Err(fault) => return fault_answer(0, fault),
     };
-    match formula_in(alloc, shelf, files.1, 1, MOST_QUANTIFIERS, names) {
+    match formula_in(alloc, shelf, files.1, MOST_QUANTIFIERS, names) {
         Ok(formula) => check_formula(alloc, &net, &formula, names, ask),
-        Err(answer) => answer,
+        Err(fault) => fault_answer(1, fault),
     }
 }
 

@@ -3,7 +3,8 @@
 ghost use Rattle.std.specs.Prelude.{◌≡◌, ◌⊎◌, ◌∷◌, List, [], ℕ, IfOk, IfErr};
 ghost use Rattle.hy_base.specs.Shelf.{KeepsShelf};
 ghost use Rattle.hy_base.specs.Sink.{KeepsSink};
-ghost use Rattle.hy_answer.specs.Outputs.{error_line, out_text, status_of, Received, plain};
+ghost use Rattle.hy_files.specs.ErrorLines.{Received, plain};
+ghost use Rattle.hy_answer.specs.Outputs.{error_line, out_text, status_of};
 ghost use Rattle.hy_words.specs.Commands.{IsCommand, HasNoCommand, files_of};
 ghost use Rattle.hy_words.specs.Said.{said_by};
 ghost use Rattle.hy_words.specs.Words.{texts};

@@ -12,17 +12,20 @@ ghost use Rattle.hy_top.specs.Monitoring.{IsOutcome};
 ghost use Rattle.hy_top.specs.Runs.{Follows, extras_of};
 ghost use Rattle.hy_top.specs.Watching.{AreLeft, count_left, AreNumbered, AreGood, AreRead, IsLinesAnswer};
 
-use crate::files::{events_in, specs_in};
 use crate::source::Source;
 use crate::watching::watch;
-use hy_answer::{Answer, line_answer};
+use hy_answer::{Answer, fault_answer};
 use hy_base::Shelf;
+use hy_files::{FileFault, bytes_in, specs_in};
 use hy_finite::Lengths;
 use hy_formula::NameTable;
 use hy_read::SpecList;
 use made_traces::make_traces;
 use rv_core::{Rv, RvNewError};
 use std::alloc::Global;
+
+/// Most quantifiers of a formula.
+const MOST_QUANTIFIERS: u8 = 4;
 
 /// Whether the traces of a file violate the formulas of another under a rule of lengths. Their names
 /// are added to the empty table. Dominated traces are dropped where `drop`.
@@ -41,13 +44,13 @@ pub fn monitor<S: Shelf>(
         Follows S.Shelf shelf.old shelf.new command result
         (out_text (extras_of command) names.new result) }
 {
-    let specs = match specs_in(alloc, shelf, specs, names) {
+    let specs = match specs_in(alloc, shelf, specs, MOST_QUANTIFIERS, names) {
         Ok(specs) => specs,
-        Err(answer) => return answer,
+        Err(fault) => return fault_answer(0, fault),
     };
-    match events_in(alloc, shelf, traces) {
+    match bytes_in(alloc, shelf, traces) {
         Ok(bytes) => judge_lines(alloc, &specs, lengths, drop, bytes.as_slice(), names),
-        Err(answer) => answer,
+        Err(fault) => fault_answer(1, fault),
     }
 }
 
@@ -69,9 +72,9 @@ pub fn monitor_made<S: Shelf>(
         Follows S.Shelf shelf.old shelf.new command result
         (out_text (extras_of command) names.new result) }
 {
-    let formulas = match specs_in(alloc, shelf, specs, names) {
+    let formulas = match specs_in(alloc, shelf, specs, MOST_QUANTIFIERS, names) {
         Ok(formulas) => formulas,
-        Err(answer) => return answer,
+        Err(fault) => return fault_answer(0, fault),
     };
     let Ok(traces) = make_traces(alloc, count, names) else {
         return Answer::Memory;
@@ -99,7 +102,7 @@ fn judge_lines(
     let answer = judge(alloc, specs, lengths, drop, &mut source);
     match source.check(alloc) {
         Ok(()) => answer,
-        Err(fault) => line_answer(fault, 1),
+        Err(fault) => fault_answer(1, FileFault::from(fault)),
     }
 }
 

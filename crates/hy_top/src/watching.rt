@@ -8,9 +8,10 @@ ghost use Rattle.hy_top.specs.Monitoring.{EventsCome, AreKeptCounts, IsNoViolati
 ghost use Rattle.hy_top.specs.Watching.{OrMemory, IsEventAnswer, AreLeft, count_left, AreNumbered, AreGood, AreRead, IsThrough};
 
 use crate::source::Source;
-use hy_answer::{Answer, line_answer};
+use hy_answer::{Answer, fault_answer};
 use hy_base::{M, Memory, NumList, Steps};
 use hy_bits::Letters;
+use hy_files::FileFault;
 use rv_core::laws::keeping;
 use rv_core::{Reply, Rv, RvError};
 use std::alloc::Global;
@@ -88,7 +89,7 @@ fn watch_events<L: Ledger>(
         let placed = match source.next(alloc, &mut letters) {
             Ok(Some(placed)) => placed,
             Ok(None) => return Ok(()),
-            Err(fault) => return Err(line_answer(fault, 1)),
+            Err(fault) => return Err(fault_answer(1, FileFault::from(fault))),
         };
         let reply = match rv.event(alloc, &placed.event, steps) {
             Ok(reply) => reply,

@@ -11,4 +11,5 @@ returns-in-Ok-clause-follows g c proof =
 
 pub returns-in-Err-clause-follows : goal.returns-in-Err-clause-follows
 returns-in-Err-clause-follows g c proof =
-    ends_first g.S.Shelf (decide c.args.formula.now c.args.states proof) _ _ _ _ _ refl (rw c.requires.empty at c.in-Err.ensures.ended)
+    ends_first g.S.Shelf (decide c.args.formula.now c.args.states proof) _ _ _ _ _ refl
+    (c.in-Err.fault, rw c.requires.empty at c.in-Err.ensures.failed, c.fault_answer.ensures)

@@ -7,7 +7,7 @@ use Rattle.hy_top.proofs.eahyper.imply.Goals as goal
 pub returns-in-Err-clause-follows : goal.returns-in-Err-clause-follows
 returns-in-Err-clause-follows g c proof =
     ends_first g.S.Shelf (imply c.args.files.0.now c.args.files.1.now c.args.states proof) _ _ _ _ _ refl
-    (rw c.requires.empty at c.in-Err.ensures.ended)
+    (c.in-Err.fault, rw c.requires.empty at c.in-Err.ensures.failed, c.fault_answer.ensures)
 
 pub returns-in-Ok-formula_in-clause-follows : goal.returns-in-Ok-formula_in-clause-follows
 returns-in-Ok-formula_in-clause-follows g c proof =
@@ -18,4 +18,5 @@ returns-in-Ok-formula_in-clause-follows g c proof =
 pub returns-clause-follows : goal.returns-clause-follows
 returns-clause-follows g c proof =
     imply_ends g.S.Shelf _ _ _ c.args.files.0.now c.args.files.1.now _ _ (rw c.requires.empty at c.in-Ok.ensures.taken)
-    c.args.states proof _ _ c.in-Err-formula_in.ensures.ended
+    c.args.states proof _ _
+    (c.in-Err-formula_in.fault, c.in-Err-formula_in.ensures.failed, c.fault_answer-in-Err-formula_in.ensures)

@@ -2,8 +2,8 @@ use Rattle.std.proofs.Common.{ℕ, ◌≤◌, false, List, [], ◌∷◌, length
 use Rattle.hy_base.specs.declared.shelf.Shelf.{Ghosts}
 use Rattle.hy_read.specs.Answers.{Plain}
 use Rattle.hy_words.specs.Commands.{check}
-use Rattle.hy_top.specs.Contents.{one_formula}
-use Rattle.hy_top.specs.Steps.{Takes}
+use Rattle.hy_files.specs.Contents.{one_formula}
+use Rattle.hy_files.specs.Steps.{Takes}
 use Rattle.hy_top.proofs.FirstSpecs.{read-few}
 use Rattle.hy_top.proofs.Progress.{ends_first}
 use Rattle.hy_top.proofs.Checking.{ends_at_formula, check_follows}
@@ -17,7 +17,7 @@ few-read g old new name names f later takes = (read-few false 4 names takes.byte
 pub returns-in-Err-clause-follows : goal.returns-in-Err-clause-follows
 returns-in-Err-clause-follows g c proof =
     ends_first g.S.Shelf (check c.args.files.0.now c.args.files.1.now c.args.ask.now.depth c.args.ask.now.conflicts c.args.ask.now.plain proof) _ _ _ _ _ refl
-    c.in-Err.ensures.ended
+    (c.in-Err.fault, c.in-Err.ensures.failed 4 [], c.fault_answer.ensures)
 
 pub check_formula-requires-clause-quantifiers : goal.check_formula-requires-clause-quantifiers
 check_formula-requires-clause-quantifiers g c = few-read g.S.Shelf _ _ _ _ _ _ c.in-Ok-formula_in.ensures.taken
@@ -30,4 +30,4 @@ returns-in-Ok-formula_in-clause-follows g c proof =
 pub returns-clause-follows : goal.returns-clause-follows
 returns-clause-follows g c proof =
     ends_at_formula g.S.Shelf _ _ _ c.args.files.0.now c.args.files.1.now c.args.ask.now proof c.in-Ok.net c.in-Ok.ensures.taken _ _
-    (rw c.requires.empty at c.in-Err-formula_in.ensures.ended)
+    (c.in-Err-formula_in.fault, rw c.requires.empty at c.in-Err-formula_in.ensures.failed, c.fault_answer-in-Err-formula_in.ensures)

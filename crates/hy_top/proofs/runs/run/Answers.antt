@@ -1,5 +1,6 @@
 use Rattle.std.proofs.Common.{ℕ, List, false, sym, ◌∙◌, subst}
-use Rattle.hy_answer.specs.Outputs.{error_line, Received}
+use Rattle.hy_files.specs.ErrorLines.{Received}
+use Rattle.hy_answer.specs.Outputs.{error_line}
 use Rattle.hy_words.specs.Said.{said_by}
 use Rattle.hy_top.proofs.Worded.{unworded_comes, unworded_names, named-one, named-two}
 use Rattle.hy_top.specs.Runs.{worded, of_command}

@@ -1,4 +1,5 @@
-use Rattle.std.proofs.Common.{Ok, Err, inl, inr}
+use Rattle.std.proofs.Common.{Ok, Err, inl, inr, ap, ◌∙◌}
+use Rattle.hy_answer.specs.Refusals.{fault_answer}
 use Rattle.hy_top.proofs.Monitoring.{outcome-by}
 use Rattle.hy_top.proofs.rvhyper.judge_lines.Goals as goal
 
@@ -12,4 +13,4 @@ pub returns-in-Err : goal.returns-in-Err
 returns-in-Err c =
     let fault = c.in-Err.fault in
     inr
-    (fault, c.of_lines-source.ensures.all (Err fault) (c.judge-answer.ensures.read (Err fault) c.in-Err.ensures), c.line_answer.ensures)
+    (fault, c.of_lines-source.ensures.all (Err fault) (c.judge-answer.ensures.read (Err fault) c.in-Err.ensures), c.fault_answer.ensures ∙ ap (fault_answer 1) c.from.ensures)

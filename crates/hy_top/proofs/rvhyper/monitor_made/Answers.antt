@@ -9,7 +9,8 @@ use Rattle.hy_top.proofs.rvhyper.monitor_made.Goals as goal
 
 pub returns-in-Err-clause-follows : goal.returns-in-Err-clause-follows
 returns-in-Err-clause-follows g c =
-    ends_first g.S.Shelf (monitor_made c.args.specs.now c.args.count c.args.lengths c.args.drop) _ _ _ _ _ refl (rw c.requires.empty at c.in-Err.ensures.ended)
+    ends_first g.S.Shelf (monitor_made c.args.specs.now c.args.count c.args.lengths c.args.drop) _ _ _ _ _ refl
+    (c.in-Err.fault, rw c.requires.empty at c.in-Err.ensures.failed, c.fault_answer.ensures)
 
 pub returns-in_default-clause-follows : goal.returns-in_default-clause-follows
 returns-in_default-clause-follows g c =

@@ -1,10 +1,12 @@
-use Rattle.std.proofs.Common.{inr, refl, ap, ◌∙◌, subst, Option, Ok, Result}
+use Rattle.std.proofs.Common.{inl, inr, refl, ap, ◌∙◌, subst, Option, Ok, Result}
 use Rattle.hy_finite.specs.declared.event.Placed.{Placed}
 use Rattle.rv_core.specs.declared.reply.Reply.{Reply}
 use Rattle.rv_core.specs.declared.rv_error.RvError.{RvError}
 use Rattle.rv_core.specs.Held.{specs_of}
 use Rattle.rv_core.specs.Replies.{Answers}
 use Rattle.rv_core.specs.Seen.{held}
+use Rattle.hy_files.specs.Faults.{line_fault}
+use Rattle.hy_answer.specs.Refusals.{fault_answer}
 use Rattle.hy_top.specs.Watching.{GoesOn, IsNext}
 use Rattle.hy_top.proofs.EventSteps.{goes-quiet, goes-arrived, violation-stops, error-ends, passed-more, passed-stops, passed-all, or-memory}
 use Rattle.hy_top.proofs.watching.watch_events.Goals as goal
@@ -38,6 +40,10 @@ returns-in-Ok-None-clause-through g c =
     let P : Option Placed → Type 0 = IsNext c.loop-placed.source c.next.new.self in
     passed-all start.rule start.drop (specs_of start) c.args.source.now c.loop-placed.source (held c.loop-placed.rv) c.loop-placed.invariant
     (subst P c.in-Ok-None.field-0-is c.in-Ok-None.ensures.next)
+
+pub returns-in-Err-clause-ended : goal.returns-in-Err-clause-ended
+returns-in-Err-clause-ended g c good =
+    inl (c.fault_answer.ensures ∙ ap (fault_answer 1) (c.from.ensures ∙ ap line_fault (c.in-Err.ensures.ended good)))
 
 pub returns-in-Violation-clause-ended : goal.returns-in-Violation-clause-ended
 returns-in-Violation-clause-ended g c good =

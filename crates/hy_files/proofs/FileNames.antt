@@ -1,6 +1,6 @@
 -- The names of files, as slices and as lists.
 use Rattle.std.proofs.Common.{◌≡◌, ℕ, zero, suc, ◌<◌, ◌≤◌, List, [], ◌∷◌, length, slice_index_or, Bor, refl, arith}
-use Rattle.hy_answer.specs.Outputs.{plain, name_of_file}
+use Rattle.hy_files.specs.ErrorLines.{plain, name_of_file}
 
 pub name_within : (names : List (Bor (List ℕ))) (k : ℕ) (default : Bor (List ℕ)) → k < length names → (slice_index_or names k default).now ≡ name_of_file (plain names) k
 name_within [] k default lt = absurd (omega arith)

@@ -1,4 +1,4 @@
--- What a step of a run says that reads one file and takes its text.
+-- What a step says that reads one file and takes its text, or tells why it does not.
 use Rattle.std.specs.Prelude.{ℕ, List, Ok, Err}
 use Rattle.hy_base.specs.Shelf.{ReadsFile}
 use Rattle.hy_base.specs.declared.reading.FileError.{FileError}
@@ -10,12 +10,11 @@ use Rattle.hy_formula.specs.Quantifiers.{Each}
 use Rattle.hy_text.specs.Lines.{lines_of}
 use Rattle.hy_lasso.specs.LassoFiles.{IsLassosAnswer}
 use Rattle.hy_read.specs.Answers.{Plain}
-use Rattle.hy_answer.specs.declared.answer.Answer.{Answer}
-use Rattle.hy_answer.specs.declared.answer.Answer.TheVariants.{Memory}
-use Rattle.hy_answer.specs.Refusals.{fault_answer}
 use Rattle.aig_net.specs.Nets.{Net}
-use Rattle.hy_top.specs.Circuits.{IsCircuit}
-use Rattle.hy_top.specs.Contents.{Content, IsText, IsRefused}
+use Rattle.hy_files.specs.Contents.{Content, IsCircuit, IsText, IsRefused}
+use Rattle.hy_files.specs.Faults.{read_fault}
+use Rattle.hy_files.specs.declared.fault.FileFault.{FileFault}
+use Rattle.hy_files.specs.declared.fault.FileFault.TheVariants.{Memory}
 
 -- The file was read, and is a text of this content.
 pub record Takes {S : Type 0} (g : Ghosts S) (old new : S) (name : List ℕ) (quantifiers : ℕ) (names : List (List ℕ)) (content : Content) (formulas : List Plain) (later : List (List ℕ)) : Type 0 where
@@ -40,11 +39,11 @@ pub record TakesCircuit {S : Type 0} (g : Ghosts S) (old new : S) (name : List �
   pub read : ReadsFile g old new name (Ok bytes)
   pub is : IsCircuit bytes net
 
--- The run ends at file k, which is to be of this content, with this answer: it was not read, memory ran out, or its
--- text is refused.
-pub data Ends {S : Type 0} (g : Ghosts S) (old new : S) (name : List ℕ) (quantifiers : ℕ) (names : List (List ℕ)) (k : ℕ) (content : Content) : Answer → Type 0 where
+-- The file, which is to be of this content, is not taken, by this fault: it was not read, memory ran out, or its text is
+-- refused.
+pub data Fails {S : Type 0} (g : Ghosts S) (old new : S) (name : List ℕ) (quantifiers : ℕ) (names : List (List ℕ)) (content : Content) : FileFault → Type 0 where
   unread : (error : FileError) → ReadsFile g old new name (Err error)
-      → Ends g old new name quantifiers names k content (fault_answer error k)
-  spent : (bytes : List ℕ) → ReadsFile g old new name (Ok bytes) → Ends g old new name quantifiers names k content Memory
-  refused : (bytes : List ℕ) (answer : Answer) → ReadsFile g old new name (Ok bytes)
-      → IsRefused quantifiers names k bytes content answer → Ends g old new name quantifiers names k content answer
+      → Fails g old new name quantifiers names content (read_fault error)
+  spent : (bytes : List ℕ) → ReadsFile g old new name (Ok bytes) → Fails g old new name quantifiers names content Memory
+  refused : (bytes : List ℕ) (fault : FileFault) → ReadsFile g old new name (Ok bytes)
+      → IsRefused quantifiers names bytes content fault → Fails g old new name quantifiers names content fault

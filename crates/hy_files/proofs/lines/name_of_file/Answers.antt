@@ -1,5 +1,5 @@
-use Rattle.hy_answer.proofs.FileNames.{name_within, name_past}
-use Rattle.hy_answer.proofs.refusal.name_of_file.Goals as goal
+use Rattle.hy_files.proofs.FileNames.{name_within, name_past}
+use Rattle.hy_files.proofs.lines.name_of_file.Goals as goal
 
 pub returns-then-i-names : goal.returns-then-i-names
 returns-then-i-names c = name_within c.args.names.now c.args.file _ c.if-i-names.true

@@ -1,0 +1,4 @@
+pub mod Contents
+pub mod ErrorLines
+pub mod Faults
+pub mod Steps

@@ -1,0 +1,11 @@
+//! Files of each content, read from a shelf and taken, or why not, and the error lines of that.
+#![tactic(auto)]
+
+mod fault;
+mod files;
+pub mod laws;
+mod lines;
+
+pub use fault::FileFault;
+pub use files::{bytes_in, circuit_in, formula_in, lassos_in, specs_in};
+pub use lines::{name_of_file, write_class, write_fault, write_limit, write_name};
