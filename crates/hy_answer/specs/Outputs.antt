@@ -15,8 +15,8 @@ use Rattle.hy_base.specs.declared.limit.Kind.TheVariants as kinds
 use Rattle.hy_formula.specs.declared.classes.Class.{Class}
 use Rattle.hy_formula.specs.declared.classes.Class.TheVariants as classes
 use Rattle.hy_lasso.specs.Printed.{printed_lassos}
-use Rattle.ea_core.specs.declared.rank_proof.RankProof.{RankProof}
-use Rattle.ea_core.specs.ProofTexts.{proof_text}
+use Rattle.rank_proofs.specs.declared.rank_proof.RankProof.{RankProof}
+use Rattle.rank_proofs.specs.ProofTexts.{proof_text}
 use Rattle.hy_answer.specs.declared.answer.Answer.{Answer}
 use Rattle.hy_answer.specs.declared.answer.Answer.TheVariants.{Sat, Unsat, Implied, NotImplied, Equivalent, NotEquivalent, OnTrue, OnFalse, NoViolation, Violation}
 use Rattle.hy_answer.specs.declared.answer.Answer.TheVariants.{Words, Syntax, Unbound, Prefix, Line, Session, OpenFault, ReadFault}

@@ -9,7 +9,7 @@ use crate::answer::{Answer, Extras};
 use crate::runs::runs_text;
 use aig_net::RunList;
 use cnf_frames::InductionProof;
-use ea_core::{RankProof, print_rank_proof};
+use rank_proofs::{RankProof, print_rank_proof};
 use hy_base::{M, Text};
 use hy_formula::NameTable;
 use hy_lasso::{LassoList, print_lassos};
