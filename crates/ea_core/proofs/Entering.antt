@@ -9,8 +9,8 @@ use Rattle.std.proofs.lemmas.Option.{slice_get_within, get_or_from_slice_get}
 use Rattle.rank_check.specs.declared.ranks.Ranks.{Ranks}
 use Rattle.rank_check.specs.Ranking.{rank_of}
 use Rattle.ltl_tableau.specs.Branches.{Branch}
-use Rattle.ea_core.specs.declared.rank_proof.ProofBranch.{ProofBranch}
-use Rattle.ea_core.specs.Proofs.{branch_of, IsAscending}
+use Rattle.rank_proofs.specs.declared.rank_proof.ProofBranch.{ProofBranch}
+use Rattle.rank_proofs.specs.Proofs.{branch_of, IsAscending}
 use Rattle.ea_core.specs.Shown.{AreEntries}
 
 pub entries-none : (list : List Branch) (ranks : Ranks) → AreEntries (take 0 list) ranks []

@@ -14,8 +14,8 @@ use Rattle.ltl_closure.specs.Closures.{same_form, with_new, with_form, with_form
 use Rattle.ltl_closure.specs.Jobs.{Task, variable_in, tasks_by, form_of_task, forms_of, task_nodes}
 use Rattle.ltl_closure.proofs.Closing.{last-form}
 use Rattle.ea_reduce.specs.Plans.{PlainPlan, PlainJob, tasks_of_jobs, plan_tasks}
+use Rattle.rank_proofs.specs.Proofs.{plan_nodes}
 use Rattle.ea_core.specs.Decided.{Mentions}
-use Rattle.ea_core.specs.Proofs.{plan_nodes}
 use Rattle.ea_core.specs.Solved.{PlanMentions}
 
 module _ (P : ℕ → Type 0) where

@@ -1,25 +1,20 @@
 -- From the refusals of the layers to those of the decisions.
-use Rattle.std.proofs.Common.{◌≡◌, ◌≢◌, ℕ, ◌<◌, true, false, List, length, Result, Ok, Err, IfErr, IsErrOf, OnOk, inl, inr, refl, subst}
-use Rattle.ltl_closure.specs.Jobs.{Task, tasks_of, task_nodes}
-use Rattle.ea_reduce.specs.declared.plan.Plan.{Plan}
-use Rattle.ea_reduce.proofs.Jobs.{plain-tasks}
+use Rattle.std.proofs.Common.{◌≡◌, ◌≢◌, ℕ, true, false, List, Result, Ok, Err, IfErr, OnOk, inl, inr, subst}
 use Rattle.hy_formula.specs.Trees.{Tree}
 use Rattle.hy_formula.specs.Classes.{class_of}
 use Rattle.hy_formula.specs.declared.classes.Class.TheVariants.{Other}
 use Rattle.hy_formula.specs.declared.prefix.Quant.{Quant}
-use Rattle.ltl_closure.specs.declared.closure_error.ClosureError.{ClosureError}
-use Rattle.ltl_closure.specs.declared.closure_error.ClosureError.TheVariants as closures
-use Rattle.ltl_tableau.specs.declared.tableau_error.TableauError.TheVariants as tableaus
 use Rattle.ea_reduce.specs.declared.reduce_error.ReduceError.{ReduceError}
 use Rattle.ea_reduce.specs.declared.reduce_error.ReduceError.TheVariants as plans
 use Rattle.ea_reduce.specs.Plans.{PlainPlan, plain_plan, reduction, implication}
 use Rattle.ea_reduce.specs.Fulfilled.{IsOfOneKind, IsFulfillable}
 use Rattle.ea_reduce.specs.Refused.{HasFewMaps, RefusesImplication}
+use Rattle.rank_proofs.specs.Counts.{HasFewMembers}
 use Rattle.ea_core.specs.declared.decision.Decision.{Decision}
 use Rattle.ea_core.specs.declared.ea_error.EaError.{EaError}
 use Rattle.ea_core.specs.declared.ea_error.EaError.TheVariants.{Prefix, Limit, States, Memory}
 use Rattle.ea_core.specs.Decided.{Implies}
-use Rattle.ea_core.specs.Undecided.{most_members, HasFewMembers, IsCounted, IsWithin, HasFewBranches, of_plan, of_closure, RefusesClosure, RefusesClosures, RefusesSearch, RefusesSearches, Undecided, UndecidedImplication, UndecidedEquivalence}
+use Rattle.ea_core.specs.Undecided.{IsCounted, IsWithin, HasFewBranches, of_plan, RefusesClosures, RefusesSearch, RefusesSearches, Undecided, UndecidedImplication, UndecidedEquivalence}
 
 module _ (prefix : List Quant) (body : Tree) (states : ℕ) where
   pub formula-search : class_of prefix ≢ Other → IsCounted (reduction prefix body) → (e : EaError) → RefusesSearch (reduction prefix body) states e → Undecided prefix body states e
@@ -36,12 +31,6 @@ module _ (first : List Quant) (body : Tree) (second : List Quant) (other : Tree)
   back = implication second other first body
 
   module _ (one : IsOfOneKind first) (two : IsOfOneKind second) where
-    pub implication-closure : HasFewMaps there → (e : EaError) → RefusesClosure there e → UndecidedImplication first body second other states e
-    implication-closure few (Prefix which found) h = absurd h
-    implication-closure few (Limit limit) (is, many) = (one, two, inr (is, few, many))
-    implication-closure few States h = absurd h
-    implication-closure few Memory h = tt
-
     pub implication-search : IsCounted there → (e : EaError) → RefusesSearch there states e → UndecidedImplication first body second other states e
     implication-search counted (Prefix which found) h = absurd h
     implication-search counted (Limit limit) h = absurd h
@@ -73,14 +62,6 @@ first-search plan converse states (Prefix which found) h = h
 first-search plan converse states (Limit limit) h = h
 first-search plan converse states States many = inl many
 first-search plan converse states Memory h = tt
-
--- a closure that is not made
-pub closure-refused : {T : Type 0} (plan : Plan) (e : ClosureError)
-    → (IsErrOf {T = T} (Err e) closures.Limit → most_members < length (task_nodes (tasks_of plan.jobs))) → RefusesClosure (plain_plan plan) (of_closure e)
-closure-refused plan closures.Limit h =
-    let P : List Task → Type 0 = λ ts. most_members < length (task_nodes ts) in
-    (refl, subst P (plain-tasks plan.jobs) (h refl))
-closure-refused plan closures.Memory h = tt
 
 -- ---- by the results of the last step
 

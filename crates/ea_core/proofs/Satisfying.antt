@@ -33,8 +33,8 @@ use Rattle.ea_reduce.specs.Fulfilled.{Fulfils}
 use Rattle.ea_reduce.specs.Joints.{column, lasso_of, lassos_from, IsJoint, AreShortened}
 use Rattle.ea_reduce.proofs.Reducing.{shortened-fulfils}
 use Rattle.ea_reduce.proofs.Same.{shortened-words, lasso-parts}
+use Rattle.rank_proofs.specs.Proofs.{plan_nodes, plan_roots}
 use Rattle.ea_core.specs.declared.decision.Decision.TheVariants.{Sat}
-use Rattle.ea_core.specs.Proofs.{plan_nodes, plan_roots}
 use Rattle.ea_core.specs.Shown.{letters_of, rows_of}
 use Rattle.ea_core.specs.Solved.{PlanMentions, Solves}
 use Rattle.ea_core.proofs.Named.{plan-named}

@@ -1,5 +1,5 @@
 -- From what is found of plans to what is decided of formulas.
-use Rattle.std.proofs.Common.{◌≡◌, ◌≢◌, ℕ, ◌+◌, true, false, Result, Ok, Err, IfOk, IfErr, ◌<◌, ◌≤◌, ◌⊎◌, ap, ◌∙◌, List, [], ◌∷◌, length, map, inl, inr, sym, subst, arith, IsTrue}
+use Rattle.std.proofs.Common.{◌≡◌, ◌≢◌, ℕ, ◌+◌, true, false, Result, Ok, Err, IfOk, IfErr, ◌≤◌, ◌⊎◌, List, [], ◌∷◌, length, map, inl, inr, sym, subst, arith, IsTrue}
 use Rattle.hy_formula.specs.Trees.{Tree, vars_below}
 use Rattle.hy_formula.specs.Classes.{class_of}
 use Rattle.hy_formula.specs.declared.classes.Class.TheVariants.{Other}
@@ -12,24 +12,20 @@ use Rattle.ea_reduce.specs.Plans.{PlainPlan, PlainJob, existentials, lassos_for,
 use Rattle.hy_formula.specs.Quantifiers.{turned}
 use Rattle.ea_reduce.specs.Fulfilled.{IsOfOneKind, IsFulfillable}
 use Rattle.ea_reduce.proofs.Reducing.{reduced-model, satisfiable-reduced, separated-model, separated-implication}
+use Rattle.rank_proofs.specs.Counts.{HasFewMembers}
+use Rattle.rank_proofs.specs.Proofs.{plan_nodes, plan_roots}
 use Rattle.ea_core.specs.declared.decision.Decision.{Decision}
 use Rattle.ea_core.specs.declared.decision.Decision.TheVariants.{Sat, Unsat}
 use Rattle.ea_core.specs.declared.decision.Both.{Both}
 use Rattle.ea_core.specs.declared.decision.Both.TheVariants.{Same, First, Second}
 use Rattle.ea_core.specs.Decided.{Mentions, Decides, Implies, DecidesImplication, DecidesEquivalence}
-use Rattle.ea_core.specs.Proofs.{plan_nodes, plan_roots}
 use Rattle.ea_core.specs.Solved.{PlanMentions, Solves, SolvesBoth}
-use Rattle.ea_core.specs.Undecided.{IsCounted, AreWithin, AreSearched, HasFewMembers, HasFewBranches, HasManyBranches, RefusesSearches, UndecidedEquivalence}
+use Rattle.ea_core.specs.Undecided.{IsCounted, AreWithin, AreSearched, HasFewBranches, HasManyBranches, RefusesSearches, UndecidedEquivalence}
 use Rattle.ea_core.specs.declared.ea_error.EaError.{EaError}
 use Rattle.ea_reduce.specs.Refused.{HasFewMaps}
 use Rattle.ea_core.proofs.Refusing.{equivalence-searches}
-use Rattle.std.proofs.lemmas.Bool.{cases_lt}
-use Rattle.std.proofs.lemmas.List.Elements.{Contains-get_or}
 use Rattle.hy_base.proofs.Members.{contains-cases, contains-none}
-use Rattle.hy_base.proofs.Places.{two-equal}
-use Rattle.ltl_tableau.proofs.Exploring.{place-of}
-use Rattle.ltl_tableau.specs.Reached.{branch_at}
-use Rattle.ltl_tableau.specs.Walks.{no_branch}
+use Rattle.ltl_tableau.proofs.Counting.{no-more}
 
 -- what a tableau of at most n branches says
 pub few-branches : (plan : PlainPlan) (n : ℕ) (list : List Branch) (graph : Shape) → IsTableau (plan_nodes plan) (plan_roots plan) list graph → length list ≤ n → HasFewBranches plan n
@@ -161,31 +157,8 @@ module _ (first : List Quant) (body : Tree) (second : List Quant) (other : Tree)
 
 -- ---- counts of branches
 
-module _ (plan : PlainPlan) (n : ℕ) (few : HasFewBranches plan n) (many : HasManyBranches plan n) where
-  found : (i : ℕ) → i < length many.some → (k : ℕ) × (k < length few.branches) × (branch_at few.branches k ≡ branch_at many.some i)
-  found i lt = place-of no_branch few.branches (branch_at many.some i) (few.all _ (many.reachable _ (Contains-get_or many.some i no_branch lt)))
-
-  -- the place among the few of one of the many
-  abbrev pick : (i : ℕ) → (i < length many.some) ⊎ (length many.some ≤ i) → ℕ
-  pick i (inl lt) = (found i lt).0
-  pick i (inr past) = 0
-
-  picked : (i : ℕ) (d : (i < length many.some) ⊎ (length many.some ≤ i)) → i < length many.some
-      → (pick i d < length few.branches) × (branch_at few.branches (pick i d) ≡ branch_at many.some i)
-  picked i (inl lt) _ = ((found i lt).1, (found i lt).2)
-  picked i (inr past) lt = absurd (omega arith)
-
-  abbrev place : ℕ → ℕ
-  place i = pick i (cases_lt i (length many.some))
-
-  at-place : (i : ℕ) → i < length many.some → (place i < length few.branches) × (branch_at few.branches (place i) ≡ branch_at many.some i)
-  at-place i lt = picked i (cases_lt i (length many.some)) lt
-
-  -- Not both few branches are reachable and many.
-  pub not-both : ⊥
-  not-both =
-      let (i, j, lt, le, e) = two-equal n place (λ i le. omega (arith, few.few, many.more, (at-place i (omega (arith, many.more))).0)) in
-      let same : branch_at many.some i ≡ branch_at many.some j =
-      sym (at-place i (omega (arith, many.more))).1 ∙ ap (branch_at few.branches) e ∙ (at-place j (omega (arith, many.more))).1 in
-      let clash = many.distinct i j (omega (arith, many.more)) (omega (arith, many.more)) same in
-      omega arith
+-- Not both few branches are reachable and many.
+pub not-both : (plan : PlainPlan) (n : ℕ) → HasFewBranches plan n → ¬ HasManyBranches plan n
+not-both plan n few many =
+    let le = no-more many.some few.branches many.distinct (λ b there. few.all b (many.reachable b there)) in
+    omega (arith, few.few, many.more)

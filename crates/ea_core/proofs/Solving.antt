@@ -20,9 +20,9 @@ use Rattle.ltl_tableau.proofs.GraphWalking.{each-ranked}
 use Rattle.ea_reduce.specs.declared.joint.Joint.{Joint}
 use Rattle.ea_reduce.specs.Plans.{PlainPlan, plan_tasks}
 use Rattle.ea_reduce.specs.Joints.{lassos_from, IsJoint, AreShortened}
+use Rattle.rank_proofs.specs.declared.rank_proof.RankProof.{RankProof}
+use Rattle.rank_proofs.specs.Proofs.{plan_nodes, plan_roots}
 use Rattle.ea_core.specs.declared.decision.Decision.TheVariants.{Sat, Unsat}
-use Rattle.ea_core.specs.declared.rank_proof.RankProof.{RankProof}
-use Rattle.ea_core.specs.Proofs.{plan_nodes, plan_roots}
 use Rattle.ea_core.specs.Shown.{rows_of, Shows}
 use Rattle.ea_core.specs.Solved.{Solves}
 use Rattle.ea_core.specs.Undecided.{HasFewBranches}

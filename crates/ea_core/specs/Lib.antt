@@ -1,5 +1,4 @@
 pub mod Decided
-pub mod ProofTexts
 pub mod Proofs
 pub mod Shown
 pub mod Solved

@@ -1,16 +1,17 @@
 -- The letters of branches, and proofs by the ranks of branches.
-use Rattle.std.specs.Prelude.{◌≡◌, ℕ, ◌<◌, ◌≤◌, List, map, length, Option, Some, None, All, slice_index_or}
+use Rattle.std.specs.Prelude.{◌≡◌, ℕ, ◌<◌, ◌≤◌, List, map, length, Some, None, All, slice_index_or}
 use Rattle.std.specs.List.{range_with_len}
 use Rattle.hy_bits.specs.Letter.{Letter}
 use Rattle.rank_check.specs.declared.ranks.Ranks.{Ranks}
 use Rattle.rank_check.specs.Ranking.{rank_of, reason_of}
-use Rattle.ltl_closure.specs.Nodes.{Node, node_at, until}
+use Rattle.ltl_closure.specs.Nodes.{Node}
 use Rattle.ltl_tableau.specs.Branches.{Branch}
+use Rattle.ltl_tableau.specs.GraphWalks.{until_reason}
 use Rattle.ltl_tableau.specs.Reached.{branch_at}
 use Rattle.ltl_tableau.specs.WalkWords.{letter_of}
-use Rattle.ea_core.specs.declared.rank_proof.RankProof.{RankProof}
-use Rattle.ea_core.specs.declared.rank_proof.ProofBranch.{ProofBranch}
-use Rattle.ea_core.specs.Proofs.{branch_of, IsAscending}
+use Rattle.rank_proofs.specs.declared.rank_proof.RankProof.{RankProof}
+use Rattle.rank_proofs.specs.declared.rank_proof.ProofBranch.{ProofBranch}
+use Rattle.rank_proofs.specs.Proofs.{branch_of, IsAscending}
 
 -- the letters of the first variables at a branch, and at the branches of nodes
 abbrev pub letters_of : List Node → ℕ → Branch → List Letter
@@ -18,15 +19,6 @@ letters_of nodes vars branch = map (λ v. letter_of nodes v branch) (range_with_
 
 abbrev pub rows_of : List Node → ℕ → List Branch → List ℕ → List (List Letter)
 rows_of nodes vars list walk = map (λ k. letters_of nodes vars (branch_at list k)) walk
-
--- the member as a reason, where its node is an until
-abbrev pub if_until : ℕ → Node → Option ℕ
-if_until k (until g h) = Some k
-if_until k _ = None
-
-abbrev pub until_reason : List Node → Option ℕ → Option ℕ
-until_reason nodes (Some k) = if_until k (node_at nodes k)
-until_reason nodes None = None
 
 -- The entries are the branches with these numbers, each with the rank of its node.
 pub record AreEntries (list : List Branch) (ranks : Ranks) (entries : List ProofBranch) : Type 0 where

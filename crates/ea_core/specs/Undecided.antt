@@ -1,8 +1,7 @@
 -- When nothing is decided: within which counts a plan is, and past which.
-use Rattle.std.specs.Prelude.{◌≡◌, ◌≢◌, ◌⊎◌, ℕ, ◌<◌, ◌≤◌, false, List, length}
+use Rattle.std.specs.Prelude.{◌≡◌, ◌≢◌, ◌⊎◌, ℕ, ◌≤◌, false, List, length}
 use Rattle.std.specs.List.{Contains}
 use Rattle.hy_base.specs.declared.limit.Limit.{Limit as Past}
-use Rattle.hy_base.specs.declared.limit.Kind.TheVariants.{Closure}
 use Rattle.hy_formula.specs.Trees.{Tree}
 use Rattle.hy_formula.specs.Classes.{class_of}
 use Rattle.hy_formula.specs.declared.classes.Class.TheVariants.{Other}
@@ -18,25 +17,13 @@ use Rattle.ea_reduce.specs.declared.reduce_error.ReduceError.TheVariants as plan
 use Rattle.ea_reduce.specs.Plans.{PlainPlan, reduction, implication}
 use Rattle.ea_reduce.specs.Fulfilled.{IsOfOneKind, IsFulfillable}
 use Rattle.ea_reduce.specs.Refused.{HasFewMaps, HasManyMaps, instances_limit, RefusesClass}
+use Rattle.rank_proofs.specs.Counts.{closure_limit, HasFewMembers, HasManyMembers}
+use Rattle.rank_proofs.specs.Proofs.{plan_nodes, plan_roots}
 use Rattle.ea_core.specs.declared.decision.Both.{Both}
 use Rattle.ea_core.specs.declared.decision.Both.TheVariants.{Same, First, Second}
 use Rattle.ea_core.specs.declared.ea_error.EaError.{EaError}
 use Rattle.ea_core.specs.declared.ea_error.EaError.TheVariants.{Prefix, Limit, States, Memory}
-use Rattle.ea_core.specs.Proofs.{plan_nodes, plan_roots}
 use Rattle.ea_core.specs.Decided.{Implies}
-
-abbrev pub most_members : ℕ
-most_members = 1024
-
-abbrev pub closure_limit : Past
-closure_limit = record { kind = Closure; limit = most_members }
-
--- The closure of the plan has at most 1,024 members, or more.
-abbrev pub HasFewMembers : PlainPlan → Type 0
-HasFewMembers plan = length (plan_nodes plan) ≤ most_members
-
-abbrev pub HasManyMembers : PlainPlan → Type 0
-HasManyMembers plan = most_members < length (plan_nodes plan)
 
 -- The plan is within the limits.
 pub record IsCounted (plan : PlainPlan) : Type 0 where
@@ -126,13 +113,6 @@ of_closure closures.Memory = Memory
 abbrev pub of_tableau : TableauError → EaError
 of_tableau tableaus.States = States
 of_tableau tableaus.Memory = Memory
-
--- Why a plan has no closure.
-abbrev pub RefusesClosure : PlainPlan → EaError → Type 0
-RefusesClosure plan (Prefix second found) = ⊥
-RefusesClosure plan (Limit limit) = (limit ≡ closure_limit) × HasManyMembers plan
-RefusesClosure plan States = ⊥
-RefusesClosure plan Memory = Unit {0}
 
 -- Why the branches of a plan are not searched.
 abbrev pub RefusesSearch : PlainPlan → ℕ → EaError → Type 0

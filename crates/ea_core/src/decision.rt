@@ -1,7 +1,7 @@
 //! What comes of a question.
 
-use crate::rank_proof::RankProof;
 use hy_lasso::LassoList;
+use rank_proofs::RankProof;
 
 /// Lassos that satisfy what was asked, or a proof that none do.
 #[derive(Drop)]

@@ -3,14 +3,16 @@
 ghost use Rattle.std.specs.Prelude.{◌≡◌, ◌<◌, ◌-◌, ◌^◌, All, IfOk, OnOk, IfErr};
 ghost use Rattle.ltl_closure.specs.Jobs.{IsMapped, AreMappedBelow, closure_of};
 ghost use Rattle.ea_reduce.specs.Plans.{plain_plan, plan_tasks};
+ghost use Rattle.rank_proofs.specs.Counts.{HasFewMembers};
 ghost use Rattle.ea_core.specs.Solved.{SolvesBoth};
-ghost use Rattle.ea_core.specs.Undecided.{HasFewMembers, AreSearched, RefusesClosures, RefusesSearches};
+ghost use Rattle.ea_core.specs.Undecided.{AreSearched, RefusesClosures, RefusesSearches};
 
 use crate::decision::{Both, Decision};
 use crate::ea_error::EaError;
-use crate::solve::{plan_closure, solve};
+use crate::solve::solve;
 use ea_reduce::Plan;
 use ltl_closure::Closure;
+use rank_proofs::plan_closure;
 use std::alloc::Global;
 
 /// The closures of two plans.

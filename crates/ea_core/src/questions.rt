@@ -12,9 +12,10 @@ ghost use Rattle.ea_core.specs.Undecided.{IsWithin, AreWithin, Undecided, Undeci
 use crate::decision::{Both, Decision};
 use crate::directions::{both_closures, solve_both};
 use crate::ea_error::EaError;
-use crate::solve::{plan_closure, solve};
+use crate::solve::solve;
 use ea_reduce::{implication, reduce};
 use hy_formula::Formula;
+use rank_proofs::plan_closure;
 use std::alloc::Global;
 
 /// Whether some list of lassos satisfies the formula: such a list in normal form, whose names are

@@ -3,15 +3,16 @@
 ghost use Rattle.std.specs.Prelude.{◌≡◌, ◌≤◌, ◌<◌, ◌*◌, ◌^◌, ℕ, length, All, IfOk, IsSome, None, slice_index_or};
 ghost use Rattle.std.specs.List.Sorted.{IsStrictlyIncreasing};
 ghost use Rattle.rank_check.specs.Ranking.{rank_of, reason_of};
+ghost use Rattle.ltl_tableau.specs.GraphWalks.{until_reason};
 ghost use Rattle.ltl_tableau.specs.Tasks.{set_of};
-ghost use Rattle.ea_core.specs.Proofs.{branch_of, IsAscending};
-ghost use Rattle.ea_core.specs.Shown.{until_reason, AreEntries, Shows};
+ghost use Rattle.rank_proofs.specs.Proofs.{branch_of, IsAscending};
+ghost use Rattle.ea_core.specs.Shown.{AreEntries, Shows};
 
-use crate::rank_proof::{ProofBranch, RankProof};
 use hy_base::{List, M, NumList};
 use ltl_closure::{Closure, Node, Obl};
 use ltl_tableau::{Branch, Tableau};
 use rank_check::Ranks;
+use rank_proofs::{ProofBranch, RankProof};
 use std::alloc::Global;
 
 /// The proof that ranks of a tableau's nodes give: its branches in their order, each with its rank,

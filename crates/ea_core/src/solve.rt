@@ -1,11 +1,11 @@
 //! Decides whether some lassos fulfil a plan.
 
-ghost use Rattle.std.specs.Prelude.{◌≡◌, ◌≤◌, ◌<◌, ◌*◌, ◌-◌, ◌^◌, length, All, IfOk, OnOk, IfErr};
-ghost use Rattle.ltl_closure.specs.Jobs.{IsMapped, AreMappedBelow, closure_of};
+ghost use Rattle.std.specs.Prelude.{◌≡◌, ◌≤◌, ◌<◌, ◌*◌, ◌-◌, ◌^◌, length, IfOk, OnOk, IfErr};
+ghost use Rattle.ltl_closure.specs.Jobs.{AreMappedBelow, closure_of};
 ghost use Rattle.fair_search.specs.Answers.{Answers};
 ghost use Rattle.ea_reduce.specs.Plans.{plain_plan, plan_tasks};
 ghost use Rattle.ea_core.specs.Solved.{Solves};
-ghost use Rattle.ea_core.specs.Undecided.{HasFewMembers, HasFewBranches, RefusesClosure, RefusesSearch};
+ghost use Rattle.ea_core.specs.Undecided.{HasFewBranches, RefusesSearch};
 
 use crate::decision::Decision;
 use crate::ea_error::EaError;
@@ -21,16 +21,6 @@ use rank_check::Graph;
 use std::alloc::Global;
 use std::marker::Brand;
 use std::sync::ledger::{Blank, Ledger};
-
-/// The closure of a plan. `Limit` comes exactly where it has more than 1,024 members.
-pub fn plan_closure(alloc: Global, plan: &Plan) -> Result<Closure, EaError>
-    requires { All IsMapped plan.now.jobs }
-    ensures closure { IfOk result (λ c. c ≡ closure_of (plan_tasks (plain_plan plan.now))) }
-    ensures few { OnOk result (HasFewMembers (plain_plan plan.now)) }
-    ensures refused { IfErr result (RefusesClosure (plain_plan plan.now)) }
-{
-    Ok(Closure::new(alloc, &plan.jobs)?)
-}
 
 /// Lassos that fulfil a plan, or a proof that none do. `States` comes exactly where more than
 /// `states` branches are reachable. In time linear in branches and edges.

@@ -8,8 +8,8 @@ use Rattle.aig_net.specs.RunTexts.{runs_text}
 use Rattle.hy_lasso.specs.Printed.{printed_lassos}
 use Rattle.hy_files.specs.ErrorLines.{fault_line, class_line, limit_line, name_line, memory_line, name_of_file}
 use Rattle.hy_files.specs.declared.fault.FileFault.TheVariants as faults
-use Rattle.ea_core.specs.declared.rank_proof.RankProof.{RankProof}
-use Rattle.ea_core.specs.ProofTexts.{proof_text}
+use Rattle.rank_proofs.specs.declared.rank_proof.RankProof.{RankProof}
+use Rattle.rank_proofs.specs.ProofTexts.{proof_text}
 use Rattle.hy_answer.specs.declared.answer.Answer.{Answer}
 use Rattle.hy_answer.specs.declared.answer.Answer.TheVariants.{Sat, Unsat, Implied, NotImplied, Equivalent, NotEquivalent, OnTrue, OnFalse, NoViolation, Violation}
 use Rattle.hy_answer.specs.declared.answer.Answer.TheVariants.{Words, Syntax, Unbound, Prefix, Line, Session, OpenFault, ReadFault}

@@ -4,7 +4,7 @@ use aig_net::RunList;
 use aiger_body::AigKind;
 use chain_check::Log;
 use cnf_frames::InductionProof;
-use ea_core::RankProof;
+use rank_proofs::RankProof;
 use hy_base::{Kind, NumList, Text};
 use hy_formula::Class;
 use hy_lasso::LassoList;

@@ -8,7 +8,7 @@ use Rattle.fin_monitor.specs.Codes.{atoms_of}
 use Rattle.fin_monitor.specs.Duties.{body_nodes, body_root}
 use Rattle.fin_monitor.specs.Limits.{HasLargeClosure, HasSmallClosure, HasManyAtoms, HasFewAtoms, HasLargeTable, HasSmallTable}
 use Rattle.fin_monitor.proofs.Counting.{reached-most}
-use Rattle.ea_core.specs.Undecided.{HasFewMembers}
+use Rattle.rank_proofs.specs.Counts.{HasFewMembers}
 use Rattle.hy_read.specs.Answers.{Plain}
 use Rattle.hy_words.specs.Commands.{Command}
 use Rattle.hy_top.specs.Checking.{HasManyMembers}

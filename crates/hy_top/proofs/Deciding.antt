@@ -14,13 +14,14 @@ use Rattle.hy_read.specs.Answers.{Plain}
 use Rattle.ea_reduce.specs.Fulfilled.{IsOfOneKind}
 use Rattle.ea_reduce.specs.Plans.{PlainPlan}
 use Rattle.ea_reduce.specs.Refused.{HasFewMaps, RefusesClass as Unlike}
+use Rattle.rank_proofs.specs.declared.rank_proof.RankProof.{RankProof}
+use Rattle.rank_proofs.specs.Counts.{HasFewMembers}
 use Rattle.ea_core.specs.declared.decision.Decision.TheVariants as decisions
 use Rattle.ea_core.specs.declared.decision.Both.TheVariants as both
 use Rattle.ea_core.specs.declared.ea_error.EaError.{EaError}
 use Rattle.ea_core.specs.declared.ea_error.EaError.TheVariants as errors
-use Rattle.ea_core.specs.declared.rank_proof.RankProof.{RankProof}
 use Rattle.ea_core.specs.Decided.{Decides, DecidesImplication, DecidesEquivalence}
-use Rattle.ea_core.specs.Undecided.{HasFewMembers, IsCounted, IsWithin, AreWithin, Undecided, UndecidedImplication, UndecidedEquivalence}
+use Rattle.ea_core.specs.Undecided.{IsCounted, IsWithin, AreWithin, Undecided, UndecidedImplication, UndecidedEquivalence}
 use Rattle.hy_answer.specs.declared.answer.Answer.{Answer}
 use Rattle.hy_answer.specs.declared.answer.Answer.TheVariants as answers
 use Rattle.hy_answer.specs.Outputs.{out_text}

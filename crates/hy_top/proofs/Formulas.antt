@@ -9,7 +9,7 @@ use Rattle.hy_formula.proofs.Each.{each-at}
 use Rattle.hy_read.specs.Answers.{Plain}
 use Rattle.ea_reduce.specs.Plans.{PlainPlan, PlainJob}
 use Rattle.ea_reduce.specs.Refused.{HasFewMaps, HasManyMaps, most_maps}
-use Rattle.ea_core.specs.Undecided.{HasFewMembers}
+use Rattle.rank_proofs.specs.Counts.{HasFewMembers}
 use Rattle.hy_words.specs.Commands.{Command, files_of}
 use Rattle.hy_top.specs.Classes.{takes, FirstUntaken, AreTaken}
 use Rattle.hy_top.specs.Deciding.{plans_of, HasLargeClosure}

@@ -5,7 +5,7 @@ use Rattle.hy_base.specs.declared.shelf.Shelf.{Ghosts}
 use Rattle.hy_formula.specs.Quantifiers.{Each}
 use Rattle.hy_formula.specs.Trees.{Tree}
 use Rattle.hy_formula.specs.declared.classes.Class.{Class}
-use Rattle.ea_core.specs.Undecided.{HasFewMembers}
+use Rattle.rank_proofs.specs.Counts.{HasFewMembers}
 use Rattle.ea_reduce.specs.Refused.{HasFewMaps}
 use Rattle.fin_monitor.specs.Limits.{HasLargeClosure, HasSmallClosure, HasManyAtoms, HasFewAtoms, HasLargeTable, HasSmallTable, IsTaken}
 use Rattle.hy_finite.specs.declared.event.Placed.{Placed}

@@ -11,13 +11,14 @@ use Rattle.hy_formula.specs.Lassos.{Lasso}
 use Rattle.hy_read.specs.Answers.{Plain}
 use Rattle.ea_reduce.specs.Plans.{PlainPlan, reduction, implication}
 use Rattle.ea_reduce.specs.Refused.{HasFewMaps, HasManyMaps}
-use Rattle.ea_core.specs.declared.rank_proof.RankProof.{RankProof}
+use Rattle.rank_proofs.specs.declared.rank_proof.RankProof.{RankProof}
+use Rattle.rank_proofs.specs.Counts.{HasManyMembers}
 use Rattle.ea_core.specs.declared.decision.Decision.TheVariants as decisions
 use Rattle.ea_core.specs.declared.decision.Both.TheVariants as both
 use Rattle.ea_core.specs.declared.ea_error.EaError.{EaError}
 use Rattle.ea_core.specs.declared.ea_error.EaError.TheVariants as errors
 use Rattle.ea_core.specs.Decided.{Decides, DecidesImplication, DecidesEquivalence, Implies}
-use Rattle.ea_core.specs.Undecided.{HasManyMembers, IsCounted, IsWithin, AreWithin, HasFewBranches, HasManyBranches}
+use Rattle.ea_core.specs.Undecided.{IsCounted, IsWithin, AreWithin, HasFewBranches, HasManyBranches}
 use Rattle.hy_answer.specs.declared.answer.Answer.{Answer}
 use Rattle.hy_answer.specs.declared.answer.Answer.TheVariants.{Sat, Unsat, Implied, NotImplied, Equivalent, NotEquivalent, States, Prefix, Limit, Memory}
 use Rattle.hy_words.specs.Commands.{Command, decide, imply, compare}

@@ -7,7 +7,7 @@ use Rattle.hy_base.specs.declared.reading.FileError.TheVariants as errors
 use Rattle.hy_base.specs.declared.reading.TheConstants.{BYTES_LIMIT}
 use Rattle.hy_bits.specs.Letter.{Letter}
 use Rattle.hy_formula.specs.Lassos.{Lasso}
-use Rattle.ea_core.specs.declared.rank_proof.RankProof.{RankProof}
+use Rattle.rank_proofs.specs.declared.rank_proof.RankProof.{RankProof}
 use Rattle.fin_monitor.specs.Limits.{HasLargeClosure, HasManyAtoms, HasLargeTable}
 use Rattle.hy_answer.specs.declared.answer.Answer.{Answer}
 use Rattle.hy_answer.specs.declared.answer.Answer.TheVariants.{Holds, Violated, UnknownDepth, UnknownConflicts, CnfLimit}

@@ -3,11 +3,10 @@
 ghost use Rattle.std.specs.Prelude.{◌≡◌, ◌≤◌, IfOk, IsTrue, length};
 ghost use Rattle.hy_formula.specs.Trees.{tree_of, vars_below};
 
-use ea_core::{
-    Both, Decision, EaError, ProofBranch, RankProof, decide, equivalent, implies, print_rank_proof,
-};
+use ea_core::{Both, Decision, EaError, decide, equivalent, implies};
 use hy_base::{List, M, NumList};
 use hy_formula::{Atom, Body, Formula, Prefix, Quant};
+use rank_proofs::{ProofBranch, RankProof, print_rank_proof};
 use std::alloc::Global;
 
 /// The formula with one quantifier, and a body that may have variable 0.

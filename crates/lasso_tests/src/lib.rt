@@ -13,6 +13,8 @@ mod lassos;
 #[cfg(test)]
 mod plans;
 #[cfg(test)]
+mod rank_checks;
+#[cfg(test)]
 mod walks;
 #[cfg(test)]
 mod worked;

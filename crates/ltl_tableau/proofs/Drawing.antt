@@ -9,8 +9,8 @@ use Rattle.std.proofs.lemmas.Option.{cond_some}
 use Rattle.hy_base.proofs.Places.{last-of}
 use Rattle.rank_check.specs.declared.graph.Node.{Node as Vertex}
 use Rattle.rank_check.specs.Graphs.{Shape, members_of, no_node}
-use Rattle.ltl_closure.specs.Nodes.{Node, always, node_at}
-use Rattle.ltl_tableau.specs.Branches.{Members, Branch, branches, IsBranch, postponed_by, postpones}
+use Rattle.ltl_closure.specs.Nodes.{Node}
+use Rattle.ltl_tableau.specs.Branches.{Members, Branch, branches, IsBranch, postpones}
 use Rattle.ltl_tableau.specs.Reached.{IsReachable, first, after, branch_at, set_at, group_at, IsTableau, Explores, AreGroups, IsNodeOf, AreNodes}
 use Rattle.ltl_tableau.proofs.Collecting.{number-same}
 use Rattle.ltl_tableau.proofs.Exploring.{contains-at, place-of, equal_sets}
@@ -46,14 +46,6 @@ pub groups-all : (groups : List (List ℕ)) (g : Shape) (i : ℕ) → length gro
 groups-all groups g i end filled empty j = elim (cases_lt j i) [ inl lt ↦ filled j lt | inr past ↦ empty j past ∙ sym (get_or_past groups j [] (omega arith)) ]
 
 -- ---- untils
-
--- the until of a number past the nodes is none
-pub postpones-below : (nodes : List Node) (b : Branch) (k : ℕ) → postpones nodes b k ≡ true → k < length nodes
-postpones-below nodes b k e =
-    elim (cases_lt k (length nodes)) [
-      | inl lt ↦ lt
-      | inr past ↦ let none : node_at nodes k ≡ always = get_or_past nodes k always past in let clash : postponed_by b.now k always ≡ true = let P : Node → Type 0 = λ n. postponed_by b.now k n ≡ true in subst P none e in absurd (cc)
-    ]
 
 module _ (nodes : List Node) (b : Branch) (k : ℕ) (list list' : List ℕ) (so_far : (q : ℕ) → Contains list q ↔ ((q < k) × (postpones nodes b q ≡ true))) where
   pub postponed-more : list' ≡ list ++ k ∷ [] → postpones nodes b k ≡ true → (q : ℕ) → Contains list' q ↔ ((q < k + 1) × (postpones nodes b q ≡ true))

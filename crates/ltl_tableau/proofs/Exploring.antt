@@ -1,5 +1,5 @@
 -- What is explored stays explored as branches and sets are added.
-use Rattle.std.proofs.Common.{◌≡◌, ℕ, zero, suc, ◌+◌, ◌<◌, ◌≤◌, ◌⊎◌, Bool, true, false, not, ◌||◌, nat_eq, cond, if◌then◌else◌, List, [], ◌∷◌, ◌++◌, length, map, take, get_or, slice_get, Some, inl, inr, refl, sym, ap, ◌∙◌, subst, arith, length-append}
+use Rattle.std.proofs.Common.{◌≡◌, ℕ, zero, suc, ◌+◌, ◌<◌, ◌≤◌, ◌⊎◌, ◌↔◌, Bool, true, false, not, ◌||◌, nat_eq, cond, if◌then◌else◌, List, [], ◌∷◌, ◌++◌, length, map, take, get_or, slice_get, Some, inl, inr, refl, sym, ap, ◌∙◌, subst, arith, length-append}
 use Rattle.std.specs.List.{Contains, list_any}
 use Rattle.std.specs.FinSet.{empty}
 use Rattle.std.proofs.lemmas.Bool.{cases_lt, cases_eq, eq-eqb, not-true}
@@ -11,7 +11,6 @@ use Rattle.hy_bits.specs.Binary.{number}
 use Rattle.ltl_closure.specs.Nodes.{Node}
 use Rattle.ltl_tableau.specs.Branches.{Members, Branch, same_branch, with_branch, with_all, branches, branches_below, IsBranch}
 use Rattle.ltl_tableau.specs.Walks.{no_branch}
-use Rattle.ltl_tableau.specs.Collected.{Collects}
 use Rattle.ltl_tableau.specs.Reached.{IsReachable, after, branch_at, set_at, group_at, AreDistinct, HasMore, Explores, AreGroups, Grows, PutsBranch, PutsSet}
 use Rattle.ltl_tableau.proofs.Collecting.{equal, equal-same, equal-itself, number-same}
 use Rattle.ltl_tableau.proofs.Distinct.{there-known}
@@ -58,6 +57,25 @@ module _ {A : Type 0} (eq : A → A → Bool) (itself : (a b : A) → a ≡ b �
   put-there : (old new : List A) (x : A) (b : Bool) → list_any (λ y. eq x y) old ≡ b → new ≡ (if b then old else old ++ x ∷ []) → Contains new x
   put-there old new x true any e = let P : List A → Type 0 = λ l. Contains l x in subst P (sym e) (there-any old x any)
   put-there old new x false any e = let P : List A → Type 0 = λ l. Contains l x in subst P (sym e) (Contains-push old x)
+
+  -- what is there after an insertion
+  pub put-holds : (old new : List A) (x : A) → new ≡ (if list_any (λ y. eq x y) old then old else old ++ x ∷ []) → (y : A) → Contains new y ↔ (Contains old y ⊎ (x ≡ y))
+  put-holds old new x put y = by (list_any (λ z. eq x z) old) refl put
+    where
+      by : (b : Bool) → list_any (λ z. eq x z) old ≡ b → new ≡ (if b then old else old ++ x ∷ []) → Contains new y ↔ (Contains old y ⊎ (x ≡ y))
+      by true any e =
+          let P : List A → Type 0 = λ l. Contains l y in (
+            (λ h. inl (subst P e h)),
+            (λ h. subst P (sym e) (elim h [ inl there ↦ there | inr is ↦ subst (Contains old) is (there-any old x any) ])),
+          )
+      by false any e =
+          let P : List A → Type 0 = λ l. Contains l y in (
+            (λ h. Contains-push_cases old x y (subst P e h)),
+            (λ h. subst P (sym e) (elim h [
+              | inl there ↦ Contains-append_left old (x ∷ []) y there
+              | inr is ↦ subst (Contains (old ++ x ∷ [])) is (Contains-push old x)
+            ])),
+          )
 
 pub puts-branch : (old new : List Branch) (b : Branch) (n : ℕ) → new ≡ (if list_any (λ y. equal b y) old then old else old ++ b ∷ []) → n < length new
     → (k : Branch) × (slice_get new n ≡ Some k) × (equal b k ≡ true) → PutsBranch old b new n
@@ -196,18 +214,10 @@ puts-grow sets sets' list list' b s n p q =
 
 -- ---- a whole set
 
-pub found-more : (nodes : List Node) (sets : List Members) (list : List Branch) (set : Members) (start found : List Branch) (n : ℕ) → Explores nodes sets list → Contains sets set
-    → start ≡ [] → Collects n start (branches_below nodes (length nodes) set empty empty) found → n < length found → HasMore nodes (set_at sets 0) n
-found-more nodes sets list set start found n explores there none collects lt =
-    record {
-      some = branches nodes set;
-      distinct = branches-distinct nodes set;
-      reachable = λ b h. explores.asked set there b h;
-      more = let more = collects.many lt in let e : with_all start (branches_below nodes (length nodes) set empty empty) ≡ branches nodes set = ap (λ l. with_all l (branches_below nodes (length nodes) set empty empty)) none in omega (arith, ap length e);
-    }
-
-pub found-all : (nodes : List Node) (set : Members) (start found : List Branch) (n : ℕ) → start ≡ [] → Collects n start (branches_below nodes (length nodes) set empty empty) found → length found ≤ n → found ≡ branches nodes set
-found-all nodes set start found n none collects le = collects.all le ∙ ap (λ l. with_all l (branches_below nodes (length nodes) set empty empty)) none
+pub found-more : (nodes : List Node) (sets : List Members) (list : List Branch) (set : Members) (n : ℕ) → Explores nodes sets list → Contains sets set
+    → n < length (branches nodes set) → HasMore nodes (set_at sets 0) n
+found-more nodes sets list set n explores there lt =
+    record { some = branches nodes set; distinct = branches-distinct nodes set; reachable = λ b h. explores.asked set there b h; more = lt }
 
 pub grows-none : (sets : List Members) (list : List Branch) → Grows sets list sets list
 grows-none sets list = record { more_sets = omega arith; more = omega arith; sets_stay = λ j lt. refl; stays = λ v lt. refl }

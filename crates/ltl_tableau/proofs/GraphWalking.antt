@@ -1,10 +1,11 @@
 -- Fair walks of the graph of a tableau are accepting walks of its branches, and ranks of its nodes are ranks of these.
-use Rattle.std.proofs.Common.{◌≡◌, ℕ, zero, suc, ◌+◌, ◌-◌, ◌%◌, ◌<◌, ◌≤◌, Bool, true, false, nat_lt, cond, List, [], ◌∷◌, length, map, get_or, Option, Some, None, IsSome, inl, inr, refl, sym, ap, ◌∙◌, subst, arith, add-one}
-use Rattle.std.specs.List.{Contains}
+use Rattle.std.proofs.Common.{◌≡◌, ℕ, zero, suc, ◌+◌, ◌-◌, ◌%◌, ◌<◌, ◌≤◌, Bool, true, false, List, [], ◌∷◌, length, map, get_or, Option, Some, None, IsSome, inl, inr, refl, sym, ap, ◌∙◌, subst, arith, add-one}
+use Rattle.std.specs.List.{All, Contains}
+use Rattle.std.specs.Option.{ForSome}
 use Rattle.std.proofs.Math.Nat.{mod-eq_of_lt, mod-lt}
-use Rattle.std.proofs.lemmas.Bool.{cases_lt, lt-ltb}
-use Rattle.std.proofs.lemmas.List.{get_or-map, get_or_default, length-map}
-use Rattle.std.proofs.lemmas.List.Elements.{Contains-append_right}
+use Rattle.std.proofs.lemmas.Bool.{cases_lt, false≢true}
+use Rattle.std.proofs.lemmas.List.{get_or-map, get_or_default, get_or_past, length-map}
+use Rattle.std.proofs.lemmas.List.Elements.{Contains-append_right, All-contains, All-contains_itself, All-weaker}
 use Rattle.hy_base.proofs.Truths.{cond-below, cond-above}
 use Rattle.hy_base.proofs.Members.{map-of, map-from}
 use Rattle.hy_formula.specs.Lassos.{Lasso}
@@ -14,14 +15,14 @@ use Rattle.rank_check.specs.Graphs as graphs
 use Rattle.rank_check.specs.Graphs.{Shape, members_of, successors_of, IsEdge, Postpones, IsWhole, place_of}
 use Rattle.rank_check.specs.Ranking as ranking
 use Rattle.rank_check.specs.Ranking.{rank_of, reason_of, IsRanked}
-use Rattle.ltl_closure.specs.Nodes.{Node}
-use Rattle.ltl_tableau.specs.Branches.{Members, Branch, IsBranch, postpones}
-use Rattle.ltl_tableau.specs.GraphWalks.{walk_of, member_reason, no_entry, entry_at, HasRanks}
-use Rattle.ltl_tableau.specs.Ranks.{Ranked, RankProof, HasAll, Explains, IsRankProof}
+use Rattle.ltl_closure.specs.Nodes.{Node, always, never, literal, and, or, next, weak_next, until, release, node_at, PartsBelow}
+use Rattle.ltl_tableau.specs.Branches.{Members, Branch, IsBranch, postponed_by, postpones}
+use Rattle.ltl_tableau.specs.GraphWalks.{walk_of, if_until, until_reason, no_entry, entry_at, HasRanks}
+use Rattle.ltl_tableau.specs.Ranks.{Ranked, RankProof, reason_at, IsOfMembers, IsUntilNode, HasAll, Explains, IsRankProof}
 use Rattle.ltl_tableau.specs.Reached.{IsReachable, first, after, branch_at, IsTableau}
 use Rattle.ltl_tableau.specs.Walks.{no_branch, gone, IsWalk, IsAccepting}
-use Rattle.ltl_tableau.proofs.Drawing.{postpones-below}
 use Rattle.ltl_tableau.proofs.Exploring.{contains-at, place-of}
+use Rattle.ltl_tableau.proofs.OfMembers.{reachable-members}
 
 -- ---- places of a stem and a cycle
 
@@ -63,6 +64,26 @@ branch-at_place list stem cycle some i =
           (i - length stem) some)
           ∙ sym (ap (branch_at list) (place-in_cycle stem cycle i le))
     ]
+
+-- ---- reasons
+
+-- a reason that is kept is an until
+until-kept : (nodes : List Node) (reason : Option ℕ) (k : ℕ) → until_reason nodes reason ≡ Some k
+    → IsUntilNode nodes k
+until-kept nodes None k e = absurd (cc)
+until-kept nodes (Some j) k e = by (node_at nodes j) refl e
+  where
+    by : (n : Node) → node_at nodes j ≡ n → if_until j n ≡ Some k → IsUntilNode nodes k
+    by always is e' = absurd (cc)
+    by never is e' = absurd (cc)
+    by (literal b a v) is e' = absurd (cc)
+    by (and g h) is e' = absurd (cc)
+    by (or g h) is e' = absurd (cc)
+    by (next g) is e' = absurd (cc)
+    by (weak_next g) is e' = absurd (cc)
+    by (release g h) is e' = absurd (cc)
+    by (until g h) is e' =
+        let same : j ≡ k = cc in (g, h, ap (node_at nodes) (sym same) ∙ is)
 
 -- ---- the graph of a tableau
 
@@ -411,34 +432,69 @@ module _ (nodes : List Node) (roots : Members) (list : List Branch) (graph : Sha
             why v w (leads d e v w lt lt' is is' h) (rank ∙ ap (λ x. Some x) is_r) (rank'
             ∙ ap (λ x. Some x) is_r')
 
-        explains : (r : ℕ) (reason : Option ℕ) → ranking.Explains graph ranks r reason
-            → Explains nodes proof.entries r (member_reason (length nodes) reason)
-        explains r None why = no-edge r why
-        explains r (Some k) why = step (nat_lt k (length nodes)) refl
-          where
-            step : (b : Bool) → nat_lt k (length nodes) ≡ b
-                → Explains nodes proof.entries r (cond b (Some k) None)
-            step true lt = late-branch r k why
-            step false ge = λ d e in_it in_it' is_r is_r' h.
-                let lt : k < length nodes =
-                postpones-below nodes d.branch k (late-branch r k why d in_it is_r) in
-                let clash : nat_lt k (length nodes) ≡ true = lt-ltb k (length nodes) lt in
-                let no : true ≡ false = sym clash ∙ ge in
-                absurd (cc)
+        -- no branch of the rank postpones a member that is no until
+        unpostponed : (r k : ℕ) (n : Node) → node_at nodes k ≡ n
+            → ((now : Members) → postponed_by now k n ≡ false)
+            → ranking.Explains graph ranks r (Some k) → Explains nodes proof.entries r None
+        unpostponed r k n is quiet why d e in_it in_it' is_r is_r' h =
+            absurd (false≢true (sym (quiet d.branch.now)
+            ∙ ap (postponed_by d.branch.now k) (sym is) ∙ late-branch r k why d in_it is_r))
 
-        pub rank-proof : IsRankProof nodes roots proof
-        rank-proof =
-            record {
-              begins = has-all roots (λ b is. first is);
-              closed = λ e in_it.
-                  let (v, lt, is, rank) = at-place e in_it in
-                  let P : Branch → Type 0 = Contains list in
-                  let reach = (tableau.reachable e.branch).0 (subst P (sym is)
-                  (contains-at no_branch list v _ lt refl)) in
-                  has-all e.branch.later (λ b next. after e.branch reach next);
-              falls = falls-on;
-              explained = λ r. let P : Option ℕ → Type 0 =
-                  Explains nodes proof.entries r in
-                  subst P (sym (has.reasons r)) (explains r (reason_of ranks r)
-                  (ranked.explained r));
-            }
+        explains : (r : ℕ) (reason : Option ℕ) → ranking.Explains graph ranks r reason
+            → Explains nodes proof.entries r (until_reason nodes reason)
+        explains r None why = no-edge r why
+        explains r (Some k) why = by (node_at nodes k) refl
+          where
+            by : (n : Node) → node_at nodes k ≡ n → Explains nodes proof.entries r (if_until k n)
+            by always is = unpostponed r k always is (λ now. refl) why
+            by never is = unpostponed r k never is (λ now. refl) why
+            by (literal b a v) is = unpostponed r k (literal b a v) is (λ now. refl) why
+            by (and g h) is = unpostponed r k (and g h) is (λ now. refl) why
+            by (or g h) is = unpostponed r k (or g h) is (λ now. refl) why
+            by (next g) is = unpostponed r k (next g) is (λ now. refl) why
+            by (weak_next g) is = unpostponed r k (weak_next g) is (λ now. refl) why
+            by (release g h) is = unpostponed r k (release g h) is (λ now. refl) why
+            by (until g h) is = late-branch r k why
+
+        -- a rank that has no reason has no entry
+        unranked : (r : ℕ) → length proof.reasons ≤ r → Explains nodes proof.entries r None
+        unranked r past d e in_it in_it' is_r is_r' h =
+            let lt =
+            All-contains (λ (x : Ranked). x.rank < length proof.reasons) proof.entries d has.below
+            in_it in
+            absurd (omega arith)
+
+        explained-at : (r : ℕ) → Explains nodes proof.entries r (reason_at proof r)
+        explained-at r =
+            let P : Option ℕ → Type 0 = Explains nodes proof.entries r in
+            elim (cases_lt r (length proof.reasons)) [
+              | inl lt ↦ subst P (sym (has.reasons r lt)) (explains r (reason_of ranks r)
+                  (ranked.explained r))
+              | inr past ↦
+                  subst P (sym (get_or_past proof.reasons r None past)) (unranked r past)
+            ]
+
+        reached : (e : Ranked) → Contains proof.entries e → IsReachable nodes roots e.branch
+        reached e in_it =
+            let (v, lt, is, rank) = at-place e in_it in
+            let P : Branch → Type 0 = Contains list in
+            (tableau.reachable e.branch).0 (subst P (sym is) (contains-at no_branch list v _ lt refl))
+
+        module _ (parts : (k : ℕ) → k < length nodes → PartsBelow k (node_at nodes k)) where
+          pub rank-proof : IsRankProof nodes roots proof
+          rank-proof =
+              record {
+                members =
+                    All-weaker (Contains proof.entries) (λ e. IsOfMembers nodes e.branch)
+                    (λ e in_it. reachable-members nodes parts roots e.branch (reached e in_it))
+                    proof.entries (All-contains_itself proof.entries);
+                ranked = has.below;
+                untils = λ r o lt k is.
+                    until-kept nodes (reason_of ranks r) k (sym (has.reasons r lt)
+                    ∙ get_or_default proof.reasons r None o lt ∙ is);
+                begins = has-all roots (λ b is. first is);
+                closed = λ e in_it.
+                    has-all e.branch.later (λ b next. after e.branch (reached e in_it) next);
+                falls = falls-on;
+                explained = explained-at;
+              }

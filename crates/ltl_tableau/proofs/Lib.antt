@@ -24,4 +24,6 @@ pub mod Collecting
 pub mod Cutting
 pub mod Exploring
 pub mod Drawing
+pub mod OfMembers
+pub mod Counting
 pub mod GraphWalking

@@ -2,12 +2,11 @@
 
 ghost use Rattle.std.specs.Prelude.{◌≡◌, ◌≤◌, ◌<◌, ◌*◌, ◌+◌, ◌-◌, ◌^◌, [], ◌∷◌, List as Sequence, length, IfOk, OnOk, IsErrOf};
 ghost use Rattle.ltl_closure.specs.Nodes.{Node};
-ghost use Rattle.ltl_tableau.specs.Ways.{AreOpposites};
+ghost use Rattle.ltl_tableau.specs.Branchers.{IsBrancher};
 ghost use Rattle.ltl_tableau.specs.Reached.{HasMore, PutsBranch, PutsSet, Explores, AreGroups, Grows, IsReachable, branch_at, set_at};
 
 use crate::branch::Branch;
-use crate::collect::collect;
-use crate::links::Links;
+use crate::brancher::Brancher;
 use crate::tableau_error::TableauError;
 use hy_base::{List, M, Memory, NumList};
 use indexmap::IndexSet;
@@ -73,13 +72,13 @@ impl<const W: usize> Explored<W> {
         &mut self,
         alloc: Global,
         c: &Closure,
-        links: &Links,
+        brancher: &Brancher,
         states: u32,
     ) -> Result<(), TableauError>
         requires width { W ≤ 16 }
         requires members { length c.now.nodes ≤ 64 * W }
         requires states { states < 2 ^ 32 - 1 }
-        requires links { AreOpposites c.now.nodes links.now.opposites }
+        requires brancher { IsBrancher c.now.nodes brancher.now }
         requires more { length self.old.groups < length self.old.sets.keys }
         requires explores { Explores c.now.nodes self.old.sets.keys self.old.branches.keys }
         requires groups { AreGroups c.now.nodes states self.old.sets.keys self.old.branches.keys
@@ -97,10 +96,9 @@ impl<const W: usize> Explored<W> {
             → HasMore c.now.nodes (set_at self.old.sets.keys 0) states }
     {
         let set = self.sets.as_slice()[self.groups.len()];
-        let found = collect(alloc, c, links, &set, states as usize)?;
-        if found.len() > states as usize {
+        let Some(found) = brancher.of(alloc, c, &set, states as usize)? else {
             return Err(TableauError::States);
-        }
+        };
         let mut members = NumList::new(alloc);
         for branch in found.as_slice() {
             members.push(self.add(*branch, states)?)?;

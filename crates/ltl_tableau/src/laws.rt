@@ -1,6 +1,7 @@
 //! Laws of branches: walks stand for words, and ranks rule walks out.
 
-ghost use Rattle.std.specs.Prelude.{◌≡◌, ℕ, ◌<◌, List, length, IsSome};
+ghost use Rattle.std.specs.Prelude.{◌≡◌, ℕ, ◌<◌, ◌≤◌, List, length, IsSome};
+ghost use Rattle.std.specs.List.{Contains};
 ghost use Rattle.hy_bits.specs.Letter.{Letter};
 ghost use Rattle.hy_formula.specs.Temporal.{Words, endless, IsDecided, Repeats};
 ghost use Rattle.hy_formula.specs.Normals.{Normal, HoldsAt};
@@ -10,9 +11,9 @@ ghost use Rattle.rank_check.specs.Graphs as graphs;
 ghost use Rattle.rank_check.specs.Graphs.{Shape, IsWhole};
 ghost use Rattle.rank_check.specs.Ranking.{rank_of, IsRanked};
 ghost use Rattle.rank_check.specs.declared.ranks.Ranks.{Ranks};
-ghost use Rattle.ltl_closure.specs.Nodes.{Node, Numbers};
+ghost use Rattle.ltl_closure.specs.Nodes.{Node, Numbers, PartsBelow, node_at};
 ghost use Rattle.ltl_closure.specs.Jobs.{Task, AreMappedBelow, AllHold, task_nodes};
-ghost use Rattle.ltl_tableau.specs.Branches.{Members, Has, Branch, IsRun, IsFair};
+ghost use Rattle.ltl_tableau.specs.Branches.{Members, Has, Branch, IsBranch, IsRun, IsFair, branches};
 ghost use Rattle.ltl_tableau.specs.GraphWalks.{walk_of, HasRanks};
 ghost use Rattle.ltl_tableau.specs.Ranks.{RankProof, IsRankProof};
 ghost use Rattle.ltl_tableau.specs.Reached.{IsTableau};
@@ -86,6 +87,14 @@ pub fn graph_walks()
         → IsRanked graph ranks → (v : ℕ) → v < length list → IsSome (rank_of ranks v) }
     ensures proof { (nodes : List Node) (roots : Members) (list : List Branch) (graph : Shape)
         → IsTableau nodes roots list graph → IsWhole graph → (ranks : Ranks)
-        → IsRanked graph ranks → (proof : RankProof) → HasRanks nodes list ranks proof
+        → IsRanked graph ranks → ((k : ℕ) → k < length nodes → PartsBelow k (node_at nodes k))
+        → (proof : RankProof) → HasRanks nodes list ranks proof
         → IsRankProof nodes roots proof }
+{}
+
+/// A set has no more branches than a list in which all of them are.
+pub fn few_branches()
+    ensures { (nodes : List Node) (set : Members) (list : List Branch)
+        → ((b : Branch) → IsBranch nodes set b → Contains list b)
+        → length (branches nodes set) ≤ length list }
 {}

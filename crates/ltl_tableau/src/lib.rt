@@ -2,6 +2,7 @@
 #![tactic(auto)]
 
 mod branch;
+mod brancher;
 mod collect;
 mod draw;
 mod explored;
@@ -14,6 +15,7 @@ mod tableau;
 mod tableau_error;
 
 pub use branch::{Branch, BranchList, postpones};
+pub use brancher::Brancher;
 pub use collect::branches;
-pub use tableau::Tableau;
+pub use tableau::{Tableau, root_set};
 pub use tableau_error::TableauError;

@@ -6,9 +6,9 @@ ghost use Rattle.ltl_tableau.specs.Tasks.{set_of};
 ghost use Rattle.ltl_tableau.specs.Reached.{IsTableau, HasMore};
 
 use crate::branch::Branch;
+use crate::brancher::Brancher;
 use crate::draw::{draw_groups, draw_nodes};
 use crate::explored::Explored;
-use crate::links::Links;
 use crate::tableau_error::TableauError;
 use indexmap::IndexSet;
 use ltl_closure::{Closure, Obl};
@@ -39,10 +39,10 @@ impl<const W: usize> Tableau<W> {
         ensures states { IsErrOf result TableauError.States
             → HasMore c.now.nodes (set_of c.now.roots) states }
     {
-        let links = Links::new(alloc, c)?;
+        let brancher = Brancher::new(alloc, c)?;
         let mut explored = Explored::new(alloc, root_set(c))?;
         while explored.groups.len() < explored.sets.len() {
-            explored.explore(alloc, c, &links, states)?;
+            explored.explore(alloc, c, &brancher, states)?;
         }
         let Explored {
             sets,
@@ -81,7 +81,7 @@ impl<const W: usize> Tableau<W> {
 }
 
 /// The roots of a closure as a set.
-fn root_set<const W: usize>(c: &Closure) -> Obl<W>
+pub fn root_set<const W: usize>(c: &Closure) -> Obl<W>
     requires width { W ≤ 16 }
     requires members { length c.now.nodes ≤ 64 * W }
     ensures { result ≡ set_of c.now.roots }

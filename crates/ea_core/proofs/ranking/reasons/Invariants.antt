@@ -1,6 +1,6 @@
 use Rattle.std.proofs.Common.{◌≡◌, ℕ, ◌<◌, length, get_or, None}
 use Rattle.rank_check.specs.Ranking.{reason_of}
-use Rattle.ea_core.specs.Shown.{until_reason}
+use Rattle.ltl_tableau.specs.GraphWalks.{until_reason}
 use Rattle.ea_core.proofs.ranking.reasons.Given as goal
 
 abbrev pub invariant-loop-r : goal.invariant-loop-r

@@ -11,4 +11,5 @@ pub returns-clause-ranked : goal.returns-clause-ranked
 returns-clause-ranked c = each-ranked
 
 pub returns-clause-proof : goal.returns-clause-proof
-returns-clause-proof c = rank-proof
+returns-clause-proof c nodes roots list graph tableau whole ranks ranked parts proof has =
+    rank-proof nodes roots list graph tableau whole ranks ranked proof has parts

@@ -1,0 +1,11 @@
+pub mod Adding
+pub mod Checking
+pub mod Edges
+pub mod Greatest
+pub mod Joining
+pub mod Missing
+pub mod Planning
+pub mod Reading
+pub mod Refuting
+pub mod Rules
+pub mod Same
