@@ -4,7 +4,7 @@ ghost use Rattle.std.specs.Prelude.{◌≡◌, ◌*◌, ◌-◌, ◌≤◌, ◌<
 
 use crate::files::text_of;
 use anyhow::{Result, bail};
-use bench_tools::formula_of;
+use case_tools::formula_of;
 use formula_nets::closure_for;
 use hy_bits::each_width;
 use hy_formula::NameTable;
