@@ -4,13 +4,13 @@ ghost use Rattle.std.specs.Prelude.{◌≡◌, ◌<◌, ◌≤◌, IfOk, IsTrue}
 ghost use Rattle.hy_formula.specs.Trees.{tree_of, vars_below};
 ghost use Rattle.fin_monitor.specs.Seen.{machine_of};
 
-use crate::bodies::{alike, boxed_atom};
+use crate::bodies::alike;
 use crate::letters::{letter_of, trace_of};
 use fin_monitor::Monitor;
 use hy_base::Steps;
 use hy_bits::LetterMask;
 use hy_finite::Lengths;
-use hy_formula::Body;
+use hy_formula::{Atom, Body};
 use std::alloc::Global;
 use std::marker::Brand;
 use std::process::Abort;
@@ -26,7 +26,8 @@ fn not_all(alloc: Global, n: u8) -> Result<Body, Fail>
 {
     let mut made = Body::True;
     for var in 0..n {
-        made = Body::And(boxed_atom(alloc, var, var)?, Box::new(alloc, made)?);
+        let atom = Body::Atom(Atom { name: var, var });
+        made = Body::And(Box::new(alloc, atom)?, Box::new(alloc, made)?);
     }
     Ok(Body::Not(Box::new(alloc, made)?))
 }
