@@ -2,5 +2,4 @@
 #![tactic(auto)]
 
 pub mod laws;
-#[cfg(test)]
-mod runs;
+pub mod runs;

@@ -18,13 +18,10 @@ use hy_base::{Remake, Steps};
 use hy_bits::{LetterMask, Letters};
 use hy_finite::{Event, Lengths, Trace, TraceList};
 use hy_formula::{Formula, NameTable};
-use hy_read::read_formula;
 use made_traces::make_traces;
 use rv_core::{Reply, Rv};
 use std::alloc::Global;
-use std::marker::Brand;
-use std::process::Abort;
-use std::sync::ledger::{Blank, Ledger};
+use std::sync::ledger::Ledger;
 use std::test::Fail;
 
 /// A trace arrives at a monitor at which these have arrived.
@@ -94,7 +91,7 @@ fn pair(alloc: Global, first: LetterMask, second: LetterMask) -> Result<Trace, F
 /// Letter `a` arrives, and `a` before `b`. Then `a` before `c` makes at most 8 steps: there are one
 /// joint prefix of length 1 and three of length 2, for each of two variables. Where the order of two
 /// traces does not matter these are at most 3 steps, since two of length 2 have the new trace first.
-fn third_of_three<B: Ledger, L: Ledger>(
+pub fn third_of_three<B: Ledger, L: Ledger>(
     alloc: Global,
     formula: Formula,
     a: LetterMask,
@@ -126,7 +123,7 @@ fn repeated(alloc: Global, trace: &Trace, n: usize) -> Result<TraceList, Fail>
 
 /// The tenth of equal traces of two letters makes at most 4 steps: there are one joint prefix of
 /// length 1 and one of length 2.
-fn tenth_of_equals<B: Ledger, L: Ledger>(
+pub fn tenth_of_equals<B: Ledger, L: Ledger>(
     alloc: Global,
     formula: Formula,
     first: LetterMask,
@@ -145,7 +142,7 @@ fn tenth_of_equals<B: Ledger, L: Ledger>(
 
 /// A made trace behind any number of made ones makes at most 2,802 steps: words over two letters
 /// have at most 7, 37, 169 and 721 joint prefixes of the lengths 1 to 4.
-fn made_behind<B: Ledger, L: Ledger>(
+pub fn made_behind<B: Ledger, L: Ledger>(
     alloc: Global,
     formula: Formula,
     names: &NameTable,
@@ -163,96 +160,4 @@ fn made_behind<B: Ledger, L: Ledger>(
     };
     let mut rv = seen_by(alloc, &[formula], seen.as_slice(), before)?;
     arrive(alloc, &mut rv, seen.as_slice(), trace, steps)
-}
-
-/// The formula of a text, of so many variables.
-fn formula_of<R: AllocGlobal + Abort>(
-    rt: &R,
-    text: &[u8],
-    names: &mut NameTable,
-    variables: usize,
-) -> Result<Formula, Fail>
-    requires { length text.now < 1000 }
-    ensures { IfOk result (λ formula. length formula.prefix ≡ variables) }
-{
-    let formula = read_formula(rt.alloc(), text, 8, names)?;
-    if formula.prefix.len() != variables {
-        return Err("other quantifiers")?;
-    }
-    Ok(formula)
-}
-
-/// That the outputs are alike where the inputs are, for two traces and for three.
-const TWO: &[u8] = b"forall p. forall q. G (i_p <-> i_q) -> G (o_p <-> o_q)";
-
-const THREE: &[u8] =
-    b"forall p. forall q. forall r. G ((i_p <-> i_q) & (i_q <-> i_r)) -> G (o_p <-> o_r)";
-
-/// The third trace has the input of the second one, and another output.
-fn few_traces<B: Ledger, L: Ledger, R: AllocGlobal + Abort>(
-    rt: &R,
-    before: &mut Steps<B>,
-    steps: &mut Steps<L>,
-) -> Result<(), Fail> {
-    let alloc = rt.alloc();
-    let mut names = NameTable::new(alloc)?;
-    let none = LetterMask::empty();
-    let (input, output) = (none.with(0), none.with(1));
-    let formula = formula_of(rt, TWO, &mut names, 2)?;
-    let third = third_of_three(alloc, formula, input, output, none, before, steps)?;
-    assert!(rt;
-        matches!(
-            third,
-            Reply::Violation {
-                spec: 0,
-                trace: 2,
-                ..
-            }
-        )
-    );
-    let formula = formula_of(rt, TWO, &mut names, 2)?;
-    let tenth = tenth_of_equals(alloc, formula, input, output, before, steps)?;
-    assert!(rt; matches!(tenth, Reply::Arrived { trace: 9 }));
-    Ok(())
-}
-
-/// Both signals hold in each made letter, or none does.
-fn made<B: Ledger, L: Ledger, R: AllocGlobal + Abort>(
-    rt: &R,
-    before: &mut Steps<B>,
-    steps: &mut Steps<L>,
-) -> Result<(), Fail> {
-    let alloc = rt.alloc();
-    for n in [0, 1, 30, 2999] {
-        let mut names = NameTable::new(alloc)?;
-        let formula = formula_of(rt, THREE, &mut names, 3)?;
-        match made_behind(alloc, formula, &names, n, before, steps)? {
-            Reply::Arrived { trace } => assert_eq!(rt; trace, n),
-            _ => assert!(rt; false),
-        }
-    }
-    Ok(())
-}
-
-fn all<B: Ledger, L: Ledger, R: AllocGlobal + Abort>(
-    rt: &R,
-    first: Blank,
-    second: Blank,
-) -> Result<(), Fail>
-    requires first_name { first.name ≡ B.name }
-    requires first_parts { first.parts ≡ B.parts }
-    requires first_some { 0 < first.parts }
-    requires second_name { second.name ≡ L.name }
-    requires second_parts { second.parts ≡ L.parts }
-    requires second_some { 0 < second.parts }
-{
-    let mut before = Steps::<B>::new(first);
-    let mut steps = Steps::<L>::new(second);
-    few_traces(rt, &mut before, &mut steps)?;
-    made(rt, &mut before, &mut steps)
-}
-
-#[test]
-fn counted_runs(rt: HostRuntime) -> Result<(), Fail> {
-    all::<Brand, Brand, HostRuntime>(&rt, Blank::new(1), Blank::new(1))
 }
