@@ -21,6 +21,7 @@ use Rattle.aig_net.specs.declared.signals.Signal.{Signal}
 use Rattle.aig_net.specs.Executions.{Word}
 use Rattle.aig_net.specs.Nets.{IsNet, Net}
 use Rattle.aig_net.specs.Simulations.{IsExecutionOf}
+use Rattle.aig_net.proofs.LassoRuns.{run-execution}
 use Rattle.live_safe.specs.declared.safe_net.Path.{Path}
 use Rattle.live_safe.specs.declared.safe_net.SafeNet.{SafeNet}
 use Rattle.live_safe.specs.Paths.{IsBadPath}
@@ -36,7 +37,6 @@ use Rattle.wit_lasso.specs.Satisfaction.{Satisfies}
 use Rattle.wit_lasso.specs.Seeing.{IsTraceOf}
 use Rattle.wit_lasso.specs.Unfoldings.{AreUnfolded, GoesToBad, IsSafeOf, IsUnfolding, no_run, run_at}
 use Rattle.wit_lasso.proofs.Checking.{existential-right, universal-right}
-use Rattle.aig_net.proofs.LassoRuns.{run-execution}
 use Rattle.mc_core.specs.declared.ask.Ask.{Ask}
 use Rattle.mc_core.specs.declared.checked.Checked.{Checked}
 use Rattle.mc_core.specs.Answers.{AreTraces, AreWitnesses, IsChecked, IsEvidence, IsTaken, IsUsable, answered, checked_safe, is_existential}
