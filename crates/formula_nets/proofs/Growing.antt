@@ -5,9 +5,9 @@ use Rattle.std.proofs.lemmas.List.{length-map}
 use Rattle.ltl_closure.specs.Nodes.{Node}
 use Rattle.aig_net.specs.declared.signals.Signal.{Signal}
 use Rattle.aig_net.specs.Nets.{Net, variables}
+use Rattle.aig_net.proofs.Copying.{length-copied}
 use Rattle.aig_net.proofs.Wiring.{all-grow, each-grow}
 use Rattle.self_compose.specs.Copies.{compose, copy_and, copy_literal}
-use Rattle.aig_net.proofs.Copying.{length-copied}
 use Rattle.sym_tableau.specs.Oracles.{attach, attached_first, kept_wires, ends, promises, member_wire, members, moved_and, moved_literal, oracle}
 use Rattle.sym_tableau.specs.Places.{AreWithin}
 use Rattle.sym_tableau.proofs.Parts.{many-latches}

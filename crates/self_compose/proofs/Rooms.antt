@@ -5,8 +5,8 @@ use Rattle.std.proofs.lemmas.List.{get_or_default}
 use Rattle.aig_net.specs.declared.parts.And.{And}
 use Rattle.aig_net.specs.declared.parts.NetParts.{NetParts}
 use Rattle.aig_net.specs.Nets.{Net, no_and, and_at, literal_at, variables, Below, AllBelow, AreOrdered, first_and, IsNet}
-use Rattle.self_compose.specs.Copies.{copy_literal, copy_and, compose}
 use Rattle.aig_net.proofs.Copying.{length-copied}
+use Rattle.self_compose.specs.Copies.{copy_literal, copy_and, compose}
 use Rattle.self_compose.proofs.Tuples.{composed-net}
 
 abbrev pub HasRoom : ℕ → ℕ → Type 0

@@ -3,7 +3,7 @@ use Rattle.std.proofs.Common.{◌≡◌, ℕ, ◌<◌, Bool, true, false, cond, 
 use Rattle.std.proofs.Math.Path.{fun_ext}
 use Rattle.std.proofs.lemmas.Bool.{cases_lt}
 use Rattle.hy_base.proofs.Truths.{cond-below, cond-above}
-use Rattle.hy_formula.specs.Trees.{Tree, or, vars_below}
+use Rattle.hy_formula.specs.Trees.{Tree, vars_below}
 use Rattle.hy_formula.specs.Temporal.{endless, Words, SatisfiesAt}
 use Rattle.hy_formula.specs.Normals.{Signed}
 use Rattle.hy_formula.specs.Renamed.{renamed, with_variables}

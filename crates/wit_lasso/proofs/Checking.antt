@@ -66,7 +66,7 @@ module _ (net : Net) (good : IsNet net) (n : ℕ) (some : 0 < n) (t : Tableau) (
 
 -- ---- a formula
 
-at-each : {A : Type 0} (P : A → Type 0) (xs : List A) (d : A) →
+pub at-each : {A : Type 0} (P : A → Type 0) (xs : List A) (d : A) →
     ((c : ℕ) → c < length xs → P (get_or xs c d)) → Each P xs
 at-each P [] d all = tt
 at-each P (x ∷ xs) d all = (all 0 (omega arith), at-each P xs d (λ c lt. all (suc c) (omega arith)))

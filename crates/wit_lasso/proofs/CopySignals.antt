@@ -8,8 +8,8 @@ use Rattle.aig_net.specs.declared.signals.Signal.{Signal}
 use Rattle.aig_net.specs.Nets.{Net, Below, variables}
 use Rattle.aig_net.specs.Signals.{literal_of}
 use Rattle.aig_net.specs.Wires.{listed}
-use Rattle.self_compose.specs.Copies.{compose, copy_literal}
 use Rattle.aig_net.proofs.Copying.{each-copied}
+use Rattle.self_compose.specs.Copies.{compose, copy_literal}
 use Rattle.self_compose.proofs.Tuples.{copy-below}
 use Rattle.sym_tableau.specs.Oracles.{signal_in}
 use Rattle.sym_tableau.specs.Places.{AreWithin}

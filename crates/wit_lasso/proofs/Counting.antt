@@ -3,8 +3,8 @@ use Rattle.std.proofs.Common.{◌≡◌, ℕ, zero, suc, ◌+◌, ◌*◌, ◌<�
 use Rattle.std.proofs.lemmas.Bool.{cases_eq}
 use Rattle.aig_net.specs.declared.parts.Reset.TheVariants.{Zero}
 use Rattle.aig_net.specs.Nets.{Net, IsNet, reset_at}
-use Rattle.self_compose.specs.Copies.{compose, copy_reset}
 use Rattle.aig_net.proofs.Copying.{at-copied, length-copied}
+use Rattle.self_compose.specs.Copies.{compose, copy_reset}
 use Rattle.sym_tableau.specs.Oracles.{oracles}
 use Rattle.sym_tableau.proofs.Parts.{many-latches, reset-oracle, reset-old, reset-started}
 use Rattle.live_safe.specs.Safe.{count_below, free_at, is_free, safe_inputs}

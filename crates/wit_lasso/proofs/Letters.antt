@@ -1,5 +1,5 @@
 -- What is seen of a valuation, one signal more at a time; and of rows and of a run.
-use Rattle.std.proofs.Common.{◌≡◌, ◌≢◌, ℕ, zero, suc, ◌+◌, ◌-◌, ◌%◌, ◌<◌, ◌≤◌, Bool, true, false, cond, List, [], ◌∷◌, ◌++◌, length, drop, take, map, get_or, slice_get, IsTrue, Some, unwrap_or, inl, inr, refl, sym, ap, ◌∙◌, subst, arith, length-append}
+use Rattle.std.proofs.Common.{◌≡◌, ◌≢◌, ℕ, zero, suc, ◌+◌, ◌-◌, ◌%◌, ◌<◌, ◌≤◌, Bool, true, false, cond, List, [], ◌∷◌, ◌++◌, length, drop, take, map, get_or, slice_get, IsTrue, Some, Result, Ok, Err, IfOk, unwrap_or, inl, inr, refl, sym, ap, ◌∙◌, subst, arith, length-append}
 use Rattle.std.proofs.Math.Nat.{mod-lt}
 use Rattle.std.proofs.Math.Seq.{drop-cons}
 use Rattle.std.proofs.lemmas.Bool.{cases_eq, cases_lt, ltb-true, false_from_ne_true, and_parts, and_from, cond-true, cond-false}
@@ -10,6 +10,7 @@ use Rattle.std.specs.Ordering.{nat_cmp}
 use Rattle.hy_bits.specs.BinaryLaws.{contains-insert_other, contains-insert_same, contains-remove_other, contains-remove_same}
 use Rattle.hy_bits.specs.Letter.{Letter}
 use Rattle.hy_formula.specs.Lassos as letters
+use Rattle.hy_lasso.specs.NormalForms.{IsNormal}
 use Rattle.hy_lasso.proofs.LassoWords as words
 use Rattle.aig_net.specs.declared.run.Run.{Run}
 use Rattle.aig_net.specs.declared.run.ValueLasso.{ValueLasso}
@@ -22,7 +23,7 @@ use Rattle.aig_net.specs.Simulations.{IsExecutionOf, valuations}
 use Rattle.aig_net.proofs.Listed.{at-map}
 use Rattle.aig_net.proofs.Rounds as rounds
 use Rattle.sym_tableau.specs.Places.{AreWithin}
-use Rattle.wit_lasso.specs.Seeing.{AreSeen, Counts, IsSeen, ShowsTrace}
+use Rattle.wit_lasso.specs.Seeing.{AreSeen, Counts, IsSeen, IsTraceOf, ShowsTrace}
 
 -- ---- one signal
 
@@ -245,3 +246,15 @@ shows-rows signals values trace stem cycle some i name =
           ∙ ap (value_in (map row values.cycle)) there
           ∙ at-map row [] no_values values.cycle k less))
     ]
+
+-- the trace of a run, from what is said of that of its values
+pub trace-of : {E : Type 0} (net : Net) (signals : List Signal) (run : Run) (values : ValueLasso) →
+    IsExecutionOf net run values → (r : Result (letters.Lasso Letter) E) → IfOk r IsNormal →
+    IfOk r (ShowsTrace signals (gone (valuations values))) → IfOk r (IsTraceOf net signals run)
+trace-of net signals run values is (Ok trace) normal shows = record {
+  values = values;
+  execution = is;
+  normal = normal;
+  shows = shows;
+}
+trace-of net signals run values is (Err e) normal shows = tt

@@ -7,3 +7,4 @@ pub mod PathLassos
 pub mod PathRuns
 pub mod Places
 pub mod Steps
+pub mod Witnessing

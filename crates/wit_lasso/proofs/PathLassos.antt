@@ -7,7 +7,7 @@ use Rattle.hy_formula.specs.Trees.{Tree, vars_below}
 use Rattle.hy_formula.specs.Normals.{Signed}
 use Rattle.hy_formula.specs.Lassos as letters
 use Rattle.hy_lasso.specs.Words as words
-use Rattle.hy_lasso.specs.Words.{letter_at, lasso_words, no_lasso}
+use Rattle.hy_lasso.specs.Words.{lasso_words, no_lasso}
 use Rattle.aig_net.specs.declared.run.Run.{Run}
 use Rattle.aig_net.specs.declared.run.ValueLasso.{ValueLasso}
 use Rattle.aig_net.specs.declared.signals.Signal.{Signal}
@@ -15,6 +15,7 @@ use Rattle.aig_net.specs.Nets.{Net, IsNet, Valuation, variables}
 use Rattle.aig_net.specs.Executions.{Word, Lasso, IsLassoExecution, gone, lasso_of}
 use Rattle.aig_net.specs.Signals.{visible}
 use Rattle.aig_net.specs.Simulations.{IsExecutionOf, valuations}
+use Rattle.aig_net.proofs.LassoRuns.{run-execution}
 use Rattle.aig_net.proofs.Literals.{value-same}
 use Rattle.aig_net.proofs.Rounds.{length-part}
 use Rattle.self_compose.specs.Copies.{compose, copy, place}
@@ -28,7 +29,6 @@ use Rattle.wit_lasso.specs.Unfoldings.{AreUnfolded, Saves, copy_lasso, copy_word
 use Rattle.wit_lasso.proofs.Bodies.{signed-same}
 use Rattle.wit_lasso.proofs.Checking.{old, own-execution, seen-own, lasso-says}
 use Rattle.wit_lasso.proofs.CopySignals.{own-below}
-use Rattle.aig_net.proofs.LassoRuns.{run-execution}
 use Rattle.wit_lasso.proofs.Steps.{lasso-same, near}
 
 -- one step alone saves

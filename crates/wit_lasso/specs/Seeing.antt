@@ -8,11 +8,12 @@ use Rattle.hy_lasso.specs.Words.{letter_at}
 use Rattle.aig_net.specs.declared.run.Run.{Run}
 use Rattle.aig_net.specs.declared.run.ValueLasso.{ValueLasso}
 use Rattle.aig_net.specs.declared.signals.Signal.{Signal}
-use Rattle.aig_net.specs.Nets.{Net, Valuation, literal_value, row}
+use Rattle.aig_net.specs.Nets.{Net, Valuation, literal_value, row, variables}
 use Rattle.aig_net.specs.Executions.{Word, gone}
 use Rattle.aig_net.specs.Following.{row_at}
 use Rattle.aig_net.specs.Signals.{is_for, shown, visible}
 use Rattle.aig_net.specs.Simulations.{IsExecutionOf, valuations}
+use Rattle.sym_tableau.specs.Places.{AreWithin}
 
 -- The letter has the names that are seen of the valuation.
 abbrev pub IsSeen : List Signal → Valuation → Letter → Type 0
@@ -36,6 +37,11 @@ pub record AreSeen (signals : List Signal) (rows : List (List Bool)) (seen : Lis
 abbrev pub ShowsTrace : List Signal → Word → letters.Lasso Letter → Type 0
 ShowsTrace signals word trace =
     (i name : ℕ) → contains (letter_at trace i) name ≡ visible signals word name i
+
+-- The values are those of a run of some net, which has the literals of the signals.
+abbrev pub AreRunValues : List Signal → ValueLasso → Type 0
+AreRunValues signals values =
+    (net : Net) × (run : Run) × IsExecutionOf net run values × AreWithin (variables net) signals
 
 -- The trace is the normal form of what is seen of the run, which is that of a lasso execution.
 pub record IsTraceOf (net : Net) (signals : List Signal) (run : Run)

@@ -45,3 +45,19 @@ pub fn checked()
 {
     one_execution();
 }
+
+/// Traces of runs show by themselves, however the runs were found, what they say: where they satisfy
+/// the body, the circuit satisfies the existential formula, and where they fail it, it does not
+/// satisfy the universal one.
+pub fn witnesses_show()
+    ensures existential { (net : Net) (signals : List Signal) (n : ℕ) (body : Tree)
+        (runs : List Run) (traces : List (letters.Lasso Letter)) → 0 < n
+        → IsTrue (vars_below n body)
+        → ((c : ℕ) → c < n → IsTraceOf net signals (run_at runs c) (slice_index_or traces c no_lasso))
+        → words.Meets body traces → Satisfies net signals (repeated Exists n) body }
+    ensures universal { (net : Net) (signals : List Signal) (n : ℕ) (body : Tree)
+        (runs : List Run) (traces : List (letters.Lasso Letter)) → 0 < n
+        → IsTrue (vars_below n body)
+        → ((c : ℕ) → c < n → IsTraceOf net signals (run_at runs c) (slice_index_or traces c no_lasso))
+        → (¬ words.Meets body traces) → ¬ Satisfies net signals (repeated Forall n) body }
+{}

@@ -6,6 +6,6 @@ mod laws;
 mod seeing;
 mod unfolding;
 
-pub use laws::checked;
-pub use seeing::visible;
+pub use laws::{checked, witnesses_show};
+pub use seeing::{visible, visible_in};
 pub use unfolding::unfold;

@@ -1,14 +1,15 @@
 //! What is seen of a run.
 
 ghost use Rattle.std.specs.Prelude.{◌≡◌, ℕ, ◌<◌, false, length, IfOk};
-ghost use Rattle.aig_net.specs.declared.run.ValueLasso.{ValueLasso};
+ghost use Rattle.hy_lasso.specs.NormalForms.{IsNormal};
+ghost use Rattle.aig_net.specs.Executions.{gone};
 ghost use Rattle.aig_net.specs.Following.{row_at};
 ghost use Rattle.aig_net.specs.Nets.{Below, row, variables};
-ghost use Rattle.aig_net.specs.Simulations.{IsExecutionOf};
+ghost use Rattle.aig_net.specs.Simulations.{IsExecutionOf, valuations};
 ghost use Rattle.sym_tableau.specs.Places.{AreWithin};
-ghost use Rattle.wit_lasso.specs.Seeing.{AreSeen, Counts, IsSeen, IsTraceOf};
+ghost use Rattle.wit_lasso.specs.Seeing.{AreRunValues, AreSeen, Counts, IsSeen, IsTraceOf, ShowsTrace};
 
-use aig_net::{Net, Row, Run, Signal, Signals, simulate, value_of};
+use aig_net::{Net, Row, Run, Signal, Signals, ValueLasso, simulate, value_of};
 use hy_base::{List, M};
 use hy_bits::{LetterMask, Letters};
 use hy_lasso::Lasso;
@@ -24,6 +25,16 @@ pub fn visible(alloc: Global, net: &Net, run: &Run, signals: &Signals) -> M<Lass
     let Some(values) = simulate(alloc, net, run)? else {
         unreachable!()
     };
+    visible_in(alloc, &values, signals)
+}
+
+/// The same of a run whose values these are, so that a run that was simulated is not simulated
+/// again. In time linear in the signals for each step.
+pub fn visible_in(alloc: Global, values: &ValueLasso, signals: &Signals) -> M<Lasso>
+    requires { AreRunValues signals.now values.now }
+    ensures normal { IfOk result IsNormal }
+    ensures shows { IfOk result (ShowsTrace signals.now (gone (valuations values.now))) }
+{
     let stem = letters_of(alloc, values.stem.as_slice(), signals)?;
     let cycle = letters_of(alloc, values.cycle.as_slice(), signals)?;
     let Some(lasso) = Lasso::new(stem, cycle) else {

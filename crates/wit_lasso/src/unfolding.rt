@@ -5,7 +5,7 @@ ghost use Rattle.aig_net.specs.Nets.{row};
 ghost use Rattle.aig_net.specs.Following.{row_at};
 ghost use Rattle.aig_net.specs.Wires.{listed};
 ghost use Rattle.live_safe.specs.Safe.{is_free as free_reset};
-ghost use Rattle.wit_lasso.specs.PathParts.{AreRows, free_before, own_latches, own_run, start_value as value_at_start, take_place};
+ghost use Rattle.wit_lasso.specs.PathParts.{AreRows, free_before, own_latches, own_run, start_value as value_at_start};
 ghost use Rattle.wit_lasso.specs.Unfoldings.{GoesToBad, IsSafeOf, IsUnfolding};
 
 use aig_net::{Net, Reset, Row, Run, RunList, own_rows};
