@@ -13,4 +13,6 @@ mod queries;
 #[cfg(test)]
 mod shifts;
 #[cfg(test)]
+mod signals;
+#[cfg(test)]
 mod solving;
