@@ -9,12 +9,12 @@ use crate::answer::{Answer, Extras};
 use crate::runs::runs_text;
 use aig_net::RunList;
 use cnf_frames::InductionProof;
-use rank_proofs::{RankProof, print_rank_proof};
 use hy_base::{M, Text};
 use hy_formula::NameTable;
 use hy_lasso::{LassoList, print_lassos};
 use itoa::Buffer;
 use mc_core::print_proof;
+use rank_proofs::{RankProof, print_rank_proof};
 use std::alloc::Global;
 
 /// Adds a number in decimal digits.
