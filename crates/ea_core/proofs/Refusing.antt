@@ -6,7 +6,7 @@ use Rattle.hy_formula.specs.declared.classes.Class.TheVariants.{Other}
 use Rattle.hy_formula.specs.declared.prefix.Quant.{Quant}
 use Rattle.ea_reduce.specs.declared.reduce_error.ReduceError.{ReduceError}
 use Rattle.ea_reduce.specs.declared.reduce_error.ReduceError.TheVariants as plans
-use Rattle.ea_reduce.specs.Plans.{PlainPlan, plain_plan, reduction, implication}
+use Rattle.ea_reduce.specs.Plans.{PlainPlan, reduction, implication}
 use Rattle.ea_reduce.specs.Fulfilled.{IsOfOneKind, IsFulfillable}
 use Rattle.ea_reduce.specs.Refused.{HasFewMaps, RefusesImplication}
 use Rattle.rank_proofs.specs.Counts.{HasFewMembers}

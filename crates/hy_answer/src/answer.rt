@@ -4,12 +4,12 @@ use aig_net::RunList;
 use aiger_body::AigKind;
 use chain_check::Log;
 use cnf_frames::InductionProof;
-use rank_proofs::RankProof;
 use hy_base::{Kind, NumList, Text};
 use hy_formula::Class;
 use hy_lasso::LassoList;
 use invar_find::Kept;
 use live_safe::Path;
+use rank_proofs::RankProof;
 use tuple_walk::Tuple;
 
 /// What a run answers. `file` is 0 for the first file of the command, and 1 for the second.

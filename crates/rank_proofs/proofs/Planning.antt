@@ -1,5 +1,5 @@
 -- The closure of a plan, by that of its jobs.
-use Rattle.std.proofs.Common.{ℕ, ◌<◌, List, length, Result, Ok, Err, IfErr, IsErrOf, refl, subst}
+use Rattle.std.proofs.Common.{◌<◌, List, length, Result, Ok, Err, IfErr, IsErrOf, refl, subst}
 use Rattle.ltl_closure.specs.Jobs.{Task, tasks_of, task_nodes}
 use Rattle.ltl_closure.specs.declared.closure_error.ClosureError.{ClosureError}
 use Rattle.ltl_closure.specs.declared.closure_error.ClosureError.TheVariants.{Limit, Memory}
