@@ -18,10 +18,9 @@ impl Case {
     /// The case that a line begins, by its first word and what stands behind the space: a kind and a
     /// name.
     pub(crate) fn begun(alloc: Global, directive: &str, name: &str) -> Result<Case> {
-        ensure!(!name.is_empty(), "a case has a name");
         match directive {
-            "case" => Ok(Case::Command(CommandCase::named(alloc, name)?)),
-            "circuit" => Ok(Case::Circuit(CircuitCase::named(alloc, name)?)),
+            "case" => Ok(Case::Command(CommandCase::named(alloc, name_of(alloc, name)?))),
+            "circuit" => Ok(Case::Circuit(CircuitCase::named(alloc, name_of(alloc, name)?))),
             _ => bail!("no case is open"),
         }
     }
@@ -41,4 +40,10 @@ impl Case {
             Case::Circuit(case) => circuit_report::report(rt, &case),
         }
     }
+}
+
+/// A name, which is not empty.
+fn name_of(alloc: Global, name: &str) -> Result<String> {
+    ensure!(!name.is_empty(), "a case has a name");
+    Ok(String::from_str(alloc, name)?)
 }

@@ -37,9 +37,9 @@ pub(crate) struct CircuitCase {
 
 impl CircuitCase {
     /// The case with this name, which says nothing more yet.
-    pub(crate) fn named(alloc: Global, name: &str) -> Result<CircuitCase> {
-        Ok(CircuitCase {
-            name: String::from_str(alloc, name)?,
+    pub(crate) fn named(alloc: Global, name: String) -> CircuitCase {
+        CircuitCase {
+            name,
             text: Text::new(alloc),
             refusal: String::new(alloc),
             made: Made::Own,
@@ -47,7 +47,7 @@ impl CircuitCase {
             aag: Text::new(alloc),
             aig: Text::new(alloc),
             runs: Vec::new(alloc),
-        })
+        }
     }
 
     /// Takes one more line of the case: its first word, and what stands behind the space.

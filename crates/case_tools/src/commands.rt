@@ -64,9 +64,9 @@ pub(crate) struct Lassos {
 
 impl CommandCase {
     /// The case with this name, which says nothing more yet.
-    pub(crate) fn named(alloc: Global, name: &str) -> Result<CommandCase> {
-        Ok(CommandCase {
-            name: String::from_str(alloc, name)?,
+    pub(crate) fn named(alloc: Global, name: String) -> CommandCase {
+        CommandCase {
+            name,
             command: Command {
                 tool: String::new(alloc),
                 words: Vec::new(alloc),
@@ -86,7 +86,7 @@ impl CommandCase {
                 lassos: None,
                 err: Text::new(alloc),
             },
-        })
+        }
     }
 
     /// Takes one more line of the case: its first word, and what stands behind the space.
