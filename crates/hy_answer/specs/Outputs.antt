@@ -3,7 +3,7 @@ use Rattle.std.specs.Prelude.{ℕ, zero, suc, Option, Some, None, List, [], ◌�
 use Rattle.std.specs.List.{join_with_byte, flat_map}
 use Rattle.aig_net.specs.declared.run.Run.{Run}
 use Rattle.cnf_frames.specs.declared.inductions.InductionProof.{InductionProof}
-use Rattle.mc_core.specs.ProofTexts as induction
+use Rattle.cnf_frames.specs.ProofTexts as induction
 use Rattle.aig_net.specs.RunTexts.{runs_text}
 use Rattle.hy_lasso.specs.Printed.{printed_lassos}
 use Rattle.hy_files.specs.ErrorLines.{fault_line, class_line, limit_line, name_line, memory_line, name_of_file}

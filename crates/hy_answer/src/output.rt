@@ -7,12 +7,11 @@ ghost use Rattle.hy_answer.specs.Outputs.{evidence_text, out_text, spaced, kept_
 
 use crate::answer::{Answer, Extras};
 use aig_net::{RunList, runs_text};
-use cnf_frames::InductionProof;
+use cnf_frames::{InductionProof, print_proof};
 use hy_base::{M, Text};
 use hy_formula::NameTable;
 use hy_lasso::{LassoList, print_lassos};
 use itoa::Buffer;
-use mc_core::print_proof;
 use rank_proofs::{RankProof, print_rank_proof};
 use std::alloc::Global;
 

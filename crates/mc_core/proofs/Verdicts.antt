@@ -12,7 +12,7 @@ use Rattle.live_safe.specs.declared.safe_net.Path.{Path}
 use Rattle.live_safe.specs.declared.safe_net.SafeNet.{SafeNet}
 use Rattle.cnf_frames.specs.declared.inductions.InductionProof.{InductionProof}
 use Rattle.cnf_frames.specs.declared.queries.Asked.TheVariants.{Base}
-use Rattle.cnf_frames.specs.Proofs.{IsInductionProof}
+use Rattle.cnf_frames.specs.Proofs.{AreQueriesWithin, IsInductionProof}
 use Rattle.k_induct.specs.declared.verdict.SafeProof.{SafeProof}
 use Rattle.k_induct.specs.Replies.{IsAnswer}
 use Rattle.k_induct.specs.Verdicts.{IsSafeProof}
@@ -42,6 +42,21 @@ induction-proof safe kept depth proof usable is = record {
   step = is.step;
 }
 
+pub queries-within : (safe : SafeNet) (kept : Kept) (depth : ℕ) (proof : SafeProof) →
+    IsUsable safe kept → IsSafeProof safe kept.inv depth proof →
+    AreQueriesWithin safe (record {
+      inv = kept.inv;
+      depth = proof.depth;
+      keep = kept.logs;
+      base = proof.base;
+      step = proof.step;
+    })
+queries-within safe kept depth proof usable is = record {
+  keeps = usable.within;
+  bases = is.base_within;
+  step = is.step_within;
+}
+
 -- The path answers the query, so it goes to bad.
 pub goes-to-bad : (safe : SafeNet) (path : Path) → IsAnswer safe (Base (length path.inputs)) path →
     GoesToBad safe path
@@ -67,13 +82,13 @@ module _ (net : Net) (signals : List Signal) (prefix : List Quant) (body : Tree)
 
   pub proof-answer : (proof : InductionProof) → Signed (not (is_existential prefix)) Sat →
       IsInductionProof (checked_safe net signals prefix body) proof → proof.depth ≤ ask.depth →
-      (checked : Checked) →
+      AreQueriesWithin (checked_safe net signals prefix body) proof → (checked : Checked) →
       checked ≡ answered (not (is_existential prefix)) [] [] (Some proof) →
       IsChecked net signals prefix body ask checked
-  proof-answer proof decided is within checked made =
+  proof-answer proof decided is within asked checked made =
       let C : Checked → Type 0 = IsChecked net signals prefix body ask in
       subst C (sym made) (by-proof (is_existential prefix) refl decided proof
-      (refl, refl, (is, within)))
+      (refl, refl, (is, within, asked)))
 
   by-path : (b : Bool) → b ≡ is_existential prefix → Signed b Sat →
       (traces : List (letters.Lasso Letter)) (runs : List Run) →

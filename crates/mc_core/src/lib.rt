@@ -6,10 +6,8 @@ mod checked;
 mod checking;
 mod judging;
 mod mc_error;
-mod printing;
 
 pub use ask::Ask;
 pub use checked::Checked;
 pub use checking::check;
 pub use mc_error::McError;
-pub use printing::print_proof;
