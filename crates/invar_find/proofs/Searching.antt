@@ -276,19 +276,6 @@ settled-more safe facts group logs more log settled lt refuted within e =
               (settled.each g (omega arith))
         ]
 
-pub settled-all : (safe : SafeNet) (facts : List Fact) (group : ℕ) (logs : List (List Learned)) →
-    AreSettled safe facts group logs → length facts ≤ 64 * group →
-    AreKept safe facts logs × AreKeepsWithin safe facts
-settled-all safe facts group logs settled le =
-    let within = settled.within in
-    let many = settled.many in (
-      record {
-        many = omega (arith, within, many, le);
-        each = λ g lt. settled.each g (omega (arith, lt, le));
-      },
-      λ g lt. settled.made g (omega (arith, lt, le)),
-    )
-
 pub kept : (safe : SafeNet) (conflicts : ℕ) (facts : List Fact) (logs : List (List Learned))
     (gone : List SpentGroup) → IsSafe safe → IsSearching safe conflicts facts gone →
     AreKept safe facts logs × AreKeepsWithin safe facts →
