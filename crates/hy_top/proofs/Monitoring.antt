@@ -10,7 +10,7 @@ use Rattle.ea_reduce.specs.Refused.{HasFewMaps}
 use Rattle.fin_monitor.specs.Limits.{HasLargeClosure, HasSmallClosure, HasManyAtoms, HasFewAtoms, HasLargeTable, HasSmallTable, IsTaken}
 use Rattle.hy_finite.specs.declared.event.Placed.{Placed}
 use Rattle.hy_finite.specs.declared.lengths.Lengths.{Lengths}
-use Rattle.hy_finite.specs.EventAnswers.{IsCheckAnswer}
+use Rattle.hy_finite.specs.EventAnswers.{IsCheckAnswer, IsRefusal}
 use Rattle.hy_finite.specs.EventFiles.{IsEventFile}
 use Rattle.made_traces.specs.MadeTraces.{made_trace, made_traces}
 use Rattle.hy_read.specs.Answers.{Plain}
