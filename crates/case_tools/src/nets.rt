@@ -24,11 +24,18 @@ const ROOM: u64 = 1 << 31;
 pub fn composed(alloc: Global, net: &Net, n: u8) -> Result<Net>
     ensures { IfOk result (λ made. made ≡ copies_of net.now n) }
 {
-    let wanted = u64::from(net.variables()) * u64::from(n);
+    let wanted = most_variables(net, n);
     ensure!(n > 0 && wanted <= ROOM, "there is no room for {n} copies");
     copies_are_as_large();
     let made = compose(alloc, net, n)?;
     Ok(made)
+}
+
+/// As many variables as `n` copies of a net have at most.
+fn most_variables(net: &Net, n: u8) -> u64
+    ensures { result ≡ n * variables net.now }
+{
+    u64::from(net.variables()) * u64::from(n)
 }
 
 /// The net whose executions are the tuples of executions that violate a universal formula, or that
@@ -61,10 +68,9 @@ fn has_room(net: &Net, n: u8, closure: &Closure) -> bool
     ensures { result ≡ true → n * variables net.now + 6 * length closure.now.nodes
         + length closure.now.roots + 1 ≤ 2 ^ 31 }
 {
-    let copies = u64::from(net.variables()) * u64::from(n);
     let members = 6 * closure.len() as u64;
     let roots = closure.roots().len() as u64;
-    (copies + members + 1).saturating_add(roots) <= ROOM
+    (most_variables(net, n) + members + 1).saturating_add(roots) <= ROOM
 }
 
 /// The safe net of a net.

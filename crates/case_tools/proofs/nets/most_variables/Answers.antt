@@ -1,0 +1,11 @@
+use Rattle.std.proofs.Common.{◌≡◌, ℕ, ◌*◌, ap, ◌∙◌, arith}
+use Rattle.aig_net.specs.Nets.{variables}
+use Rattle.case_tools.proofs.nets.most_variables.Goals as goal
+
+same-product : (a b c d : ℕ) → a ≡ c → b ≡ d → a * b ≡ d * c
+same-product a b c d e h = ap (λ a. a * b) e ∙ ap (λ b. c * b) h ∙ omega arith
+
+pub returns : goal.returns
+returns c =
+    same-product c.from.result c.from-2.result (variables c.args.net.now) c.args.n
+    (c.from.ensures ∙ c.variables.ensures.count) c.from-2.ensures
