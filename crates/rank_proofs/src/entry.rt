@@ -62,7 +62,7 @@ impl<const W: usize> RowProof<W> {
     /// Adds an entry, where it is new.
     pub fn add(&mut self, entry: Entry<W>) -> M<()>
         ensures entries { OnOk result ((e : Ranked)
-            → Contains self.new.entries e ↔ (Contains self.old.entries e ⊎ (entry ≡ e))) }
+            → Contains self.new.entries e ↔ (Contains self.old.entries e ⊎ (entry.entry ≡ e))) }
         ensures reasons { self.new.reasons ≡ self.old.reasons }
     {
         self.entries.insert(entry)?;

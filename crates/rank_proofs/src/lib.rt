@@ -2,17 +2,17 @@
 #![tactic(auto)]
 
 mod check;
+mod closures;
 mod entry;
 pub mod laws;
-mod plan_closure;
 mod proof_text;
 mod rank_proof;
 mod read;
 mod tops;
 
 pub use check::check_rank_proof;
+pub use closures::plan_closure;
 pub use entry::{Entry, RowProof};
-pub use plan_closure::plan_closure;
 pub use proof_text::print_rank_proof;
 pub use rank_proof::{ProofBranch, RankProof};
 pub use read::{read_entry, read_until};

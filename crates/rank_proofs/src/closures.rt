@@ -1,4 +1,4 @@
-//! The closure of a plan.
+//! The closures of plans.
 
 ghost use Rattle.std.specs.Prelude.{◌≡◌, All, IfOk, OnOk, IfErr};
 ghost use Rattle.ltl_closure.specs.Jobs.{IsMapped, closure_of};

@@ -3,7 +3,7 @@ use Rattle.ltl_closure.specs.Jobs.{Task, task_nodes, closure_of}
 use Rattle.ea_reduce.proofs.Jobs.{plain-tasks}
 use Rattle.rank_proofs.specs.Counts.{most_members}
 use Rattle.rank_proofs.proofs.Planning.{closure-refused}
-use Rattle.rank_proofs.proofs.plan_closure.plan_closure.Goals as goal
+use Rattle.rank_proofs.proofs.closures.plan_closure.Goals as goal
 
 pub returns-clause-closure : goal.returns-clause-closure
 returns-clause-closure c =
