@@ -1,6 +1,6 @@
 //! How a file that is not taken is answered, and error lines, which are written without taking memory.
 
-ghost use Rattle.std.specs.Prelude.{◌≡◌, ◌++◌, List, ℕ, OnOk, OnErr, codes, decimal};
+ghost use Rattle.std.specs.Prelude.{◌≡◌, ◌++◌, OnOk, OnErr, codes, decimal};
 ghost use Rattle.hy_base.specs.Sink.{KeepsSink, GivesWhole, FailsToGive};
 ghost use Rattle.hy_files.specs.ErrorLines.{Received, plain};
 ghost use Rattle.hy_answer.specs.Refusals.{fault_answer};
