@@ -12,7 +12,7 @@ use Rattle.cnf_frames.specs.Counts.{sum_for, pairs, frames_literals, fact_litera
 use Rattle.cnf_frames.specs.Queries.{for_each, further, alone, some_further, in_frame, latch_in, gate_clauses, frame_gates, constraint_clauses, latch_clauses, frame_step, frames, start_clauses, bad_in, guarded, fact_clauses, facts_clauses, good_clauses, latch_differs, apart_clauses, pairs_before, pair_start, apart_from, group_of, fails_clauses, clauses_of, literals_in}
 use Rattle.cnf_frames.proofs.Pairs.{pairs-counted}
 
-both : (xs ys : List Clause) → literals_in (xs ++ ys) ≡ literals_in xs + literals_in ys
+pub both : (xs ys : List Clause) → literals_in (xs ++ ys) ≡ literals_in xs + literals_in ys
 both [] ys = omega arith
 both (c ∷ xs) ys = omega (arith, both xs ys)
 
@@ -38,7 +38,7 @@ long f zero = refl
 long f (suc n) =
     length-append (for_each (λ i. f i ∷ []) n) (f n ∷ []) ∙ omega (arith, long f n)
 
-some-literals : (d n : ℕ) → literals_in (some_further d n) ≡ n
+pub some-literals : (d n : ℕ) → literals_in (some_further d n) ≡ n
 some-literals d n = omega (arith, long (λ i. further (d + i)) n)
 
 module _ (net : Net) where

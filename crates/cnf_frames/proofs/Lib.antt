@@ -16,6 +16,7 @@ pub mod DistinctChosen
 pub mod Groups
 pub mod KeepingChosen
 pub mod Counting
+pub mod Fewness
 pub mod Querying
 pub mod Rows
 pub mod Ranges

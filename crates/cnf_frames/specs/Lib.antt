@@ -3,3 +3,4 @@ pub mod Facts
 pub mod Queries
 pub mod QueryPaths
 pub mod Proofs
+pub mod ProofTexts

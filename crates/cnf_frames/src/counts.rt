@@ -6,7 +6,7 @@ ghost use Rattle.hy_base.specs.Limits.{most};
 ghost use Rattle.aig_net.specs.Nets.{variables};
 ghost use Rattle.cnf_frames.specs.Counts as counts;
 ghost use Rattle.cnf_frames.specs.Counts.{pairs};
-ghost use Rattle.cnf_frames.specs.Queries.{IsRefusalBy};
+ghost use Rattle.cnf_frames.specs.Queries.{IsPastBy, IsRefusalBy};
 
 use crate::facts::Fact;
 use crate::queries::FrameError;
@@ -148,21 +148,35 @@ pub fn admit(variables: u128, literals: u128) -> Result<u32, FrameError>
         × (literals ≤ most Kind.CnfLiterals)) }
     ensures refused { IfErr result (λ e. IsRefusalBy variables literals e) }
 {
-    if variables > Kind::CnfVariables.most() as u128 {
-        Err(refusal(Kind::CnfVariables))
-    } else if literals > Kind::CnfLiterals.most() as u128 {
-        Err(refusal(Kind::CnfLiterals))
-    } else {
-        Ok(variables as u32)
+    match within_limits(variables, literals) {
+        Ok(()) => Ok(variables as u32),
+        Err(limit) => Err(FrameError::Limit(limit)),
     }
 }
 
-/// A count of this kind is past its limit.
-fn refusal(kind: Kind) -> FrameError
-    ensures { result ≡ FrameError.Limit (record { kind = kind; limit = most kind }) }
+/// Whether so many variables and so many literals are taken, or which limit is passed; variables
+/// come first.
+pub fn within_limits(variables: u128, literals: u128) -> Result<(), Limit>
+    ensures within { OnOk result ((variables ≤ most Kind.CnfVariables)
+        × (literals ≤ most Kind.CnfLiterals)) }
+    ensures past { IfErr result (λ limit. IsPastBy variables literals limit.kind
+        × (limit.limit ≡ most limit.kind)) }
 {
-    FrameError::Limit(Limit {
+    if variables > Kind::CnfVariables.most() as u128 {
+        Err(limit_of(Kind::CnfVariables))
+    } else if literals > Kind::CnfLiterals.most() as u128 {
+        Err(limit_of(Kind::CnfLiterals))
+    } else {
+        Ok(())
+    }
+}
+
+/// The limit of this kind.
+fn limit_of(kind: Kind) -> Limit
+    ensures { result ≡ record { kind = kind; limit = most kind } }
+{
+    Limit {
         kind,
         limit: kind.most(),
-    })
+    }
 }

@@ -11,7 +11,7 @@ ghost use Rattle.cnf_frames.specs.declared.facts.Fact.{Fact};
 ghost use Rattle.cnf_frames.specs.declared.queries.Asked.{Asked};
 ghost use Rattle.cnf_frames.specs.declared.inductions.InductionProof.{InductionProof};
 ghost use Rattle.cnf_frames.specs.Facts.{AllHold, AllIn, AreAmong, IsInductive, IsSafe};
-ghost use Rattle.cnf_frames.specs.Queries.{clauses_of, variables_of};
+ghost use Rattle.cnf_frames.specs.Queries.{clauses_of, literals_in, variables_of};
 ghost use Rattle.cnf_frames.specs.QueryPaths.{Answers, CanAsk, IsStepPath, word_of};
 ghost use Rattle.cnf_frames.specs.Proofs.{AreKept, IsInductionProof, IsRefuted};
 
@@ -65,6 +65,12 @@ pub fn facts_survive()
     ensures { (net : Net) (facts some : List Fact) → IsInductive net some → AreAmong some facts →
         (word : Word) → IsPath net 1 word → AllHold net facts (word 0) →
         AllHold net some (word 1) }
+{}
+
+/// A query that can be asked, of a net that has a latch, has no more clauses than literals.
+pub fn clauses_are_few()
+    ensures { (safe : SafeNet) (asked : Asked) → CanAsk safe asked → 0 < length safe.net.latches →
+        length (clauses_of safe asked) ≤ literals_in (clauses_of safe asked) }
 {}
 
 /// So many distinct states a net has.

@@ -7,6 +7,7 @@ mod facts;
 mod frames;
 mod inductions;
 mod laws;
+mod printing;
 mod queries;
 mod reading;
 mod stating;
@@ -15,7 +16,8 @@ mod writing;
 pub use facts::{Fact, Inv};
 pub use inductions::{InductionProof, LogList};
 pub use laws::{
-    facts_survive, induction, induction_proof, inductive_facts, queries_are_paths, refuted_queries,
-    step_paths_are_short,
+    clauses_are_few, facts_survive, induction, induction_proof, inductive_facts, queries_are_paths,
+    refuted_queries, step_paths_are_short,
 };
-pub use queries::{Asked, FrameError, Query, base_query, keep_query, step_query};
+pub use printing::print_proof;
+pub use queries::{Asked, FrameError, Query, base_query, keep_query, step_fits, step_query};

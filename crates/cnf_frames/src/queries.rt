@@ -1,14 +1,15 @@
 //! Queries about paths of a safe net: what is asked, and its clauses.
 
 ghost use Rattle.std.specs.Prelude.{◌≡◌, suc, ◌*◌, ◌<◌, ◌≤◌, ◌++◌, length, IfOk, IfErr, OnOk};
+ghost use Rattle.hy_base.specs.Limits.{most};
 ghost use Rattle.aig_net.specs.Nets.{variables};
 ghost use Rattle.cnf_frames.specs.declared.queries.FrameError.TheVariants.{Memory as OutOfMemory};
 ghost use Rattle.cnf_frames.specs.Facts.{AllIn, IsSafe};
-ghost use Rattle.cnf_frames.specs.Queries.{IsQuery, IsRefusal, for_each, good_clauses, group_of, groups};
+ghost use Rattle.cnf_frames.specs.Queries.{IsPast, IsQuery, IsRefusal, IsWithin, for_each, good_clauses, group_of, groups};
 
 use crate::counts::{
     admit, base_literals, base_variables, keep_literals, keep_variables, step_literals,
-    step_variables,
+    step_variables, within_limits,
 };
 use crate::facts::{Fact, Inv};
 use crate::frames::{add_frames, add_start};
@@ -104,6 +105,20 @@ pub fn step_query(alloc: Global, safe: &SafeNet, inv: &Inv, k: u32) -> Result<Qu
             k,
         },
     })
+}
+
+/// Whether the step query is within its limits, or which one it passes, as `step_query` answers it,
+/// but no clause is made. Takes no memory, and time linear in the facts.
+pub fn step_fits(safe: &SafeNet, inv: &Inv, k: u32) -> Result<(), Limit>
+    ensures within { OnOk result (IsWithin safe.now (Asked.Step inv.now k)) }
+    ensures past { IfErr result (λ limit. IsPast safe.now (Asked.Step inv.now k) limit.kind
+        × (limit.limit ≡ most limit.kind)) }
+{
+    let net = &safe.net;
+    within_limits(
+        step_variables(net, k),
+        step_literals(net, inv.as_slice(), k),
+    )
 }
 
 /// The query for a step from a state that has all facts of `inv` to one where a fact of the group

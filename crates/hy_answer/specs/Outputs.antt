@@ -8,7 +8,7 @@ use Rattle.aig_net.specs.declared.run.Run.{Run}
 use Rattle.aiger_body.specs.declared.error.AigKind.{AigKind}
 use Rattle.aiger_body.specs.declared.error.AigKind.TheVariants as faults
 use Rattle.cnf_frames.specs.declared.inductions.InductionProof.{InductionProof}
-use Rattle.mc_core.specs.ProofTexts as induction
+use Rattle.cnf_frames.specs.ProofTexts as induction
 use Rattle.hy_answer.specs.RunTexts.{runs_text}
 use Rattle.hy_base.specs.declared.limit.Kind.{Kind}
 use Rattle.hy_base.specs.declared.limit.Kind.TheVariants as kinds

@@ -8,13 +8,12 @@ ghost use Rattle.hy_answer.specs.Outputs.{evidence_text, out_text, spaced, kept_
 use crate::answer::{Answer, Extras};
 use crate::runs::runs_text;
 use aig_net::RunList;
-use cnf_frames::InductionProof;
+use cnf_frames::{InductionProof, print_proof};
 use ea_core::{RankProof, print_rank_proof};
 use hy_base::{M, Text};
 use hy_formula::NameTable;
 use hy_lasso::{LassoList, print_lassos};
 use itoa::Buffer;
-use mc_core::print_proof;
 use std::alloc::Global;
 
 /// Adds a number in decimal digits.

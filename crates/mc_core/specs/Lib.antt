@@ -1,4 +1,3 @@
 pub mod Answers
 pub mod Meanings
 pub mod Names
-pub mod ProofTexts

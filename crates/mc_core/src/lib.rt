@@ -9,7 +9,6 @@ mod laws;
 mod mc_error;
 mod meaning;
 mod naming;
-mod printing;
 mod safe_nets;
 
 pub use ask::Ask;
@@ -17,4 +16,3 @@ pub use checked::Checked;
 pub use checking::check;
 pub use laws::same_signals;
 pub use mc_error::McError;
-pub use printing::print_proof;

@@ -3,10 +3,11 @@
 ghost use Rattle.std.specs.Prelude.{◌≡◌, ◌++◌, codes, decimal, IfOk, OnOk};
 ghost use Rattle.std.specs.List.{flat_map};
 ghost use Rattle.chain_check.specs.LogTexts.{log_text};
-ghost use Rattle.mc_core.specs.ProofTexts.{fact_text, proof_text};
+ghost use Rattle.cnf_frames.specs.ProofTexts.{fact_text, proof_text};
 
+use crate::facts::Fact;
+use crate::inductions::{InductionProof, LogList};
 use chain_check::print_log;
-use cnf_frames::{Fact, InductionProof, LogList};
 use hy_base::{M, Text};
 use itoa::Buffer;
 use std::alloc::Global;
