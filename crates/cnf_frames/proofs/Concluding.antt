@@ -42,8 +42,8 @@ pub none-answers : (safe : SafeNet) (asked : Asked) (log : List Learned) → IsS
 none-answers safe asked log good can refuted word is =
     let (values, _, all) = asked-values safe asked word good can is in
     unsatisfied (variables_of safe asked) (clauses_of safe asked) log values
-    (in-range safe asked good can) refuted.refutation.passes
-    (empty-there log refuted.refutation.ends) all
+    (in-range safe asked good can) refuted.passes
+    (empty-there log refuted.ends) all
 
 -- ---- inductive facts
 

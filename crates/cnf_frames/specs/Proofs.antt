@@ -11,10 +11,9 @@ use Rattle.cnf_frames.specs.declared.inductions.InductionProof.{InductionProof}
 use Rattle.cnf_frames.specs.Facts.{AllHold, AllIn}
 use Rattle.cnf_frames.specs.Queries.{IsWithin, clauses_of, variables_of, groups}
 
--- The query is within its limits, and the log refutes it.
-pub record IsRefuted (safe : SafeNet) (asked : Asked) (log : List Learned) : Type 0 where
-  pub within : IsWithin safe asked
-  pub refutation : IsRefutation (variables_of safe asked) (clauses_of safe asked) log
+-- The log refutes the query.
+abbrev pub IsRefuted : SafeNet → Asked → List Learned → Type 0
+IsRefuted safe asked log = IsRefutation (variables_of safe asked) (clauses_of safe asked) log
 
 abbrev pub log_at : List (List Learned) → ℕ → List Learned
 log_at logs i = slice_index_or logs i []
@@ -35,3 +34,19 @@ pub record IsInductionProof (safe : SafeNet) (proof : InductionProof) : Type 0 w
   pub keeps : AreKept safe proof.inv proof.keep
   pub bases : AreBases safe proof.depth proof.base
   pub step : IsRefuted safe (Step proof.inv proof.depth) proof.step
+
+-- ---- what of these queries can be made
+
+-- The keep query of each group is within its limits.
+abbrev pub AreKeepsWithin : SafeNet → List Fact → Type 0
+AreKeepsWithin safe facts = (g : ℕ) → g < groups facts → IsWithin safe (Keep facts g)
+
+-- The base query of each length up to a depth is within its limits.
+abbrev pub AreBasesWithin : SafeNet → ℕ → Type 0
+AreBasesWithin safe depth = (i : ℕ) → i ≤ depth → IsWithin safe (Base i)
+
+-- Each query that a proof refutes is within its limits.
+pub record AreQueriesWithin (safe : SafeNet) (proof : InductionProof) : Type 0 where
+  pub keeps : AreKeepsWithin safe proof.inv
+  pub bases : AreBasesWithin safe proof.depth
+  pub step : IsWithin safe (Step proof.inv proof.depth)

@@ -19,9 +19,9 @@ use Rattle.cnf_frames.specs.declared.queries.Query.{Query}
 use Rattle.cnf_frames.specs.declared.queries.FrameError.{FrameError}
 use Rattle.cnf_frames.specs.declared.queries.FrameError.TheVariants.{Limit, Memory}
 use Rattle.cnf_frames.specs.Facts.{AllHold, AllIn, IsSafe, fact_at}
-use Rattle.cnf_frames.specs.Queries.{IsQuery, IsRefusal, clauses_of, group_of, groups, variables_of}
+use Rattle.cnf_frames.specs.Queries.{IsQuery, IsRefusal, IsWithin, clauses_of, group_of, groups, variables_of}
 use Rattle.cnf_frames.specs.QueryPaths.{IsKeepPath, word_of}
-use Rattle.cnf_frames.specs.Proofs.{AreKept, IsRefuted, log_at}
+use Rattle.cnf_frames.specs.Proofs.{AreKeepsWithin, AreKept, IsRefuted, log_at}
 use Rattle.cnf_frames.proofs.Answering.{answered}
 use Rattle.cnf_frames.proofs.Concluding.{kept-inductive}
 use Rattle.cnf_frames.proofs.Groups.{of-group}
@@ -232,13 +232,15 @@ settled-none safe facts = record {
   within = omega arith;
   many = refl;
   each = λ g lt. absurd (omega arith);
+  made = λ g lt. absurd (omega arith);
 }
 
 pub settled-more : (safe : SafeNet) (facts : List Fact) (group : ℕ)
     (logs more : List (List Learned)) (log : List Learned) → AreSettled safe facts group logs →
     64 * group < length facts → IsRefuted safe (Keep facts group) log →
-    more ≡ logs ++ log ∷ [] → AreSettled safe facts (group + 1) more
-settled-more safe facts group logs more log settled lt refuted e =
+    IsWithin safe (Keep facts group) → more ≡ logs ++ log ∷ [] →
+    AreSettled safe facts (group + 1) more
+settled-more safe facts group logs more log settled lt refuted within e =
     let S : List (List Learned) → Type 0 = AreSettled safe facts (group + 1) in
     subst S (sym e) (record {
       within = omega (arith, lt);
@@ -247,8 +249,17 @@ settled-more safe facts group logs more log settled lt refuted e =
           let b = settled.many in
           omega (arith, a, b);
       each = each;
+      made = made;
     })
   where
+    made : (g : ℕ) → g < group + 1 → IsWithin safe (Keep facts g)
+    made g less =
+        let P : ℕ → Type 0 = λ g. IsWithin safe (Keep facts g) in
+        elim (cases_eq g group) [
+          | inl same ↦ subst P (sym same) within
+          | inr apart ↦ settled.made g (omega arith)
+        ]
+
     each : (g : ℕ) → g < group + 1 → IsRefuted safe (Keep facts g) (log_at (logs ++ log ∷ []) g)
     each g less =
         elim (cases_eq g group) [
@@ -265,26 +276,17 @@ settled-more safe facts group logs more log settled lt refuted e =
               (settled.each g (omega arith))
         ]
 
-pub settled-all : (safe : SafeNet) (facts : List Fact) (group : ℕ) (logs : List (List Learned)) →
-    AreSettled safe facts group logs → length facts ≤ 64 * group → AreKept safe facts logs
-settled-all safe facts group logs settled le =
-    let within = settled.within in
-    let many = settled.many in
-    record {
-      many = omega (arith, within, many, le);
-      each = λ g lt. settled.each g (omega (arith, lt, le));
-    }
-
 pub kept : (safe : SafeNet) (conflicts : ℕ) (facts : List Fact) (logs : List (List Learned))
     (gone : List SpentGroup) → IsSafe safe → IsSearching safe conflicts facts gone →
-    AreKept safe facts logs →
+    AreKept safe facts logs × AreKeepsWithin safe facts →
     IsKept safe conflicts (record { inv = facts; logs = logs; spent = gone })
-kept safe conflicts facts logs gone is search logged = record {
+kept safe conflicts facts logs gone is search (logged, within) = record {
   inductive = kept-inductive safe facts logs is (all-in safe facts search.starting)
       search.starting.starts logged;
   starting = search.starting;
   unspent = search.unspent;
   greatest = search.greatest;
   logs = logged;
+  within = within;
   spent = search.spent;
 }

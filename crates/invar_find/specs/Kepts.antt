@@ -11,7 +11,7 @@ use Rattle.cnf_frames.specs.declared.queries.FrameError.{FrameError}
 use Rattle.cnf_frames.specs.declared.queries.FrameError.TheVariants.{Limit, Memory}
 use Rattle.cnf_frames.specs.Facts.{AllHold, AreAmong, IsInductive}
 use Rattle.cnf_frames.specs.Queries.{IsPast, clauses_of, group_of, groups, variables_of}
-use Rattle.cnf_frames.specs.Proofs.{AreKept}
+use Rattle.cnf_frames.specs.Proofs.{AreKeepsWithin, AreKept}
 use Rattle.invar_find.specs.declared.kept.SpentGroup.{SpentGroup}
 use Rattle.invar_find.specs.declared.kept.Kept.{Kept}
 use Rattle.invar_find.specs.Candidates.{candidates}
@@ -53,6 +53,7 @@ pub record IsKept (safe : SafeNet) (conflicts : ℕ) (kept : Kept) : Type 0 wher
   pub unspent : (f : Fact) → Contains kept.inv f → ¬ IsSpentFact kept.spent f
   pub greatest : HasAll safe kept.spent kept.inv
   pub logs : AreKept safe kept.inv kept.logs
+  pub within : AreKeepsWithin safe kept.inv
   pub spent : (s : SpentGroup) → Contains kept.spent s → IsSpentGroup safe conflicts kept.inv s
 
 -- The query of some candidates that are true at the start is past the limit.

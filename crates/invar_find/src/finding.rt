@@ -3,8 +3,8 @@
 ghost use Rattle.std.specs.Prelude.{◌≡◌, ◌<◌, ◌≤◌, ◌^◌, ℕ, [], length, MatchOption, OnOk, IfOk, IfErr};
 ghost use Rattle.cnf_frames.specs.declared.queries.Asked.TheVariants.{Keep};
 ghost use Rattle.cnf_frames.specs.Facts.{IsSafe};
-ghost use Rattle.cnf_frames.specs.Queries.{groups};
-ghost use Rattle.cnf_frames.specs.Proofs.{AreKept, IsRefuted};
+ghost use Rattle.cnf_frames.specs.Queries.{IsWithin, groups};
+ghost use Rattle.cnf_frames.specs.Proofs.{AreKeepsWithin, AreKept, IsRefuted};
 ghost use Rattle.invar_find.specs.Kepts.{IsKept, IsStopped};
 ghost use Rattle.invar_find.specs.Searches.{IsSearching};
 
@@ -48,7 +48,8 @@ fn ask_group(
     requires conflicts { conflicts < 2 ^ 31 }
     ensures searching { OnOk result (IsSearching safe.now conflicts facts.new spent.new) }
     ensures reply { IfOk result (λ found. MatchOption found (length facts.new < length facts.old)
-        (λ log. (facts.new ≡ facts.old) × IsRefuted safe.now (Keep facts.old group) log)) }
+        (λ log. (facts.new ≡ facts.old) × IsRefuted safe.now (Keep facts.old group) log
+        × IsWithin safe.now (Keep facts.old group))) }
     ensures refused { IfErr result (IsStopped safe.now) }
 {
     let query = keep_query(alloc, safe, facts, group)?;
@@ -86,7 +87,7 @@ fn ask_all(
     ensures searching { OnOk result (IsSearching safe.now conflicts facts.new spent.new) }
     ensures fewer { OnOk result (length facts.new ≤ length facts.old) }
     ensures kept { IfOk result (λ logs. length facts.new ≡ length facts.old →
-        AreKept safe.now facts.new logs) }
+        AreKept safe.now facts.new logs × AreKeepsWithin safe.now facts.new) }
     ensures refused { IfErr result (IsStopped safe.now) }
 {
     let mut logs = List::new(alloc);

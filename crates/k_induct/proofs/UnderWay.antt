@@ -16,9 +16,9 @@ use Rattle.cnf_frames.specs.declared.queries.Query.{Query}
 use Rattle.cnf_frames.specs.declared.queries.FrameError.{FrameError}
 use Rattle.cnf_frames.specs.declared.queries.FrameError.TheVariants.{Limit, Memory}
 use Rattle.cnf_frames.specs.Facts.{IsInductive, IsSafe}
-use Rattle.cnf_frames.specs.Queries.{IsQuery, IsRefusal, variables_of}
+use Rattle.cnf_frames.specs.Queries.{IsQuery, IsRefusal, IsWithin, variables_of}
 use Rattle.cnf_frames.specs.QueryPaths.{CanAsk, IsReached, IsStepPath}
-use Rattle.cnf_frames.specs.Proofs.{AreBases, IsRefuted, log_at}
+use Rattle.cnf_frames.specs.Proofs.{AreBases, AreBasesWithin, IsRefuted, log_at}
 use Rattle.cnf_frames.proofs.Concluding.{none-answers}
 use Rattle.cnf_frames.proofs.Inducing.{never-bad}
 use Rattle.cnf_frames.proofs.States.{short-step}
@@ -37,12 +37,9 @@ refuted-reply safe query conflicts log is can right (passes, ends) =
     let V : ℕ → Type 0 = λ n. IsRefutation n query.cnf.clauses log in
     let P : List Clause → Type 0 = λ clauses.
     IsRefutation (variables_of safe query.asked) clauses log in
-    let refuted : IsRefuted safe query.asked log = record {
-      within = right.within;
-      refutation = subst P right.clauses
-          (subst V right.variables (record { passes = passes; ends = ends }));
-    } in
-    (refuted, none-answers safe query.asked log is can refuted)
+    let refuted : IsRefuted safe query.asked log = subst P right.clauses
+    (subst V right.variables (record { passes = passes; ends = ends })) in
+    (refuted, none-answers safe query.asked log is can refuted, right.within)
 
 -- what is known before the queries at k are asked
 pub record IsUnderWay (safe : SafeNet) (facts : List Fact) (depth k : ℕ)
@@ -51,6 +48,7 @@ pub record IsUnderWay (safe : SafeNet) (facts : List Fact) (depth k : ℕ)
   pub reached : IsReached safe facts k
   pub many : length logs ≡ k
   pub each : (i : ℕ) → i < k → IsRefuted safe (Base i) (log_at logs i)
+  pub made : (i : ℕ) → i < k → IsWithin safe (Base i)
 
 pub starting : (safe : SafeNet) (facts : List Fact) (depth : ℕ) →
     IsUnderWay safe facts depth 0 []
@@ -62,6 +60,7 @@ starting safe facts depth = record {
   };
   many = refl;
   each = λ i lt. absurd (omega arith);
+  made = λ i lt. absurd (omega arith);
 }
 
 -- a further base query is refuted
@@ -90,6 +89,16 @@ refuted-bases safe facts depth k logs more log on refuted e =
               (on.each i (omega arith))
         ]
 
+-- and within its limits
+pub within-bases : (safe : SafeNet) (facts : List Fact) (depth k : ℕ) (logs : List (List Learned)) →
+    IsUnderWay safe facts depth k logs → IsWithin safe (Base k) → AreBasesWithin safe k
+within-bases safe facts depth k logs on here i le =
+    let P : ℕ → Type 0 = λ i. IsWithin safe (Base i) in
+    elim (cases_eq i k) [
+      | inl same ↦ subst P (sym same) here
+      | inr apart ↦ on.made i (omega arith)
+    ]
+
 pub good-below : (safe : SafeNet) (facts : List Fact) (k : ℕ) → IsReached safe facts k →
     ((word : Word) → ¬ IsBadPath safe k word) → IsGoodBelow safe (suc k)
 good-below safe facts k reached none i lt word bad =
@@ -101,10 +110,10 @@ good-below safe facts k reached none i lt word bad =
 
 pub going-on : (safe : SafeNet) (facts : List Fact) (depth k : ℕ)
     (logs more : List (List Learned)) (path : Path) → IsUnderWay safe facts depth k logs →
-    AreBases safe k more → ((word : Word) → ¬ IsBadPath safe k word) →
+    AreBases safe k more → AreBasesWithin safe k → ((word : Word) → ¬ IsBadPath safe k word) →
     IsAnswer safe (Step facts k) path → ¬ (k ≡ depth) →
     IsUnderWay safe facts depth (k + 1) more
-going-on safe facts depth k logs more path on bases none (word, answers, _, _) apart = record {
+going-on safe facts depth k logs more path on bases made none (word, answers, _, _) apart = record {
   within = let w = on.within in omega arith;
   reached = record {
     before = λ i lt. good-below safe facts k on.reached none i (omega arith);
@@ -115,6 +124,7 @@ going-on safe facts depth k logs more path on bases none (word, answers, _, _) a
   };
   many = omega (arith, bases.many);
   each = λ i lt. bases.each i (omega arith);
+  made = λ i lt. made i (omega arith);
 }
 
 -- the step query is one that induction comes to
@@ -137,14 +147,16 @@ stopped-step safe facts depth k logs Memory on none refused = tt
 
 pub proved : (safe : SafeNet) (facts : List Fact) (depth k : ℕ)
     (logs more : List (List Learned)) (log : List Learned) → IsUnderWay safe facts depth k logs →
-    IsInductive safe.net facts → AreBases safe k more →
+    IsInductive safe.net facts → AreBases safe k more → AreBasesWithin safe k →
     ((word : Word) → ¬ IsBadPath safe k word) → IsRefuted safe (Step facts k) log →
-    ((word : Word) → ¬ IsStepPath safe facts k word) →
+    ((word : Word) → ¬ IsStepPath safe facts k word) → IsWithin safe (Step facts k) →
     IsSafeProof safe facts depth (record { depth = k; base = more; step = log })
-proved safe facts depth k logs more log on inductive bases none step no_step = record {
+proved safe facts depth k logs more log on inductive bases made none step no_step made_step = record {
   within = on.within;
   base = bases;
   step = step;
+  base_within = made;
+  step_within = made_step;
   good = never-bad safe facts inductive k
       (λ i le. good-below safe facts k on.reached none i (omega arith)) no_step;
 }

@@ -6,7 +6,7 @@ use Rattle.live_safe.specs.declared.safe_net.Path.{Path}
 use Rattle.sat_core.specs.declared.solving.Outcome.TheVariants.{Spent as SpentOutcome}
 use Rattle.sat_core.specs.Outcomes.{IsOutcome}
 use Rattle.cnf_frames.specs.declared.queries.Asked.{Asked}
-use Rattle.cnf_frames.specs.Queries.{clauses_of, variables_of}
+use Rattle.cnf_frames.specs.Queries.{IsWithin, clauses_of, variables_of}
 use Rattle.cnf_frames.specs.QueryPaths.{Answers, Shows, steps_of}
 use Rattle.cnf_frames.specs.Proofs.{IsRefuted}
 use Rattle.chain_check.specs.declared.logs.Learned.{Learned}
@@ -25,6 +25,6 @@ IsAnswer safe asked path = (word : Word) × Answers safe asked word × Shows saf
 
 abbrev pub IsReply : SafeNet → Asked → ℕ → Reply → Type 0
 IsReply safe asked conflicts (Refuted log) = IsRefuted safe asked log
-    × ((word : Word) → ¬ Answers safe asked word)
+    × ((word : Word) → ¬ Answers safe asked word) × IsWithin safe asked
 IsReply safe asked conflicts (Answered path) = IsAnswer safe asked path
 IsReply safe asked conflicts (Spent log) = IsSpent safe asked conflicts log

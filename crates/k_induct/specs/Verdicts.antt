@@ -10,9 +10,9 @@ use Rattle.cnf_frames.specs.declared.queries.FrameError.{FrameError}
 use Rattle.cnf_frames.specs.declared.queries.FrameError.TheVariants.{Limit as OfLimit, Memory as OfMemory}
 use Rattle.cnf_frames.specs.declared.queries.Asked.{Asked}
 use Rattle.cnf_frames.specs.declared.queries.Asked.TheVariants.{Base, Step}
-use Rattle.cnf_frames.specs.Queries.{IsPast}
+use Rattle.cnf_frames.specs.Queries.{IsPast, IsWithin}
 use Rattle.cnf_frames.specs.QueryPaths.{IsReached}
-use Rattle.cnf_frames.specs.Proofs.{AreBases, IsRefuted}
+use Rattle.cnf_frames.specs.Proofs.{AreBases, AreBasesWithin, IsRefuted}
 use Rattle.k_induct.specs.declared.verdict.SafeProof.{SafeProof}
 use Rattle.k_induct.specs.declared.verdict.Verdict.{Verdict}
 use Rattle.k_induct.specs.declared.verdict.Verdict.TheVariants.{Safe, Path as Found, Depth, Spent}
@@ -27,6 +27,8 @@ pub record IsSafeProof (safe : SafeNet) (facts : List Fact) (depth : ℕ)
   pub within : proof.depth ≤ depth
   pub base : AreBases safe proof.depth proof.base
   pub step : IsRefuted safe (Step facts proof.depth) proof.step
+  pub base_within : AreBasesWithin safe proof.depth
+  pub step_within : IsWithin safe (Step facts proof.depth)
   pub good : (i : ℕ) (word : Word) → ¬ IsBadPath safe i word
 
 -- The query with `step` is asked of k only where the one without has no answer.

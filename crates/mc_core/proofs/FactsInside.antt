@@ -36,4 +36,5 @@ usable safe conflicts kept is = record {
       (candidate-in (length safe.net.latches));
   inductive = is.inductive;
   logs = is.logs;
+  within = is.within;
 }

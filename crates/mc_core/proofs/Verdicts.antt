@@ -26,7 +26,7 @@ use Rattle.live_safe.specs.declared.safe_net.SafeNet.{SafeNet}
 use Rattle.live_safe.specs.Paths.{IsBadPath}
 use Rattle.cnf_frames.specs.declared.inductions.InductionProof.{InductionProof}
 use Rattle.cnf_frames.specs.declared.queries.Asked.TheVariants.{Base}
-use Rattle.cnf_frames.specs.Proofs.{IsInductionProof}
+use Rattle.cnf_frames.specs.Proofs.{AreQueriesWithin, IsInductionProof}
 use Rattle.k_induct.specs.declared.verdict.SafeProof.{SafeProof}
 use Rattle.k_induct.specs.Replies.{IsAnswer}
 use Rattle.k_induct.specs.Verdicts.{IsSafeProof}
@@ -112,6 +112,21 @@ induction-proof safe kept depth proof usable is = record {
   step = is.step;
 }
 
+pub queries-within : (safe : SafeNet) (kept : Kept) (depth : ℕ) (proof : SafeProof) →
+    IsUsable safe kept → IsSafeProof safe kept.inv depth proof →
+    AreQueriesWithin safe (record {
+      inv = kept.inv;
+      depth = proof.depth;
+      keep = kept.logs;
+      base = proof.base;
+      step = proof.step;
+    })
+queries-within safe kept depth proof usable is = record {
+  keeps = usable.within;
+  bases = is.base_within;
+  step = is.step_within;
+}
+
 module _ (net : Net) (good : IsNet net) (signals : List Signal) (are : AreOwn net signals)
     (prefix : List Quant) (body : Tree) (some : 0 < length prefix)
     (small : IsTrue (vars_below (length prefix) body)) (taken : IsTaken prefix) (ask : Ask) where
@@ -172,22 +187,23 @@ module _ (net : Net) (good : IsNet net) (signals : List Signal) (are : AreOwn ne
   ]
 
   pub proof-answer : (proof : InductionProof) → ((k : ℕ) (word : Word) → ¬ IsBadPath safe k word) →
-      IsInductionProof safe proof → proof.depth ≤ ask.depth → (checked : Checked) →
+      IsInductionProof safe proof → proof.depth ≤ ask.depth → AreQueriesWithin safe proof →
+      (checked : Checked) →
       checked ≡ answered (not (is_existential prefix)) [] [] (Some proof) →
       IsChecked net signals prefix body ask checked
-  proof-answer proof none is within checked made =
+  proof-answer proof none is within asked checked made =
       let C : Checked → Type 0 = IsChecked net signals prefix body ask in
       elim (none-bad none) [
         | inl (e, fails) ↦
             let E : Bool → Type 0 = λ b. IsEvidence (not b) net signals prefix body ask.depth [] []
             (Some proof) in
             subst C (sym (made ∙ ap (λ b. answered (not b) [] [] (Some proof)) e))
-            (fails, subst E (sym e) (refl, refl, (is, within)))
+            (fails, subst E (sym e) (refl, refl, (is, within, asked)))
         | inr (e, holds) ↦
             let E : Bool → Type 0 = λ b. IsEvidence b net signals prefix body ask.depth [] []
             (Some proof) in
             subst C (sym (made ∙ ap (λ b. answered (not b) [] [] (Some proof)) e))
-            (holds, subst E (sym e) (refl, refl, (is, within)))
+            (holds, subst E (sym e) (refl, refl, (is, within, asked)))
       ]
 
   pub path-answer : (k : ℕ) (word : Word) → IsBadPath safe k word →

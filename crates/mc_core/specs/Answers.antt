@@ -23,7 +23,7 @@ use Rattle.wit_lasso.specs.Unfoldings.{run_at}
 use Rattle.cnf_frames.specs.declared.inductions.InductionProof.{InductionProof}
 use Rattle.cnf_frames.specs.declared.queries.FrameError.TheVariants as frame
 use Rattle.cnf_frames.specs.Facts.{AllIn, IsInductive}
-use Rattle.cnf_frames.specs.Proofs.{AreKept, IsInductionProof}
+use Rattle.cnf_frames.specs.Proofs.{AreKeepsWithin, AreKept, AreQueriesWithin, IsInductionProof}
 use Rattle.k_induct.specs.Verdicts.{IsDeep, IsStopped, IsVerdict}
 use Rattle.k_induct.specs.declared.verdict.Verdict.TheVariants as verdict
 use Rattle.invar_find.specs.declared.kept.Kept.{Kept}
@@ -85,10 +85,11 @@ pub record AreWitnesses (net : Net) (signals : List Signal) (n : ℕ) (body : Tr
       IsTraceOf net signals (run_at runs c) (slice_index_or traces c no_lasso)
   pub says : Signed positive (words.Meets body traces)
 
--- a proof by induction of no more than so many steps
+-- a proof by induction of no more than so many steps, each of whose queries is within its limits
 abbrev pub IsProof : SafeNet → ℕ → Option InductionProof → Type 0
 IsProof safe depth None = ⊥
 IsProof safe depth (Some proof) = IsInductionProof safe proof × (proof.depth ≤ depth)
+    × AreQueriesWithin safe proof
 
 -- Runs and no proof, where the value is true, and else a proof and no runs.
 abbrev pub IsEvidence : Bool → Net → List Signal → List Quant → Tree → ℕ →
@@ -158,6 +159,7 @@ pub record IsUsable (safe : SafeNet) (kept : Kept) : Type 0 where
   pub inside : AllIn (length safe.net.latches) kept.inv
   pub inductive : IsInductive safe.net kept.inv
   pub logs : AreKept safe kept.inv kept.logs
+  pub within : AreKeepsWithin safe kept.inv
 
 -- ---- refusals, in this order: the class, the closure, the names, and what the work meets
 

@@ -3,6 +3,7 @@ use Rattle.std.specs.Prelude.{MatchOption}
 use Rattle.chain_check.specs.declared.logs.Learned.{Learned}
 use Rattle.cnf_frames.specs.declared.facts.Fact.{Fact}
 use Rattle.cnf_frames.specs.declared.queries.Asked.TheVariants.{Keep}
+use Rattle.cnf_frames.specs.Queries.{IsWithin}
 use Rattle.cnf_frames.specs.Proofs.{IsRefuted}
 use Rattle.invar_find.proofs.Settled.{AreSettled}
 use Rattle.invar_find.proofs.Searching.{settled-more}
@@ -13,7 +14,8 @@ groups-preserved-in-Some c =
     let R : Option (List Learned) → Type 0 = λ found. MatchOption found
     (length c.ask_group.new.facts < length c.groups.facts) (λ log.
     (c.ask_group.new.facts ≡ c.groups.facts)
-    × IsRefuted c.args.safe.now (Keep c.groups.facts c.groups.group) log) in
+    × IsRefuted c.args.safe.now (Keep c.groups.facts c.groups.group) log
+    × IsWithin c.args.safe.now (Keep c.groups.facts c.groups.group)) in
     let reply = subst R c.in-Some.is c.in_ok-log.ensures.reply in
     let same : length c.ask_group.new.facts ≡ length c.groups.facts = ap length reply.0 in
     let test : 64 * c.groups.group < length c.groups.facts = omega (arith, c.len.ensures) in
@@ -25,6 +27,6 @@ groups-preserved-in-Some c =
           AreSettled c.args.safe.now facts (c.groups.group + 1) c.push.new.self in
           subst S (sym reply.0) (settled-more c.args.safe.now c.groups.facts c.groups.group
           c.groups.logs c.push.new.self c.in-Some.log (c.groups.invariant.settled (sym same ∙ e))
-          test reply.1 c.in_ok-push.ensures.added);
+          test reply.1 reply.2 c.in_ok-push.ensures.added);
       small = let few = c.groups.invariant.searching.few in omega (arith, few, test);
     }

@@ -1,6 +1,6 @@
 use Rattle.std.proofs.Common.{subst}
 use Rattle.std.proofs.lemmas.Result.{err_from_is_err_and}
-use Rattle.k_induct.proofs.UnderWay.{refuted-bases, stopped-step, proved, deep, met-step, going-on}
+use Rattle.k_induct.proofs.UnderWay.{refuted-bases, within-bases, stopped-step, proved, deep, met-step, going-on}
 use Rattle.cnf_frames.specs.declared.queries.Asked.TheVariants.{Base, Step}
 use Rattle.k_induct.specs.declared.asking.Reply.{Reply}
 use Rattle.k_induct.specs.Replies.{IsReply}
@@ -28,7 +28,9 @@ returns-in-Refuted-2-clause-verdict c =
     (refuted-bases c.args.safe.now c.args.inv.now c.args.depth c.depths.k c.depths.base
     c.push.new.self c.in-Refuted.log c.depths.invariant base.0
     c.in_ok-push-in-Refuted.ensures.added)
-    base.1 step.0 step.1
+    (within-bases c.args.safe.now c.args.inv.now c.args.depth c.depths.k c.depths.base
+    c.depths.invariant base.2)
+    base.1 step.0 step.1 step.2
 
 pub returns-then-k-depth-clause-verdict : goal.returns-then-k-depth-clause-verdict
 returns-then-k-depth-clause-verdict c =
@@ -63,4 +65,6 @@ depths-preserved c =
     (refuted-bases c.args.safe.now c.args.inv.now c.args.depth c.depths.k c.depths.base
     c.push.new.self c.in-Refuted.log c.depths.invariant base.0
     c.in_ok-push-in-Refuted.ensures.added)
+    (within-bases c.args.safe.now c.args.inv.now c.args.depth c.depths.k c.depths.base
+    c.depths.invariant base.2)
     base.1 (subst Q c.in-Answered-2.is c.in_ok-step.ensures.reply) c.if-k-depth.false

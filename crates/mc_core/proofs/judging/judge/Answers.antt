@@ -7,10 +7,10 @@ use Rattle.aig_net.specs.Executions.{Word}
 use Rattle.live_safe.specs.declared.safe_net.SafeNet.{SafeNet}
 use Rattle.live_safe.specs.Paths.{IsBadPath}
 use Rattle.cnf_frames.specs.declared.inductions.InductionProof.{InductionProof}
-use Rattle.cnf_frames.specs.Proofs.{IsInductionProof}
+use Rattle.cnf_frames.specs.Proofs.{AreQueriesWithin, IsInductionProof}
 use Rattle.k_induct.specs.Verdicts.{IsSafeProof, IsShortest}
 use Rattle.mc_core.specs.Answers.{answered, is_existential}
-use Rattle.mc_core.proofs.Verdicts.{induction-proof, path-answer, proof-answer}
+use Rattle.mc_core.proofs.Verdicts.{induction-proof, path-answer, proof-answer, queries-within}
 use Rattle.mc_core.proofs.judging.judge.Goals as goal
 
 pub returns-in-Ok-Safe-clause-checked : goal.returns-in-Ok-Safe-clause-checked
@@ -29,12 +29,16 @@ returns-in-Ok-Safe-clause-checked c =
     } in
     let N : SafeNet → Type 0 = λ s. (k : ℕ) (word : Word) → ¬ IsBadPath s k word in
     let I : SafeNet → Type 0 = λ s. IsInductionProof s proof in
+    let Q : SafeNet → Type 0 = λ s. AreQueriesWithin s proof in
     proof-answer c.args.net.now c.variables.ensures.net c.args.signals.now c.requires.own prefix
     (tree_of c.args.formula.now.body) some c.requires.small c.requires.taken c.args.ask.now proof
     (subst N c.requires.safe is.good)
     (subst I c.requires.safe (induction-proof c.args.safe.now c.in_ok-kept.kept
     c.args.ask.now.depth c.in-Ok-Safe.proof c.in_ok-kept.ensures.usable is))
-    is.within c.answer.result
+    is.within
+    (subst Q c.requires.safe (queries-within c.args.safe.now c.in_ok-kept.kept
+    c.args.ask.now.depth c.in-Ok-Safe.proof c.in_ok-kept.ensures.usable is))
+    c.answer.result
     (c.answer.ensures
     ∙ ap (λ b. answered (not b) c.new.result c.new-in-Ok-Safe.result (Some proof)) c.requires.kind
     ∙ ap (λ (t : List (letters.Lasso Letter)). answered (not (is_existential prefix)) t
