@@ -1,6 +1,6 @@
 //! Rank proofs whose sets are rows.
 
-ghost use Rattle.std.specs.Prelude.{◌≡◌, ◌↔◌, ◌⊎◌, ◌++◌, ◌∷◌, [], OnOk};
+ghost use Rattle.std.specs.Prelude.{◌≡◌, ◌↔◌, ◌≤◌, ◌⊎◌, ◌++◌, ◌∷◌, [], OnOk};
 ghost use Rattle.std.specs.List.{Contains};
 ghost use Rattle.ltl_tableau.specs.Ranks.{Ranked};
 
@@ -51,6 +51,7 @@ impl<const W: usize> Model for RowProof<W> {
 impl<const W: usize> RowProof<W> {
     /// No entries, and no reasons.
     pub fn new(alloc: Global) -> RowProof<W>
+        requires { W ≤ 16 }
         ensures { result ≡ record { entries = []; reasons = [] } }
     {
         RowProof {
