@@ -5,7 +5,8 @@
 mod formulas;
 mod nets;
 mod runs;
+mod signals;
 
-pub use formulas::formula_of;
+pub use formulas::{closure_of, formula_of};
 pub use nets::{composed, formula_net, safe_of};
 pub use runs::{rows_text, run_of};

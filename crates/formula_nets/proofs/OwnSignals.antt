@@ -1,5 +1,5 @@
 -- Signals of the names of a body are for literals of the net.
-use Rattle.std.proofs.Common.{◌≡◌, ℕ, ◌<◌, List, get_or, length, inl, inr, sym, subst, arith}
+use Rattle.std.proofs.Common.{ℕ, List, get_or, inl, inr, sym, subst, arith}
 use Rattle.std.proofs.lemmas.List.{get_or_default}
 use Rattle.hy_formula.specs.Trees.{Tree}
 use Rattle.aig_net.specs.declared.signals.Signal.{Signal}

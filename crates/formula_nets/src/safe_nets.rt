@@ -4,12 +4,9 @@ ghost use Rattle.std.specs.Prelude.{All, ◌≡◌, ◌+◌, ◌*◌, ◌/◌, �
 ghost use Rattle.hy_base.specs.Limits.{most};
 ghost use Rattle.hy_base.specs.declared.limit.Kind.TheVariants.{Closure as OfClosure};
 ghost use Rattle.hy_formula.specs.Trees.{tree_of, vars_below};
-ghost use Rattle.aig_net.specs.Nets.{IsNet, variables};
+ghost use Rattle.aig_net.specs.Nets.{variables};
 ghost use Rattle.ltl_closure.specs.Jobs.{IsMapped, closure_of, tasks_of};
-ghost use Rattle.self_compose.specs.Copies.{compose as composed, copy_literal as literal_in_copy};
-ghost use Rattle.sym_tableau.specs.Oracles.{attach as attached, signal_in};
-ghost use Rattle.sym_tableau.specs.Places.{AreWithin};
-ghost use Rattle.live_safe.specs.Safe as safe;
+ghost use Rattle.self_compose.specs.Copies.{copy_literal as literal_in_copy};
 ghost use Rattle.cnf_frames.specs.Facts.{IsSafe};
 ghost use Rattle.wit_lasso.specs.FormulaNets.{AreOwn, body_nodes, body_task, copy_signals as signals_of_copies, formula_net, formula_safe, identity_map};
 

@@ -1,5 +1,5 @@
 -- The answers of a check by those of its parts.
-use Rattle.std.proofs.Common.{◌≡◌, ℕ, ◌<◌, ◌≤◌, List, Result, Ok, Err, IfErr, IfOk, inl, inr, refl}
+use Rattle.std.proofs.Common.{ℕ, ◌<◌, ◌≤◌, List, Result, Ok, Err, IfErr, IfOk, inl, inr, refl}
 use Rattle.std.specs.Prelude.{IsErrOf}
 use Rattle.hy_base.specs.Limits.{most}
 use Rattle.hy_base.specs.declared.limit.Kind.TheVariants.{Closure}

@@ -1,4 +1,4 @@
-use Rattle.std.proofs.Common.{◌≡◌, ℕ, ◌≤◌, IfOk, Result, Ok, Err, sym, ap, ◌∙◌, subst, arith}
+use Rattle.std.proofs.Common.{◌≡◌, ◌≤◌, IfOk, Result, Ok, Err, sym, subst, arith}
 use Rattle.hy_formula.specs.Trees.{tree_of}
 use Rattle.aig_net.specs.Nets.{Net, variables}
 use Rattle.live_safe.specs.Safe.{to_safe}
