@@ -60,11 +60,12 @@ mod formulas;
 mod lassos;
 mod nets;
 mod runs;
+mod signals;
 mod tally;
 mod tools;
 
 pub use files::run_files;
-pub use formulas::formula_of;
+pub use formulas::{closure_of, formula_of};
 pub use nets::{composed, formula_net, safe_of};
 pub use runs::{rows_text, run_of};
 pub use tools::Tools;

@@ -1,21 +1,21 @@
 //! The nets of formulas on circuits.
 
-ghost use Rattle.std.specs.Prelude.{◌≡◌, ◌+◌, ◌*◌, ◌≤◌, ◌^◌, true, length, IfOk};
+ghost use Rattle.std.specs.Prelude.{◌≡◌, IfOk};
 ghost use Rattle.aig_net.specs.Nets.{variables};
+ghost use Rattle.sym_tableau.specs.Places.{AreWithin};
 ghost use Rattle.self_compose.specs.Copies.{compose as copies_of};
 ghost use Rattle.live_safe.specs.Safe.{to_safe as safe_net_of};
 
-use crate::formulas::formula_of;
-use aig_net::Net;
+use crate::formulas::{closure_of, formula_of};
+use crate::signals::signals_of;
+use aig_net::{Net, Signals};
 use anyhow::{Result, bail, ensure};
-use formula_nets::{closure_for, net_for, signals_are_own};
 use hy_formula::{Class, NameTable, class};
 use live_safe::{SafeNet, safe_nets_are_small, to_safe};
 use ltl_closure::Closure;
-use net_names::signals_of;
 use self_compose::{compose, copies_are_as_large};
 use std::alloc::Global;
-use sym_tableau::attached_nets_are_small;
+use sym_tableau::{attach, attached_nets_are_small};
 
 /// The most variables of a net, with variable 0.
 const ROOM: u64 = 1 << 31;
@@ -24,18 +24,11 @@ const ROOM: u64 = 1 << 31;
 pub fn composed(alloc: Global, net: &Net, n: u8) -> Result<Net>
     ensures { IfOk result (λ made. made ≡ copies_of net.now n) }
 {
-    let wanted = most_variables(net, n);
+    let wanted = u64::from(net.variables()) * u64::from(n);
     ensure!(n > 0 && wanted <= ROOM, "there is no room for {n} copies");
     copies_are_as_large();
     let made = compose(alloc, net, n)?;
     Ok(made)
-}
-
-/// As many variables as `n` copies of a net have at most.
-fn most_variables(net: &Net, n: u8) -> u64
-    ensures { result ≡ n * variables net.now }
-{
-    u64::from(net.variables()) * u64::from(n)
 }
 
 /// The net whose executions are the tuples of executions that violate a universal formula, or that
@@ -49,28 +42,23 @@ pub fn formula_net(alloc: Global, net: &Net, text: &str) -> Result<Net> {
         Class::Forall => false,
         Class::ExistsForall | Class::Other => bail!("the quantifiers alternate"),
     };
-    let closure = closure_for(alloc, &formula.body, n, positive)?;
-    let signals = signals_of(alloc, net, &formula.body, &names)?;
-    ensure!(
-        has_room(net, n, &closure),
-        "there is no room for the oracles"
-    );
-    net.variables(); // what each net keeps
-    signals_are_own(); // and the signals of names
-    attached_nets_are_small(); // and so there is room
-    copies_are_as_large();
-    let made = net_for(alloc, net, n, &formula.body, positive, &closure, &signals)?;
-    Ok(made)
+    let closure = closure_of(alloc, formula, positive)?;
+    let copies = composed(alloc, net, n)?;
+    let signals = signals_of(alloc, net, &copies, n, &names, &closure)?;
+    with_oracles(alloc, &copies, &closure, &signals)
 }
 
-/// Whether there is room for `n` copies of a net with the oracles of a closure.
-fn has_room(net: &Net, n: u8, closure: &Closure) -> bool
-    ensures { result ≡ true → n * variables net.now + 6 * length closure.now.nodes
-        + length closure.now.roots + 1 ≤ 2 ^ 31 }
+/// The net with the oracles of a closure.
+fn with_oracles(alloc: Global, net: &Net, closure: &Closure, signals: &Signals) -> Result<Net>
+    requires { AreWithin (variables net.now) signals.now }
 {
     let members = 6 * closure.len() as u64;
     let roots = closure.roots().len() as u64;
-    (most_variables(net, n) + members + 1).saturating_add(roots) <= ROOM
+    let wanted = (u64::from(net.variables()) + members + 1).saturating_add(roots);
+    ensure!(wanted <= ROOM, "there is no room for the oracles");
+    attached_nets_are_small();
+    let made = attach(alloc, net, closure, signals)?;
+    Ok(made)
 }
 
 /// The safe net of a net.

@@ -4,8 +4,7 @@ ghost use Rattle.std.specs.Prelude.{◌≡◌, ◌*◌, ◌-◌, ◌≤◌, ◌<
 
 use crate::files::text_of;
 use anyhow::{Result, bail};
-use case_tools::formula_of;
-use formula_nets::closure_for;
+use case_tools::{closure_of, formula_of};
 use hy_bits::each_width;
 use hy_formula::NameTable;
 use ltl_closure::Closure;
@@ -27,8 +26,7 @@ pub fn run(rt: &HostRuntime, words: &[String]) -> Result<ExitCode> {
     };
     let mut names = NameTable::new(rt.alloc())?;
     let formula = formula_of(rt.alloc(), text_of(rt, file.as_str())?.as_str(), &mut names)?;
-    let n = formula.prefix.len() as u8;
-    let c = closure_for(rt.alloc(), &formula.body, n, true)?;
+    let c = closure_of(rt.alloc(), formula, true)?;
     println!(rt; "members {}", c.len())?;
     each_width!(c.len(), build(rt, &c, states))
 }
