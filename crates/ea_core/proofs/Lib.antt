@@ -1,5 +1,4 @@
 pub mod Entering
-pub mod Joining
 pub mod Lettering
 pub mod Named
 pub mod Numbers
