@@ -43,7 +43,7 @@ returns-in-Ok-None-clause-through g c =
 
 pub returns-in-Err-clause-ended : goal.returns-in-Err-clause-ended
 returns-in-Err-clause-ended g c good =
-    inl (c.fault_answer.ensures ∙ ap (fault_answer 1) (c.from.ensures ∙ ap line_fault (c.in-Err.ensures.ended good)))
+    inl (c.fault_answer.ensures ∙ ap (fault_answer 1) (c.from.ensures ∙ ap line_fault (c.in-Err.ensures.ended (c.loop-placed.invariant.good good))))
 
 pub returns-in-Violation-clause-ended : goal.returns-in-Violation-clause-ended
 returns-in-Violation-clause-ended g c good =
