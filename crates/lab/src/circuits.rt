@@ -6,7 +6,7 @@ use aig_net::{Net, simulate};
 use aiger_print::{print_aag, print_aig};
 use aiger_read::{AigerError, read_aiger};
 use anyhow::{Result, bail};
-use case_tools::{composed, formula_net, rows_text, run_of, safe_of};
+use bench_tools::{composed, formula_net, rows_text, run_of, safe_of};
 use hy_base::{BYTES_LIMIT, DiskShelf, FileError, read_all};
 use std::io::Write;
 use std::process::ExitCode;

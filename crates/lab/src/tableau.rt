@@ -4,7 +4,7 @@ ghost use Rattle.std.specs.Prelude.{◌≡◌, ◌*◌, ◌-◌, ◌≤◌, ◌<
 
 use crate::files::text_of;
 use anyhow::{Result, bail};
-use case_tools::{closure_of, formula_of};
+use bench_tools::{closure_of, formula_of};
 use hy_bits::each_width;
 use hy_formula::NameTable;
 use ltl_closure::Closure;
