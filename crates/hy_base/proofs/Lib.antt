@@ -5,3 +5,4 @@ mod Pieces
 pub mod Places
 pub mod Readings
 pub mod Truths
+pub mod Writings
