@@ -14,6 +14,7 @@ mod shelf;
 mod sink;
 mod std_sink;
 mod steps;
+mod words;
 mod writing;
 
 pub use disk_shelf::DiskShelf;
@@ -27,4 +28,5 @@ pub use shelf::{Shelf, ShelfFailed};
 pub use sink::{Sink, SinkFailed};
 pub use std_sink::StdSink;
 pub use steps::Steps;
+pub use words::command_words;
 pub use writing::{write_all, write_pieces};
