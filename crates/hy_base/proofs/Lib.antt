@@ -4,4 +4,6 @@ pub mod Members
 mod Pieces
 pub mod Places
 pub mod Readings
+mod Recorded
 pub mod Truths
+pub mod Writings

@@ -2,6 +2,7 @@
 //! sink tells nothing.
 
 ghost use Rattle.std.specs.Prelude.{◌≡◌, []};
+ghost use Rattle.hy_base.specs.Fakes.{CountsPut};
 
 use crate::calls::one_more;
 use crate::sink::{Sink, SinkFailed};
@@ -30,6 +31,8 @@ impl<P: Print> Sink for StdSink<P> {
     ghost given = { λ _. [] };
 
     ghost faults = { λ s. s.faults };
+
+    ghost called = { λ s put t. CountsPut s.faults t.faults put };
 
     fn put(&mut self, piece: &[u8]) -> Result<usize, SinkFailed> {
         if piece.is_empty() {
