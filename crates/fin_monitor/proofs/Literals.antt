@@ -10,7 +10,8 @@ use Rattle.hy_formula.specs.Normals.{Normal, always, never, literal, and, or, ne
 use Rattle.ltl_closure.specs.Nodes as node
 use Rattle.ltl_closure.specs.Closures.{same_form, with_new, with_form, closure, form_in, node_of}
 use Rattle.ltl_closure.proofs.Closing.{last-form}
-use Rattle.fin_monitor.specs.Codes.{IndexedAtom, is_atom, with_atom, with_atoms, atoms_of, code_of, letter_of}
+use Rattle.hy_formula.specs.Atoms.{IndexedAtom, is_atom, with_atom, with_atoms, atoms_of}
+use Rattle.fin_monitor.specs.Codes.{code_of, letter_of}
 use Rattle.fin_monitor.specs.Duties.{body_nodes}
 use Rattle.fin_monitor.proofs.CodeBits.{letter-code}
 use Rattle.fin_monitor.proofs.Steps.{SameAtoms}

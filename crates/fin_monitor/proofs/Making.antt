@@ -6,7 +6,7 @@ use Rattle.hy_formula.specs.Trees.{Tree, vars_below}
 use Rattle.ltl_closure.specs.Nodes.{Node}
 use Rattle.fin_monitor.specs.declared.automaton.Automaton.{Automaton}
 use Rattle.fin_monitor.specs.declared.monitor_error.MonitorError.{MonitorError}
-use Rattle.fin_monitor.specs.Codes.{IndexedAtom, plain_atom, atoms_of}
+use Rattle.hy_formula.specs.Atoms.{IndexedAtom, plain_atom, atoms_of}
 use Rattle.fin_monitor.specs.Duties.{body_nodes, body_root}
 use Rattle.fin_monitor.specs.Limits.{HasSmallClosure, HasFewAtoms, IsTaken, IsRefusal}
 use Rattle.fin_monitor.specs.Machines.{Machine, IsMonitor}

@@ -11,7 +11,8 @@ use Rattle.hy_finite.specs.declared.lengths.Lengths.{Lengths}
 use Rattle.hy_finite.specs.Traces.{Trace, judged, trace_words, Meets}
 use Rattle.ltl_closure.specs.Nodes.{Node}
 use Rattle.fin_monitor.specs.declared.automaton.Automaton.{Automaton}
-use Rattle.fin_monitor.specs.Codes.{IndexedAtom, code_of, letter_of, atoms_of}
+use Rattle.hy_formula.specs.Atoms.{IndexedAtom, atoms_of}
+use Rattle.fin_monitor.specs.Codes.{code_of, letter_of}
 use Rattle.fin_monitor.specs.Duties.{Duty, strongly, residual_step, residual_after, residual_at, accepts, Same, IsReached, first, later, body_nodes, body_root}
 use Rattle.fin_monitor.specs.Limits.{HasSmallTable}
 use Rattle.fin_monitor.specs.Machines.{Machine, codes, states_of, next_state, is_accepting, code_at, state_after, settled_state, IsMonitor}

@@ -4,7 +4,7 @@ use Rattle.hy_base.specs.declared.limit.Kind.TheVariants.{Closure, Atoms, Table}
 use Rattle.hy_formula.specs.Trees.{Tree}
 use Rattle.fin_monitor.specs.declared.monitor_error.MonitorError.{MonitorError}
 use Rattle.fin_monitor.specs.declared.monitor_error.MonitorError.TheVariants.{Limit, Memory}
-use Rattle.fin_monitor.specs.Codes.{IndexedAtom, with_atoms, atoms_of}
+use Rattle.hy_formula.specs.Atoms.{atoms_of}
 use Rattle.fin_monitor.specs.Duties.{Duty, body_nodes, body_root, SomeReached, AreReached}
 
 abbrev pub HasLargeClosure : Tree → Type 0
@@ -49,11 +49,11 @@ pub record IsTaken (body : Tree) : Type 0 where
   pub atoms : HasFewAtoms body
   pub table : HasSmallTable body
 
--- why the atoms of a tree were not collected
-abbrev pub IsAtomsRefusal : Tree → List IndexedAtom → MonitorError → Type 0
-IsAtomsRefusal body known (Limit Atoms) = 16 < length (with_atoms body known)
-IsAtomsRefusal body known (Limit _) = ⊥
-IsAtomsRefusal body known Memory = Unit {0}
+-- why the atoms of a body were not collected
+abbrev pub IsAtomsRefusal : Tree → MonitorError → Type 0
+IsAtomsRefusal body (Limit Atoms) = HasManyAtoms body
+IsAtomsRefusal body (Limit _) = ⊥
+IsAtomsRefusal body Memory = Unit {0}
 
 -- why the closure of a body was not made
 abbrev pub IsClosureRefusal : Tree → MonitorError → Type 0

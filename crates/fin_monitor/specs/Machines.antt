@@ -2,7 +2,8 @@
 use Rattle.std.specs.Prelude.{◌≡◌, ℕ, zero, suc, ◌+◌, ◌*◌, ◌-◌, ◌^◌, ◌<◌, ◌≤◌, Bool, true, false, IsTrue, List, length, slice_index_or}
 use Rattle.hy_formula.specs.Trees.{Tree, vars_below}
 use Rattle.hy_formula.specs.Temporal.{Words}
-use Rattle.fin_monitor.specs.Codes.{IndexedAtom, atoms_of, code_of}
+use Rattle.hy_formula.specs.Atoms.{IndexedAtom, atoms_of}
+use Rattle.fin_monitor.specs.Codes.{code_of}
 use Rattle.fin_monitor.specs.Duties.{body_nodes, body_root, residual_after, accepts}
 
 pub record Machine : Type 0 where

@@ -2,20 +2,19 @@
 
 ghost use Rattle.std.specs.Prelude.{◌≡◌, ◌≤◌, ◌<◌, ◌∷◌, [], slice_index, length, map, IfOk, IfErr, OnOk, IsTrue};
 ghost use Rattle.hy_formula.specs.Trees.{tree_of, vars_below};
-ghost use Rattle.fin_monitor.specs.Codes.{plain_atom};
+ghost use Rattle.hy_formula.specs.Atoms.{plain_atom};
 ghost use Rattle.fin_monitor.specs.Duties.{body_nodes, body_root};
 ghost use Rattle.fin_monitor.specs.Limits.{IsClosureRefusal};
 ghost use Rattle.fin_monitor.specs.OneJob.{IsOneJob};
 ghost use Rattle.fin_monitor.specs.Tables.{IsAutomaton, IsTableRefusal};
 
-use crate::atoms::AtomList;
 use crate::automaton::Automaton;
 use crate::explore::explore;
 use crate::lefts::Judge;
 use crate::monitor_error::MonitorError;
 use hy_base::{Kind, List, M};
 use hy_bits::each_width;
-use hy_formula::Body;
+use hy_formula::{AtomList, Body};
 use ltl_closure::{Closure, ClosureError, Job, JobList, MapList};
 use std::alloc::Global;
 

@@ -5,7 +5,8 @@ ghost use Rattle.std.specs.Int.RustNames.{bit_or};
 ghost use Rattle.hy_formula.specs.Trees.{Tree};
 ghost use Rattle.hy_formula.specs.Temporal.{Words, below, SatisfiesAt};
 ghost use Rattle.ltl_closure.specs.Nodes.{Node};
-ghost use Rattle.fin_monitor.specs.Codes.{IndexedAtom, code_of};
+ghost use Rattle.hy_formula.specs.Atoms.{IndexedAtom};
+ghost use Rattle.fin_monitor.specs.Codes.{code_of};
 ghost use Rattle.fin_monitor.specs.Duties.{Duty, residual_after, accepts, body_nodes, body_root, SomeReached, AreReached};
 
 /// After the joint letters of finite words the residual accepts exactly where the body holds of them.

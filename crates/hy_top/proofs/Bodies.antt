@@ -4,12 +4,12 @@ use Rattle.std.proofs.Math.Nat.{mul-le-mul_right}
 use Rattle.hy_formula.specs.Quantifiers.{Each}
 use Rattle.hy_formula.specs.Trees.{Tree}
 use Rattle.hy_formula.proofs.Each.{each-at}
-use Rattle.fin_monitor.specs.Codes.{atoms_of}
+use Rattle.hy_formula.specs.Atoms.{atoms_of}
 use Rattle.fin_monitor.specs.Duties.{body_nodes, body_root}
 use Rattle.fin_monitor.specs.Limits.{HasLargeClosure, HasSmallClosure, HasManyAtoms, HasFewAtoms, HasLargeTable, HasSmallTable}
 use Rattle.fin_monitor.proofs.Counting.{reached-most}
 use Rattle.rank_proofs.specs.Counts.{HasFewMembers}
-use Rattle.hy_read.specs.Answers.{Plain}
+use Rattle.hy_formula.specs.Formulas.{Plain}
 use Rattle.hy_words.specs.Commands.{Command}
 use Rattle.hy_top.specs.Checking.{HasManyMembers}
 use Rattle.hy_top.specs.Files.{Given, HasFormulas}

@@ -5,7 +5,7 @@ use Rattle.hy_base.specs.Shelf.{ReadsFiles}
 use Rattle.hy_base.specs.Sink.{GivesWhole, FailsToGive}
 use Rattle.hy_base.specs.declared.shelf.Shelf.{Ghosts}
 use Rattle.hy_base.specs.declared.sink.Sink as sink
-use Rattle.hy_read.specs.Answers.{Plain}
+use Rattle.hy_formula.specs.Formulas.{Plain}
 use Rattle.hy_answer.specs.declared.answer.Answer.{Answer}
 use Rattle.hy_answer.specs.declared.answer.Answer.TheVariants.{Words, WriteFault, Memory}
 use Rattle.hy_answer.specs.declared.answer.Extras.{Extras}

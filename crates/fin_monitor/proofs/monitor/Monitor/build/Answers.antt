@@ -1,15 +1,14 @@
 use Rattle.std.proofs.Common.{◌≡◌, ◌^◌, ℕ, List, map, sym, ap, ◌∙◌, subst, slice_index}
 use Rattle.hy_formula.specs.Trees.{tree_of}
 use Rattle.hy_formula.specs.declared.atom.Atom.{Atom}
-use Rattle.fin_monitor.specs.Codes.{plain_atom}
+use Rattle.hy_formula.specs.Atoms.{plain_atom}
 use Rattle.fin_monitor.specs.Duties.{body_root}
 use Rattle.fin_monitor.specs.Limits.{IsRefusal}
 use Rattle.fin_monitor.specs.Machines.{Machine}
 use Rattle.fin_monitor.specs.Parts.{AreParts}
 use Rattle.fin_monitor.specs.Tables.{IsTableOf, IsSettling}
-use Rattle.fin_monitor.proofs.AtomLists.{err-on}
 use Rattle.fin_monitor.proofs.Making.{table-on, table-is, is-taken, made-monitor}
-use Rattle.fin_monitor.proofs.Refusals.{closure-refused, atoms-refused}
+use Rattle.fin_monitor.proofs.Refusals.{err-on, closure-refused, atoms-refused}
 use Rattle.fin_monitor.proofs.monitor.Monitor.build.Goals as goal
 
 pub returns-in_err-closure-clause-refused : goal.returns-in_err-closure-clause-refused
