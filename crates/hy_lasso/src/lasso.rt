@@ -1,6 +1,6 @@
 //! Lassos.
 
-ghost use Rattle.std.specs.Prelude.{◌≡◌, ◌↔◌, ◌<◌, ℕ, [], length, IfSome, IfNone, IsTrue};
+ghost use Rattle.std.specs.Prelude.{◌≡◌, ◌↔◌, ◌<◌, ◌≤◌, ℕ, [], length, IfSome, IfNone, IsTrue};
 ghost use Rattle.hy_lasso.specs.Equal.{is_equal};
 ghost use Rattle.hy_lasso.specs.EqualLaws.{equal_laws, equal_partial_laws};
 ghost use Rattle.hy_lasso.specs.NormalForms.{IsNormal};
@@ -99,10 +99,13 @@ impl Lasso {
     }
 
     /// The normal form: the same letter at every position, the shortest cycle, and the shortest
-    /// stem. In place, in time linear in the lasso times the divisors of the length of the cycle.
+    /// stem, so neither is longer than before. In place, in time linear in the lasso times the
+    /// divisors of the length of the cycle.
     pub fn shorten(self) -> Lasso
         ensures word { (i : ℕ) → letter_at result i ≡ letter_at self i }
         ensures normal { IsNormal result }
+        ensures stem { length result.stem ≤ length self.stem }
+        ensures cycle { length result.cycle ≤ length self.cycle }
     {
         let Lasso {
             mut stem,
