@@ -6,7 +6,7 @@ use Rattle.hy_formula.specs.Trees.{Tree}
 use Rattle.fin_monitor.specs.declared.monitor_error.MonitorError.{MonitorError}
 use Rattle.fin_monitor.specs.declared.monitor_error.MonitorError.TheVariants.{Limit, Memory}
 use Rattle.hy_formula.specs.Atoms.{atoms_of}
-use Rattle.fin_monitor.specs.Duties.{body_nodes, body_root}
+use Rattle.ltl_closure.specs.Bodies.{body_nodes, body_root}
 use Rattle.fin_monitor.specs.Limits.{HasSmallClosure, HasFewAtoms, IsRefusal, IsClosureRefusal, IsAtomsRefusal}
 use Rattle.fin_monitor.specs.Tables.{IsTableRefusal}
 
@@ -55,7 +55,7 @@ atoms-refused body small (Limit kind.CnfVariables) h = absurd h
 atoms-refused body small (Limit kind.CnfLiterals) h = absurd h
 atoms-refused body small Memory h = tt
 
-pub table-refused : (body : Tree) → HasSmallClosure body → HasFewAtoms body → (e : MonitorError) → IsTableRefusal (body_nodes body) (body_root body) (atoms_of body) e → IsRefusal body e
+pub table-refused : (body : Tree) → HasSmallClosure body → HasFewAtoms body → (e : MonitorError) → IsTableRefusal (body_nodes body true) (body_root body true) (atoms_of body) e → IsRefusal body e
 table-refused body small few (Limit kind.Bytes) h = absurd h
 table-refused body small few (Limit kind.Specs) h = absurd h
 table-refused body small few (Limit kind.Quantifiers) h = absurd h

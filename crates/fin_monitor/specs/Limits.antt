@@ -5,13 +5,14 @@ use Rattle.hy_formula.specs.Trees.{Tree}
 use Rattle.fin_monitor.specs.declared.monitor_error.MonitorError.{MonitorError}
 use Rattle.fin_monitor.specs.declared.monitor_error.MonitorError.TheVariants.{Limit, Memory}
 use Rattle.hy_formula.specs.Atoms.{atoms_of}
-use Rattle.fin_monitor.specs.Duties.{Duty, body_nodes, body_root, SomeReached, AreReached}
+use Rattle.fin_monitor.specs.Duties.{Duty, SomeReached, AreReached}
+use Rattle.ltl_closure.specs.Bodies.{body_nodes, body_root}
 
 abbrev pub HasLargeClosure : Tree → Type 0
-HasLargeClosure body = 1024 < length (body_nodes body)
+HasLargeClosure body = 1024 < length (body_nodes body true)
 
 abbrev pub HasSmallClosure : Tree → Type 0
-HasSmallClosure body = length (body_nodes body) ≤ 1024
+HasSmallClosure body = length (body_nodes body true) ≤ 1024
 
 abbrev pub HasManyAtoms : Tree → Type 0
 HasManyAtoms body = 16 < length (atoms_of body)
@@ -26,13 +27,13 @@ table_size body list = length list * 2 ^ length (atoms_of body)
 -- The residuals that are reached, times the joint letters, are more than 4,194,304.
 pub record HasLargeTable (body : Tree) : Type 0 where
   pub list : List (List Duty)
-  pub reached : SomeReached (body_nodes body) (body_root body) list
+  pub reached : SomeReached (body_nodes body true) (body_root body true) list
   pub many : 4194304 < table_size body list
 
 -- They are at most so many.
 pub record HasSmallTable (body : Tree) : Type 0 where
   pub list : List (List Duty)
-  pub reached : AreReached (body_nodes body) (body_root body) list
+  pub reached : AreReached (body_nodes body true) (body_root body true) list
   pub few : table_size body list ≤ 4194304
 
 -- why there is no monitor, the closure before the atoms and these before the table

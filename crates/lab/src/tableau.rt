@@ -26,7 +26,7 @@ pub fn run(rt: &HostRuntime, words: &[String]) -> Result<ExitCode> {
     };
     let mut names = NameTable::new(rt.alloc())?;
     let formula = formula_of(rt.alloc(), text_of(rt, file.as_str())?.as_str(), &mut names)?;
-    let c = closure_of(rt.alloc(), formula, true)?;
+    let c = closure_of(rt.alloc(), &formula, true)?;
     println!(rt; "members {}", c.len())?;
     each_width!(c.len(), build(rt, &c, states))
 }

@@ -1,5 +1,5 @@
 -- Bodies that are to hold together, under maps of their variables.
-use Rattle.std.specs.Prelude.{ℕ, ◌<◌, Bool, List, [], ◌∷◌, ◌++◌, length, map, slice_index_or, All, IsTrue}
+use Rattle.std.specs.Prelude.{◌≡◌, ℕ, ◌<◌, Bool, List, [], ◌∷◌, ◌++◌, length, map, slice_index_or, All, IsTrue}
 use Rattle.hy_formula.specs.Trees.{Tree, tree_of, vars_below}
 use Rattle.hy_formula.specs.Temporal.{Span, Words, SatisfiesAt}
 use Rattle.hy_formula.specs.Normals.{Normal, normal_form, Signed}
@@ -66,3 +66,8 @@ IsMapped job = All (λ m. IsTrue (vars_below (length m) (tree_of job.body))) job
 abbrev pub AreMappedBelow : ℕ → List Task → Type 0
 AreMappedBelow n [] = Unit {0}
 AreMappedBelow n (task ∷ tasks) = ((v : ℕ) → variable_in task.map v < n) × AreMappedBelow n tasks
+
+-- The map has each variable below n for itself.
+pub record IsIdentity (m : List ℕ) (n : ℕ) : Type 0 where
+  pub long : length m ≡ n
+  pub same : (v : ℕ) → v < n → variable_in m v ≡ v
