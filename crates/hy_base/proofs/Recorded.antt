@@ -121,3 +121,41 @@ module _ {S T : Type 0} (g : sink.Ghosts S) (log : S → Option (List T)) (entry
         subst (λ l. Extends (log old) l (log new)) (sym (map-append entry (map took pieces) (not_taken ∷ [])))
             (extends_on (log old) (log fails.last) (log new) _ (entry not_taken ∷ []) logged (noted fails.last not_taken new fails.refused)),
       )
+
+-- ---- no log says two readings
+
+pieces_once : (p q : List (List ℕ)) (a b : List Call) → map gave p ++ at_end ∷ a ≡ map gave q ++ at_end ∷ b → (concat p ≡ concat q) × (a ≡ b)
+pieces_once [] [] a b e = (refl, cc)
+pieces_once [] (y ∷ q) a b e = absurd (cc)
+pieces_once (x ∷ p) [] a b e = absurd (cc)
+pieces_once (x ∷ p) (y ∷ q) a b e =
+    let head : x ≡ y = cc in
+    let behind : map gave p ++ at_end ∷ a ≡ map gave q ++ at_end ∷ b = cc in
+    let (same, rest) = pieces_once p q a b behind in
+    (ap (λ h. h ++ concat p) head ∙ ap (λ c. y ++ c) same, rest)
+
+-- the calls of a file that is read to its end, and those behind
+whole_calls : (name : List ℕ) (pieces : List (List ℕ)) (calls first others : List Call) → calls ≡ first ++ others
+    → first ≡ begins name pieces ++ at_end ∷ [] → calls ≡ opened name ∷ (map gave pieces ++ at_end ∷ others)
+whole_calls name pieces calls first others e f =
+    e ∙ ap (λ l. l ++ others) f ∙ ap (λ l. opened name ∷ l) (append_assoc (map gave pieces) (at_end ∷ []) others)
+
+none_read : (names : List (List ℕ)) (text : List ℕ) (texts : List (List ℕ)) → ¬ AreReads names (map Ok (text ∷ texts)) []
+none_read [] text texts are = are
+none_read (name ∷ names) text texts (first, others, (pieces, e, f), are, g) = let h = whole_calls name pieces [] first others g f in absurd (cc)
+
+pub texts_once : (names texts others : List (List ℕ)) (calls : List Call) → AreReads names (map Ok texts) calls → AreReads names (map Ok others) calls
+    → texts ≡ others
+texts_once names [] [] calls one two = refl
+texts_once names [] (other ∷ others) calls one two =
+    absurd (none_read names other others (subst (λ c. AreReads names (map Ok (other ∷ others)) c) one two))
+texts_once names (text ∷ texts) [] calls one two =
+    absurd (none_read names text texts (subst (λ c. AreReads names (map Ok (text ∷ texts)) c) two one))
+texts_once [] (text ∷ texts) (other ∷ others) calls one two = absurd one
+texts_once (name ∷ names) (text ∷ texts) (other ∷ others) calls (first, left, (pieces, e, f), are, g) (next, rest, (parts, h, k), all, l) =
+    let both = sym (whole_calls name pieces calls first left g f) ∙ whole_calls name parts calls next rest l k in
+    let behind : map gave pieces ++ at_end ∷ left ≡ map gave parts ++ at_end ∷ rest = cc in
+    let (same, later) = pieces_once pieces parts left rest behind in
+    let front : text ≡ other = sym e ∙ same ∙ h in
+    let equal = texts_once names texts others rest (subst (λ c. AreReads names (map Ok texts) c) later are) all in
+    ap (λ t. t ∷ texts) front ∙ ap (λ ts. other ∷ ts) equal

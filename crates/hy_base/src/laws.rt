@@ -1,6 +1,6 @@
 //! Laws of shelves and sinks. The functions are empty: their contracts are the laws.
 
-ghost use Rattle.std.specs.Prelude.{◌≡◌, ℕ, List, ◌∷◌, [], ◌++◌, map};
+ghost use Rattle.std.specs.Prelude.{◌≡◌, ℕ, List, ◌∷◌, [], ◌++◌, map, Ok};
 ghost use Rattle.std.specs.List.{concat};
 ghost use Rattle.hy_base.specs.Logs.{Extends};
 ghost use Rattle.hy_base.specs.Pieces.{IsProperPrefix};
@@ -28,6 +28,13 @@ pub fn logged_reads<S: Shelf>()
         → ReadsFiles ⟦<RecordedShelf<S> as Shelf>⟧ old new names reads
         → (calls : List Call) × AreReads names reads calls
         × Extends old.log (map shelf_entry calls) new.log }
+{}
+
+/// No log says two readings: the bytes of files that were read to their ends are those of its calls.
+pub fn one_reading()
+    ensures { (names texts others : List (List ℕ)) (calls : List Call)
+        → AreReads names (map Ok texts) calls → AreReads names (map Ok others) calls
+        → texts ≡ others }
 {}
 
 /// What a writer says is what the log of the sink says: puts took the text, piece by piece, and none

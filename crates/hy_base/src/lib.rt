@@ -24,7 +24,7 @@ mod words;
 mod writing;
 
 pub use disk_shelf::DiskShelf;
-pub use laws::{files_keep, logged_reads, logged_writes};
+pub use laws::{files_keep, logged_reads, logged_writes, one_reading};
 pub use limit::{Kind, Limit};
 pub use list::{List, NumList, Remake, Text};
 pub use mem_shelf::{File, FileList, MemShelf};
