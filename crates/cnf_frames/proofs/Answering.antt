@@ -1,9 +1,8 @@
 -- An assignment that makes all clauses of a query true is a path that answers it, and each such path has one.
 use Rattle.std.proofs.Common.{◌≡◌, Bool, List, length}
-use Rattle.aig_net.specs.Nets.{row}
+use Rattle.hy_base.specs.Rows.{row, listed}
 use Rattle.aig_net.specs.Executions.{Word}
-use Rattle.aig_net.specs.Wires.{listed}
-use Rattle.aig_net.proofs.Listed.{length-listed}
+use Rattle.hy_base.proofs.Listed.{length-listed}
 use Rattle.chain_check.specs.Clauses.{SatisfiesAll}
 use Rattle.live_safe.specs.declared.safe_net.SafeNet.{SafeNet}
 use Rattle.cnf_frames.specs.declared.queries.Asked.{Asked}

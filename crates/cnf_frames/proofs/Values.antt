@@ -4,9 +4,8 @@ use Rattle.std.specs.Prelude.{ℤ, pos, negsuc}
 use Rattle.std.specs.List.{Contains}
 use Rattle.std.proofs.lemmas.Bool.{cases_eq, or_cases, or_left, or_right, not-true, not_from_false}
 use Rattle.std.proofs.lemmas.List.Elements.{Contains-append_left, Contains-append_right}
-use Rattle.aig_net.specs.Nets.{row}
-use Rattle.aig_net.specs.Wires.{listed}
-use Rattle.aig_net.proofs.Listed.{at-listed}
+use Rattle.hy_base.specs.Rows.{row, listed}
+use Rattle.hy_base.proofs.Listed.{at-listed}
 use Rattle.chain_check.specs.Clauses.{Clause, IsLiteral, AreLiterals, AreClauses, IsMadeTrue, Satisfies, SatisfiesAll}
 use Rattle.cnf_frames.specs.Queries.{for_each}
 

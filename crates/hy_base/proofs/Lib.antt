@@ -1,7 +1,9 @@
 mod CallLemmas
 mod FileLemmas
+pub mod Listed
 pub mod Members
 mod Pieces
 pub mod Places
 pub mod Readings
+pub mod RowNumbers
 pub mod Truths

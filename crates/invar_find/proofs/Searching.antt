@@ -5,7 +5,8 @@ use Rattle.std.proofs.Math.Seq.{get_or-append_seam}
 use Rattle.std.proofs.lemmas.Bool.{cases_eq}
 use Rattle.std.proofs.lemmas.List.{get_or_append_left, length-take}
 use Rattle.std.proofs.lemmas.List.Elements.{Contains-append_left, Contains-get_or, Contains-push, Contains-push_cases}
-use Rattle.aig_net.specs.Nets.{latch_variable, row}
+use Rattle.aig_net.specs.Nets.{latch_variable}
+use Rattle.hy_base.specs.Rows.{row}
 use Rattle.aig_net.specs.Executions.{Word}
 use Rattle.chain_check.specs.declared.logs.Learned.{Learned}
 use Rattle.chain_check.specs.Clauses.{Clause, SatisfiesAll}

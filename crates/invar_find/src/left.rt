@@ -1,7 +1,8 @@
 //! What is left of facts.
 
 ghost use Rattle.std.specs.Prelude.{◌≡◌, ◌*◌, ◌+◌, ◌<◌, ◌≤◌, ◌↔◌, ℕ, Contains, length, IsTrue, IfOk};
-ghost use Rattle.aig_net.specs.Nets.{latch_variable, row, variables};
+ghost use Rattle.aig_net.specs.Nets.{latch_variable, variables};
+ghost use Rattle.hy_base.specs.Rows.{row};
 ghost use Rattle.live_safe.specs.declared.safe_net.SafeNet.{SafeNet};
 ghost use Rattle.cnf_frames.specs.Facts.{AllIn, IsIn, IsSafe};
 ghost use Rattle.cnf_frames.specs.Queries.{group_of};

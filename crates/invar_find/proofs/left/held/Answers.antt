@@ -1,5 +1,5 @@
 use Rattle.std.proofs.Common.{◌≡◌, true, false, List, [], sym, refl, subst, ◌∙◌}
-use Rattle.aig_net.specs.Nets.{row}
+use Rattle.hy_base.specs.Rows.{row}
 use Rattle.cnf_frames.specs.declared.facts.Fact.{Fact}
 use Rattle.invar_find.specs.Parts.{AreThose, HoldsIn}
 use Rattle.invar_find.proofs.Sublists.{those-none, those-taken, those-left}

@@ -1,5 +1,5 @@
 use Rattle.std.proofs.Common.{take}
-use Rattle.aig_net.specs.Nets.{row}
+use Rattle.hy_base.specs.Rows.{row}
 use Rattle.invar_find.specs.Parts.{AreThose, HoldsIn}
 use Rattle.invar_find.proofs.left.held.Given as goal
 
