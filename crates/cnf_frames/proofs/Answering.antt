@@ -10,7 +10,8 @@ use Rattle.cnf_frames.specs.declared.queries.Asked.TheVariants.{Base, Step, Keep
 use Rattle.cnf_frames.specs.Facts.{IsSafe}
 use Rattle.cnf_frames.specs.Queries.{clauses_of, variables_of, base_clauses, step_clauses, keep_clauses, group_of}
 use Rattle.cnf_frames.specs.QueryPaths.{Answers, CanAsk, word_of}
-use Rattle.cnf_frames.proofs.Values.{Assignment, AllMet, satisfied-met, listed-met}
+use Rattle.chain_check.proofs.Values.{satisfied-met, listed-met}
+use Rattle.chain_check.specs.Values.{Assignment, AllMet}
 use Rattle.cnf_frames.proofs.FramePaths.{base-met}
 use Rattle.cnf_frames.proofs.Distinct.{step-right}
 use Rattle.cnf_frames.proofs.Keeping.{keep-right}

@@ -15,7 +15,7 @@ use Rattle.cnf_frames.specs.declared.facts.Fact.TheVariants.{Zero, One, Same, Di
 use Rattle.cnf_frames.specs.Facts.{FactHolds, IsIn, AllIn, IsSafe}
 use Rattle.cnf_frames.specs.Queries.{pairs_before, pair_start, step_clauses}
 use Rattle.cnf_frames.specs.QueryPaths.{IsStepPath}
-use Rattle.cnf_frames.proofs.Values.{Assignment, AllMet}
+use Rattle.chain_check.specs.Values.{Assignment, AllMet}
 use Rattle.cnf_frames.proofs.Meanings.{path_of}
 use Rattle.cnf_frames.proofs.Distinct.{Marked, parts-met}
 use Rattle.cnf_frames.proofs.Likeness.{path-alike}

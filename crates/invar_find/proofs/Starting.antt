@@ -10,7 +10,7 @@ use Rattle.live_safe.specs.declared.safe_net.SafeNet.{SafeNet}
 use Rattle.cnf_frames.specs.declared.facts.Fact.{Fact}
 use Rattle.cnf_frames.specs.declared.facts.Fact.TheVariants.{Zero, One, Same, Differ}
 use Rattle.cnf_frames.specs.Facts.{FactHolds, AllIn, IsIn, IsSafe, HoldsIn}
-use Rattle.cnf_frames.specs.Queries.{for_each}
+use Rattle.chain_check.specs.FewClauses.{for_each}
 use Rattle.invar_find.specs.Candidates.{candidates, pairs_with, single_facts}
 use Rattle.invar_find.specs.Parts.{AreThose}
 use Rattle.invar_find.specs.Searches.{IsSearching}
