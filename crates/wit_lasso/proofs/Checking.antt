@@ -19,10 +19,10 @@ use Rattle.aig_net.specs.Nets.{Net, Below, variables, literal_value, literal_at,
 use Rattle.aig_net.specs.Executions.{Word, Lasso, IsExecution, IsLassoExecution, gone, no_lasso, lasso_of, part, Recurs}
 use Rattle.aig_net.specs.Signals.{visible}
 use Rattle.aig_net.proofs.Literals.{value-same}
-use Rattle.aig_net.proofs.Listed.{length-listed, at-listed}
+use Rattle.hy_base.proofs.Listed.{length-listed, at-listed}
 use Rattle.aig_net.proofs.Rounds.{gone-recurs, recurring}
 use Rattle.aig_net.proofs.Closings.{gone-execution, recurring-execution}
-use Rattle.aig_net.specs.Wires.{listed}
+use Rattle.hy_base.specs.Rows.{listed}
 use Rattle.self_compose.specs.Copies.{compose, copy}
 use Rattle.self_compose.proofs.Tuples.{composed-net, copy-execution, copy-recurs, copy-value}
 use Rattle.self_compose.proofs.Periods.{join-lasso}

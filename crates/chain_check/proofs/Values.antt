@@ -1,31 +1,14 @@
--- Truth values of literals, clauses and lists of clauses, as tests.
+-- What the tests of literals and clauses say of assignments.
 use Rattle.std.proofs.Common.{◌≡◌, ℕ, zero, suc, ◌+◌, ◌-◌, ◌<◌, ◌↔◌, Bool, true, false, not, ◌||◌, List, [], ◌∷◌, ◌++◌, inl, inr, refl, sym, ap, ◌∙◌, subst, arith}
 use Rattle.std.specs.Prelude.{ℤ, pos, negsuc}
 use Rattle.std.specs.List.{Contains}
 use Rattle.std.proofs.lemmas.Bool.{cases_eq, or_cases, or_left, or_right, not-true, not_from_false}
 use Rattle.std.proofs.lemmas.List.Elements.{Contains-append_left, Contains-append_right}
-use Rattle.aig_net.specs.Nets.{row}
-use Rattle.aig_net.specs.Wires.{listed}
-use Rattle.aig_net.proofs.Listed.{at-listed}
+use Rattle.hy_base.specs.Rows.{row, listed}
+use Rattle.hy_base.proofs.Listed.{at-listed}
 use Rattle.chain_check.specs.Clauses.{Clause, IsLiteral, AreLiterals, AreClauses, IsMadeTrue, Satisfies, SatisfiesAll}
-use Rattle.cnf_frames.specs.Queries.{for_each}
-
--- truth values of the variables 1, 2, ..
-abbrev pub Assignment : Type 0
-Assignment = ℕ → Bool
-
-abbrev pub number_value : Assignment → ℤ → Bool
-number_value a (pos zero) = a 0
-number_value a (pos (suc x)) = a x
-number_value a (negsuc x) = not (a x)
-
-abbrev pub clause_value : Assignment → Clause → Bool
-clause_value a [] = false
-clause_value a (l ∷ ls) = number_value a l || clause_value a ls
-
-abbrev pub AllMet : Assignment → List Clause → Type 0
-AllMet a [] = Unit {0}
-AllMet a (c ∷ cs) = (clause_value a c ≡ true) × AllMet a cs
+use Rattle.chain_check.specs.FewClauses.{for_each}
+use Rattle.chain_check.specs.Values.{Assignment, number_value, clause_value, AllMet}
 
 -- ---- tests and what they say
 

@@ -1,8 +1,8 @@
--- What each item of a list has, of lists made of others; and truth values.
-use Rattle.std.proofs.Common.{◌≡◌, ℕ, zero, suc, ◌+◌, ◌-◌, ◌<◌, ◌≤◌, ◌⊎◌, Bool, true, false, not, ◌&&◌, List, [], ◌∷◌, ◌++◌, map, length, get_or, inl, inr, refl, sym, ap, ◌∙◌, subst, arith, length-append}
+-- What each item of a list has, of lists made of others; lists of the values at numbers.
+use Rattle.std.proofs.Common.{◌≡◌, ℕ, zero, suc, ◌+◌, ◌-◌, ◌<◌, ◌≤◌, List, [], ◌∷◌, ◌++◌, map, length, get_or, inl, inr, refl, sym, ap, ◌∙◌, subst, arith, length-append}
 use Rattle.std.proofs.lemmas.Bool.{cases_lt}
 use Rattle.std.proofs.lemmas.List.{get_or_append_left, get_or-append-add, length-map}
-use Rattle.aig_net.specs.Wires.{listed}
+use Rattle.hy_base.specs.Rows.{listed}
 
 pub append-each : {A : Type 0} (d : A) (xs ys : List A) (P : ℕ → A → Type 0) →
     ((j : ℕ) → j < length (xs ++ ys) → P j (get_or (xs ++ ys) j d)) →
@@ -136,30 +136,3 @@ listed-same c zero f g same = refl
 listed-same c (suc n) f g same =
     ap (λ x. x ∷ listed (suc c) n f) (same c (omega arith) (omega arith))
     ∙ ap (λ l. g c ∷ l) (listed-same (suc c) n f g (λ i le lt. same i (omega arith) (omega arith)))
-
--- ---- truth values
-
-pub or-true : (a b : Bool) → not (not a && not b) ≡ true → (a ≡ true) ⊎ (b ≡ true)
-or-true true b e = inl refl
-or-true false true e = inr refl
-or-true false false e = absurd (cc)
-
-pub true-or-left : (a b : Bool) → a ≡ true → not (not a && not b) ≡ true
-true-or-left true b e = refl
-true-or-left false b e = absurd (cc)
-
-pub true-or-right : (a b : Bool) → b ≡ true → not (not a && not b) ≡ true
-true-or-right true b e = refl
-true-or-right false true e = refl
-true-or-right false false e = absurd (cc)
-
--- where a promise is not owed or kept
-pub or-kept : (a b : Bool) → not (not (not a) && not b) ≡ true → a ≡ true → b ≡ true
-or-kept true true e h = refl
-or-kept true false e h = absurd (cc)
-or-kept false b e h = absurd (cc)
-
-pub kept-or : (a b : Bool) → (a ≡ true → b ≡ true) → not (not (not a) && not b) ≡ true
-kept-or true true h = refl
-kept-or true false h = absurd (let e : false ≡ true = h refl in cc)
-kept-or false b h = refl
