@@ -7,8 +7,9 @@ ghost use Rattle.hy_lasso.specs.NormalForms.{IsNormal};
 ghost use Rattle.hy_lasso.specs.Words.{letter_at};
 
 use crate::shorten::{least_round, shared_end};
-use hy_base::List;
+use hy_base::{List, M, Remake};
 use hy_bits::{LetterMask, Letters};
+use std::alloc::Global;
 use std::marker::Model;
 
 /// An endless word that repeats: a stem, and a cycle of at least one letter that is gone round.
@@ -52,6 +53,15 @@ impl PartialEq for Lasso {
 
 impl Eq for Lasso {
     ghost laws = { equal_laws };
+}
+
+impl Remake for Lasso {
+    fn remake(&self, alloc: Global) -> M<Self> {
+        Ok(Lasso {
+            stem: self.stem.copy(alloc)?,
+            cycle: self.cycle.copy(alloc)?,
+        })
+    }
 }
 
 /// Lassos, each known by its place.

@@ -8,6 +8,18 @@ use Rattle.ltl_closure.specs.declared.job.Job.{Job}
 use Rattle.ltl_closure.specs.Nodes.{Node}
 use Rattle.ltl_closure.specs.Closures.{closure, nodes_of, number_in}
 
+-- a job without where its parts lie in memory
+pub record PlainJob : Type 0 where
+  pub body : Tree
+  pub positive : Bool
+  pub maps : List (List ℕ)
+
+abbrev pub plain_job : Job → PlainJob
+plain_job job = record { body = tree_of job.body; positive = job.positive; maps = job.maps }
+
+abbrev pub plain_jobs : List Job → List PlainJob
+plain_jobs jobs = map plain_job jobs
+
 -- a body, whether it is to hold, and the variable that each of its variables stands for
 pub record Task : Type 0 where
   pub body : Tree
