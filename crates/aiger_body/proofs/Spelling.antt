@@ -1,5 +1,5 @@
 -- Printed lines read back.
-use Rattle.std.proofs.Common.{◌≡◌, ℕ, ◌^◌, ◌<◌, Bool, true, false, nat_eq, List, [], ◌∷◌, refl, sym, ◌∙◌, ap, inl, inr, map, length, get_or, arith, Some, None, ◌⊎◌}
+use Rattle.std.proofs.Common.{◌≡◌, ℕ, ◌^◌, ◌<◌, true, false, nat_eq, List, [], ◌∷◌, refl, ◌∙◌, ap, inl, inr, map, length, get_or, arith, Some, ◌⊎◌}
 use Rattle.std.specs.Prelude.{decimal}
 use Rattle.std.specs.List.{All, slice_split}
 use Rattle.std.proofs.lemmas.Fmt.{decimal_is_IsNumeral}
