@@ -6,12 +6,13 @@ use Rattle.std.proofs.lemmas.Bool.{leb-true, lt-ltb, eqb-true, cases_lt, cases_B
 use Rattle.std.proofs.lemmas.List.{take_all, drop_all}
 use Rattle.aiger_body.specs.declared.header.Header.{Header}
 use Rattle.aig_order.specs.Firsts.{when}
-use Rattle.aiger_body.specs.Texts.{is_space, number_of, with_number, all_numbers, or_empty, numbers_of}
+use Rattle.hy_text.specs.Numbers.{number_of}
+use Rattle.aiger_body.specs.Texts.{is_space, with_number, all_numbers, or_empty, numbers_of}
 use Rattle.aiger_body.specs.Files.{header_with, header_in, form_of, header_of, is_header}
 use Rattle.aiger_body.specs.Outcomes.{of_header, fault}
 use Rattle.aiger_body.specs.declared.error.AigKind.TheVariants.{Header as HeaderFault}
 use Rattle.aiger_body.specs.Answers.{IsShort, Fits}
-use Rattle.aiger_body.proofs.Numbers.{number_small}
+use Rattle.hy_text.proofs.Digits.{number_small}
 use Rattle.aig_order.proofs.Firsts.{when-none, none-both}
 
 -- each number below 10 to the power of 10

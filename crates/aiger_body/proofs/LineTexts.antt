@@ -1,12 +1,12 @@
 -- A line says a row of numbers exactly where it is these numbers spelled, with or without a carriage return.
-use Rattle.std.proofs.Common.{◌≡◌, ℕ, suc, ◌<◌, ◌⊎◌, Bool, true, false, cond, ◌&&◌, nat_eq, List, [], ◌∷◌, ◌++◌, refl, sym, ◌∙◌, ap, subst, inl, inr, map, length, get_or, arith, append_assoc, Option, Some, None}
-use Rattle.std.specs.Prelude.{decimal, bytes_eq, nat_le, flat_map}
+use Rattle.std.proofs.Common.{◌≡◌, ℕ, suc, ◌<◌, ◌⊎◌, Bool, true, false, cond, nat_eq, List, [], ◌∷◌, ◌++◌, refl, sym, ◌∙◌, ap, subst, inl, inr, map, length, get_or, arith, append_assoc, Option, Some, None}
+use Rattle.std.specs.Prelude.{decimal, flat_map}
 use Rattle.std.specs.List.{All, slice_split, join_with_byte}
-use Rattle.std.specs.Str.Parse.{digits_value}
 use Rattle.std.proofs.lemmas.List.Splits.{join_with_byte-slice_split}
 use Rattle.std.proofs.lemmas.Bool.{eqb-true, cases_Bool}
-use Rattle.hy_base.proofs.Truths.{same-bytes}
-use Rattle.aiger_body.specs.Texts.{is_feed, is_return, is_space, is_ended, pieces, without_end, line_text, number_of, with_number, all_numbers, or_empty, numbers_of}
+use Rattle.hy_text.specs.Numbers.{number_of}
+use Rattle.hy_text.proofs.Digits.{says_number}
+use Rattle.aiger_body.specs.Texts.{is_feed, is_return, is_space, is_ended, pieces, without_end, line_text, with_number, all_numbers, or_empty, numbers_of}
 use Rattle.aiger_body.specs.Spelled.{AreShort, spelled, line_of, end_of}
 use Rattle.aiger_body.proofs.Pieces.{Free, pieces-cons}
 use Rattle.aiger_body.proofs.Spelling.{numbers-spelled, no-digit}
@@ -65,15 +65,7 @@ line-read carriage n row short =
 -- ---- and what says them is spelled so
 
 number-word : (word : List ℕ) (n : ℕ) → number_of word ≡ Some n → decimal n ≡ word
-number-word word n e = step (nat_le (length word) 10) (bytes_eq (decimal (digits_value 10 word)) word) refl e
-  where
-    step : (a b : Bool) → bytes_eq (decimal (digits_value 10 word)) word ≡ b → cond (a && b) (Some (digits_value 10 word)) None ≡ Some n → decimal n ≡ word
-    step true true same e =
-        let value : digits_value 10 word ≡ n = cc in
-        let P : ℕ → Type 0 = λ v. decimal v ≡ word in
-        subst P value (same-bytes _ _ same)
-    step true false same e = absurd (cc)
-    step false b same e = absurd (cc)
+number-word word n e = let says = says_number word n e in sym says.spelled
 
 all-words : (words : List (List ℕ)) (row : List ℕ) → all_numbers words ≡ Some row → words ≡ map decimal row
 all-words [] [] e = refl

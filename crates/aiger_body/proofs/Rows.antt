@@ -9,7 +9,7 @@ use Rattle.aiger_body.specs.Texts.{line_text, numbers_of, or_empty, with_number}
 use Rattle.aiger_body.specs.Files.{is_literal, is_plain, is_reset, is_right, is_input, is_latch, is_use, is_gate, with_own, defined, rows, row, line, lines, section}
 use Rattle.aiger_body.specs.Answers.{Fits}
 use Rattle.aiger_body.specs.Keeping.{AreWords, HasWords}
-use Rattle.aiger_body.proofs.Numbers.{no_number}
+use Rattle.hy_text.proofs.Digits.{no_number}
 use Rattle.aiger_body.proofs.Headers.{numbers_small}
 
 -- ---- more than ten numbers are never right

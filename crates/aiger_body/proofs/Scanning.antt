@@ -1,11 +1,7 @@
--- Pieces and words from their first byte on.
-use Rattle.std.proofs.Common.{◌≡◌, ℕ, zero, suc, ◌+◌, ◌-◌, ◌<◌, ◌≤◌, Bool, true, false, not, List, [], ◌∷◌, length, get_or, take, drop, refl, sym, ◌∙◌, ap, arith}
-use Rattle.std.specs.List.{prefix_len, slice_split, position_or_len}
-use Rattle.std.proofs.lemmas.List.Sums.{prefix_len-le-length}
-use Rattle.std.proofs.lemmas.List.Splits.{slice_split_first}
-use Rattle.std.proofs.lemmas.List.{length-drop, drop-drop}
-use Rattle.std.proofs.Math.Seq.{take-length, drop-cons}
-use Rattle.aiger_body.specs.Texts.{grown, pieces, piece_at, is_ended, without_end, is_space}
+-- Pieces from their first byte on.
+use Rattle.std.proofs.Common.{◌≡◌, ℕ, zero, suc, ◌+◌, ◌-◌, ◌<◌, ◌≤◌, Bool, true, false, List, [], ◌∷◌, length, get_or, take, drop, refl, ◌∙◌, ap, arith}
+use Rattle.std.proofs.Math.Seq.{drop-cons}
+use Rattle.aiger_body.specs.Texts.{grown, pieces, piece_at, is_ended, without_end}
 use Rattle.aiger_body.specs.Words.{first_len}
 
 pub ended_last : (ends : ℕ → Bool) (text : List ℕ) → 0 < length text → is_ended ends text ≡ ends (get_or text (length text - 1) 0)
@@ -51,24 +47,3 @@ first_all ends [] zero le = refl
 first_all ends [] (suc i) le = refl
 first_all ends (x ∷ xs) zero le = absurd (omega arith)
 first_all ends (x ∷ xs) (suc i) le = first_all ends xs i (omega arith)
-
--- ---- words
-
-one_word : (text : List ℕ) → prefix_len (λ b. not (is_space b)) text ≡ length text → slice_split is_space text ≡ text ∷ []
-one_word [] e = refl
-one_word (x ∷ xs) e = grind (arith, one_word xs)
-
--- the only word
-pub last_word : (text word behind : List ℕ) (len : ℕ) → len ≡ prefix_len (λ b. not (is_space b)) text → word ≡ take len text → behind ≡ drop len text → length behind ≡ 0 → slice_split is_space text ≡ word ∷ []
-last_word text word behind len run front rest none =
-    let whole : len ≡ length text = omega (arith, prefix_len-le-length (λ b. not (is_space b)) text, ap length rest, length-drop len text) in
-    one_word text (sym run ∙ whole) ∙ ap (λ l. l ∷ []) (sym (front ∙ ap (λ n. take n text) whole ∙ take-length text))
-
--- a word, and more behind its space
-pub next_word : (text word behind : List ℕ) (len : ℕ) → len ≡ prefix_len (λ b. not (is_space b)) text → word ≡ take len text → behind ≡ drop len text → 0 < length behind → slice_split is_space text ≡ word ∷ slice_split is_space (drop 1 behind)
-next_word text word behind len run front rest some =
-    let within : position_or_len is_space text < length text = omega (arith, ap length rest, length-drop len text, run) in
-    let after : drop (position_or_len is_space text + 1) text ≡ drop 1 behind = sym (ap (drop 1) rest ∙ drop-drop 1 len text ∙ ap (λ n. drop (n + 1) text) run) in
-    slice_split_first is_space text 0 within
-    ∙ ap (λ l. l ∷ slice_split is_space (drop (position_or_len is_space text + 1) text)) (sym (front ∙ ap (λ n. take n text) run))
-    ∙ ap (λ t. word ∷ slice_split is_space t) after

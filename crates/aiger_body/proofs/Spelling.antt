@@ -1,27 +1,22 @@
 -- Printed lines read back.
-use Rattle.std.proofs.Common.{◌≡◌, ℕ, ◌^◌, ◌<◌, Bool, true, false, cond, ◌&&◌, nat_eq, List, [], ◌∷◌, refl, sym, ◌∙◌, ap, subst, inl, inr, map, length, get_or, arith, Some, None, ◌⊎◌}
-use Rattle.std.specs.Prelude.{decimal, bytes_eq, nat_le}
+use Rattle.std.proofs.Common.{◌≡◌, ℕ, ◌^◌, ◌<◌, true, false, nat_eq, List, [], ◌∷◌, refl, ◌∙◌, ap, inl, inr, map, length, get_or, arith, Some, ◌⊎◌}
+use Rattle.std.specs.Prelude.{decimal}
 use Rattle.std.specs.List.{All, slice_split}
-use Rattle.std.specs.Str.Parse.{digits_value}
-use Rattle.std.proofs.lemmas.Fmt.{decimal_is_IsNumeral, length-decimal-le}
+use Rattle.std.proofs.lemmas.Fmt.{decimal_is_IsNumeral}
 use Rattle.std.proofs.lemmas.Str.Parse.{digit_at}
 use Rattle.std.proofs.lemmas.List.Splits.{slice_split_at, slice_split_none}
 use Rattle.std.proofs.lemmas.List.Elements.{All-from_get_or}
-use Rattle.std.proofs.lemmas.Bool.{eqb-true, le-leb, and_from, cases_Bool}
-use Rattle.hy_base.proofs.Truths.{bytes-themselves}
-use Rattle.aiger_body.specs.Texts.{is_space, number_of, with_number, all_numbers, or_empty, numbers_of}
+use Rattle.std.proofs.lemmas.Bool.{eqb-true, cases_Bool}
+use Rattle.hy_text.specs.Numbers.{number_of}
+use Rattle.hy_text.proofs.Digits.{number_said}
+use Rattle.aiger_body.specs.Texts.{is_space, with_number, all_numbers, or_empty, numbers_of}
 use Rattle.aiger_body.specs.Spelled.{AreShort, spelled}
 
 wide : (n : ℕ) → n < 10 ^ 10 → n < 2 ^ 64
 wide n lt = omega (arith, lt)
 
 pub number-decimal : (n : ℕ) → n < 10 ^ 10 → number_of (decimal n) ≡ Some n
-number-decimal n lt =
-    let value : digits_value 10 (decimal n) ≡ n = (decimal_is_IsNumeral n (wide n lt)).1 in
-    let short : nat_le (length (decimal n)) 10 ≡ true = le-leb _ _ (length-decimal-le 10 n (omega arith) lt (wide n lt)) in
-    let P : ℕ → Type 0 = λ v. cond (nat_le (length (decimal n)) 10 && bytes_eq (decimal v) (decimal n)) (Some v) None ≡ Some n in
-    let Q : Bool → Type 0 = λ b. cond b (Some n) None ≡ Some n in
-    subst P (sym value) (subst Q (sym (and_from _ _ short (bytes-themselves (decimal n)))) refl)
+number-decimal n lt = number_said (decimal n) n (record { spelled = refl; short = lt })
 
 -- digits are none of space, return and feed
 pub no-digit : (n : ℕ) → n < 10 ^ 10 → (c : ℕ) → c < 48 → All (λ x. nat_eq x c ≡ false) (decimal n)

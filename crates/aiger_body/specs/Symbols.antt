@@ -1,7 +1,8 @@
 -- Symbol lines and the comment.
 use Rattle.std.specs.Prelude.{ℕ, zero, suc, Bool, false, cond, not, ◌&&◌, ◌||◌, nat_eq, nat_lt, List, [], ◌∷◌, length, slice_index, bytes_eq, codes, Option, Some, None, unwrap_or}
 use Rattle.std.specs.List.{before_first, after_first, position_or_len}
-use Rattle.aiger_body.specs.Texts.{pieces, piece_at, is_ended, is_feed, is_return, is_space, line_text, number_of}
+use Rattle.hy_text.specs.Numbers.{number_of}
+use Rattle.aiger_body.specs.Texts.{pieces, piece_at, is_ended, is_feed, is_return, is_space, line_text}
 use Rattle.aig_order.specs.Firsts.{first_below, any_below}
 use Rattle.aiger_body.specs.declared.header.Header.{Header}
 use Rattle.aiger_body.specs.Files.{tail}

@@ -1,7 +1,7 @@
 -- Texts in pieces, and numbers in lines.
-use Rattle.std.specs.Prelude.{ℕ, Bool, true, false, cond, ◌&&◌, nat_eq, nat_le, List, [], ◌∷◌, length, take, slice_index_or, decimal, bytes_eq, Option, Some, None}
+use Rattle.std.specs.Prelude.{ℕ, Bool, true, false, cond, nat_eq, List, [], ◌∷◌, length, take, slice_index_or, Option, Some, None}
 use Rattle.std.specs.List.{concat, slice_split}
-use Rattle.std.specs.Str.Parse.{digits_value}
+use Rattle.hy_text.specs.Numbers.{number_of}
 
 abbrev pub grown : Bool → ℕ → List (List ℕ) → List (List ℕ)
 grown true b pieces = (b ∷ []) ∷ pieces
@@ -45,10 +45,6 @@ without_end ends (b ∷ c ∷ bytes) = b ∷ without_end ends (c ∷ bytes)
 -- what a line says
 abbrev pub line_text : List ℕ → List ℕ
 line_text line = without_end is_return (without_end is_feed line)
-
--- the number that the word spells: what is written of it is the word
-abbrev pub number_of : List ℕ → Option ℕ
-number_of word = cond (nat_le (length word) 10 && bytes_eq (decimal (digits_value 10 word)) word) (Some (digits_value 10 word)) None
 
 abbrev pub with_number : Option ℕ → Option (List ℕ) → Option (List ℕ)
 with_number (Some n) (Some ns) = Some (n ∷ ns)

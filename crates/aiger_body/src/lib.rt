@@ -16,4 +16,4 @@ pub use body::{Body, read_body};
 pub use content::{Content, Latch};
 pub use error::{AigKind, AigerError};
 pub use header::Header;
-pub use text::{is_whole, line_at, number, text_of, word_len};
+pub use text::{is_whole, line_at, text_of, word_len};

@@ -1,14 +1,14 @@
 //! Lines, and the numbers that they say.
 
-ghost use Rattle.std.specs.Prelude.{◌≡◌, ℕ, suc, ◌+◌, ◌^◌, ◌<◌, ◌≤◌, ◌++◌, ◌∷◌, length, take, OnOk, IfSome, IfNone, IsTrue, ◌↔◌, nat_eq, slice_index, not};
+ghost use Rattle.std.specs.Prelude.{◌≡◌, ℕ, suc, ◌+◌, ◌<◌, ◌≤◌, ◌++◌, ◌∷◌, length, take, OnOk, nat_eq, not};
 ghost use Rattle.std.specs.List.{slice_split, prefix_len};
 ghost use Rattle.std.specs.Option.{option_copied};
-ghost use Rattle.std.specs.Str.Parse.{AllDigits, digits_value};
-ghost use Rattle.aiger_body.specs.Texts.{is_feed, is_ended, is_space, is_return, without_end, line_text, number_of, numbers_of, pieces, piece_at, place};
+ghost use Rattle.aiger_body.specs.Texts.{is_feed, is_ended, is_space, is_return, without_end, line_text, numbers_of, pieces, piece_at, place};
 ghost use Rattle.aiger_body.specs.Files.{lines};
 ghost use Rattle.aiger_body.specs.Words.{ends_with, IsPlace, first_len, words_of, left_of};
 
 use hy_base::{List, M};
+use hy_text::{cut, number};
 
 /// What ends a piece of a text.
 #[derive(Clone, Copy)]
@@ -108,41 +108,6 @@ fn ends_in(text: &[u8], byte: u8) -> bool
     !text.is_empty() && text[text.len() - 1] == byte
 }
 
-/// The number that the word spells in decimal digits, at most ten of them and the first no needless
-/// zero.
-pub fn number(word: &[u8]) -> Option<u64>
-    ensures said { result ≡ number_of word.now }
-    ensures short { IfSome result (λ n. n < 10 ^ 10) }
-{
-    if word.is_empty() || word.len() > 10 || leads_with_zero(word) {
-        return None;
-    }
-    digits(word)
-}
-
-/// Whether the word has a needless zero before its number.
-fn leads_with_zero(word: &[u8]) -> bool
-    ensures { IsTrue result ↔ ((1 < length word.now) × (slice_index word.now 0 ≡ 48)) }
-{
-    word.len() > 1 && word[0] == b'0'
-}
-
-/// The number of a word of at most ten digits.
-fn digits(word: &[u8]) -> Option<u64>
-    requires { length word.now ≤ 10 }
-    ensures none { IfNone result (¬ AllDigits 10 word.now) }
-    ensures some { IfSome result (λ n. AllDigits 10 word.now × (n ≡ digits_value 10 word.now)) }
-{
-    let mut n = 0;
-    for b in word {
-        if *b < b'0' || b'9' < *b {
-            return None;
-        }
-        n = n * 10 + u64::from(*b - b'0');
-    }
-    Some(n)
-}
-
 /// Adds the first ten numbers of the text, which has one space between two; none where it is
 /// anything else. In time linear in the text.
 pub fn read_numbers(text: &[u8], row: &mut List<u64>) -> M<()>
@@ -167,18 +132,16 @@ pub fn read_numbers(text: &[u8], row: &mut List<u64>) -> M<()>
 }
 
 /// The first word, and what stands behind the space after it, if there is one.
+#[inline(always)]
 fn cut_word(text: &[u8]) -> (&[u8], Option<&[u8]>)
     ensures words { slice_split is_space text.now ≡
         result.0.now ∷ words_of (option_copied result.1) }
     ensures fewer { left_of (option_copied result.1) < left_of (Some text.now) }
 {
-    let len = word_len(text);
-    let (word, behind) = text.split_at(len);
-    if behind.is_empty() {
-        return (word, None);
+    match cut(text, b' ') {
+        Some((word, rest)) => (word, Some(rest)),
+        None => (text, None),
     }
-    let (_, rest) = behind.split_at(1);
-    (word, Some(rest))
 }
 
 /// How many bytes stand before the first space.

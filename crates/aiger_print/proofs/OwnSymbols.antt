@@ -7,7 +7,8 @@ use Rattle.std.proofs.lemmas.List.{take-append-le}
 use Rattle.std.proofs.lemmas.List.Concat.{flat_map-cons}
 use Rattle.std.proofs.Math.Seq.{take-length}
 use Rattle.aig_net.specs.Nets as nets
-use Rattle.aiger_body.specs.Texts.{pieces, is_ended, is_feed, is_return, is_space, line_text, number_of}
+use Rattle.hy_text.specs.Numbers.{number_of}
+use Rattle.aiger_body.specs.Texts.{pieces, is_ended, is_feed, is_return, is_space, line_text}
 use Rattle.aiger_body.specs.Symbols.{Symbol, symbol_with, symbol_of, is_name, begins_comment}
 use Rattle.aiger_body.proofs.Pieces.{Free, pieces-cons, ended}
 use Rattle.aiger_body.proofs.LineTexts.{free-append, all-free, text-spelled}

@@ -9,7 +9,8 @@ use Rattle.aig_net.specs.Nets.{AreNames, ends_in}
 use Rattle.aig_order.specs.Firsts.{first_some}
 use Rattle.aig_order.proofs.Firsts.{when-none, first-none}
 use Rattle.aiger_body.specs.declared.header.Header.{Header}
-use Rattle.aiger_body.specs.Texts.{grown, pieces, piece_at, is_ended, is_feed, is_return, is_space, without_end, line_text, number_of}
+use Rattle.hy_text.specs.Numbers.{number_of}
+use Rattle.aiger_body.specs.Texts.{grown, pieces, piece_at, is_ended, is_feed, is_return, is_space, without_end, line_text}
 use Rattle.aiger_body.specs.Files.{tail}
 use Rattle.aiger_body.specs.Symbols.{Symbol, symbol_with, symbol_of, is_name, is_symbol, tail_lines, symbol, symbol_lines, is_good_symbol, name_in, name_below, name_of, count_of}
 use Rattle.aiger_body.specs.Outcomes.{of_symbol, names_of}

@@ -7,7 +7,8 @@ ghost use Rattle.aiger_body.specs.Texts.{is_space};
 ghost use Rattle.aiger_body.specs.Symbols.{symbol_of, begins_comment, is_name, is_symbol, kind_number, count_of, symbol_counts};
 ghost use Rattle.aiger_read.specs.Symbols.{said, start_of};
 
-use aiger_body::{Header, is_whole, number, text_of, word_len};
+use aiger_body::{Header, is_whole, text_of, word_len};
+use hy_text::number;
 
 /// What a symbol line says.
 #[derive(Clone, Copy)]

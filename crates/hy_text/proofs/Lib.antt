@@ -1,3 +1,5 @@
+pub mod Cuts
+pub mod Digits
 pub mod FirstFaults
 pub mod Fronts
 pub mod Once

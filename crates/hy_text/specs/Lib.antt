@@ -1,8 +1,10 @@
 pub mod Bytes
 pub mod Classes
+pub mod Cuts
 pub mod Found
 pub mod Joined
 pub mod Lines
 pub mod Names
+pub mod Numbers
 pub mod Sets
 pub mod Words

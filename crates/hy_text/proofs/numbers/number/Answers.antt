@@ -1,8 +1,8 @@
-use Rattle.std.proofs.Common.{◌<◌, length, sym, arith}
+use Rattle.std.proofs.Common.{◌<◌, length, None, sym, arith}
 use Rattle.std.proofs.lemmas.Bool.{eqb-true, eqb-false}
-use Rattle.aiger_body.proofs.Numbers.{no_number, digits_said, said_small}
-use Rattle.aiger_body.proofs.text.number.Goals as goal
-use Rattle.aiger_body.proofs.text.number.Goals.{then-is_empty-via-then-is_empty, then-is_empty-via-else-is_empty+then-word-gt10, then-is_empty-via-else-is_empty+else-word-gt10+then-leads_with_zero}
+use Rattle.hy_text.proofs.Digits.{no_number, digits_said, said_small, number_answer}
+use Rattle.hy_text.proofs.numbers.number.Goals as goal
+use Rattle.hy_text.proofs.numbers.number.Goals.{then-is_empty-via-then-is_empty, then-is_empty-via-else-is_empty+then-word-gt10, then-is_empty-via-else-is_empty+else-word-gt10+then-leads_with_zero}
 
 pub returns-then-is_empty-clause-said : goal.returns-then-is_empty-clause-said
 returns-then-is_empty-clause-said c = no_number c.args.word.now (λ is. elim c.then-is_empty.branch [
@@ -21,3 +21,11 @@ returns-clause-said c =
 
 pub returns-clause-short : goal.returns-clause-short
 returns-clause-short c = said_small c.args.word.now c.digits.result (returns-clause-said c)
+
+pub returns-then-is_empty-clause-says : goal.returns-then-is_empty-clause-says
+returns-then-is_empty-clause-says c =
+    number_answer c.args.word.now None (returns-then-is_empty-clause-said c)
+
+pub returns-clause-says : goal.returns-clause-says
+returns-clause-says c =
+    number_answer c.args.word.now c.digits.result (returns-clause-said c)

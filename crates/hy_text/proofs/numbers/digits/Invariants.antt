@@ -1,6 +1,6 @@
 use Rattle.std.proofs.Common.{◌≡◌, take}
 use Rattle.std.specs.Str.Parse.{AllDigits, digits_value}
-use Rattle.aiger_body.proofs.text.digits.Given as goal
+use Rattle.hy_text.proofs.numbers.digits.Given as goal
 
 -- what has passed is digits, and their number
 abbrev pub invariant-loop-b : goal.invariant-loop-b

@@ -3,9 +3,9 @@ use Rattle.std.specs.Char.{digit_value}
 use Rattle.std.proofs.lemmas.Str.{digit_value_digit}
 use Rattle.std.proofs.lemmas.Str.Parse.{digit_at}
 use Rattle.std.proofs.lemmas.Int.Digits.{digits_more, digits_value_more}
-use Rattle.aiger_body.proofs.Numbers.{front_small}
-use Rattle.aiger_body.proofs.text.digits.Goals as goal
-use Rattle.aiger_body.proofs.text.digits.Goals.{then-b-lt48-via-then-b-lt48, then-b-lt48-via-else-b-lt48+then-b-gt57}
+use Rattle.hy_text.proofs.Digits.{front_small}
+use Rattle.hy_text.proofs.numbers.digits.Goals as goal
+use Rattle.hy_text.proofs.numbers.digits.Goals.{then-b-lt48-via-then-b-lt48, then-b-lt48-via-else-b-lt48+then-b-gt57}
 
 pub returns-then-b-lt48-clause-none : goal.returns-then-b-lt48-clause-none
 returns-then-b-lt48-clause-none c all =
