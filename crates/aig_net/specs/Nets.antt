@@ -93,7 +93,6 @@ pub record IsNet (net : Net) : Type 0 where
 abbrev pub Valuation : Type 0
 Valuation = ℕ → Bool
 
-
 abbrev pub literal_value : Valuation → ℕ → Bool
 literal_value v l = cond (is_even l) (v (l / 2)) (not (v (l / 2)))
 
