@@ -18,11 +18,9 @@ impl Case {
     /// The case that a line begins by its kind and its name.
     pub(crate) fn begun(alloc: Global, line: &str) -> Result<Case> {
         let (kind, name) = halves(line);
-        ensure!(!name.is_empty(), "a case has a name");
-        let name = String::from_str(alloc, name)?;
         match kind {
-            "case" => Ok(Case::Command(CommandCase::named(alloc, name))),
-            "circuit" => Ok(Case::Circuit(CircuitCase::named(alloc, name))),
+            "case" => Ok(Case::Command(CommandCase::named(alloc, name_of(alloc, name)?))),
+            "circuit" => Ok(Case::Circuit(CircuitCase::named(alloc, name_of(alloc, name)?))),
             _ => bail!("no case is open"),
         }
     }
@@ -48,4 +46,10 @@ impl Case {
 /// The first word of a line, and what stands behind the space.
 pub(crate) fn halves(line: &str) -> (&str, &str) {
     line.split_once(' ').unwrap_or((line, ""))
+}
+
+/// A name, which is not empty.
+fn name_of(alloc: Global, name: &str) -> Result<String> {
+    ensure!(!name.is_empty(), "a case has a name");
+    Ok(String::from_str(alloc, name)?)
 }

@@ -5,7 +5,7 @@ use aig_net::{Net, Run, simulate};
 use aiger_print::{print_aag, print_aig};
 use aiger_read::{AigerError, read_aiger};
 use anyhow::{Result, bail, ensure};
-use bench_tools::{composed, formula_net, rows_text, run_of, safe_of};
+use bench_tools::{composed, formula_net, rows_text, run_of, safe_net};
 use hy_base::{BYTES_LIMIT, Text};
 use std::alloc::Global;
 
@@ -66,10 +66,7 @@ fn made_net(alloc: Global, net: &Net, made: &Made) -> Result<Net> {
         Made::Own => composed(alloc, net, 1),
         Made::Copies(n) => composed(alloc, net, *n),
         Made::Oracles(formula) => formula_net(alloc, net, formula.as_str()),
-        Made::Safe(formula) => {
-            let with_oracles = formula_net(alloc, net, formula.as_str())?;
-            Ok(safe_of(alloc, &with_oracles)?.net)
-        }
+        Made::Safe(formula) => safe_net(alloc, net, formula.as_str()),
     }
 }
 

@@ -34,7 +34,8 @@ fn try_cases<T: Tools>(rt: &HostRuntime, text: &str) -> Result<Tally> {
     let mut tally = Tally::new();
     for part in text.split("\n\n") {
         if let Some(first) = part.split('\n').find(|line| says_something(line)) {
-            tally.count(try_case::<T>(rt, first, part)?);
+            let holds = try_case::<T>(rt, first, part).context(format_args!("{first}"))?;
+            tally.count(holds);
         }
     }
     Ok(tally)
@@ -57,8 +58,7 @@ fn try_lines<T: Tools>(rt: &HostRuntime, case: &mut Case, part: &str) -> Result<
     for line in part.split('\n') {
         if says_something(line) {
             if begun {
-                case.take(rt.alloc(), line)
-                    .context(format_args!("{line:?}"))?;
+                case.take(rt.alloc(), line)?;
             }
             begun = true;
         }

@@ -11,6 +11,9 @@ use std::alloc::Global;
 /// The tool that judges lists.
 const JUDGE: &str = "eahyper";
 
+/// Its words, behind which a formula is judged on lassos.
+const WORDS: [&str; 3] = ["--on", "lassos", "formula"];
+
 /// Whether the output is the wanted text and behind it lassos as they are expected.
 pub(crate) fn are_wanted<T: Tools>(
     alloc: Global,
@@ -56,10 +59,16 @@ fn prints<T: Tools>(alloc: Global, trial: &mut Trial, text: &[u8]) -> Result<boo
 
 /// Makes a command of the judge, over the formula and the lassos.
 fn set_trial(alloc: Global, trial: &mut Trial, formula: &[u8], list: &[u8]) -> Result<()> {
-    trial.tool.push_str(JUDGE)?;
-    trial.add_word(alloc, "--on")?;
-    trial.add_word(alloc, "lassos")?;
-    trial.add_word(alloc, "formula")?;
+    set_words(alloc, trial)?;
     trial.add_file(alloc, b"formula", formula)?;
     trial.add_file(alloc, b"lassos", list)
+}
+
+/// Sets the words of that command.
+fn set_words(alloc: Global, trial: &mut Trial) -> Result<()> {
+    trial.tool.push_str(JUDGE)?;
+    for word in WORDS {
+        trial.add_word(alloc, word)?;
+    }
+    Ok(())
 }

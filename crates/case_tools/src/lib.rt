@@ -2,7 +2,7 @@
 //! files (`run_files`).
 //!
 //! In a file of cases a line that begins with `#` says nothing, and an empty line ends a case. A line
-//! that is not understood ends the program, and stands on standard error.
+//! that is not understood ends the program, with the name of its case on standard error.
 //!
 //! A command begins with `case NAME`. Each other line of it is one of these, in any order:
 //!
