@@ -4,8 +4,8 @@ use Rattle.std.proofs.Math.Nat.{mod-lt, mod-add-div', mul-le-mul_left}
 use Rattle.std.proofs.lemmas.Bool.{cases_lt}
 use Rattle.std.proofs.lemmas.List.{get_or_append_left, get_or-append-add, take_more}
 use Rattle.aig_net.specs.Copies.{copied}
-use Rattle.aig_net.specs.Wires.{listed}
-use Rattle.aig_net.proofs.Listed.{length-listed, at-listed, last-listed}
+use Rattle.hy_base.specs.Rows.{listed}
+use Rattle.hy_base.proofs.Listed.{length-listed, at-listed, last-listed}
 
 module _ {A B : Type 0} (n : ℕ) (f : ℕ → A → B) where
   pub length-copied : (xs : List A) → length (copied n f xs) ≡ length xs * n

@@ -5,7 +5,8 @@ use Rattle.std.proofs.lemmas.Bool.{cases_lt}
 use Rattle.std.proofs.lemmas.List.{map-append, get_or-map, get_or-append-add, length-map, get_or_past}
 use Rattle.aig_net.specs.declared.run.Run.{Run}
 use Rattle.aig_net.specs.declared.run.ValueLasso.{ValueLasso}
-use Rattle.aig_net.specs.Nets.{Net, IsNet, IsRight, IsStart, IsStep, AllTrue, Valuation, literal_at, literal_value, row}
+use Rattle.aig_net.specs.Nets.{Net, IsNet, IsRight, IsStart, IsStep, AllTrue, Valuation, literal_at, literal_value}
+use Rattle.hy_base.specs.Rows.{row}
 use Rattle.aig_net.specs.Rows.{input_row, latch_row}
 use Rattle.aig_net.specs.Executions.{no_values, value_in, steps, step_at}
 use Rattle.aig_net.specs.Following.{Follows, IsStartRow, IsRound, row_at, AreFull}

@@ -2,7 +2,8 @@
 use Rattle.std.proofs.Common.{◌≡◌, ℕ, zero, suc, ◌+◌, ◌<◌, Bool, List, [], ◌∷◌, ◌++◌, length, map, take, drop, refl, sym, ap, ◌∙◌, subst, arith}
 use Rattle.std.proofs.Math.Seq.{split_at}
 use Rattle.std.proofs.lemmas.List.{take_more}
-use Rattle.aig_net.specs.Nets.{Net, first_and, AreOrdered, IsRight, AllTrue, row}
+use Rattle.aig_net.specs.Nets.{Net, first_and, AreOrdered, IsRight, AllTrue}
+use Rattle.hy_base.specs.Rows.{row}
 use Rattle.aig_net.specs.Rows.{input_row, latch_row}
 use Rattle.aig_net.specs.Following.{next_row, IsState, Follows, row_at}
 use Rattle.aig_net.proofs.States.{IsFull, only}

@@ -4,7 +4,8 @@ use Rattle.std.proofs.lemmas.Bool.{cases_eq}
 use Rattle.std.proofs.lemmas.List.{take-set-le}
 use Rattle.aig_net.specs.declared.parts.And.{And}
 use Rattle.aig_net.proofs.Literals.{value-same}
-use Rattle.aig_net.specs.Nets.{and_at, Valuation, Below, literal_value, and_value, AreOrdered, row}
+use Rattle.aig_net.specs.Nets.{and_at, Valuation, Below, literal_value, and_value, AreOrdered}
+use Rattle.hy_base.specs.Rows.{row}
 
 pub and-same : (v w : Valuation) (a : And) → v (a.left / 2) ≡ w (a.left / 2) →
     v (a.right / 2) ≡ w (a.right / 2) → and_value v a ≡ and_value w a

@@ -5,13 +5,13 @@ use Rattle.std.proofs.lemmas.Bool.{cases_lt}
 use Rattle.std.proofs.lemmas.List.{ext_get_or, get_or-drop, get_or-take, length-drop, length-map, length-take-le, map-append}
 use Rattle.aig_net.specs.declared.run.Run.{Run}
 use Rattle.aig_net.specs.declared.run.ValueLasso.{ValueLasso}
-use Rattle.aig_net.specs.Nets.{Net, IsNet, Valuation, IsStep, latch_variable, literal_at, literal_value, row, variables}
+use Rattle.aig_net.specs.Nets.{Net, IsNet, Valuation, IsStep, latch_variable, literal_at, literal_value, variables}
+use Rattle.hy_base.specs.Rows.{row, listed}
 use Rattle.aig_net.specs.Executions.{Lasso, IsLassoExecution, gone, no_values, step_at, steps, value_in}
 use Rattle.aig_net.specs.Following.{AreFull, row_at}
 use Rattle.aig_net.specs.Rows.{input_row, latch_row}
 use Rattle.aig_net.specs.Simulations.{IsExecutionOf, IsRunOf, inputs_of, latches_of, valuations}
-use Rattle.aig_net.specs.Wires.{listed}
-use Rattle.aig_net.proofs.Listed.{at-listed, at-map, length-listed}
+use Rattle.hy_base.proofs.Listed.{at-listed, at-map, length-listed}
 use Rattle.aig_net.proofs.Literals.{value-same}
 use Rattle.aig_net.proofs.Rounds.{in-cycle, in-stem}
 use Rattle.aig_net.proofs.Likeness.{true-alike, start-alike, right-alike, step-alike, Alike}

@@ -6,7 +6,7 @@ mod Follows
 pub mod GateLemmas
 pub mod LassoRuns
 pub mod Likeness
-pub mod Listed
+pub mod Disjunctions
 pub mod Literals
 pub mod Looping
 pub mod Making
@@ -15,7 +15,6 @@ pub mod Placing
 mod Recurring
 pub mod Rounds
 mod RowLemmas
-mod RowNumbers
 mod RunRows
 pub mod Running
 mod SignalLemmas

@@ -1,9 +1,10 @@
 -- Wires that are made one after the other, as a loop makes them.
 use Rattle.std.proofs.Common.{◌≡◌, ℕ, zero, suc, ◌+◌, ◌-◌, ◌<◌, ◌≤◌, List, [], ◌∷◌, ◌++◌, length, Result, Ok, Err, OnErr, refl, sym, ap, ◌∙◌, subst, arith, append_assoc, append-nil}
 use Rattle.aig_net.specs.declared.parts.And.{And}
-use Rattle.aig_net.specs.Wires.{Wire, literal, opposed, both, and_of, made, made_all, Fits, FitsAll, Makes, MakesAll, Begins, all_of, listed}
+use Rattle.aig_net.specs.Wires.{Wire, literal, opposed, both, and_of, made, made_all, Fits, FitsAll, Makes, MakesAll, Begins, all_of}
+use Rattle.hy_base.specs.Rows.{listed}
 use Rattle.aig_net.proofs.Wiring.{grows}
-use Rattle.aig_net.proofs.Listed.{last-listed}
+use Rattle.hy_base.proofs.Listed.{last-listed}
 
 pub all-ands : (first : ℕ) (ands : List And) (xs ys : List Wire) →
     (made_all first ands (xs ++ ys)).ands ≡ (made_all first (made_all first ands xs).ands ys).ands

@@ -1,12 +1,12 @@
 -- The run on inputs that recur recurs: among more than 2 ^ n rows of n latches two are alike.
-use Rattle.std.proofs.Common.{◌≡◌, ℕ, suc, ◌+◌, ◌-◌, ◌*◌, ◌<◌, ◌≤◌, Bool, true, false, cond, length, inl, inr, refl, sym, ap, ◌∙◌, subst, arith}
+use Rattle.std.proofs.Common.{◌≡◌, ℕ, suc, ◌+◌, ◌-◌, ◌*◌, ◌<◌, ◌≤◌, Bool, length, inl, inr, sym, ap, ◌∙◌, subst, arith}
 use Rattle.std.proofs.Math.Nat.{mul-pos}
 use Rattle.std.proofs.lemmas.Bool.{cases_lt}
+use Rattle.hy_base.proofs.RowNumbers.{two-rows}
 use Rattle.aig_net.specs.Nets.{Net, Valuation, IsNet, IsStep, latch_variable, variables}
 use Rattle.aig_net.specs.Executions.{Recurs, Word}
 use Rattle.aig_net.proofs.Rounds.{recurs-often}
 use Rattle.aig_net.specs.Running.{AreGivenAlike, IsRunOn, Obeys}
-use Rattle.aig_net.proofs.RowNumbers.{two-alike}
 use Rattle.aig_net.proofs.Running.{one-run}
 
 -- the word from t on
@@ -21,19 +21,6 @@ onward net t word obeys = record {
       let next : suc (t + i) ≡ t + suc i = omega arith in
       subst P (ap word next) (obeys.goes (t + i));
 }
-
-abbrev bit : Bool → ℕ
-bit b = cond b 1 0
-
-bit-below : (b : Bool) → bit b < 2
-bit-below true = omega arith
-bit-below false = omega arith
-
-same-bit : (a b : Bool) → bit a ≡ bit b → a ≡ b
-same-bit true true e = refl
-same-bit true false e = absurd (omega arith)
-same-bit false true e = absurd (omega arith)
-same-bit false false e = refl
 
 module _ (net : Net) (inputs : ℕ → ℕ → Bool) (latches : ℕ → Bool) (word : Word) (good : IsNet net)
     (is : IsRunOn net inputs latches word) where
@@ -71,9 +58,8 @@ module _ (net : Net) (inputs : ℕ → ℕ → Bool) (latches : ℕ → Bool) (w
   pub run-recurs : (s p : ℕ) → Recurs inputs s p →
       (t : ℕ) × (k : ℕ) × (s ≤ t) × Recurs word t (k * p)
   run-recurs s p repeats =
-      let latch : ℕ → ℕ → Bool = λ k j. word (s + k * p) (latch_variable net j) in
-      let (k, l, lt, _, e) = two-alike 2 (length net.latches) (λ k j. bit (latch k j))
-      (λ k _ j few. bit-below (latch k j)) in
+      let (k, l, lt, _, e) = two-rows (length net.latches)
+      (λ k j. word (s + k * p) (latch_variable net j)) in
       let more : k + (l - k) ≡ l = omega arith in
       let on : s + l * p ≡ s + k * p + (l - k) * p =
       omega (arith, ap (λ x. x * p) (sym more)) in
@@ -85,5 +71,5 @@ module _ (net : Net) (inputs : ℕ → ℕ → Bool) (latches : ℕ → Bool) (w
           some = mul-pos far repeats.some;
           same = λ i j le. recurs-often inputs s p repeats (l - k) i j (omega arith);
         } (λ j few. ap (λ x. word x (latch_variable net j)) (sym on)
-            ∙ sym (same-bit (latch k j) (latch l j) (e j few))),
+            ∙ sym (e j few)),
       )

@@ -5,7 +5,8 @@ use Rattle.std.proofs.lemmas.List.{take-append-drop}
 use Rattle.std.proofs.lemmas.Slice.{take-put_mid}
 use borrow.Rule.Slice.PartMut.{put_mid, post_of}
 use Rattle.aig_net.specs.declared.parts.And.{And}
-use Rattle.aig_net.specs.Nets.{Net, AreRight, IsRight, first_and, row}
+use Rattle.aig_net.specs.Nets.{Net, AreRight, IsRight, first_and}
+use Rattle.hy_base.specs.Rows.{row}
 
 -- the parts of a row
 pub record Parts (n l : ℕ) (ins lats values : List Bool) : Type 0 where

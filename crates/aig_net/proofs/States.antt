@@ -2,7 +2,8 @@
 use Rattle.std.proofs.Common.{◌≡◌, ℕ, zero, suc, ◌+◌, ◌-◌, ◌<◌, Bool, false, List, length, drop, inl, inr, sym, ap, ◌∙◌, subst, arith}
 use Rattle.std.proofs.lemmas.Bool.{cases_lt}
 use Rattle.std.proofs.lemmas.List.{ext_get_or, get_or-take, get_or-drop, get_or-map, length-take-le, length-drop, length-map}
-use Rattle.aig_net.specs.Nets.{Net, variables, first_and, latch_variable, literal_at, literal_value, reset_at, ResetTo, AreOrdered, AllTrue, IsNet, IsRight, IsStart, IsStep, row}
+use Rattle.aig_net.specs.Nets.{Net, variables, first_and, latch_variable, literal_at, literal_value, reset_at, ResetTo, AreOrdered, AllTrue, IsNet, IsRight, IsStart, IsStep}
+use Rattle.hy_base.specs.Rows.{row}
 use Rattle.aig_net.specs.Rows.{input_row, latch_row}
 use Rattle.aig_net.specs.Following.{next_row, IsStartRow, IsState}
 use Rattle.aig_net.proofs.Valuations.{valuation-only}

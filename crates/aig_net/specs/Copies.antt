@@ -1,7 +1,6 @@
 -- Things of the copies of a net in lists: that of item j in copy c of n stands at place j * n + c.
 use Rattle.std.specs.Prelude.{ℕ, ◌+◌, ◌*◌, Bool, List, [], ◌∷◌, ◌++◌}
-use Rattle.aig_net.specs.Nets.{row}
-use Rattle.aig_net.specs.Wires.{listed}
+use Rattle.hy_base.specs.Rows.{row, listed}
 
 -- the copies of the first item, then those of the next
 abbrev pub copied : {A B : Type 0} → ℕ → (ℕ → A → B) → List A → List B

@@ -1,7 +1,8 @@
 -- Rows of values that follow from a row of latch values and rows of inputs, one after the other.
 use Rattle.std.specs.Prelude.{◌≡◌, ℕ, ◌<◌, Bool, List, [], ◌∷◌, map, length, slice_index_or, IsTrue}
 use Rattle.aig_net.specs.declared.parts.Reset.{Reset}
-use Rattle.aig_net.specs.Nets.{Net, variables, reset_at, literal_at, IsRight, ResetTo, AllTrue, literal_value, row}
+use Rattle.aig_net.specs.Nets.{Net, variables, reset_at, literal_at, IsRight, ResetTo, AllTrue, literal_value}
+use Rattle.hy_base.specs.Rows.{row}
 use Rattle.aig_net.specs.Rows.{input_row, latch_row}
 
 -- the values of literals

@@ -93,9 +93,6 @@ pub record IsNet (net : Net) : Type 0 where
 abbrev pub Valuation : Type 0
 Valuation = ℕ → Bool
 
--- a row of values as a valuation
-abbrev pub row : List Bool → Valuation
-row values u = slice_index_or values u false
 
 abbrev pub literal_value : Valuation → ℕ → Bool
 literal_value v l = cond (is_even l) (v (l / 2)) (not (v (l / 2)))

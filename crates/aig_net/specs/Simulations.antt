@@ -2,11 +2,11 @@
 use Rattle.std.specs.Prelude.{◌≡◌, suc, ◌++◌, Bool, List, map, length}
 use Rattle.aig_net.specs.declared.run.Run.{Run}
 use Rattle.aig_net.specs.declared.run.ValueLasso.{ValueLasso}
-use Rattle.aig_net.specs.Nets.{Net, Valuation, latch_variable, row}
+use Rattle.aig_net.specs.Nets.{Net, Valuation, latch_variable}
+use Rattle.hy_base.specs.Rows.{row, listed}
 use Rattle.aig_net.specs.Executions.{Lasso, IsLassoExecution, step_at}
 use Rattle.aig_net.specs.Rows.{input_row, latch_row}
 use Rattle.aig_net.specs.Following.{AreFull, row_at}
-use Rattle.aig_net.specs.Wires.{listed}
 
 -- the lasso of the rows' valuations
 abbrev pub valuations : ValueLasso → Lasso

@@ -19,11 +19,6 @@ wire_value v (literal l) = literal_value v l
 wire_value v (opposed w) = not (wire_value v w)
 wire_value v (both x y) = wire_value v x && wire_value v y
 
--- f of c, c + 1 and so on, n in all
-abbrev pub listed : {B : Type 0} → ℕ → ℕ → (ℕ → B) → List B
-listed c zero f = []
-listed c (suc n) f = f c ∷ listed (suc c) n f
-
 -- the conjunction of wires, from the left
 abbrev pub all_of : Wire → List Wire → Wire
 all_of w [] = w

@@ -9,7 +9,7 @@ use hy_base::{List, M};
 use std::alloc::Global;
 
 /// The `many` values of copy `c` of `n`: those at place `c` and each `n` places on.
-#[tactic(auto, using(crate::proofs::Listed::listed_next))]
+#[tactic(auto, using(hy_base::proofs::Listed::listed_next))]
 pub fn own_row(alloc: Global, values: &[bool], many: usize, n: usize, c: usize) -> M<Row>
     requires copy { c < n }
     requires long { many * n ≤ length values.now }

@@ -1,7 +1,8 @@
 //! The values of literals and ands.
 
 ghost use Rattle.std.specs.Prelude.{◌≡◌, ◌+◌, ◌/◌, ◌<◌, ◌≤◌, length, take};
-ghost use Rattle.aig_net.specs.Nets.{AreOrdered, AreRight, literal_value, row};
+ghost use Rattle.aig_net.specs.Nets.{AreOrdered, AreRight, literal_value};
+ghost use Rattle.hy_base.specs.Rows.{row};
 
 use crate::parts::And;
 

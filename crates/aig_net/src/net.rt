@@ -1,7 +1,8 @@
 //! Nets: parts that fit together.
 
 ghost use Rattle.std.specs.Prelude.{◌≡◌, ◌≤◌, ◌^◌, length};
-ghost use Rattle.aig_net.specs.Nets.{IsNet, IsRight, variables, row};
+ghost use Rattle.aig_net.specs.Nets.{IsNet, IsRight, variables};
+ghost use Rattle.hy_base.specs.Rows.{row};
 ghost use Rattle.aig_net.specs.Rows.{input_row, latch_row};
 
 use crate::gates::fill;

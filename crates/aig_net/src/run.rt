@@ -1,6 +1,7 @@
 //! Runs of a net, and what all its variables do in them.
 
-use hy_base::List;
+use hy_base::{List, M, Remake};
+use std::alloc::Global;
 
 /// Truth values by place.
 pub type Row = List<bool>;
@@ -15,6 +16,16 @@ pub struct Run {
     pub first: Row,
     pub stem: RowList,
     pub cycle: RowList,
+}
+
+impl Remake for Run {
+    fn remake(&self, alloc: Global) -> M<Self> {
+        Ok(Run {
+            first: self.first.copy(alloc)?,
+            stem: self.stem.copy(alloc)?,
+            cycle: self.cycle.copy(alloc)?,
+        })
+    }
 }
 
 /// Runs, as of the traces of a tuple.

@@ -1,7 +1,8 @@
 //! What all variables of a net do in a run.
 
 ghost use Rattle.std.specs.Prelude.{◌≡◌, ℕ, ◌<◌, ◌↔◌, List, Bool, length, IsTrue, IfOk, IfSome, IfNone};
-ghost use Rattle.aig_net.specs.Nets.{AllBelow, AllTrue, Below, IsNet, ResetTo, row, variables};
+ghost use Rattle.aig_net.specs.Nets.{AllBelow, AllTrue, Below, IsNet, ResetTo, variables};
+ghost use Rattle.hy_base.specs.Rows.{row};
 ghost use Rattle.aig_net.specs.Rows.{latch_row};
 ghost use Rattle.aig_net.specs.Following.{AreFull, AreSeen, Follows, IsRound, IsSeen, IsStartRow, IsState, row_at, values_of};
 ghost use Rattle.aig_net.specs.Simulations.{IsExecutionOf};

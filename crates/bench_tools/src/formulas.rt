@@ -1,12 +1,9 @@
 //! Formulas of texts, and their closures.
 
-ghost use Rattle.std.specs.Prelude.{◌≡◌, length, IfOk};
-
 use anyhow::{Result, bail};
-use hy_base::M;
 use hy_formula::{Formula, NameTable};
 use hy_read::read_formula;
-use ltl_closure::{Closure, Job, JobList, MapList, VariableMap};
+use ltl_closure::Closure;
 use std::alloc::Global;
 
 /// The most quantifiers of a formula.
@@ -16,7 +13,7 @@ const QUANTIFIERS: u8 = 8;
 pub fn body_closure(alloc: Global, text: &str) -> Result<Closure> {
     let mut names = NameTable::new(alloc)?;
     let formula = formula_of(alloc, text, &mut names)?;
-    closure_of(alloc, formula, true)
+    closure_of(alloc, &formula, true)
 }
 
 /// The formula of the text, whose names are added to the table.
@@ -31,30 +28,10 @@ pub(crate) fn formula_of(alloc: Global, text: &str, names: &mut NameTable) -> Re
     }
 }
 
-/// The closure of the body of a formula, or of its negation where not `positive`, with each
-/// variable standing for itself.
-pub(crate) fn closure_of(alloc: Global, formula: Formula, positive: bool) -> Result<Closure> {
-    let mut maps = MapList::new(alloc);
-    maps.push(identity(alloc, formula.prefix.len() as u8)?)?;
-    let mut jobs = JobList::new(alloc);
-    jobs.push(Job {
-        body: formula.body,
-        positive,
-        maps,
-    })?;
-    match Closure::new(alloc, &jobs) {
+/// The closure of the body of a formula, or of its negation where not `positive`.
+pub(crate) fn closure_of(alloc: Global, formula: &Formula, positive: bool) -> Result<Closure> {
+    match Closure::of_body(alloc, &formula.body, formula.prefix.len() as u8, positive) {
         Ok(c) => Ok(c),
         Err(error) => bail!("no closure: {error:?}"),
     }
-}
-
-/// The map of each of some variables to itself.
-fn identity(alloc: Global, variables: u8) -> M<VariableMap>
-    ensures { IfOk result (λ m. length m ≡ variables) }
-{
-    let mut map = VariableMap::new(alloc);
-    for variable in 0..variables {
-        map.push(variable)?;
-    }
-    Ok(map)
 }

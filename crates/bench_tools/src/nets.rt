@@ -42,7 +42,7 @@ pub fn formula_net(alloc: Global, net: &Net, text: &str) -> Result<Net> {
         Class::Forall => false,
         Class::ExistsForall | Class::Other => bail!("the quantifiers alternate"),
     };
-    let closure = closure_of(alloc, formula, positive)?;
+    let closure = closure_of(alloc, &formula, positive)?;
     let copies = composed(alloc, net, n)?;
     let signals = signals_of(alloc, net, &copies, n, &names, &closure)?;
     with_oracles(alloc, &copies, &closure, &signals)

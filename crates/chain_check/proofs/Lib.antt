@@ -8,3 +8,5 @@ pub mod Storing
 pub mod Stepping
 pub mod Opposing
 pub mod Knowing
+pub mod FewMeanings
+pub mod Values

@@ -1,8 +1,10 @@
 pub mod Clauses
+pub mod FewClauses
 pub mod Chains
 pub mod Logs
 pub mod Rows
 pub mod Store
 pub mod Opens
 pub mod Known
+pub mod Values
 pub mod LogTexts

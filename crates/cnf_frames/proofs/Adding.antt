@@ -2,7 +2,7 @@
 use Rattle.std.proofs.Common.{◌≡◌, ℕ, suc, ◌+◌, List, [], ◌∷◌, ◌++◌, append_assoc, refl, sym, ap, ◌∙◌, arith}
 use Rattle.std.specs.Prelude.{ℤ, neg_ℤ}
 use Rattle.chain_check.specs.Clauses.{Clause}
-use Rattle.cnf_frames.specs.Queries.{for_each, and_clauses, same_clauses, differ_clauses, guarded}
+use Rattle.chain_check.specs.FewClauses.{for_each, and_clauses, same_clauses, differ_clauses, guarded}
 
 pub two_added : (old made more : List Clause) (c d : Clause) → made ≡ old ++ c ∷ [] →
     more ≡ made ++ d ∷ [] → more ≡ old ++ c ∷ d ∷ []

@@ -1,9 +1,8 @@
 -- An assignment that makes all clauses of a query true is a path that answers it, and each such path has one.
 use Rattle.std.proofs.Common.{◌≡◌, Bool, List, length}
-use Rattle.aig_net.specs.Nets.{row}
+use Rattle.hy_base.specs.Rows.{row, listed}
 use Rattle.aig_net.specs.Executions.{Word}
-use Rattle.aig_net.specs.Wires.{listed}
-use Rattle.aig_net.proofs.Listed.{length-listed}
+use Rattle.hy_base.proofs.Listed.{length-listed}
 use Rattle.chain_check.specs.Clauses.{SatisfiesAll}
 use Rattle.live_safe.specs.declared.safe_net.SafeNet.{SafeNet}
 use Rattle.cnf_frames.specs.declared.queries.Asked.{Asked}
@@ -11,7 +10,8 @@ use Rattle.cnf_frames.specs.declared.queries.Asked.TheVariants.{Base, Step, Keep
 use Rattle.cnf_frames.specs.Facts.{IsSafe}
 use Rattle.cnf_frames.specs.Queries.{clauses_of, variables_of, base_clauses, step_clauses, keep_clauses, group_of}
 use Rattle.cnf_frames.specs.QueryPaths.{Answers, CanAsk, word_of}
-use Rattle.cnf_frames.proofs.Values.{Assignment, AllMet, satisfied-met, listed-met}
+use Rattle.chain_check.proofs.Values.{satisfied-met, listed-met}
+use Rattle.chain_check.specs.Values.{Assignment, AllMet}
 use Rattle.cnf_frames.proofs.FramePaths.{base-met}
 use Rattle.cnf_frames.proofs.Distinct.{step-right}
 use Rattle.cnf_frames.proofs.Keeping.{keep-right}

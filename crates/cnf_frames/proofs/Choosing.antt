@@ -9,7 +9,7 @@ use Rattle.live_safe.specs.declared.safe_net.SafeNet.{SafeNet}
 use Rattle.live_safe.specs.Paths.{IsBadPath}
 use Rattle.cnf_frames.specs.Facts.{IsSafe}
 use Rattle.cnf_frames.specs.Queries.{base_clauses}
-use Rattle.cnf_frames.proofs.Values.{Assignment, AllMet}
+use Rattle.chain_check.specs.Values.{Assignment, AllMet}
 use Rattle.cnf_frames.proofs.Meanings.{path_of}
 use Rattle.cnf_frames.proofs.FramePaths.{base-met}
 use Rattle.cnf_frames.proofs.Likeness.{bad-alike}

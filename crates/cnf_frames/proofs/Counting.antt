@@ -9,7 +9,8 @@ use Rattle.cnf_frames.specs.declared.facts.Fact.TheVariants.{Zero, One, Same, Di
 use Rattle.cnf_frames.specs.declared.queries.Asked.TheVariants.{Base, Step, Keep}
 use Rattle.cnf_frames.specs.Facts.{fact_at, opposite_fact}
 use Rattle.cnf_frames.specs.Counts.{sum_for, pairs, frames_literals, fact_literals, facts_literals, one_failing, failing_literals, base_literals, step_literals, keep_literals}
-use Rattle.cnf_frames.specs.Queries.{for_each, further, alone, some_further, in_frame, latch_in, gate_clauses, frame_gates, constraint_clauses, latch_clauses, frame_step, frames, start_clauses, bad_in, guarded, fact_clauses, facts_clauses, good_clauses, latch_differs, apart_clauses, pairs_before, pair_start, apart_from, group_of, fails_clauses, clauses_of, literals_in}
+use Rattle.cnf_frames.specs.Queries.{in_frame, latch_in, gate_clauses, frame_gates, constraint_clauses, latch_clauses, frame_step, frames, start_clauses, bad_in, fact_clauses, facts_clauses, good_clauses, latch_differs, apart_clauses, pairs_before, pair_start, apart_from, group_of, fails_clauses, clauses_of}
+use Rattle.chain_check.specs.FewClauses.{for_each, further, alone, some_further, guarded, literals_in}
 use Rattle.cnf_frames.proofs.Pairs.{pairs-counted}
 
 pub both : (xs ys : List Clause) → literals_in (xs ++ ys) ≡ literals_in xs + literals_in ys

@@ -12,10 +12,13 @@ use Rattle.chain_check.specs.Clauses.{Clause}
 use Rattle.cnf_frames.specs.declared.facts.Fact.{Fact}
 use Rattle.cnf_frames.specs.declared.facts.Fact.TheVariants.{Zero, One, Same, Differ}
 use Rattle.cnf_frames.specs.Facts.{FactHolds, AllHold, fact_at}
-use Rattle.cnf_frames.specs.Queries.{for_each, further, alone, latch_in, frames, bad_in, fact_clauses, facts_clauses, good_clauses, differ_clauses, latch_differs, some_further, apart_clauses, apart_from, pair_start, step_clauses}
+use Rattle.cnf_frames.specs.Queries.{latch_in, frames, bad_in, fact_clauses, facts_clauses, good_clauses, latch_differs, apart_clauses, apart_from, pair_start, step_clauses}
+use Rattle.chain_check.specs.FewClauses.{for_each, further, alone, differ_clauses, some_further}
 use Rattle.cnf_frames.specs.QueryPaths.{IsStepPath}
-use Rattle.cnf_frames.proofs.Values.{Assignment, AllMet, met-append, met-each, each-met, some-value, value-some}
-use Rattle.cnf_frames.proofs.Meanings.{Means, path_of, frame-means, alone-met, opposite-met, same-met, differ-met, guarded-met}
+use Rattle.chain_check.proofs.Values.{met-append, met-each, each-met, some-value, value-some}
+use Rattle.chain_check.specs.Values.{Assignment, AllMet, Means}
+use Rattle.cnf_frames.proofs.Meanings.{path_of, frame-means}
+use Rattle.chain_check.proofs.FewMeanings.{alone-met, opposite-met, same-met, differ-met, guarded-met}
 use Rattle.cnf_frames.proofs.FramePaths.{frames-met, variable-means}
 
 -- what holds at each place holds of each fact

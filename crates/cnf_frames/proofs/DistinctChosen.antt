@@ -6,16 +6,16 @@ use Rattle.std.proofs.lemmas.Nat.{mod-mul-add, div-mul-add}
 use Rattle.hy_base.proofs.Places.{below-row}
 use Rattle.aig_net.specs.Nets.{Net, Valuation, literal_value, latch_variable, variables}
 use Rattle.aig_net.specs.Executions.{Word}
-use Rattle.aig_net.specs.Wires.{listed}
+use Rattle.hy_base.specs.Rows.{listed}
 use Rattle.aig_net.proofs.Literals.{value-same}
-use Rattle.aig_net.proofs.Listed.{length-listed, at-listed}
+use Rattle.hy_base.proofs.Listed.{length-listed, at-listed}
 use Rattle.live_safe.specs.declared.safe_net.SafeNet.{SafeNet}
 use Rattle.cnf_frames.specs.declared.facts.Fact.{Fact}
 use Rattle.cnf_frames.specs.declared.facts.Fact.TheVariants.{Zero, One, Same, Differ}
 use Rattle.cnf_frames.specs.Facts.{FactHolds, IsIn, AllIn, IsSafe}
 use Rattle.cnf_frames.specs.Queries.{pairs_before, pair_start, step_clauses}
 use Rattle.cnf_frames.specs.QueryPaths.{IsStepPath}
-use Rattle.cnf_frames.proofs.Values.{Assignment, AllMet}
+use Rattle.chain_check.specs.Values.{Assignment, AllMet}
 use Rattle.cnf_frames.proofs.Meanings.{path_of}
 use Rattle.cnf_frames.proofs.Distinct.{Marked, parts-met}
 use Rattle.cnf_frames.proofs.Likeness.{path-alike}

@@ -10,7 +10,8 @@ use Rattle.cnf_frames.specs.declared.facts.Fact.TheVariants.{Zero, One, Same, Di
 use Rattle.cnf_frames.specs.declared.queries.Asked.{Asked}
 use Rattle.cnf_frames.specs.declared.queries.Asked.TheVariants.{Base, Step, Keep}
 use Rattle.cnf_frames.specs.Facts.{fact_at, opposite_fact}
-use Rattle.cnf_frames.specs.Queries.{for_each, further, alone, some_further, in_frame, latch_in, gate_clauses, frame_gates, constraint_clauses, latch_clauses, frame_step, frames, start_clauses, bad_in, guarded, fact_clauses, facts_clauses, good_clauses, latch_differs, apart_clauses, pair_start, apart_from, group_of, groups, fails_clauses, clauses_of, literals_in}
+use Rattle.cnf_frames.specs.Queries.{in_frame, latch_in, gate_clauses, frame_gates, constraint_clauses, latch_clauses, frame_step, frames, start_clauses, bad_in, fact_clauses, facts_clauses, good_clauses, latch_differs, apart_clauses, pair_start, apart_from, group_of, groups, fails_clauses, clauses_of}
+use Rattle.chain_check.specs.FewClauses.{for_each, further, alone, some_further, guarded, literals_in}
 use Rattle.cnf_frames.specs.QueryPaths.{CanAsk}
 use Rattle.cnf_frames.proofs.Counting.{both, some-literals}
 

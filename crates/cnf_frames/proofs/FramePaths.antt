@@ -10,9 +10,12 @@ use Rattle.aig_net.proofs.Literals.{value-even}
 use Rattle.live_safe.specs.declared.safe_net.SafeNet.{SafeNet}
 use Rattle.live_safe.specs.Paths.{IsPath, IsBadPath}
 use Rattle.chain_check.specs.Clauses.{Clause}
-use Rattle.cnf_frames.specs.Queries.{for_each, in_frame, alone, latch_in, gate_clauses, frame_gates, constraint_clauses, latch_clauses, frame_step, frames, start_clauses, bad_in, base_clauses}
-use Rattle.cnf_frames.proofs.Values.{Assignment, AllMet, met-append, met-each, each-met}
-use Rattle.cnf_frames.proofs.Meanings.{Means, path_of, frame-means, alone-met, opposite-met, and-met, next-met}
+use Rattle.cnf_frames.specs.Queries.{in_frame, latch_in, gate_clauses, frame_gates, constraint_clauses, latch_clauses, frame_step, frames, start_clauses, bad_in, base_clauses}
+use Rattle.chain_check.specs.FewClauses.{for_each, alone}
+use Rattle.chain_check.proofs.Values.{met-append, met-each, each-met}
+use Rattle.chain_check.specs.Values.{Assignment, AllMet, Means}
+use Rattle.cnf_frames.proofs.Meanings.{path_of, frame-means}
+use Rattle.chain_check.proofs.FewMeanings.{alone-met, opposite-met, and-met, next-met}
 
 module _ (net : Net) (a : Assignment) where
   abbrev V : ℕ

@@ -8,10 +8,13 @@ use Rattle.chain_check.specs.Clauses.{Clause}
 use Rattle.cnf_frames.specs.declared.facts.Fact.{Fact}
 use Rattle.cnf_frames.specs.declared.facts.Fact.TheVariants.{Zero, One, Same, Differ}
 use Rattle.cnf_frames.specs.Facts.{FactHolds, AllHold, fact_at, opposite_fact}
-use Rattle.cnf_frames.specs.Queries.{for_each, frames, fact_clauses, facts_clauses, fails_clauses, some_further, keep_clauses}
+use Rattle.cnf_frames.specs.Queries.{frames, fact_clauses, facts_clauses, fails_clauses, keep_clauses}
+use Rattle.chain_check.specs.FewClauses.{for_each, some_further}
 use Rattle.cnf_frames.specs.QueryPaths.{IsKeepPath}
-use Rattle.cnf_frames.proofs.Values.{Assignment, AllMet, met-append, met-each, each-met}
-use Rattle.cnf_frames.proofs.Meanings.{path_of, guarded-met}
+use Rattle.chain_check.proofs.Values.{met-append, met-each, each-met}
+use Rattle.chain_check.specs.Values.{Assignment, AllMet}
+use Rattle.cnf_frames.proofs.Meanings.{path_of}
+use Rattle.chain_check.proofs.FewMeanings.{guarded-met}
 use Rattle.cnf_frames.proofs.FramePaths.{frames-met}
 use Rattle.cnf_frames.proofs.Distinct.{fact-met, facts-met, some-met}
 

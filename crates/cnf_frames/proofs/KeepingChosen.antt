@@ -11,7 +11,7 @@ use Rattle.cnf_frames.specs.declared.facts.Fact.TheVariants.{Zero}
 use Rattle.cnf_frames.specs.Facts.{FactHolds, AllIn, fact_at, opposite_fact}
 use Rattle.cnf_frames.specs.Queries.{keep_clauses}
 use Rattle.cnf_frames.specs.QueryPaths.{IsKeepPath}
-use Rattle.cnf_frames.proofs.Values.{Assignment, AllMet}
+use Rattle.chain_check.specs.Values.{Assignment, AllMet}
 use Rattle.cnf_frames.proofs.Meanings.{path_of}
 use Rattle.cnf_frames.proofs.Keeping.{fails-opposite, keep-met}
 use Rattle.cnf_frames.proofs.Likeness.{path-alike}

@@ -3,7 +3,6 @@ pub mod Inducing
 pub mod Listing
 pub mod States
 pub mod Surviving
-pub mod Values
 pub mod Meanings
 pub mod FramePaths
 pub mod Distinct

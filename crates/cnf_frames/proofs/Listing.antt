@@ -1,8 +1,8 @@
 -- Lists of the values of a function.
 use Rattle.std.proofs.Common.{◌≡◌, ℕ, ◌+◌, ◌<◌, get_or, sym, ap, ◌∙◌, arith}
 use Rattle.std.specs.List.{Contains}
-use Rattle.aig_net.specs.Wires.{listed}
-use Rattle.aig_net.proofs.Listed.{length-listed, at-listed}
+use Rattle.hy_base.specs.Rows.{listed}
+use Rattle.hy_base.proofs.Listed.{length-listed, at-listed}
 
 pub listed-at : {A : Type 0} (n : ℕ) (f : ℕ → A) (d : A) (i : ℕ) → i < n →
     get_or (listed 0 n f) i d ≡ f i

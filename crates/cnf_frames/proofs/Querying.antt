@@ -11,7 +11,8 @@ use Rattle.cnf_frames.specs.declared.queries.Asked.{Asked}
 use Rattle.cnf_frames.specs.declared.queries.Asked.TheVariants.{Base, Step, Keep}
 use Rattle.cnf_frames.specs.declared.queries.FrameError.{FrameError}
 use Rattle.cnf_frames.specs.Counts.{pairs}
-use Rattle.cnf_frames.specs.Queries.{for_each, alone, some_further, frames, start_clauses, bad_in, facts_clauses, good_clauses, apart_from, fails_clauses, pairs_before, pair_start, group_of, clauses_of, variables_of, literals_in, IsRefusalBy, IsWithin}
+use Rattle.cnf_frames.specs.Queries.{frames, start_clauses, bad_in, facts_clauses, good_clauses, apart_from, fails_clauses, pairs_before, pair_start, group_of, clauses_of, variables_of, IsRefusalBy, IsWithin}
+use Rattle.chain_check.specs.FewClauses.{for_each, alone, some_further, literals_in}
 use Rattle.cnf_frames.proofs.Adding.{both_added}
 use Rattle.cnf_frames.proofs.Pairs.{pairs-counted}
 

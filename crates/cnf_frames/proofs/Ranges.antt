@@ -12,7 +12,8 @@ use Rattle.cnf_frames.specs.declared.facts.Fact.TheVariants.{Zero, One, Same, Di
 use Rattle.cnf_frames.specs.declared.queries.Asked.{Asked}
 use Rattle.cnf_frames.specs.declared.queries.Asked.TheVariants.{Base, Step, Keep}
 use Rattle.cnf_frames.specs.Facts.{IsIn, AllIn, IsSafe, fact_at, opposite_fact}
-use Rattle.cnf_frames.specs.Queries.{for_each, in_frame, further, alone, and_clauses, next_clauses, same_clauses, differ_clauses, guarded, some_further, latch_in, gate_clauses, frame_gates, constraint_clauses, latch_clauses, frame_step, frames, start_clauses, bad_in, fact_clauses, facts_clauses, good_clauses, latch_differs, apart_clauses, pairs_before, pair_start, apart_from, group_of, fails_clauses, clauses_of, variables_of}
+use Rattle.cnf_frames.specs.Queries.{in_frame, latch_in, gate_clauses, frame_gates, constraint_clauses, latch_clauses, frame_step, frames, start_clauses, bad_in, fact_clauses, facts_clauses, good_clauses, latch_differs, apart_clauses, pairs_before, pair_start, apart_from, group_of, fails_clauses, clauses_of, variables_of}
+use Rattle.chain_check.specs.FewClauses.{for_each, further, alone, and_clauses, next_clauses, same_clauses, differ_clauses, guarded, some_further}
 use Rattle.cnf_frames.specs.QueryPaths.{CanAsk}
 use Rattle.cnf_frames.proofs.Pairs.{pairs-more}
 use Rattle.cnf_frames.proofs.Groups.{opposite-in, group-in}

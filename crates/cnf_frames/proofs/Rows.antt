@@ -2,8 +2,8 @@
 use Rattle.std.proofs.Common.{◌≡◌, ℕ, suc, ◌+◌, ◌*◌, ◌<◌, Bool, false, List, [], ◌∷◌, ◌++◌, length, get_or, sym, ap, ◌∙◌, arith}
 use Rattle.std.specs.Prelude.{slice_index_or}
 use Rattle.aig_net.specs.Nets.{latch_variable, variables}
-use Rattle.aig_net.specs.Wires.{listed}
-use Rattle.aig_net.proofs.Listed.{length-listed, listed-last}
+use Rattle.hy_base.specs.Rows.{listed}
+use Rattle.hy_base.proofs.Listed.{length-listed, listed-last}
 use Rattle.live_safe.specs.declared.safe_net.SafeNet.{SafeNet}
 use Rattle.live_safe.specs.declared.safe_net.Path.{Path}
 use Rattle.cnf_frames.specs.QueryPaths.{Shows, word_of, row_at}

@@ -1,5 +1,5 @@
 -- Facts about the states of a safe net, and lists of them that are true at the start and kept by each step.
-use Rattle.std.specs.Prelude.{◌≡◌, ◌≢◌, ℕ, ◌<◌, false, true, List, [], length, slice_index_or, Contains}
+use Rattle.std.specs.Prelude.{◌≡◌, ◌≢◌, ℕ, ◌<◌, Bool, false, true, List, [], length, slice_index_or, Contains}
 use Rattle.aig_net.specs.declared.parts.Reset.TheVariants.{Zero as ResetZero}
 use Rattle.aig_net.specs.Nets.{Net, Valuation, IsNet, Below, literal_value, latch_variable, reset_at, variables, IsRight, IsStart, IsStep, AllTrue}
 use Rattle.live_safe.specs.declared.safe_net.SafeNet.{SafeNet}
@@ -17,11 +17,16 @@ pub record IsSafe (safe : SafeNet) : Type 0 where
       v (latch_variable safe.net j) ≡ w (latch_variable safe.net j)) →
       literal_value v safe.bad ≡ literal_value w safe.bad
 
+-- The fact holds where the latches have these values, by place.
+abbrev pub HoldsIn : (ℕ → Bool) → Fact → Type 0
+HoldsIn state (Zero j) = state j ≡ false
+HoldsIn state (One j) = state j ≡ true
+HoldsIn state (Same i j) = state i ≡ state j
+HoldsIn state (Differ i j) = state i ≢ state j
+
+-- where the latches have their values in a valuation of the net
 abbrev pub FactHolds : Net → Valuation → Fact → Type 0
-FactHolds net v (Zero j) = v (latch_variable net j) ≡ false
-FactHolds net v (One j) = v (latch_variable net j) ≡ true
-FactHolds net v (Same i j) = v (latch_variable net i) ≡ v (latch_variable net j)
-FactHolds net v (Differ i j) = v (latch_variable net i) ≢ v (latch_variable net j)
+FactHolds net v = HoldsIn (λ j. v (latch_variable net j))
 
 abbrev pub AllHold : Net → List Fact → Valuation → Type 0
 AllHold net facts v = (f : Fact) → Contains facts f → FactHolds net v f

@@ -1,12 +1,13 @@
 -- The clauses of a query about paths of a safe net.
 -- The variables of the net, V with the constant, have numbers in each frame: variable v in frame j
 -- has the number j * V + v + 1. Further variables are numbered after those of all frames.
-use Rattle.std.specs.Prelude.{◌≡◌, ℕ, zero, suc, ◌+◌, ◌-◌, ◌*◌, ◌/◌, ◌<◌, ◌≤◌, cond, List, [], ◌∷◌, ◌++◌, map, take, drop, length, ℤ, pos, negsuc, neg_ℤ}
+use Rattle.std.specs.Prelude.{◌≡◌, ℕ, zero, suc, ◌+◌, ◌-◌, ◌*◌, ◌/◌, ◌<◌, ◌≤◌, cond, List, ◌++◌, take, drop, length, ℤ, pos, negsuc, neg_ℤ}
 use Rattle.hy_base.specs.declared.limit.Kind.{Kind}
 use Rattle.hy_base.specs.declared.limit.Kind.TheVariants.{CnfVariables, CnfLiterals}
 use Rattle.hy_base.specs.Limits.{most}
 use Rattle.aig_net.specs.Nets.{Net, is_even, and_at, literal_at, first_and, latch_variable, variables}
 use Rattle.chain_check.specs.Clauses.{Clause}
+use Rattle.chain_check.specs.FewClauses.{for_each, further, alone, and_clauses, next_clauses, same_clauses, differ_clauses, guarded, some_further, literals_in}
 use Rattle.live_safe.specs.declared.safe_net.SafeNet.{SafeNet}
 use Rattle.cnf_frames.specs.declared.facts.Fact.{Fact}
 use Rattle.cnf_frames.specs.declared.facts.Fact.TheVariants.{Zero, One, Same, Differ}
@@ -17,47 +18,9 @@ use Rattle.cnf_frames.specs.declared.queries.FrameError.{FrameError}
 use Rattle.cnf_frames.specs.declared.queries.FrameError.TheVariants.{Limit, Memory}
 use Rattle.cnf_frames.specs.Facts.{fact_at, opposite_fact}
 
--- the lists of 0 to n - 1, one after the other
-abbrev pub for_each : {A : Type 0} → (ℕ → List A) → ℕ → List A
-for_each f zero = []
-for_each f (suc n) = for_each f n ++ f n
-
 -- a literal of the net in frame j
 abbrev pub in_frame : ℕ → ℕ → ℕ → ℤ
 in_frame V j l = cond (is_even l) (pos (suc (j * V + l / 2))) (negsuc (j * V + l / 2))
-
--- a further variable, that of 0 having number 1
-abbrev pub further : ℕ → ℤ
-further d = pos (suc d)
-
--- ---- what few clauses say
-
--- the literal is true
-abbrev pub alone : ℤ → List Clause
-alone l = (l ∷ []) ∷ []
-
--- l is the and of a and b
-abbrev pub and_clauses : ℤ → ℤ → ℤ → List Clause
-and_clauses l a b =
-    (neg_ℤ l ∷ a ∷ []) ∷ (neg_ℤ l ∷ b ∷ []) ∷ (l ∷ neg_ℤ a ∷ neg_ℤ b ∷ []) ∷ []
-
--- the next value y is n
-abbrev pub next_clauses : ℤ → ℤ → List Clause
-next_clauses y n = (neg_ℤ y ∷ n ∷ []) ∷ (y ∷ neg_ℤ n ∷ []) ∷ []
-
-abbrev pub same_clauses : ℤ → ℤ → List Clause
-same_clauses x y = (x ∷ neg_ℤ y ∷ []) ∷ (neg_ℤ x ∷ y ∷ []) ∷ []
-
-abbrev pub differ_clauses : ℤ → ℤ → List Clause
-differ_clauses x y = (x ∷ y ∷ []) ∷ (neg_ℤ x ∷ neg_ℤ y ∷ []) ∷ []
-
--- the clauses, where d is true
-abbrev pub guarded : ℤ → List Clause → List Clause
-guarded d clauses = map (λ c. neg_ℤ d ∷ c) clauses
-
--- one of n further variables from d on is true
-abbrev pub some_further : ℕ → ℕ → List Clause
-some_further d n = for_each (λ i. further (d + i) ∷ []) n ∷ []
 
 -- ---- frames
 
@@ -196,10 +159,6 @@ variables_of safe (Base k) = (k + 1) * variables safe.net
 variables_of safe (Step inv k) =
     (k + 2) * variables safe.net + pairs_before k (k + 1) * length safe.net.latches
 variables_of safe (Keep inv group) = 2 * variables safe.net + length (group_of inv group)
-
-abbrev pub literals_in : List Clause → ℕ
-literals_in [] = 0
-literals_in (c ∷ clauses) = length c + literals_in clauses
 
 -- Which of two counts is past its limit; variables come first.
 abbrev pub IsPastBy : ℕ → ℕ → Kind → Type 0

@@ -2,7 +2,8 @@
 
 ghost use Rattle.std.specs.Prelude.{◌≡◌, suc, ◌*◌, ◌<◌, ◌≤◌, ◌++◌, length, OnOk};
 ghost use Rattle.aig_net.specs.Nets.{variables};
-ghost use Rattle.cnf_frames.specs.Queries.{constraint_clauses, for_each, frame_gates, frame_step, frames, gate_clauses, latch_clauses, start_clauses};
+ghost use Rattle.cnf_frames.specs.Queries.{constraint_clauses, frame_gates, frame_step, frames, gate_clauses, latch_clauses, start_clauses};
+ghost use Rattle.chain_check.specs.FewClauses.{for_each};
 
 use crate::writing::{add_alone, add_and, add_next, latch_number, number_of, opposite};
 use aig_net::Net;

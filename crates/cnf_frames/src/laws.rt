@@ -11,7 +11,8 @@ ghost use Rattle.cnf_frames.specs.declared.facts.Fact.{Fact};
 ghost use Rattle.cnf_frames.specs.declared.queries.Asked.{Asked};
 ghost use Rattle.cnf_frames.specs.declared.inductions.InductionProof.{InductionProof};
 ghost use Rattle.cnf_frames.specs.Facts.{AllHold, AllIn, AreAmong, IsInductive, IsSafe};
-ghost use Rattle.cnf_frames.specs.Queries.{clauses_of, literals_in, variables_of};
+ghost use Rattle.cnf_frames.specs.Queries.{clauses_of, variables_of};
+ghost use Rattle.chain_check.specs.FewClauses.{literals_in};
 ghost use Rattle.cnf_frames.specs.QueryPaths.{Answers, CanAsk, IsStepPath, word_of};
 ghost use Rattle.cnf_frames.specs.Proofs.{AreKept, IsInductionProof, IsRefuted};
 

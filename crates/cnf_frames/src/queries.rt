@@ -5,7 +5,8 @@ ghost use Rattle.hy_base.specs.Limits.{most};
 ghost use Rattle.aig_net.specs.Nets.{variables};
 ghost use Rattle.cnf_frames.specs.declared.queries.FrameError.TheVariants.{Memory as OutOfMemory};
 ghost use Rattle.cnf_frames.specs.Facts.{AllIn, IsSafe};
-ghost use Rattle.cnf_frames.specs.Queries.{IsPast, IsQuery, IsRefusal, IsWithin, for_each, good_clauses, group_of, groups};
+ghost use Rattle.cnf_frames.specs.Queries.{IsPast, IsQuery, IsRefusal, IsWithin, good_clauses, group_of, groups};
+ghost use Rattle.chain_check.specs.FewClauses.{for_each};
 
 use crate::counts::{
     admit, base_literals, base_variables, keep_literals, keep_variables, step_literals,

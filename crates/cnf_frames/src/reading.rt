@@ -2,7 +2,7 @@
 
 ghost use Rattle.std.specs.Prelude.{◌≡◌, ◌+◌, ◌<◌, ◌^◌, false, length, slice_index_or, IfOk};
 ghost use Rattle.aig_net.specs.Executions.{Word};
-ghost use Rattle.aig_net.specs.Wires.{listed};
+ghost use Rattle.hy_base.specs.Rows.{listed};
 ghost use Rattle.chain_check.specs.Clauses.{SatisfiesAll};
 ghost use Rattle.cnf_frames.specs.Facts.{IsSafe};
 ghost use Rattle.cnf_frames.specs.Queries.{IsQuery};

@@ -4,7 +4,8 @@ ghost use Rattle.std.specs.Prelude.{◌≡◌, suc, ◌+◌, ◌*◌, ◌<◌, �
 ghost use Rattle.aig_net.specs.Nets.{variables};
 ghost use Rattle.chain_check.specs.Clauses.{IsLiteral};
 ghost use Rattle.cnf_frames.specs.Facts.{AllIn, IsIn, opposite_fact};
-ghost use Rattle.cnf_frames.specs.Queries.{apart_clauses, apart_from, fact_clauses, facts_clauses, fails_clauses, for_each, guarded, latch_differs, pair_start, some_further};
+ghost use Rattle.cnf_frames.specs.Queries.{apart_clauses, apart_from, fact_clauses, facts_clauses, fails_clauses, latch_differs, pair_start};
+ghost use Rattle.chain_check.specs.FewClauses.{for_each, guarded, some_further};
 
 use crate::facts::Fact;
 use crate::writing::{

@@ -3,7 +3,8 @@
 ghost use Rattle.std.specs.Prelude.{◌≡◌, suc, ◌+◌, ◌-◌, ◌*◌, ◌<◌, ◌≤◌, ◌^◌, ◌∷◌, ◌++◌, [], neg_ℤ, unsigned_abs, length, OnOk};
 ghost use Rattle.aig_net.specs.Nets.{Below, variables};
 ghost use Rattle.chain_check.specs.Clauses.{AreLiterals, IsLiteral};
-ghost use Rattle.cnf_frames.specs.Queries.{alone, and_clauses, differ_clauses, further, guarded, in_frame, latch_in, next_clauses, same_clauses};
+ghost use Rattle.cnf_frames.specs.Queries.{in_frame, latch_in};
+ghost use Rattle.chain_check.specs.FewClauses.{alone, and_clauses, differ_clauses, further, guarded, next_clauses, same_clauses};
 
 use aig_net::Net;
 use chain_check::{Cnf, Literal};

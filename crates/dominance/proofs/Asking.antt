@@ -16,7 +16,8 @@ use Rattle.hy_formula.specs.Trees as tree
 use Rattle.hy_formula.specs.Trees.{Tree, vars_below}
 use Rattle.hy_formula.specs.declared.atom.Atom.{Atom}
 use Rattle.hy_formula.proofs.Each.{each-at, each-append}
-use Rattle.fin_monitor.specs.Codes.{IndexedAtom, plain_atom, is_atom, with_atom, with_atoms, code_of, one_if, joint_letter}
+use Rattle.hy_formula.specs.Atoms.{IndexedAtom, plain_atom, is_atom, with_atom, with_atoms}
+use Rattle.fin_monitor.specs.Codes.{code_of, one_if, joint_letter}
 use Rattle.fin_monitor.specs.Machines.{Machine, IsMonitor}
 use Rattle.dominance.specs.Choices.{Row, says, with_name, is_asked, IsAnswer, AreRows, row_code}
 

@@ -14,7 +14,8 @@ use Rattle.hy_finite.specs.declared.lengths.Lengths.{Lengths}
 use Rattle.hy_finite.specs.declared.lengths.Lengths.TheVariants.{Min, Pad}
 use Rattle.hy_finite.specs.Traces.{Trace, of_two, judged, trace_words, Meets}
 use Rattle.hy_finite.proofs.JudgedLength.{of_two-turned, of_two-some}
-use Rattle.fin_monitor.specs.Codes.{IndexedAtom, code_of, one_if, part_of}
+use Rattle.hy_formula.specs.Atoms.{IndexedAtom}
+use Rattle.fin_monitor.specs.Codes.{code_of, one_if, part_of}
 use Rattle.fin_monitor.specs.Machines.{Machine, IsMonitor, is_accepting, code_at}
 use Rattle.fin_monitor.proofs.CodeBits.{code-or}
 use Rattle.dominance.specs.Dominance.{IsTrace}

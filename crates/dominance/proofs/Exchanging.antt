@@ -15,7 +15,8 @@ use Rattle.hy_finite.specs.declared.lengths.Lengths.TheVariants.{Min, Pad}
 use Rattle.hy_finite.specs.Traces.{Trace, of_two, trace_words, Meets, fit}
 use Rattle.hy_finite.proofs.Agreeing.{fitted, length-fit}
 use Rattle.hy_finite.proofs.JudgedLength.{of_two-turned, of_two-some}
-use Rattle.fin_monitor.specs.Codes.{IndexedAtom, is_atom, code_of, joint_letter}
+use Rattle.hy_formula.specs.Atoms.{IndexedAtom, is_atom}
+use Rattle.fin_monitor.specs.Codes.{code_of, joint_letter}
 use Rattle.fin_monitor.specs.Machines.{Machine, IsMonitor, is_accepting}
 use Rattle.dominance.specs.Dominance.{IsTrace, IsSymmetric}
 use Rattle.dominance.specs.Choices.{Row, says, IsAnswer, AreRows, row_code, turned, turned_code}

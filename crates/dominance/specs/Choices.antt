@@ -3,7 +3,8 @@ use Rattle.std.specs.Prelude.{◌≡◌, ℕ, zero, suc, ◌+◌, ◌-◌, Bool,
 use Rattle.std.specs.List.{Contains, list_any}
 use Rattle.std.specs.FinSet.{empty, contains, insert}
 use Rattle.hy_bits.specs.Letter.{Letter}
-use Rattle.fin_monitor.specs.Codes.{IndexedAtom, is_atom, code_of, joint_letter}
+use Rattle.hy_formula.specs.Atoms.{IndexedAtom, is_atom}
+use Rattle.fin_monitor.specs.Codes.{code_of, joint_letter}
 use Rattle.fin_monitor.specs.Machines.{Machine}
 
 -- a letter for each of four variables

@@ -9,7 +9,8 @@ use Rattle.std.proofs.lemmas.Nat.Bits.{bit_at-suc, bit_at_lowest, bit_at-zero, b
 use Rattle.std.proofs.Math.Pow.{pow_mono}
 use Rattle.hy_bits.specs.Binary.{has_one}
 use Rattle.hy_formula.specs.declared.atom.Atom.{Atom}
-use Rattle.fin_monitor.specs.Codes.{IndexedAtom, plain_atom, is_atom, one_if, code_of, letter_from, letter_of}
+use Rattle.hy_formula.specs.Atoms.{IndexedAtom, plain_atom, is_atom}
+use Rattle.fin_monitor.specs.Codes.{one_if, code_of, letter_from, letter_of}
 use Rattle.fin_monitor.specs.Lefts.{IsAtomMask, IsPart}
 
 pub one_if-lt : (b : Bool) → one_if b < 2

@@ -8,7 +8,8 @@ use Rattle.std.proofs.lemmas.Bool.{cases_lt}
 use Rattle.std.proofs.lemmas.List.{get_or_append_left, length-map}
 use Rattle.hy_formula.specs.declared.atom.Atom.{Atom}
 use Rattle.ltl_closure.specs.Nodes.{Node}
-use Rattle.fin_monitor.specs.Codes.{IndexedAtom, plain_atom, letter_of}
+use Rattle.hy_formula.specs.Atoms.{IndexedAtom, plain_atom}
+use Rattle.fin_monitor.specs.Codes.{letter_of}
 use Rattle.fin_monitor.specs.Duties.{Duty, strongly, after_each, minimal, residual_step, Same, IsReached, first, SomeReached, residual_at}
 use Rattle.fin_monitor.specs.Lefts.{IsFamily, AreLefts, AreAsked, IsAskedAll, IsStepOf, kept_lists}
 use Rattle.fin_monitor.specs.Reductions.{LeaveAlike}

@@ -16,7 +16,6 @@ pub mod Steps
 pub mod Literals
 pub mod Counting
 pub mod Running
-pub mod JobClosure
 pub mod Refusals
 pub mod Making
 pub mod Places

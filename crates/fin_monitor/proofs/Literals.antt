@@ -10,8 +10,9 @@ use Rattle.hy_formula.specs.Normals.{Normal, always, never, literal, and, or, ne
 use Rattle.ltl_closure.specs.Nodes as node
 use Rattle.ltl_closure.specs.Closures.{same_form, with_new, with_form, closure, form_in, node_of}
 use Rattle.ltl_closure.proofs.Closing.{last-form}
-use Rattle.fin_monitor.specs.Codes.{IndexedAtom, is_atom, with_atom, with_atoms, atoms_of, code_of, letter_of}
-use Rattle.fin_monitor.specs.Duties.{body_nodes}
+use Rattle.hy_formula.specs.Atoms.{IndexedAtom, is_atom, with_atom, with_atoms, atoms_of}
+use Rattle.fin_monitor.specs.Codes.{code_of, letter_of}
+use Rattle.ltl_closure.specs.Bodies.{body_nodes}
 use Rattle.fin_monitor.proofs.CodeBits.{letter-code}
 use Rattle.fin_monitor.proofs.Steps.{SameAtoms}
 
@@ -159,11 +160,11 @@ module _ (atoms : List IndexedAtom) where
   literal-of members (release f g) b n v e is = absurd (cc)
 
 -- The letter of the code of a letter agrees with it at the literals of the body.
-pub body-atoms : (body : Tree) (letter : ℕ → ℕ → Bool) → SameAtoms (body_nodes body) letter (letter_of (atoms_of body) (code_of letter (atoms_of body)))
+pub body-atoms : (body : Tree) (letter : ℕ → ℕ → Bool) → SameAtoms (body_nodes body true) letter (letter_of (atoms_of body) (code_of letter (atoms_of body)))
 body-atoms body letter k lt b n v is =
     let form : Normal = normal_form true body in
     let members : List Normal = closure (form ∷ []) in
-    let l : length (body_nodes body) ≡ length members = length-map members (node_of members) in
+    let l : length (body_nodes body true) ≡ length members = length-map members (node_of members) in
     let inside : k < length members = omega (arith, l, lt) in
     let known = normal-known (atoms_of body) true body [] (λ m u h. h) in
     let all = form-known (atoms_of body) form [] (λ q less. absurd (omega arith)) known in

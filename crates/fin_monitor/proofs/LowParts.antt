@@ -12,7 +12,7 @@ use Rattle.hy_formula.specs.Quantifiers.{Each}
 use Rattle.hy_formula.proofs.Each.{each-append}
 use Rattle.fin_monitor.specs.declared.name_bit.NameBit.{NameBit}
 use Rattle.fin_monitor.specs.declared.variable_parts.VariableParts.{VariableParts}
-use Rattle.fin_monitor.specs.Codes.{IndexedAtom}
+use Rattle.hy_formula.specs.Atoms.{IndexedAtom}
 use Rattle.fin_monitor.specs.Parts.{bits_of, bits_below, low_number, part_in, AreLowParts, ArePartsOf, AreParts}
 
 -- ---- numbers of lowest names

@@ -6,8 +6,8 @@ use Rattle.hy_formula.specs.Trees.{Tree, vars_below}
 use Rattle.ltl_closure.specs.Nodes.{Node}
 use Rattle.fin_monitor.specs.declared.automaton.Automaton.{Automaton}
 use Rattle.fin_monitor.specs.declared.monitor_error.MonitorError.{MonitorError}
-use Rattle.fin_monitor.specs.Codes.{IndexedAtom, plain_atom, atoms_of}
-use Rattle.fin_monitor.specs.Duties.{body_nodes, body_root}
+use Rattle.hy_formula.specs.Atoms.{IndexedAtom, plain_atom, atoms_of}
+use Rattle.ltl_closure.specs.Bodies.{body_nodes, body_root}
 use Rattle.fin_monitor.specs.Limits.{HasSmallClosure, HasFewAtoms, IsTaken, IsRefusal}
 use Rattle.fin_monitor.specs.Machines.{Machine, IsMonitor}
 use Rattle.fin_monitor.specs.Tables.{row_of, IsAutomaton, IsTableOf, IsTableRefusal, IsSettling}
@@ -15,22 +15,22 @@ use Rattle.fin_monitor.proofs.Exploring.{small-row, row-power}
 use Rattle.fin_monitor.proofs.Refusals.{table-refused}
 use Rattle.fin_monitor.proofs.Running.{table-of, is-monitor, small-table}
 
-module _ (body : Tree) (nodes : List Node) (root : ℕ) (atoms : List Atom) (same-nodes : nodes ≡ body_nodes body) (same-root : root ≡ body_root body) (same-atoms : map plain_atom atoms ≡ atoms_of body) (few : length atoms ≤ 16) where
+module _ (body : Tree) (nodes : List Node) (root : ℕ) (atoms : List Atom) (same-nodes : nodes ≡ body_nodes body true) (same-root : root ≡ body_root body true) (same-atoms : map plain_atom atoms ≡ atoms_of body) (few : length atoms ≤ 16) where
   few-of : HasFewAtoms body
   few-of = let P : List IndexedAtom → Type 0 = λ l. length l ≤ 16 in subst P same-atoms (omega (arith, few, length-map atoms plain_atom))
 
   pub table-on : HasSmallClosure body → (e : MonitorError) → IsTableRefusal nodes root (map plain_atom atoms) e → IsRefusal body e
   table-on small e refused =
       table-refused body small few-of e
-      (subst (λ l. IsTableRefusal (body_nodes body) (body_root body) l e) same-atoms
-      (subst (λ k. IsTableRefusal (body_nodes body) k (map plain_atom atoms) e) same-root
+      (subst (λ l. IsTableRefusal (body_nodes body true) (body_root body true) l e) same-atoms
+      (subst (λ k. IsTableRefusal (body_nodes body true) k (map plain_atom atoms) e) same-root
       (subst (λ ns. IsTableRefusal ns root (map plain_atom atoms) e) same-nodes refused)))
 
   module _ (a : Automaton) (is : IsAutomaton nodes root (map plain_atom atoms) a) where
-    automaton-on : IsAutomaton (body_nodes body) (body_root body) (atoms_of body) a
+    automaton-on : IsAutomaton (body_nodes body true) (body_root body true) (atoms_of body) a
     automaton-on =
-        subst (λ l. IsAutomaton (body_nodes body) (body_root body) l a) same-atoms
-        (subst (λ k. IsAutomaton (body_nodes body) k (map plain_atom atoms) a) same-root
+        subst (λ l. IsAutomaton (body_nodes body true) (body_root body true) l a) same-atoms
+        (subst (λ k. IsAutomaton (body_nodes body true) k (map plain_atom atoms) a) same-root
         (subst (λ ns. IsAutomaton ns root (map plain_atom atoms) a) same-nodes is))
 
     pub table-is : IsTableOf a (2 ^ length atoms)

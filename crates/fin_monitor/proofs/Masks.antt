@@ -7,7 +7,7 @@ use Rattle.std.proofs.lemmas.Option.{get_or_from_slice_get}
 use Rattle.hy_base.proofs.Places.{last-of}
 use Rattle.hy_formula.proofs.Each.{each-append}
 use Rattle.ltl_closure.specs.Nodes.{Node, node_at, PartsBelow}
-use Rattle.fin_monitor.specs.Codes.{IndexedAtom}
+use Rattle.hy_formula.specs.Atoms.{IndexedAtom}
 use Rattle.fin_monitor.specs.Duties.{Duty}
 use Rattle.fin_monitor.specs.Lefts.{IsPart, IsAsked, AreAsked, IsAskedNode, IsAskedBelow, IsAskedAll}
 use Rattle.fin_monitor.proofs.CodeBits.{part-left, part-right, part-through}

@@ -9,7 +9,8 @@ use Rattle.hy_bits.specs.Letter.{Letter as NameSet}
 use Rattle.hy_formula.specs.declared.atom.Atom.{Atom}
 use Rattle.hy_formula.specs.Trees.{Tree, always, never, atom, not, next, finally, globally, and, or, implies, iff, until, release, weak, vars_below}
 use Rattle.fin_monitor.specs.declared.name_bit.NameBit.{NameBit}
-use Rattle.fin_monitor.specs.Codes.{IndexedAtom, plain_atom, is_atom, one_if, code_of, part_of, with_atoms}
+use Rattle.hy_formula.specs.Atoms.{IndexedAtom, plain_atom, is_atom, with_atoms}
+use Rattle.fin_monitor.specs.Codes.{one_if, code_of, part_of}
 use Rattle.fin_monitor.specs.Machines.{Machine, IsMonitor}
 use Rattle.fin_monitor.specs.Parts.{bits_of, AreNamesOf}
 

@@ -4,7 +4,8 @@ use Rattle.std.proofs.Math.Nat.{mod-eq_of_lt}
 use Rattle.std.proofs.lemmas.List.{length-map}
 use Rattle.std.proofs.lemmas.Option.{get_or_from_slice_get}
 use Rattle.hy_formula.specs.declared.atom.Atom.{Atom}
-use Rattle.fin_monitor.specs.Codes.{plain_atom, one_if, code_of}
+use Rattle.hy_formula.specs.Atoms.{plain_atom}
+use Rattle.fin_monitor.specs.Codes.{one_if, code_of}
 use Rattle.fin_monitor.specs.Machines.{Machine, codes, states_of, next_state, IsMonitor}
 use Rattle.fin_monitor.proofs.CodeBits.{code-lt, codes-down, drop-all, small-code}
 use Rattle.fin_monitor.proofs.Running.{place-inside}

@@ -1,13 +1,19 @@
 -- Why a body has no monitor, by which of its parts is too large.
-use Rattle.std.proofs.Common.{[]}
+use Rattle.std.proofs.Common.{◌≡◌, Result, Ok, Err, sym, subst}
+use Rattle.std.specs.Result.{IfErr, IsErrAnd}
 use Rattle.hy_base.specs.declared.limit.Kind.TheVariants as kind
 use Rattle.hy_formula.specs.Trees.{Tree}
 use Rattle.fin_monitor.specs.declared.monitor_error.MonitorError.{MonitorError}
 use Rattle.fin_monitor.specs.declared.monitor_error.MonitorError.TheVariants.{Limit, Memory}
-use Rattle.fin_monitor.specs.Codes.{atoms_of}
-use Rattle.fin_monitor.specs.Duties.{body_nodes, body_root}
+use Rattle.hy_formula.specs.Atoms.{atoms_of}
+use Rattle.ltl_closure.specs.Bodies.{body_nodes, body_root}
 use Rattle.fin_monitor.specs.Limits.{HasSmallClosure, HasFewAtoms, IsRefusal, IsClosureRefusal, IsAtomsRefusal}
 use Rattle.fin_monitor.specs.Tables.{IsTableRefusal}
+
+-- what is said of the error of a call is said of the same one that is handed on
+pub err-on : {T E : Type 0} (P : E → Type 0) (r : Result T E) (x : E) → IsErrAnd r (λ y. y ≡ x) → P x → IfErr r P
+err-on P (Ok t) x is p = tt
+err-on {T} {E} P (Err y) x is p = subst P (sym is) p
 
 pub closure-refused : (body : Tree) (e : MonitorError) → IsClosureRefusal body e → IsRefusal body e
 closure-refused body (Limit kind.Bytes) h = absurd h
@@ -29,7 +35,7 @@ closure-refused body (Limit kind.CnfVariables) h = absurd h
 closure-refused body (Limit kind.CnfLiterals) h = absurd h
 closure-refused body Memory h = tt
 
-pub atoms-refused : (body : Tree) → HasSmallClosure body → (e : MonitorError) → IsAtomsRefusal body [] e → IsRefusal body e
+pub atoms-refused : (body : Tree) → HasSmallClosure body → (e : MonitorError) → IsAtomsRefusal body e → IsRefusal body e
 atoms-refused body small (Limit kind.Bytes) h = absurd h
 atoms-refused body small (Limit kind.Specs) h = absurd h
 atoms-refused body small (Limit kind.Quantifiers) h = absurd h
@@ -49,7 +55,7 @@ atoms-refused body small (Limit kind.CnfVariables) h = absurd h
 atoms-refused body small (Limit kind.CnfLiterals) h = absurd h
 atoms-refused body small Memory h = tt
 
-pub table-refused : (body : Tree) → HasSmallClosure body → HasFewAtoms body → (e : MonitorError) → IsTableRefusal (body_nodes body) (body_root body) (atoms_of body) e → IsRefusal body e
+pub table-refused : (body : Tree) → HasSmallClosure body → HasFewAtoms body → (e : MonitorError) → IsTableRefusal (body_nodes body true) (body_root body true) (atoms_of body) e → IsRefusal body e
 table-refused body small few (Limit kind.Bytes) h = absurd h
 table-refused body small few (Limit kind.Specs) h = absurd h
 table-refused body small few (Limit kind.Quantifiers) h = absurd h

@@ -17,7 +17,8 @@ use Rattle.hy_formula.proofs.Each.{each-append, each-from, each-at}
 use Rattle.ltl_closure.specs.Nodes.{Node, always, never, literal, and, or, next, weak_next, until, release, node_at, PartsBelow, Numbers}
 use Rattle.ltl_closure.specs.Closures.{closure, form_in, node_of}
 use Rattle.ltl_closure.proofs.Closing.{grown-form, number-found, closure-numbers}
-use Rattle.fin_monitor.specs.Duties.{Duty, no_duty, strongly, weakly, both, joined, after_node, after_below, after, after_members, after_duty, after_each, within, minimal, residual_after, accepts, body_nodes, body_root}
+use Rattle.fin_monitor.specs.Duties.{Duty, no_duty, strongly, weakly, both, joined, after_node, after_below, after, after_members, after_duty, after_each, within, minimal, residual_after, accepts}
+use Rattle.ltl_closure.specs.Bodies.{body_nodes, body_root}
 use Rattle.fin_monitor.proofs.Sets.{Has, has-cases, has-none, has-union}
 use Rattle.fin_monitor.proofs.Minimal.{minimal-from, minimal-under}
 use Rattle.fin_monitor.proofs.Owing.{IsDone, SomeDone, some-done, done-one, done-strongly, each-right}
@@ -161,7 +162,7 @@ module _ (m : ℕ) (words : Words) (nodes : List Node) (form : ℕ → Normal) (
 
 -- ---- of a body
 
-pub monitoring : (m : ℕ) (words : Words) (body : Tree) → 0 < m → (accepts (residual_after (body_nodes body) (body_root body) words m) ≡ true) ↔ SatisfiesAt (below m) words body 0
+pub monitoring : (m : ℕ) (words : Words) (body : Tree) → 0 < m → (accepts (residual_after (body_nodes body true) (body_root body true) words m) ≡ true) ↔ SatisfiesAt (below m) words body 0
 monitoring m words body some =
     let f : Normal = normal_form true body in
     let members : List Normal = closure (f ∷ []) in
@@ -169,7 +170,7 @@ monitoring m words body some =
     let (p, lt, inside, at) = grown.there in
     let (le, found) = number-found members f p inside at in
     let l = length-map members (node_of members) in
-    let a = accepting m words (body_nodes body) (form_in members) (closure-numbers (f ∷ [])) (body_root body) (omega (arith, l)) some in
+    let a = accepting m words (body_nodes body true) (form_in members) (closure-numbers (f ∷ [])) (body_root body true) (omega (arith, l)) some in
     let n = normal-right (below m) words (decided-below m words) true body 0 in
     let P : Normal → Type 0 = λ x. HoldsAt (below m) words x 0 in
     (λ h. n.0 (subst P found (a.0 h)), λ h. a.1 (subst P (sym found) (n.1 h)))

@@ -11,8 +11,10 @@ use Rattle.hy_finite.specs.declared.lengths.Lengths.{Lengths}
 use Rattle.hy_finite.specs.Traces.{Trace, judged, trace_words, Meets}
 use Rattle.ltl_closure.specs.Nodes.{Node}
 use Rattle.fin_monitor.specs.declared.automaton.Automaton.{Automaton}
-use Rattle.fin_monitor.specs.Codes.{IndexedAtom, code_of, letter_of, atoms_of}
-use Rattle.fin_monitor.specs.Duties.{Duty, strongly, residual_step, residual_after, residual_at, accepts, Same, IsReached, first, later, body_nodes, body_root}
+use Rattle.hy_formula.specs.Atoms.{IndexedAtom, atoms_of}
+use Rattle.fin_monitor.specs.Codes.{code_of, letter_of}
+use Rattle.fin_monitor.specs.Duties.{Duty, strongly, residual_step, residual_after, residual_at, accepts, Same, IsReached, first, later}
+use Rattle.ltl_closure.specs.Bodies.{body_nodes, body_root}
 use Rattle.fin_monitor.specs.Limits.{HasSmallTable}
 use Rattle.fin_monitor.specs.Machines.{Machine, codes, states_of, next_state, is_accepting, code_at, state_after, settled_state, IsMonitor}
 use Rattle.fin_monitor.specs.Tables.{row_of, IsAutomaton, IsTableOf, IsSettling, standing, flag_at}
@@ -189,14 +191,14 @@ module _ (nodes : List Node) (root : ℕ) (atoms : List IndexedAtom) (a : Automa
 
 -- The machine of a body's automaton is its monitor.
 pub is-monitor : (body : Tree) (variables : ℕ) (a b : Automaton) → IsTrue (vars_below variables body) → variables ≤ 4 → length (atoms_of body) ≤ 16 → row_of (atoms_of body) ≤ 65536
-    → IsAutomaton (body_nodes body) (body_root body) (atoms_of body) a → IsSettling a (row_of (atoms_of body)) b
+    → IsAutomaton (body_nodes body true) (body_root body true) (atoms_of body) a → IsSettling a (row_of (atoms_of body)) b
     → (m : Machine) → m ≡ record { body = body; variables = variables; atoms = atoms_of body; table = b.table; accepting = b.accepting } → IsMonitor m
 is-monitor body variables a b bound few few_atoms row is set m e =
     let P : Machine → Type 0 = IsMonitor in
     subst P (sym e)
     (let made : Machine = record { body = body; variables = variables; atoms = atoms_of body; table = b.table; accepting = b.accepting } in
-    let nodes = body_nodes body in
-    let root = body_root body in
+    let nodes = body_nodes body true in
+    let root = body_root body true in
     let atoms = atoms_of body in
     record {
       bound = bound;
@@ -213,11 +215,11 @@ is-monitor body variables a b bound few few_atoms row is set m e =
     })
 
 -- No table of the body is too large.
-pub small-table : (body : Tree) (a : Automaton) → IsAutomaton (body_nodes body) (body_root body) (atoms_of body) a → HasSmallTable body
+pub small-table : (body : Tree) (a : Automaton) → IsAutomaton (body_nodes body true) (body_root body true) (atoms_of body) a → HasSmallTable body
 small-table body a is =
     record {
       list = is.list;
-      reached = record { some = is.explored.reached; all = all-reached (body_nodes body) (body_root body) (atoms_of body) a is (body-atoms body) };
+      reached = record { some = is.explored.reached; all = all-reached (body_nodes body true) (body_root body true) (atoms_of body) a is (body-atoms body) };
       few = is.explored.few;
     }
 
@@ -234,6 +236,6 @@ pub accepts-meets : (m : Machine) → IsMonitor m → (rule : Lengths) (tuple : 
 accepts-meets m is rule tuple some q b accept at =
     let words = trace_words tuple in
     let n = judged rule tuple in
-    let e : b ≡ accepts (residual_after (body_nodes m.body) (body_root m.body) words n) = accept ∙ ap (is_accepting m) at ∙ is.right words n some in
+    let e : b ≡ accepts (residual_after (body_nodes m.body true) (body_root m.body true) words n) = accept ∙ ap (is_accepting m) at ∙ is.right words n some in
     let r = monitoring n words m.body some in
     (λ h. r.0 (sym e ∙ h), λ h. e ∙ r.1 h)

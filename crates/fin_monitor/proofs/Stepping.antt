@@ -6,7 +6,8 @@ use Rattle.std.proofs.lemmas.List.{take_more, get_or_append_left, append-nil, ge
 use Rattle.hy_base.proofs.Places.{last-of}
 use Rattle.hy_bits.specs.Sets.{NumberSet, HasNone}
 use Rattle.ltl_closure.specs.Nodes.{Node, and, or, until, release, node_at}
-use Rattle.fin_monitor.specs.Codes.{IndexedAtom, letter_of}
+use Rattle.hy_formula.specs.Atoms.{IndexedAtom}
+use Rattle.fin_monitor.specs.Codes.{letter_of}
 use Rattle.fin_monitor.specs.Duties.{Duty, no_duty, strongly, weakly, joined, after, after_members, after_duty, after_each, AreAlike}
 use Rattle.fin_monitor.specs.Lefts.{IsFamily, IsFamilyOf, IsLeft, AreLefts, IsUnionsBelow, IsStepOf, IsAsked, kept_lists, list_at}
 use Rattle.fin_monitor.proofs.Alike.{alike-itself, alike-through, alike-append, alike-joined}

@@ -5,7 +5,8 @@ use Rattle.std.specs.FinSet.{contains}
 use Rattle.std.proofs.lemmas.Bool.{cases_lt, eq-eqb, ne_eqb, or_left, or_right}
 use Rattle.hy_bits.specs.Sets.{NumberSet}
 use Rattle.ltl_closure.specs.Nodes.{Node, always, never, literal, and, or, next, weak_next, until, release, node_at, PartsBelow}
-use Rattle.fin_monitor.specs.Codes.{IndexedAtom, letter_of}
+use Rattle.hy_formula.specs.Atoms.{IndexedAtom}
+use Rattle.fin_monitor.specs.Codes.{letter_of}
 use Rattle.fin_monitor.specs.Duties.{Duty, no_duty, strongly, weakly, joined, after_node, after_below, after, after_members, after_each, AreAlike}
 use Rattle.fin_monitor.specs.Lefts.{IsAsked, AreAsked, IsAskedNode, IsAskedAll, IsPart, IsFamilyOf, IsLeft}
 use Rattle.fin_monitor.proofs.Alike.{alike-through}

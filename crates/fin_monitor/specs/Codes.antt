@@ -1,49 +1,9 @@
--- The indexed atoms of a body, and the codes of joint letters: bit i of a code says whether atom i holds.
-use Rattle.std.specs.Prelude.{ℕ, suc, ◌+◌, ◌*◌, Bool, true, false, ◌&&◌, cond, nat_eq, List, [], ◌∷◌, ◌++◌, slice_index_or}
-use Rattle.std.specs.List.{list_any}
+-- The codes of joint letters: bit i of a code says whether indexed atom i holds.
+use Rattle.std.specs.Prelude.{ℕ, suc, ◌+◌, ◌*◌, Bool, true, false, ◌&&◌, cond, nat_eq, List, [], ◌∷◌, slice_index_or}
 use Rattle.std.specs.FinSet.{empty, contains}
 use Rattle.hy_bits.specs.Binary.{has_one}
 use Rattle.hy_bits.specs.Letter.{Letter as NameSet}
-use Rattle.hy_formula.specs.declared.atom.Atom.{Atom}
-use Rattle.hy_formula.specs.Trees as tree
-use Rattle.hy_formula.specs.Trees.{Tree}
-
--- a name of the letters of a variable
-pub record IndexedAtom : Type 0 where
-  pub name : ℕ
-  pub variable : ℕ
-
-abbrev pub plain_atom : Atom → IndexedAtom
-plain_atom a = record { name = a.name; variable = a.var }
-
-abbrev pub is_atom : ℕ → ℕ → IndexedAtom → Bool
-is_atom name variable a = nat_eq a.name name && nat_eq a.variable variable
-
--- the atom last, where it is new
-abbrev pub with_atom : ℕ → ℕ → List IndexedAtom → List IndexedAtom
-with_atom name variable known =
-    cond (list_any (is_atom name variable) known) known (known ++ record { name = name; variable = variable } ∷ [])
-
--- the known atoms, and behind them those of a tree, each where it stands first
-abbrev pub with_atoms : Tree → List IndexedAtom → List IndexedAtom
-with_atoms tree.always known = known
-with_atoms tree.never known = known
-with_atoms (tree.atom name variable) known = with_atom name variable known
-with_atoms (tree.not f) known = with_atoms f known
-with_atoms (tree.next f) known = with_atoms f known
-with_atoms (tree.finally f) known = with_atoms f known
-with_atoms (tree.globally f) known = with_atoms f known
-with_atoms (tree.and f g) known = with_atoms g (with_atoms f known)
-with_atoms (tree.or f g) known = with_atoms g (with_atoms f known)
-with_atoms (tree.implies f g) known = with_atoms g (with_atoms f known)
-with_atoms (tree.iff f g) known = with_atoms g (with_atoms f known)
-with_atoms (tree.until f g) known = with_atoms g (with_atoms f known)
-with_atoms (tree.release f g) known = with_atoms g (with_atoms f known)
-with_atoms (tree.weak f g) known = with_atoms g (with_atoms f known)
-
--- the different indexed atoms of a body, in the order of their first occurrence
-abbrev pub atoms_of : Tree → List IndexedAtom
-atoms_of body = with_atoms body []
+use Rattle.hy_formula.specs.Atoms.{IndexedAtom, is_atom}
 
 abbrev pub one_if : Bool → ℕ
 one_if true = 1

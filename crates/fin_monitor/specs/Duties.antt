@@ -7,11 +7,8 @@ use Rattle.std.specs.List.{Contains, list_any, list_all}
 use Rattle.std.specs.Coded.{Coded, code_by, coded×, coded_ℕ}
 use Rattle.std.specs.FinSet.{empty, insert, contains, union, is_subset, code}
 use Rattle.hy_bits.specs.Sets.{NumberSet}
-use Rattle.hy_formula.specs.Trees.{Tree}
 use Rattle.hy_formula.specs.Temporal.{Words}
-use Rattle.hy_formula.specs.Normals.{normal_form}
 use Rattle.ltl_closure.specs.Nodes.{Node, always, never, literal, and, or, next, weak_next, until, release, node_at}
-use Rattle.ltl_closure.specs.Closures.{closure, nodes_of, number_in}
 
 -- the members that are to hold at the next position, which is to be there, and those that are to hold there if it is
 -- there
@@ -101,13 +98,6 @@ residual_after nodes root words (suc i) =
 -- some duty has no strong obligation
 abbrev pub accepts : List Duty → Bool
 accepts residual = list_any (λ (d : Duty). is_subset d.strong empty) residual
-
--- the closure of a body, and the number of the body in it
-abbrev pub body_nodes : Tree → List Node
-body_nodes body = nodes_of (closure (normal_form true body ∷ []))
-
-abbrev pub body_root : Tree → ℕ
-body_root body = number_in (closure (normal_form true body ∷ [])) (normal_form true body)
 
 -- Residuals are sets of duties.
 abbrev pub Same : List Duty → List Duty → Type 0

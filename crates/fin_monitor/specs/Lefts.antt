@@ -7,7 +7,8 @@ use Rattle.hy_bits.specs.Binary.{number}
 use Rattle.hy_bits.specs.Sets.{NumberSet}
 use Rattle.hy_formula.specs.Quantifiers.{Each}
 use Rattle.ltl_closure.specs.Nodes.{Node, literal, and, or, until, release}
-use Rattle.fin_monitor.specs.Codes.{IndexedAtom, letter_of}
+use Rattle.hy_formula.specs.Atoms.{IndexedAtom}
+use Rattle.fin_monitor.specs.Codes.{letter_of}
 use Rattle.fin_monitor.specs.Duties.{Duty, within, after, after_members, after_each, AreAlike}
 
 -- the order in which duties stand

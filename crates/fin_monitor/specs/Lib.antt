@@ -6,5 +6,4 @@ pub mod Limits
 pub mod Machines
 pub mod Tables
 pub mod Seen
-pub mod OneJob
 pub mod Reductions

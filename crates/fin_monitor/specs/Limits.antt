@@ -4,14 +4,15 @@ use Rattle.hy_base.specs.declared.limit.Kind.TheVariants.{Closure, Atoms, Table}
 use Rattle.hy_formula.specs.Trees.{Tree}
 use Rattle.fin_monitor.specs.declared.monitor_error.MonitorError.{MonitorError}
 use Rattle.fin_monitor.specs.declared.monitor_error.MonitorError.TheVariants.{Limit, Memory}
-use Rattle.fin_monitor.specs.Codes.{IndexedAtom, with_atoms, atoms_of}
-use Rattle.fin_monitor.specs.Duties.{Duty, body_nodes, body_root, SomeReached, AreReached}
+use Rattle.hy_formula.specs.Atoms.{atoms_of}
+use Rattle.fin_monitor.specs.Duties.{Duty, SomeReached, AreReached}
+use Rattle.ltl_closure.specs.Bodies.{body_nodes, body_root}
 
 abbrev pub HasLargeClosure : Tree → Type 0
-HasLargeClosure body = 1024 < length (body_nodes body)
+HasLargeClosure body = 1024 < length (body_nodes body true)
 
 abbrev pub HasSmallClosure : Tree → Type 0
-HasSmallClosure body = length (body_nodes body) ≤ 1024
+HasSmallClosure body = length (body_nodes body true) ≤ 1024
 
 abbrev pub HasManyAtoms : Tree → Type 0
 HasManyAtoms body = 16 < length (atoms_of body)
@@ -26,13 +27,13 @@ table_size body list = length list * 2 ^ length (atoms_of body)
 -- The residuals that are reached, times the joint letters, are more than 4,194,304.
 pub record HasLargeTable (body : Tree) : Type 0 where
   pub list : List (List Duty)
-  pub reached : SomeReached (body_nodes body) (body_root body) list
+  pub reached : SomeReached (body_nodes body true) (body_root body true) list
   pub many : 4194304 < table_size body list
 
 -- They are at most so many.
 pub record HasSmallTable (body : Tree) : Type 0 where
   pub list : List (List Duty)
-  pub reached : AreReached (body_nodes body) (body_root body) list
+  pub reached : AreReached (body_nodes body true) (body_root body true) list
   pub few : table_size body list ≤ 4194304
 
 -- why there is no monitor, the closure before the atoms and these before the table
@@ -49,11 +50,11 @@ pub record IsTaken (body : Tree) : Type 0 where
   pub atoms : HasFewAtoms body
   pub table : HasSmallTable body
 
--- why the atoms of a tree were not collected
-abbrev pub IsAtomsRefusal : Tree → List IndexedAtom → MonitorError → Type 0
-IsAtomsRefusal body known (Limit Atoms) = 16 < length (with_atoms body known)
-IsAtomsRefusal body known (Limit _) = ⊥
-IsAtomsRefusal body known Memory = Unit {0}
+-- why the atoms of a body were not collected
+abbrev pub IsAtomsRefusal : Tree → MonitorError → Type 0
+IsAtomsRefusal body (Limit Atoms) = HasManyAtoms body
+IsAtomsRefusal body (Limit _) = ⊥
+IsAtomsRefusal body Memory = Unit {0}
 
 -- why the closure of a body was not made
 abbrev pub IsClosureRefusal : Tree → MonitorError → Type 0

@@ -2,8 +2,10 @@
 use Rattle.std.specs.Prelude.{◌≡◌, ℕ, zero, suc, ◌+◌, ◌*◌, ◌-◌, ◌^◌, ◌<◌, ◌≤◌, Bool, true, false, IsTrue, List, length, slice_index_or}
 use Rattle.hy_formula.specs.Trees.{Tree, vars_below}
 use Rattle.hy_formula.specs.Temporal.{Words}
-use Rattle.fin_monitor.specs.Codes.{IndexedAtom, atoms_of, code_of}
-use Rattle.fin_monitor.specs.Duties.{body_nodes, body_root, residual_after, accepts}
+use Rattle.hy_formula.specs.Atoms.{IndexedAtom, atoms_of}
+use Rattle.fin_monitor.specs.Codes.{code_of}
+use Rattle.fin_monitor.specs.Duties.{residual_after, accepts}
+use Rattle.ltl_closure.specs.Bodies.{body_nodes, body_root}
 
 pub record Machine : Type 0 where
   pub body : Tree
@@ -54,4 +56,4 @@ pub record IsMonitor (m : Machine) : Type 0 where
   pub settled : is_accepting m (settled_state m) ≡ true
   pub right : (words : Words) (i : ℕ) → 0 < i
       → is_accepting m (state_after m words i)
-      ≡ accepts (residual_after (body_nodes m.body) (body_root m.body) words i)
+      ≡ accepts (residual_after (body_nodes m.body true) (body_root m.body true) words i)

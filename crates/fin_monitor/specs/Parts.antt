@@ -4,7 +4,8 @@ use Rattle.std.specs.FinSet.{contains}
 use Rattle.hy_bits.specs.Letter.{Letter as NameSet}
 use Rattle.fin_monitor.specs.declared.name_bit.NameBit.{NameBit}
 use Rattle.fin_monitor.specs.declared.variable_parts.VariableParts.{VariableParts}
-use Rattle.fin_monitor.specs.Codes.{IndexedAtom, part_of}
+use Rattle.hy_formula.specs.Atoms.{IndexedAtom}
+use Rattle.fin_monitor.specs.Codes.{part_of}
 
 -- the sum of the bits of the names that a letter has
 abbrev pub bits_of : List NameBit → NameSet → ℕ

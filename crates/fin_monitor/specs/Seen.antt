@@ -2,7 +2,7 @@
 use Rattle.std.specs.Prelude.{map}
 use Rattle.hy_formula.specs.Trees.{tree_of}
 use Rattle.fin_monitor.specs.declared.monitor.Monitor.{Monitor}
-use Rattle.fin_monitor.specs.Codes.{plain_atom}
+use Rattle.hy_formula.specs.Atoms.{plain_atom}
 use Rattle.fin_monitor.specs.Machines.{Machine}
 
 abbrev pub machine_of : Monitor → Machine

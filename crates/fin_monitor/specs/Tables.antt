@@ -5,7 +5,8 @@ use Rattle.ltl_closure.specs.Nodes.{Node}
 use Rattle.fin_monitor.specs.declared.automaton.Automaton.{Automaton}
 use Rattle.fin_monitor.specs.declared.monitor_error.MonitorError.{MonitorError}
 use Rattle.fin_monitor.specs.declared.monitor_error.MonitorError.TheVariants.{Limit, Memory}
-use Rattle.fin_monitor.specs.Codes.{IndexedAtom, letter_of}
+use Rattle.hy_formula.specs.Atoms.{IndexedAtom}
+use Rattle.fin_monitor.specs.Codes.{letter_of}
 use Rattle.fin_monitor.specs.Duties.{Duty, strongly, residual_step, accepts, Same, SomeReached, residual_at}
 use Rattle.fin_monitor.specs.Lefts.{IsFamily, AreLefts}
 

@@ -1,88 +1,31 @@
 //! The indexed atoms of a body, and what the code of a joint letter says of them.
 
-ghost use Rattle.std.specs.Prelude.{◌≡◌, ℕ, ◌≤◌, ◌<◌, ◌^◌, [], length, map, OnOk, IfOk, IfErr};
-ghost use Rattle.std.specs.List.{list_any};
-ghost use Rattle.hy_formula.specs.Trees.{tree_of, atom};
-ghost use Rattle.fin_monitor.specs.Codes.{plain_atom, is_atom, with_atom, with_atoms, letter_of};
+ghost use Rattle.std.specs.Prelude.{◌≡◌, ◌≤◌, length, map, IfOk, IfErr};
+ghost use Rattle.hy_formula.specs.Trees.{tree_of};
+ghost use Rattle.hy_formula.specs.Atoms.{plain_atom, atoms_of};
+ghost use Rattle.fin_monitor.specs.Codes.{letter_of};
 ghost use Rattle.fin_monitor.specs.Lefts.{IsAtomMask};
 ghost use Rattle.fin_monitor.specs.Limits.{IsAtomsRefusal};
 
 use crate::monitor_error::MonitorError;
-use hy_base::{Kind, List};
-use hy_formula::{Atom, Body};
+use hy_base::Kind;
+use hy_formula::{Atom, AtomList, Body, atoms_of};
 use std::alloc::Global;
 
 /// The most indexed atoms of a monitor.
 pub const MOST_ATOMS: usize = 16;
 
-/// Different indexed atoms.
-pub type AtomList = List<Atom>;
-
 /// The different atoms of a body, in the order of their first occurrence. `Limit` comes exactly where
 /// there are more than 16, and as soon as one more is met. In time linear in the body.
 pub fn atoms_in(alloc: Global, body: &Body) -> Result<AtomList, MonitorError>
-    ensures atoms { IfOk result (λ list. map plain_atom list ≡ with_atoms (tree_of body.now) []) }
+    ensures atoms { IfOk result (λ list. map plain_atom list ≡ atoms_of (tree_of body.now)) }
     ensures few { IfOk result (λ list. length list ≤ 16) }
-    ensures refused { IfErr result (IsAtomsRefusal (tree_of body.now) []) }
+    ensures refused { IfErr result (IsAtomsRefusal (tree_of body.now)) }
 {
-    let mut atoms = List::new(alloc);
-    collect(body, &mut atoms)?;
-    Ok(atoms)
-}
-
-/// Adds the atoms of a body that are new.
-fn collect(body: &Body, atoms: &mut AtomList) -> Result<(), MonitorError>
-    requires { length atoms.old ≤ 16 }
-    ensures atoms { OnOk result (map plain_atom atoms.new
-        ≡ with_atoms (tree_of body.now) (map plain_atom atoms.old)) }
-    ensures few { OnOk result (length atoms.new ≤ 16) }
-    ensures refused { IfErr result (IsAtomsRefusal (tree_of body.now) (map plain_atom atoms.old)) }
-{
-    match body {
-        Body::True | Body::False => Ok(()),
-        Body::Atom(a) => collect_atom(*a, atoms),
-        Body::Not(f) | Body::Next(f) | Body::Finally(f) | Body::Globally(f) => collect(f, atoms),
-        Body::And(f, g)
-        | Body::Or(f, g)
-        | Body::Implies(f, g)
-        | Body::Iff(f, g)
-        | Body::Until(f, g)
-        | Body::Release(f, g)
-        | Body::Weak(f, g) => {
-            collect(f, atoms)?;
-            collect(g, atoms)
-        }
+    match atoms_of(alloc, body, MOST_ATOMS)? {
+        Some(atoms) => Ok(atoms),
+        None => Err(MonitorError::Limit(Kind::Atoms)),
     }
-}
-
-/// Adds an atom that is new.
-fn collect_atom(a: Atom, atoms: &mut AtomList) -> Result<(), MonitorError>
-    requires { length atoms.old ≤ 16 }
-    ensures atoms { OnOk result (map plain_atom atoms.new
-        ≡ with_atom a.name a.var (map plain_atom atoms.old)) }
-    ensures few { OnOk result (length atoms.new ≤ 16) }
-    ensures refused { IfErr result (IsAtomsRefusal (atom a.name a.var) (map plain_atom atoms.old)) }
-{
-    if has_atom(atoms.as_slice(), a) {
-        return Ok(());
-    }
-    if atoms.len() == MOST_ATOMS {
-        return Err(MonitorError::Limit(Kind::Atoms));
-    }
-    atoms.push(a)?;
-    Ok(())
-}
-
-/// Whether the atom is one of the list.
-fn has_atom(atoms: &[Atom], a: Atom) -> bool
-    ensures { result ≡ list_any (is_atom a.name a.var) (map plain_atom atoms.now) }
-{
-    for known in atoms {
-        if *known == a {
-            return true;
-        }
-    }
-    false
 }
 
 /// Whether the joint letter of a code has the atom.

@@ -2,21 +2,19 @@
 
 ghost use Rattle.std.specs.Prelude.{◌≡◌, ◌≤◌, ◌<◌, ◌∷◌, [], slice_index, length, map, IfOk, IfErr, OnOk, IsTrue};
 ghost use Rattle.hy_formula.specs.Trees.{tree_of, vars_below};
-ghost use Rattle.fin_monitor.specs.Codes.{plain_atom};
-ghost use Rattle.fin_monitor.specs.Duties.{body_nodes, body_root};
+ghost use Rattle.hy_formula.specs.Atoms.{plain_atom};
+ghost use Rattle.ltl_closure.specs.Bodies.{body_nodes, body_root};
 ghost use Rattle.fin_monitor.specs.Limits.{IsClosureRefusal};
-ghost use Rattle.fin_monitor.specs.OneJob.{IsOneJob};
 ghost use Rattle.fin_monitor.specs.Tables.{IsAutomaton, IsTableRefusal};
 
-use crate::atoms::AtomList;
 use crate::automaton::Automaton;
 use crate::explore::explore;
 use crate::lefts::Judge;
 use crate::monitor_error::MonitorError;
-use hy_base::{Kind, List, M};
+use hy_base::Kind;
 use hy_bits::each_width;
-use hy_formula::Body;
-use ltl_closure::{Closure, ClosureError, Job, JobList, MapList};
+use hy_formula::{AtomList, Body};
+use ltl_closure::{Closure, ClosureError};
 use std::alloc::Global;
 
 /// The residuals of the body of a closure.
@@ -51,34 +49,14 @@ pub fn root_of(closure: &Closure) -> u32
 /// The closure of a body.
 pub fn closure_of(alloc: Global, body: &Body, vars: u8) -> Result<Closure, MonitorError>
     requires { IsTrue (vars_below vars (tree_of body.now)) }
-    ensures nodes { IfOk result (λ c. c.nodes ≡ body_nodes (tree_of body.now)) }
-    ensures roots { IfOk result (λ c. c.roots ≡ body_root (tree_of body.now) ∷ []) }
-    ensures few { OnOk result (length (body_nodes (tree_of body.now)) ≤ 1024) }
+    ensures nodes { IfOk result (λ c. c.nodes ≡ body_nodes (tree_of body.now) true) }
+    ensures roots { IfOk result (λ c. c.roots ≡ body_root (tree_of body.now) true ∷ []) }
+    ensures few { OnOk result (length (body_nodes (tree_of body.now) true) ≤ 1024) }
     ensures refused { IfErr result (IsClosureRefusal (tree_of body.now)) }
 {
-    let jobs = one_job(alloc, body, vars)?;
-    match Closure::new(alloc, &jobs) {
+    match Closure::of_body(alloc, body, vars, true) {
         Ok(closure) => Ok(closure),
         Err(ClosureError::Limit) => Err(MonitorError::Limit(Kind::Closure)),
         Err(ClosureError::Memory) => Err(MonitorError::Memory),
     }
-}
-
-/// The body as one job, under the map of each variable to itself.
-fn one_job(alloc: Global, body: &Body, vars: u8) -> M<JobList>
-    ensures { IfOk result (λ jobs. IsOneJob jobs (tree_of body.now) vars) }
-{
-    let mut map = List::new(alloc);
-    for v in 0..vars {
-        map.push(v)?;
-    }
-    let mut maps = MapList::new(alloc);
-    maps.push(map)?;
-    let mut jobs = JobList::new(alloc);
-    jobs.push(Job {
-        body: body.copy(alloc)?,
-        positive: true,
-        maps,
-    })?;
-    Ok(jobs)
 }

@@ -2,7 +2,7 @@
 
 ghost use Rattle.std.specs.Prelude.{◌≡◌, ℕ, ◌≤◌, ◌<◌, ◌*◌, ◌^◌, ◌+◌, length, map, IfOk, OnOk, IfErr};
 ghost use Rattle.hy_formula.specs.Quantifiers.{Each};
-ghost use Rattle.fin_monitor.specs.Codes.{plain_atom};
+ghost use Rattle.hy_formula.specs.Atoms.{plain_atom};
 ghost use Rattle.fin_monitor.specs.Duties.{residual_at, accepts};
 ghost use Rattle.fin_monitor.specs.Lefts.{kept_lists, AreAsked};
 ghost use Rattle.fin_monitor.specs.Reductions.{LeaveAlike, AreFirsts};

@@ -5,13 +5,15 @@ ghost use Rattle.std.specs.Int.RustNames.{bit_or};
 ghost use Rattle.hy_formula.specs.Trees.{Tree};
 ghost use Rattle.hy_formula.specs.Temporal.{Words, below, SatisfiesAt};
 ghost use Rattle.ltl_closure.specs.Nodes.{Node};
-ghost use Rattle.fin_monitor.specs.Codes.{IndexedAtom, code_of};
-ghost use Rattle.fin_monitor.specs.Duties.{Duty, residual_after, accepts, body_nodes, body_root, SomeReached, AreReached};
+ghost use Rattle.hy_formula.specs.Atoms.{IndexedAtom};
+ghost use Rattle.fin_monitor.specs.Codes.{code_of};
+ghost use Rattle.fin_monitor.specs.Duties.{Duty, residual_after, accepts, SomeReached, AreReached};
+ghost use Rattle.ltl_closure.specs.Bodies.{body_nodes, body_root};
 
 /// After the joint letters of finite words the residual accepts exactly where the body holds of them.
 pub fn residuals()
     ensures { (m : ℕ) (words : Words) (body : Tree) → 0 < m
-        → (accepts (residual_after (body_nodes body) (body_root body) words m) ≡ true)
+        → (accepts (residual_after (body_nodes body true) (body_root body true) words m) ≡ true)
         ↔ SatisfiesAt (below m) words body 0 }
 {}
 

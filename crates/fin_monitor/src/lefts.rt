@@ -1,7 +1,7 @@
 //! What the members of a closure leave after a joint letter, and what residuals do by it.
 
 ghost use Rattle.std.specs.Prelude.{◌≡◌, ◌≤◌, ◌<◌, ◌*◌, ◌∷◌, ◌++◌, [], cond, length, map, IfOk, OnOk};
-ghost use Rattle.fin_monitor.specs.Codes.{plain_atom};
+ghost use Rattle.hy_formula.specs.Atoms.{plain_atom};
 ghost use Rattle.fin_monitor.specs.Duties.{no_duty, joined, AreAlike};
 ghost use Rattle.fin_monitor.specs.Lefts.{kept_lists, IsFamily, IsFamilyOf, IsLeft, AreLefts, AreAsked, IsStepOf, IsUnionsBelow};
 

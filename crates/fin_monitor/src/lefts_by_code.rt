@@ -2,7 +2,8 @@
 
 ghost use Rattle.std.specs.Prelude.{◌≡◌, ◌≤◌, ◌<◌, ◌*◌, length, map, IfOk, OnOk};
 ghost use Rattle.hy_formula.specs.Quantifiers.{Each};
-ghost use Rattle.fin_monitor.specs.Codes.{plain_atom, letter_of};
+ghost use Rattle.hy_formula.specs.Atoms.{plain_atom};
+ghost use Rattle.fin_monitor.specs.Codes.{letter_of};
 ghost use Rattle.fin_monitor.specs.Duties.{residual_step, Same};
 ghost use Rattle.fin_monitor.specs.Lefts.{kept_lists, IsFamily, AreAsked};
 ghost use Rattle.fin_monitor.specs.Tables.{AreAllLefts};

@@ -3,7 +3,7 @@
 ghost use Rattle.std.specs.Prelude.{◌≡◌, ◌≤◌, ◌<◌, ◌*◌, length, map, slice_index, IfOk};
 ghost use Rattle.ltl_closure.specs.Nodes.{PartsBelow};
 ghost use Rattle.ltl_closure.specs.Plain.{plain_node};
-ghost use Rattle.fin_monitor.specs.Codes.{plain_atom};
+ghost use Rattle.hy_formula.specs.Atoms.{plain_atom};
 ghost use Rattle.fin_monitor.specs.Lefts.{AreAsked, IsAskedNode, IsAskedAll, IsAskedBelow, IsPart};
 
 use crate::atoms::mask_of;

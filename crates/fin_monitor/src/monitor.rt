@@ -2,11 +2,12 @@
 
 ghost use Rattle.std.specs.Prelude.{map, nat_eq, IsTrue, ◌≡◌, ◌<◌, ◌+◌, ◌*◌};
 ghost use Rattle.hy_formula.specs.Trees.{tree_of};
-ghost use Rattle.fin_monitor.specs.Codes.{plain_atom, joint_letter, one_if};
+ghost use Rattle.hy_formula.specs.Atoms.{plain_atom};
+ghost use Rattle.fin_monitor.specs.Codes.{joint_letter, one_if};
 ghost use Rattle.fin_monitor.specs.Machines.{IsMonitor};
 ghost use Rattle.fin_monitor.specs.Parts.{AreParts};
 
-use crate::atoms::{AtomList, atoms_in};
+use crate::atoms::atoms_in;
 use crate::automaton::Automaton;
 use crate::building::{automaton_of, closure_of, root_of};
 use crate::monitor_error::MonitorError;
@@ -15,7 +16,7 @@ use crate::settling::settle;
 use crate::variable_parts::VariableParts;
 use hy_base::{List, NumList, Steps};
 use hy_bits::LetterMask;
-use hy_formula::{Atom, Body};
+use hy_formula::{Atom, AtomList, Body};
 use std::alloc::Global;
 use std::sync::ledger::Ledger;
 

@@ -5,7 +5,7 @@ ghost use Rattle.std.specs.Prelude.{◌≡◌, ◌≤◌, ◌<◌, ◌+◌, ◌*
 ghost use Rattle.std.specs.FinSet.{contains};
 ghost use Rattle.hy_formula.specs.Quantifiers.{Each};
 ghost use Rattle.hy_bits.specs.Letter.{Letter as NameSet};
-ghost use Rattle.fin_monitor.specs.Codes.{plain_atom};
+ghost use Rattle.hy_formula.specs.Atoms.{plain_atom};
 ghost use Rattle.fin_monitor.specs.Parts.{bits_of, bits_below, AreNamesOf, AreLowParts, ArePartsOf, AreParts};
 
 use crate::letters::bits_in;

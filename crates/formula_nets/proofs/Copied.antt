@@ -6,7 +6,7 @@ use Rattle.std.proofs.lemmas.Bool.{false_from_ne_true, and_parts, not-true}
 use Rattle.hy_base.proofs.Truths.{and-false}
 use Rattle.aig_net.specs.declared.signals.Signal.{Signal}
 use Rattle.aig_net.specs.Signals.{are_signals, has_signal, is_for, literal_of}
-use Rattle.aig_net.specs.Wires.{listed}
+use Rattle.hy_base.specs.Rows.{listed}
 use Rattle.self_compose.specs.Copies.{copy_literal}
 use Rattle.wit_lasso.specs.FormulaNets.{copy_signal, copy_signals}
 use Rattle.wit_lasso.proofs.CopySignals.{literal-copied}

@@ -1,5 +1,7 @@
--- What paths of the safe net say of a formula whose quantifiers are of one kind.
+-- What paths of the safe net, and witnesses, say of a formula whose quantifiers are of one kind.
 use Rattle.std.proofs.Common.{◌≡◌, ℕ, zero, suc, ◌<◌, Bool, true, false, not, cond, List, length, IsTrue, inl, inr, refl, sym, ap, ◌∙◌, subst}
+use Rattle.hy_bits.specs.Letter.{Letter}
+use Rattle.hy_formula.specs.Lassos as letters
 use Rattle.hy_formula.specs.Classes.{behind, class_of, has_only}
 use Rattle.hy_formula.specs.Normals.{Signed}
 use Rattle.hy_formula.specs.Quantifiers.{repeated}
@@ -9,6 +11,8 @@ use Rattle.hy_formula.specs.declared.classes.Class.TheVariants as class
 use Rattle.hy_formula.specs.declared.prefix.Quant.{Quant}
 use Rattle.hy_formula.specs.declared.prefix.Quant.TheVariants as quant
 use Rattle.hy_formula.proofs.Shapes.{exists-shape, forall-shape}
+use Rattle.hy_lasso.specs.Words as words
+use Rattle.aig_net.specs.declared.run.Run.{Run}
 use Rattle.aig_net.specs.declared.signals.Signal.{Signal}
 use Rattle.aig_net.specs.Executions.{Word}
 use Rattle.aig_net.specs.Nets.{IsNet, Net}
@@ -16,7 +20,9 @@ use Rattle.live_safe.specs.Paths.{IsBadPath}
 use Rattle.wit_lasso.specs.FormulaNets.{AreOwn, formula_safe}
 use Rattle.wit_lasso.specs.Satisfaction.{Satisfies}
 use Rattle.wit_lasso.proofs.Checking.{existential-right, universal-right}
+use Rattle.wit_lasso.proofs.Witnessing.{refute-all, show-some}
 use Rattle.formula_nets.specs.Posed.{IsTaken, checked_safe, is_existential}
+use Rattle.formula_nets.specs.Witnesses.{AreWitnesses}
 
 -- ---- the two kinds of prefixes
 
@@ -116,4 +122,28 @@ module _ (net : Net) (signals : List Signal) (prefix : List Quant) (body : Tree)
         subst R (sym e) (subst Q (sym is) (λ holds.
         (universal-right net signals n body good are some small).0 holds k word
         (subst P e bad)))
+  ]
+
+-- ---- witnesses
+
+module _ (net : Net) (signals : List Signal) (prefix : List Quant) (body : Tree)
+    (traces : List (letters.Lasso Letter)) (runs : List Run) (some : 0 < length prefix)
+    (small : IsTrue (vars_below (length prefix) body)) (taken : IsTaken prefix)
+    (are : AreWitnesses net signals (length prefix) body (is_existential prefix) traces runs) where
+  pub witnesses-right : Signed (is_existential prefix) (Satisfies net signals prefix body)
+  witnesses-right = elim (kind-of prefix taken) [
+    | all_exist e is ↦
+        let M : Bool → Type 0 = λ b. Signed b (words.Meets body traces) in
+        let P : List Quant → Type 0 = λ p. Satisfies net signals p body in
+        let R : Bool → Type 0 = λ b. Signed b (P prefix) in
+        subst R (sym e) (subst P (sym is)
+        (show-some net signals (length prefix) body some small runs traces are.each
+        (subst M e are.says)))
+    | all_forall e is ↦
+        let M : Bool → Type 0 = λ b. Signed b (words.Meets body traces) in
+        let P : List Quant → Type 0 = λ p. ¬ Satisfies net signals p body in
+        let R : Bool → Type 0 = λ b. Signed b (Satisfies net signals prefix body) in
+        subst R (sym e) (subst P (sym is)
+        (refute-all net signals (length prefix) body some small runs traces are.each
+        (subst M e are.says)))
   ]

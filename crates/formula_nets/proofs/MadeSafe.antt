@@ -1,9 +1,10 @@
 -- The safe net of a formula is one: its latches start false, and bad looks at latches alone.
 use Rattle.std.proofs.Common.{◌≡◌, ℕ, ◌<◌, Bool, List, [], ◌∷◌, length, refl}
 use Rattle.hy_formula.specs.Trees.{Tree}
+use Rattle.hy_formula.specs.Normals.{normal_form}
 use Rattle.aig_net.specs.declared.signals.Signal.{Signal}
 use Rattle.aig_net.specs.Nets.{IsNet, IsRight, Net, Valuation, latch_variable, literal_value}
-use Rattle.ltl_closure.specs.Jobs.{forms_of}
+use Rattle.ltl_closure.specs.Bodies.{body_nodes, body_root}
 use Rattle.ltl_closure.proofs.Closing.{closure-numbers}
 use Rattle.self_compose.specs.Copies.{compose}
 use Rattle.self_compose.proofs.Tuples.{composed-net}
@@ -13,7 +14,7 @@ use Rattle.live_safe.specs.Safe.{safe_latches, to_safe}
 use Rattle.live_safe.proofs.SafeRange.{bad-in-range, safe-net}
 use Rattle.live_safe.proofs.Starts.{zero-at}
 use Rattle.cnf_frames.specs.Facts.{IsSafe}
-use Rattle.wit_lasso.specs.FormulaNets.{AreOwn, body_nodes, body_roots, body_task, copy_signals, formula_net, formula_safe}
+use Rattle.wit_lasso.specs.FormulaNets.{AreOwn, copy_signals, formula_net, formula_safe}
 use Rattle.wit_lasso.proofs.CopySignals.{copies-below}
 
 pub formula-safe-is : (net : Net) (signals : List Signal) (n : ℕ) (body : Tree) (b : Bool) →
@@ -25,10 +26,10 @@ pub formula-safe-is : (net : Net) (signals : List Signal) (n : ℕ) (body : Tree
     IsSafe (formula_safe net signals n body b)
 formula-safe-is net signals n body b good are some on-latches =
     let whole : Net = formula_net net signals n body b in
-    let is : IsNet whole = attached-net (compose net n) (body_nodes n body b)
-    (composed-net net n some good) (signal_in (copy_signals n signals)) (body_roots n body b)
+    let is : IsNet whole = attached-net (compose net n) (body_nodes body b)
+    (composed-net net n some good) (signal_in (copy_signals n signals)) (body_root body b ∷ [])
     (copies-below net n some signals are)
-    (closure-numbers (forms_of (body_task n body b ∷ []))).parts in
+    (closure-numbers (normal_form b body ∷ [])).parts in
     record {
       net = safe-net whole is;
       fairs = refl;

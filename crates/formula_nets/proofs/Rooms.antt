@@ -1,5 +1,5 @@
 -- There is room for the safe net of a formula of at most four quantifiers on a circuit that was read.
-use Rattle.std.proofs.Common.{◌≡◌, ℕ, ◌+◌, ◌*◌, ◌<◌, ◌≤◌, Bool, List, length, arith}
+use Rattle.std.proofs.Common.{◌≡◌, ℕ, ◌+◌, ◌*◌, ◌<◌, ◌≤◌, Bool, List, [], ◌∷◌, length, arith}
 use Rattle.std.proofs.Math.Nat.{mul-le-mul_right}
 use Rattle.hy_base.specs.declared.reading.TheConstants.{BYTES_LIMIT}
 use Rattle.hy_formula.specs.Trees.{Tree}
@@ -9,7 +9,8 @@ use Rattle.ltl_closure.specs.Nodes.{Node}
 use Rattle.self_compose.specs.Copies.{compose}
 use Rattle.sym_tableau.specs.Oracles.{attach, signal_in}
 use Rattle.live_safe.specs.Safe.{to_safe}
-use Rattle.wit_lasso.specs.FormulaNets.{body_nodes, body_roots, copy_signals, formula_net}
+use Rattle.ltl_closure.specs.Bodies.{body_nodes, body_root}
+use Rattle.wit_lasso.specs.FormulaNets.{copy_signals, formula_net}
 use Rattle.formula_nets.specs.Posed.{HasRoom, is_existential}
 
 -- what is known of the sizes of safe nets, of nets with oracles, and of copies
@@ -30,12 +31,12 @@ pub has-room : AreSmall → (net : Net) (names : List (List ℕ)) (prefix : List
 has-room small net names prefix body few literals some short signals posed =
     let n : ℕ = length prefix in
     let b : Bool = is_existential prefix in
-    let nodes : List Node = body_nodes n body b in
+    let nodes : List Node = body_nodes body b in
     let lit : ℕ → ℕ → ℕ = signal_in (copy_signals n signals) in
     let whole : Net = formula_net net signals n body b in
     let s = small.safe whole in
-    let a = small.attached (compose net n) nodes lit (body_roots n body b) in
-    let f = small.fairs (compose net n) nodes lit (body_roots n body b) in
+    let a = small.attached (compose net n) nodes lit (body_root body b ∷ []) in
+    let f = small.fairs (compose net n) nodes lit (body_root body b ∷ []) in
     let c = small.copies net n some in
     let g = small.copied_fairs net n in
     let v : n * variables net ≤ 4 * variables net = mul-le-mul_right (variables net) short in

@@ -14,7 +14,8 @@ use Rattle.aig_net.specs.Nets.{Net, literal_value}
 use Rattle.aig_net.specs.Executions.{Word, gone}
 use Rattle.aig_net.specs.Signals.{literal_of, visible}
 use Rattle.wit_lasso.specs.Satisfaction.{Trace, IsVisible, Meets, Satisfies}
-use Rattle.net_names.specs.Names.{AreSignals, IsOnly, has_name, name_at}
+use Rattle.hy_formula.specs.Atoms.{has_name}
+use Rattle.net_names.specs.Names.{AreSignals, IsOnly, name_at}
 
 -- Quantifiers over the same members say the same.
 same-members : {A : Type 0} (P Q : A → Type 0) (Body : List A → Type 0) → ((x : A) → P x → Q x)

@@ -12,7 +12,8 @@ use Rattle.aig_net.specs.declared.signals.Signal.{Signal}
 use Rattle.aig_net.specs.Nets.{Net, variables}
 use Rattle.net_names.specs.Names.{AreSignals}
 use Rattle.live_safe.specs.declared.safe_net.SafeNet.{SafeNet}
-use Rattle.wit_lasso.specs.FormulaNets.{body_nodes, formula_safe}
+use Rattle.ltl_closure.specs.Bodies.{body_nodes}
+use Rattle.wit_lasso.specs.FormulaNets.{formula_safe}
 
 -- whether all quantifiers are existential
 abbrev pub is_existential : List Quant → Bool
@@ -25,7 +26,7 @@ IsTaken prefix = (class_of prefix ≡ class.Exists) ⊎ (class_of prefix ≡ cla
 -- the members of the closure: of the body where all quantifiers are existential, else of its
 -- negation
 abbrev pub members : List Quant → Tree → ℕ
-members prefix body = length (body_nodes (length prefix) body (is_existential prefix))
+members prefix body = length (body_nodes body (is_existential prefix))
 
 -- the safe net in which a path is looked for
 abbrev pub checked_safe : Net → List Signal → List Quant → Tree → SafeNet

@@ -2,9 +2,12 @@
 
 ghost use Rattle.std.specs.Prelude.{ℕ, ◌+◌, ◌<◌, ◌≤◌, List, length, not, IsTrue};
 ghost use Rattle.hy_base.specs.declared.reading.TheConstants.{BYTES_LIMIT};
+ghost use Rattle.hy_bits.specs.Letter.{Letter};
+ghost use Rattle.hy_formula.specs.Lassos as letters;
 ghost use Rattle.hy_formula.specs.declared.prefix.Quant.{Quant};
 ghost use Rattle.hy_formula.specs.Normals.{Signed};
 ghost use Rattle.hy_formula.specs.Trees.{Tree, vars_below};
+ghost use Rattle.aig_net.specs.declared.run.Run.{Run};
 ghost use Rattle.aig_net.specs.declared.signals.Signal.{Signal};
 ghost use Rattle.aig_net.specs.Executions.{Word};
 ghost use Rattle.aig_net.specs.Nets.{IsNet, Net};
@@ -13,6 +16,7 @@ ghost use Rattle.net_names.specs.Names.{AreSignals};
 ghost use Rattle.wit_lasso.specs.FormulaNets.{AreOwn};
 ghost use Rattle.wit_lasso.specs.Satisfaction.{Satisfies};
 ghost use Rattle.formula_nets.specs.Posed.{HasRoom, IsTaken, checked_safe, is_existential};
+ghost use Rattle.formula_nets.specs.Witnesses.{AreWitnesses};
 
 use live_safe::safe_nets_are_small;
 use self_compose::copies_are_as_large;
@@ -44,6 +48,16 @@ pub fn paths_decide()
         → IsTrue (vars_below (length prefix) body) → IsTaken prefix
         → ((k : ℕ) (word : Word) → ¬ IsBadPath (checked_safe net signals prefix body) k word)
         → Signed (not (is_existential prefix)) (Satisfies net signals prefix body) }
+{}
+
+/// Witnesses show by themselves, however they were found, that a circuit satisfies an existential
+/// formula, whose body they satisfy, or does not satisfy a universal one, whose body they fail.
+pub fn witnesses_decide()
+    ensures { (net : Net) (signals : List Signal) (prefix : List Quant) (body : Tree)
+        (traces : List (letters.Lasso Letter)) (runs : List Run) → 0 < length prefix
+        → IsTrue (vars_below (length prefix) body) → IsTaken prefix
+        → AreWitnesses net signals (length prefix) body (is_existential prefix) traces runs
+        → Signed (is_existential prefix) (Satisfies net signals prefix body) }
 {}
 
 /// There is room for the safe net of a formula of at most four quantifiers on a circuit of at most

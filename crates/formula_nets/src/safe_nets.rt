@@ -1,73 +1,21 @@
 //! The safe net of a formula.
 
-ghost use Rattle.std.specs.Prelude.{All, ◌≡◌, ◌+◌, ◌*◌, ◌/◌, ◌<◌, ◌≤◌, ◌^◌, [], ◌∷◌, IsErrOf, IsTrue, IfOk, OnOk, length};
-ghost use Rattle.hy_base.specs.Limits.{most};
-ghost use Rattle.hy_base.specs.declared.limit.Kind.TheVariants.{Closure as OfClosure};
-ghost use Rattle.hy_formula.specs.Trees.{tree_of, vars_below};
+ghost use Rattle.std.specs.Prelude.{All, ◌≡◌, ◌+◌, ◌*◌, ◌/◌, ◌<◌, ◌≤◌, ◌^◌, IfOk};
+ghost use Rattle.hy_formula.specs.Trees.{tree_of};
 ghost use Rattle.aig_net.specs.Nets.{variables};
-ghost use Rattle.ltl_closure.specs.Jobs.{IsMapped, closure_of, tasks_of};
+ghost use Rattle.ltl_closure.specs.Bodies.{body_closure};
 ghost use Rattle.self_compose.specs.Copies.{copy_literal as literal_in_copy};
 ghost use Rattle.cnf_frames.specs.Facts.{IsSafe};
-ghost use Rattle.wit_lasso.specs.FormulaNets.{AreOwn, body_nodes, body_task, copy_signals as signals_of_copies, formula_net, formula_safe, identity_map};
+ghost use Rattle.wit_lasso.specs.FormulaNets.{AreOwn, copy_signals as signals_of_copies, formula_net, formula_safe};
 
 use aig_net::{Net, Signal, Signals};
-use hy_base::{List, M};
+use hy_base::M;
 use hy_formula::Body;
 use live_safe::{SafeNet, paths_are_lassos, to_safe};
-use ltl_closure::{Closure, ClosureError, Job, JobList, MapList, VariableMap};
+use ltl_closure::Closure;
 use self_compose::compose;
 use std::alloc::Global;
 use sym_tableau::attach;
-
-/// The closure of the body of a formula of `n` variables, negated where `positive` is false. `Limit`
-/// comes exactly where it has more than 1,024 members. In time linear in the body.
-pub fn closure_for(
-    alloc: Global,
-    body: &Body,
-    n: u8,
-    positive: bool,
-) -> Result<Closure, ClosureError>
-    requires { IsTrue (vars_below n (tree_of body.now)) }
-    ensures closure { IfOk result (λ c.
-        c ≡ closure_of (body_task n (tree_of body.now) positive ∷ [])) }
-    ensures few { OnOk result
-        (length (body_nodes n (tree_of body.now) positive) ≤ most OfClosure) }
-    ensures limit { IsErrOf result ClosureError.Limit
-        → most OfClosure < length (body_nodes n (tree_of body.now) positive) }
-{
-    let jobs = body_jobs(alloc, body, n, positive)?;
-    Closure::new(alloc, &jobs)
-}
-
-/// The body as one job, each variable standing for itself.
-fn body_jobs(alloc: Global, body: &Body, n: u8, positive: bool) -> M<JobList>
-    requires { IsTrue (vars_below n (tree_of body.now)) }
-    ensures tasks { IfOk result (λ jobs.
-        tasks_of jobs ≡ body_task n (tree_of body.now) positive ∷ []) }
-    ensures mapped { IfOk result (λ jobs. All IsMapped jobs) }
-{
-    let mut maps = MapList::new(alloc);
-    maps.push(identity(alloc, n)?)?;
-    let mut jobs = JobList::new(alloc);
-    jobs.push(Job {
-        body: body.copy(alloc)?,
-        positive,
-        maps,
-    })?;
-    Ok(jobs)
-}
-
-/// The map of each variable to itself.
-#[tactic(auto, using(aig_net::proofs::Listed::listed_next))]
-fn identity(alloc: Global, n: u8) -> M<VariableMap>
-    ensures { IfOk result (λ m. m ≡ identity_map n) }
-{
-    let mut map = List::new(alloc);
-    for variable in 0..n {
-        map.push(variable)?;
-    }
-    Ok(map)
-}
 
 /// The copies of a net with the oracles of a formula of `n` variables, whose closure and signals
 /// these are. In time and memory linear in the net and the closure.
@@ -81,7 +29,7 @@ pub fn net_for(
     signals: &Signals,
 ) -> M<Net>
     requires some { 0 < n }
-    requires closure { closure.now ≡ closure_of (body_task n (tree_of body.now) positive ∷ []) }
+    requires closure { closure.now ≡ body_closure (tree_of body.now) positive }
     requires own { AreOwn net.now signals.now }
     requires room { variables (formula_net net.now signals.now n (tree_of body.now) positive)
         ≤ 2 ^ 31 }
@@ -106,7 +54,7 @@ pub fn safe_for(
     signals: &Signals,
 ) -> M<SafeNet>
     requires some { 0 < n }
-    requires closure { closure.now ≡ closure_of (body_task n (tree_of body.now) positive ∷ []) }
+    requires closure { closure.now ≡ body_closure (tree_of body.now) positive }
     requires own { AreOwn net.now signals.now }
     requires room { variables (formula_safe net.now signals.now n (tree_of body.now) positive).net
         ≤ 2 ^ 31 }

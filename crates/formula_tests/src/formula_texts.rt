@@ -1,6 +1,6 @@
 //! Texts, the formulas that they are and the places of their faults, worked out by hand.
 
-use hy_base::{Kind, Limit, M};
+use hy_base::{Kind, Limit, M, Text};
 use hy_formula::NameTable;
 use hy_read::{ReadError, print_formula, read_formula, read_specs};
 use std::alloc::Global;
@@ -122,13 +122,35 @@ fn formulas_share_their_names(rt: HostRuntime) -> M<()> {
     Ok(())
 }
 
+/// What is printed of the formula that a text is, over names of its own.
+fn printed(rt: &impl Abort, alloc: Global, text: &[u8]) -> Result<Text, ReadError> {
+    assert!(rt; text.len() <= 4096);
+    let mut names = NameTable::new(alloc)?;
+    let formula = read_formula(alloc, text, 8, &mut names)?;
+    Ok(print_formula(alloc, &formula, &names)?)
+}
+
 #[test]
-fn prints_a_formula(rt: HostRuntime) -> Result<(), ReadError> {
-    let mut names = NameTable::new(rt.alloc())?;
-    let text = b"exists p. forall q. a_p & !a_q -> X(\"a b\"_q U true)";
-    let formula = read_formula(rt.alloc(), text, 8, &mut names)?;
-    let printed = print_formula(rt.alloc(), &formula, &names)?;
-    let want = b"exists x1. forall x2. ((a_x1 & !a_x2) -> X (\"a b\"_x2 U true))";
-    assert_eq!(rt; printed.as_slice(), want.as_slice());
+fn printed_formulas_read_back(rt: HostRuntime) -> Result<(), ReadError> {
+    let texts = [
+        (
+            b"exists p. forall q. a_p & !a_q -> X(\"a b\"_q U true)".as_slice(),
+            b"exists x1. forall x2. ((a_x1 & !a_x2) -> X (\"a b\"_x2 U true))".as_slice(),
+        ),
+        (
+            b"forall p. a_p <-> b_p | false <-> F G !c_d_p".as_slice(),
+            b"forall x1. (a_x1 <-> ((b_x1 | false) <-> F G !c_d_x1))".as_slice(),
+        ),
+        (
+            b"exists p. exists p. \"a\"_p R b_p W (a_p U X_p)".as_slice(),
+            b"exists x1. exists x2. (a_x2 R (b_x2 W (a_x2 U X_x2)))".as_slice(),
+        ),
+    ];
+    for (text, want) in texts {
+        let once = printed(&rt, rt.alloc(), text)?;
+        assert_eq!(rt; once.as_slice(), want);
+        let twice = printed(&rt, rt.alloc(), once.as_slice())?;
+        assert_eq!(rt; twice.as_slice(), want);
+    }
     Ok(())
 }

@@ -12,6 +12,8 @@ fn numbers_names_in_order(rt: HostRuntime) -> M<()> {
     assert_eq!(rt; table.find(b""), Some(1));
     assert_eq!(rt; table.find(b"g"), None);
     assert_eq!(rt; table.at(0), b"go".as_slice());
+    assert_eq!(rt; table.text(0), b"go".as_slice());
+    assert_eq!(rt; table.text(2), b"".as_slice());
     assert_eq!(rt; table.len(), 2);
     Ok(())
 }

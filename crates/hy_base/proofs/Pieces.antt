@@ -3,15 +3,17 @@ use Rattle.std.proofs.Common.{◌≡◌, ℕ, ◌+◌, ◌-◌, ◌<◌, List, [
 use Rattle.std.proofs.lemmas.Grind.{common_steps}
 use Rattle.std.proofs.lemmas.List.{take-append-drop}
 use Rattle.std.proofs.Math.Seq.{take-add, take-suc, drop-cons}
-use Rattle.hy_base.specs.Pieces.{joined, GaveFront}
+use Rattle.hy_base.specs.Pieces.{joined, IsProperPrefix}
 
 -- after the first `s` bytes, `k` of the others: the first `s + k`
-pub given_more : (old mid now bytes : List ℕ) (s k : ℕ) → mid ≡ old ++ take s bytes
-    → now ≡ mid ++ take k (take (length bytes - s) (drop s bytes)) → now ≡ old ++ take (s + k) bytes
-given_more old mid now bytes s k e h =
+pub front_more : (bytes : List ℕ) (s k : ℕ) → take (s + k) bytes ≡ take s bytes ++ take k (take (length bytes - s) (drop s bytes))
+front_more bytes s k =
     let full : take (length bytes - s) (drop s bytes) ≡ drop s bytes = grind (arith, common_steps) in
-    let both : take (s + k) bytes ≡ take s bytes ++ take k (drop s bytes) = take-add s k bytes in
-    grind (arith, common_steps)
+    take-add s k bytes ∙ ap (λ r. take s bytes ++ take k r) (sym full)
+
+-- the bytes before `s` are a front, and not all
+pub front_less : (bytes : List ℕ) (s : ℕ) → s < length bytes → IsProperPrefix (take s bytes) bytes
+front_less bytes s lt = (drop s bytes, sym (take-append-drop s bytes), grind (arith, common_steps))
 
 -- the pieces of two lists
 pub joined-append : (ps qs : List (Bor (List ℕ))) → joined (ps ++ qs) ≡ joined ps ++ joined qs
@@ -30,16 +32,8 @@ joined_at ps i p h =
     let e : take i ps ++ drop i ps ≡ ps = take-append-drop i ps in
     rw (add-one) (ap joined (sym e) ∙ joined-append (take i ps) (drop i ps) ∙ ap (λ r. joined (take i ps) ++ joined r) (drop-cons ps i p h))
 
--- the pieces before `i` and then piece `i` were given
-pub given_piece : (old mid now : List ℕ) (ps : List (Bor (List ℕ))) (i : ℕ) (p : Bor (List ℕ)) → i < length ps
-    → mid ≡ old ++ joined (take i ps) → now ≡ mid ++ (get_or ps i p).now → now ≡ old ++ joined (take (i + 1) ps)
-given_piece old mid now ps i p h e f = rw (joined_more ps i p h) (grind (arith, common_steps))
-
--- the pieces before `i` and a proper prefix of piece `i` were given
-pub front_given : (old mid now : List ℕ) (ps : List (Bor (List ℕ))) (i : ℕ) (p : Bor (List ℕ)) → i < length ps
-    → mid ≡ old ++ joined (take i ps) → GaveFront mid now (get_or ps i p).now → GaveFront old now (joined ps)
-front_given old mid now ps i p h e (front, f, (rest, w, some)) = (
-  joined (take i ps) ++ front,
-  grind (arith, common_steps),
-  (rest ++ joined (drop (i + 1) ps), rw (joined_at ps i p h) (grind (arith, common_steps)), grind (arith, common_steps)),
-)
+-- the pieces before `i` and a front of piece `i`, but not all of it, are a front of all pieces, but not all
+pub pieces_less : (front : List ℕ) (ps : List (Bor (List ℕ))) (i : ℕ) (p : Bor (List ℕ)) → i < length ps
+    → IsProperPrefix front (get_or ps i p).now → IsProperPrefix (joined (take i ps) ++ front) (joined ps)
+pieces_less front ps i p h (rest, w, some) =
+    (rest ++ joined (drop (i + 1) ps), rw (joined_at ps i p h) (grind (arith, common_steps)), grind (arith, common_steps))

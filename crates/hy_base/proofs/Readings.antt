@@ -1,6 +1,6 @@
 -- What reads gave, one after another.
-use Rattle.std.proofs.Common.{◌≡◌, ℕ, List, [], ◌++◌, Err, sym, subst, ap, ◌∙◌, append_assoc}
-use Rattle.hy_base.specs.Shelf.{Gave, nothing, more, Read, RestSaid}
+use Rattle.std.proofs.Common.{◌≡◌, ℕ, List, [], ◌∷◌, ◌++◌, Err, refl, arith, sym, subst, ap, ◌∙◌, append_assoc}
+use Rattle.hy_base.specs.Shelf.{KeepsShelf, Gave, nothing, more, Read, RestSaid, ReadsFiles}
 use Rattle.hy_base.specs.Talks.{gave}
 use Rattle.hy_base.specs.declared.shelf.Shelf.{Ghosts}
 use Rattle.hy_base.specs.declared.reading.FileError.TheVariants.{Memory}
@@ -23,3 +23,25 @@ pub rest_read : (whole text rest piece rest' text' : List ℕ) → whole ≡ tex
     → text' ≡ text ++ piece → whole ≡ text' ++ rest'
 rest_read whole text rest piece rest' text' e f h =
     e ∙ ap (λ r. text ++ r) f ∙ sym (append_assoc text piece rest') ∙ ap (λ t. t ++ rest') (sym h)
+
+-- ---- what is kept over calls
+
+pub keeps_all : {S : Type 0} (g : Ghosts S) (old : S) → KeepsShelf g old old
+keeps_all g old = record { tells = λ t. t; files = refl; sound = λ s. s; open_faults = omega arith; read_faults = omega arith }
+
+pub keeps_on : {S : Type 0} (g : Ghosts S) (old mid new : S) → KeepsShelf g old mid → KeepsShelf g mid new → KeepsShelf g old new
+keeps_on g old mid new one two = record {
+  tells = λ t. two.tells (one.tells t);
+  files = two.files ∙ one.files;
+  sound = λ s. two.sound (one.sound s);
+  open_faults = omega (arith, one.open_faults, two.open_faults);
+  read_faults = omega (arith, one.read_faults, two.read_faults);
+}
+
+-- Reading files, one after another, keeps what a call keeps.
+pub files_keep : {S : Type 0} (g : Ghosts S) (old new : S) (names : List (List ℕ)) (reads : List Read) → ReadsFiles g old new names reads
+    → KeepsShelf g old new
+files_keep g old new names [] same = subst (λ s. KeepsShelf g old s) same (keeps_all g old)
+files_keep g old new [] (read ∷ reads) came = absurd came
+files_keep g old new (name ∷ names) (read ∷ reads) (mid, is, came) =
+    keeps_on g old mid new is.keeps (files_keep g mid new names reads came)

@@ -2,7 +2,7 @@
 use Rattle.std.specs.Prelude.{◌≡◌, ℕ, List, [], ◌++◌, Option, Some, None}
 use Rattle.hy_base.specs.Counts.{Rose}
 use Rattle.hy_base.specs.Files.{file_of}
-use Rattle.hy_base.specs.Talks.{Call, opened, not_opened, gave, at_end, not_read}
+use Rattle.hy_base.specs.Talks.{Call, opened, not_opened, gave, at_end, not_read, Put, took, not_taken}
 use Rattle.hy_base.specs.declared.mem_shelf.File.{File}
 
 -- A shelf: its files, the open one and what is left of it, how many calls were made, the numbers of
@@ -46,3 +46,18 @@ MovesTo old new not_read = (new.open_name ≡ old.open_name) × (new.rest ≡ ol
 pub record Leads (old : Store) (call : Call) (new : Store) : Type 0 where
   pub counts : CountsCall old.open_faults old.read_faults new.open_faults new.read_faults call
   pub moves : MovesTo old new call
+
+-- Of a put that failed the count of faults rose.
+abbrev pub CountsPut : ℕ → ℕ → Put → Type 0
+CountsPut faults faults' (took bytes) = faults' ≡ faults
+CountsPut faults faults' not_taken = Rose faults faults'
+
+-- What a put adds to the bytes that a sink in memory was given.
+abbrev pub Adds : List ℕ → List ℕ → Put → Type 0
+Adds given given' (took bytes) = given' ≡ given ++ bytes
+Adds given given' not_taken = given' ≡ given
+
+-- A put into a sink in memory.
+pub record Fills (old : Buffer) (put : Put) (new : Buffer) : Type 0 where
+  pub counts : CountsPut old.faults new.faults put
+  pub adds : Adds old.given new.given put

@@ -87,13 +87,19 @@ pub record RunsShort {S : Type 0} (g : Ghosts S) (old new : S) (name : List ℕ)
 abbrev pub Read : Type 0
 Read = Result (List ℕ) FileError
 
--- This came of reading the file of that name.
-abbrev pub ReadsFile : {S : Type 0} → Ghosts S → S → S → List ℕ → Read → Type 0
-ReadsFile g old new name (Ok bytes) = ReadsWhole g old new name bytes
-ReadsFile g old new name (Err OpenFailed) = FailsToOpen g old new name
-ReadsFile g old new name (Err ReadFailed) = FailsToRead g old new name
-ReadsFile g old new name (Err Limit) = ReadsTooMuch g old new name
-ReadsFile g old new name (Err Memory) = RunsShort g old new name
+-- This came of reading the file of that name, by outcomes.
+abbrev pub CameOfRead : {S : Type 0} → Ghosts S → S → S → List ℕ → Read → Type 0
+CameOfRead g old new name (Ok bytes) = ReadsWhole g old new name bytes
+CameOfRead g old new name (Err OpenFailed) = FailsToOpen g old new name
+CameOfRead g old new name (Err ReadFailed) = FailsToRead g old new name
+CameOfRead g old new name (Err Limit) = ReadsTooMuch g old new name
+CameOfRead g old new name (Err Memory) = RunsShort g old new name
+
+-- This came of reading the file of that name, and no more was done to the shelf than calls do. So what the shelf tells
+-- of a second file, and the counts that rise over it, are those of the shelf before the first.
+pub record ReadsFile {S : Type 0} (g : Ghosts S) (old new : S) (name : List ℕ) (read : Read) : Type 0 where
+  pub keeps : KeepsShelf g old new
+  pub came : CameOfRead g old new name read
 
 -- What was said where this came of reading what is left of the open file.
 abbrev pub RestSaid : {S : Type 0} → Ghosts S → S → S → Read → Type 0

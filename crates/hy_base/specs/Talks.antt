@@ -1,4 +1,4 @@
--- What is said between a program and a shelf: its calls, and what came of each.
+-- What is said between a program and a shelf or a sink: its calls, and what came of each.
 use Rattle.std.specs.Prelude.{ℕ, List}
 
 -- A call of a shelf, with what came of it.
@@ -13,3 +13,10 @@ pub data Call : Type 0 where
   at_end : Call
   -- a read failed
   not_read : Call
+
+-- A put into a sink, with what came of it.
+pub data Put : Type 0 where
+  -- the sink took these bytes
+  took : (bytes : List ℕ) → Put
+  -- it took none and failed
+  not_taken : Put

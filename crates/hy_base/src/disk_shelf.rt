@@ -20,6 +20,12 @@ enum Source<F, I> {
 /// The files of the machine, and standard input under the name `-`.
 ///
 /// A folder opens, and its first read fails.
+///
+/// Its calls are joined by its counts alone: proved is that a failure was counted, and that a success
+/// was not. What code that is generic over shelves says of its calls it says of these, too, as a
+/// `RecordedShelf` shows by its log. Left to trust are the lines below: that an open opens the file of
+/// that name and no other, that a read gives the next bytes of it, and none only at its end, and that
+/// a call fails only where one of the machine's failed.
 #[derive(Drop)]
 pub struct DiskShelf<R: Files + Input> {
     runtime: R,

@@ -50,6 +50,12 @@ impl Remake for u32 {
     }
 }
 
+impl Remake for i32 {
+    fn remake(&self, _alloc: Global) -> M<Self> {
+        Ok(*self)
+    }
+}
+
 impl<T> List<T> {
     /// The empty list. Takes no memory.
     pub fn new(alloc: Global) -> Self

@@ -1,7 +1,9 @@
 //! A sink in memory, of which chosen calls fail.
 
-ghost use Rattle.std.specs.Prelude.{◌≡◌, ◌≢◌, ◌≤◌, ◌<◌, ◌+◌, ◌++◌, ◌⊎◌, ⊤, [], length, min, take, Contains, IsErr, IfOk, OnErr};
+ghost use Rattle.std.specs.Prelude.{◌≡◌, ◌≢◌, ◌≤◌, ◌<◌, ◌+◌, ◌++◌, ◌⊎◌, ⊤, [], length, min, take, Contains, IsErr, IfOk, OnOk, OnErr};
 ghost use Rattle.hy_base.specs.Counts.{Rose, last_count};
+ghost use Rattle.hy_base.specs.Fakes.{Fills};
+ghost use Rattle.hy_base.specs.Talks.{took, not_taken};
 
 use crate::calls::{Calls, one_more};
 use crate::list::NumList;
@@ -81,14 +83,19 @@ impl Sink for MemSink {
 
     ghost faults = { λ s. s.faults };
 
+    ghost called = { λ s put t. Fills s put t };
+
     fn put(&mut self, piece: &[u8]) -> Result<usize, SinkFailed>
         ensures faults { self.old.faults ≤ self.new.faults }
         ensures counted { OnErr result (Rose self.old.faults self.new.faults) }
+        ensures kept { OnOk result (self.new.faults ≡ self.old.faults) }
         ensures within { IfOk result (λ k. k ≤ length piece.now) }
         ensures some { IfOk result (λ k. 0 < length piece.now → 0 < k) }
         ensures empty { length piece.now ≡ 0 → result ≡ Ok 0 }
         ensures given { IfOk result (λ k. self.new.given ≡ self.old.given ++ take k piece.now) }
         ensures refused { OnErr result (self.new.given ≡ self.old.given) }
+        ensures called { IfOk result (λ k. Fills self.old (took (take k piece.now)) self.new) }
+        ensures not_taken { OnErr result (Fills self.old not_taken self.new) }
 
         ensures made { self.old.made ≢ last_count → self.new.made ≡ self.old.made + 1 }
         ensures chosen { self.old.made ≢ last_count → 0 < length piece.now → Contains self.old.fail self.new.made → IsErr result }

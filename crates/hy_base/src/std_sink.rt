@@ -2,6 +2,7 @@
 //! sink tells nothing.
 
 ghost use Rattle.std.specs.Prelude.{◌≡◌, []};
+ghost use Rattle.hy_base.specs.Fakes.{CountsPut};
 
 use crate::calls::one_more;
 use crate::sink::{Sink, SinkFailed};
@@ -9,6 +10,12 @@ use std::io::Print;
 
 /// A stream of the process: over `rt.stdout()` its standard output, over `rt.stderr()` its standard
 /// error. It keeps no byte back, so nothing is lost at exit.
+///
+/// Its puts are joined by its count alone: proved is that a failure was counted, and that a success
+/// was not. What code that is generic over sinks says of its puts it says of these, too, as a
+/// `RecordedSink` shows by its log. Left to trust are the lines below: that a put hands on as many
+/// bytes as it answers, from the front of its piece, behind those of the puts before, that a failure
+/// hands on none, and that it fails only where the stream took none.
 #[derive(Drop)]
 pub struct StdSink<P> {
     stream: P,
@@ -30,6 +37,8 @@ impl<P: Print> Sink for StdSink<P> {
     ghost given = { λ _. [] };
 
     ghost faults = { λ s. s.faults };
+
+    ghost called = { λ s put t. CountsPut s.faults t.faults put };
 
     fn put(&mut self, piece: &[u8]) -> Result<usize, SinkFailed> {
         if piece.is_empty() {

@@ -7,7 +7,8 @@ use Rattle.hy_base.specs.declared.shelf.Shelf.{Ghosts}
 use Rattle.hy_text.specs.declared.line_error.LineError.{LineError}
 use Rattle.hy_text.specs.declared.line_error.LineError.TheVariants as lines
 use Rattle.hy_lasso.specs.LassoFiles.{IsLassosAnswer}
-use Rattle.hy_read.specs.Answers.{Answer as Found, Answers, Plain, faulty, free, over}
+use Rattle.hy_formula.specs.Formulas.{Plain}
+use Rattle.hy_read.specs.Answers.{Answer as Found, Answers, faulty, free, over}
 use Rattle.hy_read.specs.Contract.{IsAnswer}
 use Rattle.hy_read.specs.Results.{most}
 use Rattle.hy_read.specs.declared.error.ReadError.{ReadError}

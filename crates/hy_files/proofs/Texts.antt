@@ -10,7 +10,8 @@ use Rattle.hy_finite.proofs.Collecting.{good-text, good-not_faulty, good-not_lon
 use Rattle.hy_text.specs.declared.line_error.LineError.{LineError}
 use Rattle.hy_text.specs.declared.line_error.LineError.TheVariants as faults
 use Rattle.hy_lasso.proofs.OneAnswer.{one_answer}
-use Rattle.hy_read.specs.Answers.{Answer as Found, Answers, Plain, faulty, free, over, read_as}
+use Rattle.hy_formula.specs.Formulas.{Plain}
+use Rattle.hy_read.specs.Answers.{Answer as Found, Answers, faulty, free, over, read_as}
 use Rattle.hy_read.proofs.Spanning.{answer-once}
 use Rattle.aig_net.specs.Nets.{Net}
 use Rattle.aiger_body.specs.Outcomes.{Outcome, Refusal, outcome}

@@ -9,7 +9,8 @@ use Rattle.hy_text.specs.declared.line_error.LineError.TheVariants as lines
 use Rattle.hy_finite.specs.EventLines as event_line
 use Rattle.hy_finite.specs.EventAnswers.{IsRefusal}
 use Rattle.hy_lasso.specs.LassoFiles.{IsLassosAnswer}
-use Rattle.hy_read.specs.Answers.{Answer as Found, Answers, Plain, read_as}
+use Rattle.hy_formula.specs.Formulas.{Plain}
+use Rattle.hy_read.specs.Answers.{Answer as Found, Answers, read_as}
 use Rattle.aig_net.specs.Nets.{Net}
 use Rattle.aiger_body.specs.Outcomes.{Refusal, outcome, refused}
 use Rattle.aiger_read.specs.Readings as aiger

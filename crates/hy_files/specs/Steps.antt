@@ -9,7 +9,7 @@ use Rattle.hy_finite.specs.EventLines.{IsGood}
 use Rattle.hy_formula.specs.Quantifiers.{Each}
 use Rattle.hy_text.specs.Lines.{lines_of}
 use Rattle.hy_lasso.specs.LassoFiles.{IsLassosAnswer}
-use Rattle.hy_read.specs.Answers.{Plain}
+use Rattle.hy_formula.specs.Formulas.{Plain}
 use Rattle.aig_net.specs.Nets.{Net}
 use Rattle.hy_files.specs.Contents.{Content, IsCircuit, IsText, IsRefused}
 use Rattle.hy_files.specs.Faults.{read_fault}

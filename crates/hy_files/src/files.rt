@@ -3,7 +3,7 @@
 ghost use Rattle.std.specs.Prelude.{◌≡◌, ◌++◌, ◌∷◌, ◌+◌, ◌<◌, ◌≤◌, ◌^◌, [], ℕ, List, Ok, Err, length, IfOk, IfErr};
 ghost use Rattle.hy_base.specs.Shelf.{KeepsShelf, ReadsFile};
 ghost use Rattle.hy_base.specs.declared.reading.TheConstants.{BYTES_LIMIT};
-ghost use Rattle.hy_read.specs.Builds.{plain_formula, plain_formulas};
+ghost use Rattle.hy_formula.specs.Formulas.{plain_formula, plain_formulas};
 ghost use Rattle.hy_files.specs.Contents.{specifications, one_formula, lassos, circuit};
 ghost use Rattle.hy_files.specs.Faults.{read_fault};
 ghost use Rattle.hy_files.specs.Steps.{Takes, TakesCircuit, TakesLassos, Fails};

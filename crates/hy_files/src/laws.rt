@@ -1,7 +1,7 @@
 //! A law of what files are. The function is empty: its contract is the law.
 
 ghost use Rattle.std.specs.Prelude.{◌≡◌, ℕ, List};
-ghost use Rattle.hy_read.specs.Answers.{Plain};
+ghost use Rattle.hy_formula.specs.Formulas.{Plain};
 ghost use Rattle.hy_files.specs.Contents.{Content, IsText, IsRefused};
 
 use crate::fault::FileFault;

@@ -3,8 +3,9 @@
 ghost use Rattle.std.specs.Prelude.{◌≡◌};
 
 use crate::trace::Trace;
-use hy_base::List;
+use hy_base::{List, M, Remake};
 use hy_bits::{LetterMask, Letters};
+use std::alloc::Global;
 
 /// What a line of a trace file brings. A session is a trace that comes letter by letter; it is known
 /// by its number.
@@ -20,6 +21,21 @@ pub enum Event {
     Save,
     /// Those that were put aside last come back.
     Back,
+}
+
+impl Remake for Event {
+    fn remake(&self, alloc: Global) -> M<Self> {
+        Ok(match self {
+            Event::Whole(trace) => Event::Whole(trace.remake(alloc)?),
+            Event::Letter { session, letter } => Event::Letter {
+                session: *session,
+                letter: *letter,
+            },
+            Event::End { session } => Event::End { session: *session },
+            Event::Save => Event::Save,
+            Event::Back => Event::Back,
+        })
+    }
 }
 
 impl Event {
@@ -42,6 +58,15 @@ impl Event {
 pub struct Placed {
     pub line: u32,
     pub event: Event,
+}
+
+impl Remake for Placed {
+    fn remake(&self, alloc: Global) -> M<Self> {
+        Ok(Placed {
+            line: self.line,
+            event: self.event.remake(alloc)?,
+        })
+    }
 }
 
 /// Events in the order of their lines.

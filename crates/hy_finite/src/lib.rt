@@ -23,6 +23,6 @@ pub use hy_text::{LineError, split_line};
 pub use lengths::Lengths;
 pub use line::read_event;
 pub use lines::EventLines;
-pub use meaning::finite_holds;
+pub use meaning::{finite_holds, of_two};
 pub use number::read_number;
 pub use trace::{MOST_LETTERS, Trace, TraceList};

@@ -57,8 +57,8 @@ fn judged_length(list: &TraceList, pick: &[u32], lengths: Lengths) -> usize
     judged
 }
 
-/// The judged length of two traces, by their lengths.
-fn of_two(lengths: Lengths, a: usize, b: usize) -> usize
+/// The judged length of two traces, by their lengths: the least of them or the greatest, by the rule.
+pub fn of_two(lengths: Lengths, a: usize, b: usize) -> usize
     ensures { result ≡ of_two lengths a b }
 {
     match lengths {

@@ -1,8 +1,11 @@
+pub mod AtomLists
 pub mod Choices
 pub mod Deciding
 pub mod Each
 pub mod KeptNames
 pub mod LawRules
+pub mod Matching
+pub mod NameSets
 pub mod Names
 pub mod Normalising
 pub mod Renaming

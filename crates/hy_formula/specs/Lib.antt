@@ -1,4 +1,6 @@
+pub mod Atoms
 pub mod Classes
+pub mod Formulas
 pub mod KeptNames
 pub mod Lassos
 pub mod Names

@@ -1,10 +1,10 @@
 //! Laws of the meaning of bodies and of their normal forms.
 
-ghost use Rattle.std.specs.Prelude.{◌≡◌, ◌↔◌, ◌<◌, ◌++◌, ℕ, Bool, List, map};
+ghost use Rattle.std.specs.Prelude.{◌≡◌, ◌↔◌, ◌<◌, ◌++◌, ℕ, Bool, List, IsTrue, map};
 ghost use Rattle.hy_formula.specs.Trees.{Tree, not};
 ghost use Rattle.hy_formula.specs.Temporal.{Span, Words, Within, below, endless, SatisfiesAt, IsDecided, Repeats};
 ghost use Rattle.hy_formula.specs.declared.prefix.Quant.{Quant};
-ghost use Rattle.hy_formula.specs.Quantifiers.{Quantified, turned, repeated};
+ghost use Rattle.hy_formula.specs.Quantifiers.{Quantified, MatchBothWays, SayTheSame, turned, repeated};
 ghost use Rattle.hy_formula.specs.declared.prefix.Quant.TheVariants as quant;
 ghost use Rattle.hy_formula.specs.declared.classes.Class.TheVariants as class;
 ghost use Rattle.hy_formula.specs.Classes.{class_of};
@@ -58,6 +58,19 @@ pub fn negating()
         → (prefix : List Quant) (body : Tree)
         → Quantified (λ k. k < count) (λ tuple. SatisfiesAt span (words tuple) (not body) 0) (map turned prefix)
         ↔ (¬ Quantified (λ k. k < count) (λ tuple. SatisfiesAt span (words tuple) body 0) prefix) }
+{}
+
+/// Members of two kinds, which go by their numbers, each with a match among those of the other: the
+/// same quantifiers over both say the same, where bodies say the same of tuples that match.
+pub fn matching()
+    ensures { (member other : ℕ → Bool) (fits : ℕ → ℕ → Bool)
+        → MatchBothWays (λ j. IsTrue (member j)) (λ k. IsTrue (other k)) (λ j k. IsTrue (fits j k))
+        → (span elsewhere : Span) (words told : List ℕ → Words) (body saying : Tree)
+        → SayTheSame (λ j k. IsTrue (fits j k)) (λ tuple. SatisfiesAt span (words tuple) body 0)
+        (λ tuple. SatisfiesAt elsewhere (told tuple) saying 0)
+        → (prefix : List Quant)
+        → Quantified (λ j. IsTrue (member j)) (λ tuple. SatisfiesAt span (words tuple) body 0) prefix
+        ↔ Quantified (λ k. IsTrue (other k)) (λ tuple. SatisfiesAt elsewhere (told tuple) saying 0) prefix }
 {}
 
 /// What a class says of the quantifiers.

@@ -1,4 +1,4 @@
-ghost use Rattle.std.specs.Prelude.{◌≡◌, ◌↔◌, ◌≤◌, ◌<◌, [], length, slice_get, Some, None, ◌++◌, ◌∷◌, IsTrue, IsErrOf, IfSome, IfOk, OnOk, OnErr, position};
+ghost use Rattle.std.specs.Prelude.{◌≡◌, ◌↔◌, ◌≤◌, ◌<◌, [], length, slice_get, slice_index_or, Some, None, ◌++◌, ◌∷◌, IsTrue, IsErrOf, IfSome, IfOk, OnOk, OnErr, position};
 ghost use Rattle.hy_formula.specs.Names.{place_of, with_name, are_distinct};
 ghost use Rattle.hy_formula.specs.KeptNames.{is_named};
 ghost use Rattle.hy_formula.specs.declared.name_table.NameError.TheVariants.{Memory as OutOfMemory};
@@ -109,6 +109,18 @@ impl NameTable {
         ensures { slice_get self.now i ≡ Some result.now }
     {
         self.names.as_slice()[i as usize].as_slice()
+    }
+
+    /// The name of this number, the first being 0; no bytes where the table has no more than so many
+    /// names.
+    pub fn text(&self, number: u8) -> &[u8]
+        ensures { result.now ≡ slice_index_or self.now number [] }
+    {
+        if usize::from(number) < self.len() {
+            self.at(number)
+        } else {
+            &[]
+        }
     }
 
     /// The place of `name`, which is added last where it is not there. In time linear in the name,

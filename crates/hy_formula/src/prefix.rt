@@ -1,7 +1,7 @@
 ghost use Rattle.std.specs.Prelude.{◌≡◌, ◌≤◌, ◌<◌, length, IfOk, slice_get, Some, map};
 ghost use Rattle.hy_formula.specs.Quantifiers.{turned};
 
-use hy_base::{List, M};
+use hy_base::{List, M, Remake};
 use std::alloc::Global;
 use std::marker::Model;
 
@@ -24,6 +24,12 @@ impl Quant {
     }
 }
 
+impl Remake for Quant {
+    fn remake(&self, _alloc: Global) -> M<Self> {
+        Ok(*self)
+    }
+}
+
 /// One to eight quantifiers, the outermost first; contracts see them as a list.
 #[derive(Drop)]
 pub struct Prefix {
@@ -39,6 +45,15 @@ impl Model for Prefix {
     ghost view = { λ p. p.quants };
 
     ghost invariant = { λ p. (1 ≤ length p.quants) × (length p.quants ≤ 8) };
+}
+
+impl Remake for Prefix {
+    fn remake(&self, alloc: Global) -> M<Self> {
+        let quants = &self.quants;
+        Ok(Prefix {
+            quants: quants.copy(alloc)?,
+        })
+    }
 }
 
 impl Prefix {

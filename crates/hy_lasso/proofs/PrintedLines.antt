@@ -1,5 +1,5 @@
 -- Lassos that were printed are read.
-use Rattle.std.proofs.Common.{◌≡◌, ℕ, suc, ◌<◌, Bool, true, false, if◌then◌else◌, IsTrue, List, [], ◌∷◌, ◌++◌, length, map, inl, inr, refl, ap, sym, ◌∙◌, subst, arith, append_assoc, append-nil}
+use Rattle.std.proofs.Common.{◌≡◌, ℕ, suc, ◌<◌, Bool, true, false, if◌then◌else◌, IsTrue, List, [], ◌∷◌, ◌++◌, length, map, Option, Some, inl, inr, refl, ap, sym, ◌∙◌, subst, arith, append_assoc, append-nil}
 use Rattle.std.specs.List.{join_with_byte, list_all, All}
 use Rattle.std.specs.FinSet as set
 use Rattle.std.proofs.lemmas.Bool.{and_parts}
@@ -20,13 +20,14 @@ use Rattle.hy_text.proofs.PrintedLetters.{letters_read}
 use Rattle.hy_text.proofs.PrintedWords.{printed_word_read}
 use Rattle.hy_text.proofs.ReadingSets.{apart}
 use Rattle.hy_lasso.specs.LassoFiles.{SayLassos, IsLassoFile}
-use Rattle.hy_lasso.specs.LassoLines.{Spelled, lasso_of, SaysLasso}
-use Rattle.hy_lasso.specs.Printed.{printed_lasso, printed_lassos, IsLassoOver}
+use Rattle.hy_lasso.specs.LassoLines.{lasso_of, SaysLasso, IsLassoSaid}
+use Rattle.hy_lasso.specs.Printed.{printed_line, printed_lasso, printed_lassos, spelled_of, IsLassoOver}
 use Rattle.hy_lasso.specs.Words.{AreLassos}
+use Rattle.hy_lasso.proofs.ReadingLassos.{one_said}
 
 -- ---- no line feed is printed inside a line
 
-abbrev NoFeed : ℕ → Type 0
+abbrev pub NoFeed : ℕ → Type 0
 NoFeed b = is_line_feed b ≡ false
 
 quotable_no_feed : (b : ℕ) → is_quotable b ≡ true → NoFeed b
@@ -92,22 +93,18 @@ word_no_feed : (table : List (List ℕ)) (letters : List Letter) → AreNames ta
 word_no_feed table letters are =
     joined_no_feed 59 refl (map (printed_set table) letters) (sets_no_feed table letters are)
 
--- the line of a lasso, without its line feed
-abbrev line_of : List (List ℕ) → Lasso Letter → List ℕ
-line_of table l = printed_word table l.stem ++ 124 ∷ printed_word table l.cycle
-
-line_no_feed : (table : List (List ℕ)) (l : Lasso Letter) → AreNames table
-    → All NoFeed (line_of table l)
+pub line_no_feed : (table : List (List ℕ)) (l : Lasso Letter) → AreNames table
+    → All NoFeed (printed_line table l)
 line_no_feed table l are =
     All-append NoFeed (printed_word table l.stem) (124 ∷ printed_word table l.cycle)
     (word_no_feed table l.stem are)
     (All-cons NoFeed 124 (printed_word table l.cycle) refl (word_no_feed table l.cycle are))
 
 first_line : (table : List (List ℕ)) (l : Lasso Letter) (rest : List ℕ) → AreNames table
-    → lines_of (printed_lasso table l ++ rest) ≡ line_of table l ∷ lines_of rest
+    → lines_of (printed_lasso table l ++ rest) ≡ printed_line table l ∷ lines_of rest
 first_line table l rest are =
-    ap lines_of (append_assoc (line_of table l) (10 ∷ []) rest)
-    ∙ slice_split_at is_line_feed (line_of table l) 10 rest (line_no_feed table l are) refl
+    ap lines_of (append_assoc (printed_line table l) (10 ∷ []) rest)
+    ∙ slice_split_at is_line_feed (printed_line table l) 10 rest (line_no_feed table l are) refl
 
 -- ---- the line says the lasso
 
@@ -119,13 +116,6 @@ word_no_blank text (x ∷ []) rest (behind, (inner, brace, members), more, bare)
     let P : List ℕ → Type 0 = λ t. past_blanks t ≡ t in subst P (sym brace) refl
 word_no_blank text (x ∷ y ∷ sets) rest (behind, next, (inner, brace, members), more, later) =
     let P : List ℕ → Type 0 = λ t. past_blanks t ≡ t in subst P (sym brace) refl
-
-abbrev said_of : List (List ℕ) → Lasso Letter → Spelled
-said_of table l = record {
-  stem = map (members_of table) l.stem;
-  cycle =
-      map (members_of table) l.cycle;
-}
 
 bar_no_semicolon : (rest : List ℕ) → NoSemicolon (124 ∷ rest)
 bar_no_semicolon rest next e = apart 124 59 (124 ∷ rest) rest next (omega arith) refl e
@@ -145,7 +135,7 @@ cycle_read table (x ∷ cycle) are some =
 
 line_read : (table : List (List ℕ)) (stem cycle : List Letter) → AreNames table → 0 < length cycle
     → SaysLasso (printed_word table stem ++ 124 ∷ printed_word table cycle)
-    (said_of table (record { stem = stem; cycle = cycle }))
+    (spelled_of table (record { stem = stem; cycle = cycle }))
 line_read table [] cycle are some = (
   printed_word table cycle,
   refl,
@@ -163,13 +153,27 @@ line_read table (x ∷ stem) cycle are some =
       cycle_read table cycle are some,
     )
 
-same_lasso : (table : List (List ℕ)) (l : Lasso Letter) → IsTrue (are_distinct table)
+pub same_lasso : (table : List (List ℕ)) (l : Lasso Letter) → IsTrue (are_distinct table)
     → IsLassoOver table l
-    → lasso_of table (said_of table l) ≡ l
+    → lasso_of table (spelled_of table l) ≡ l
 same_lasso table l distinct over =
     let stem = letters_read table l.stem distinct over.stem in
     let cycle = letters_read table l.cycle distinct over.cycle in
     λ i. record { stem = stem i; cycle = cycle i }
+
+-- the line of a lasso says it
+pub line_says : (table : List (List ℕ)) (l : Lasso Letter) → AreNames table → 0 < length l.cycle
+    → SaysLasso (printed_line table l) (spelled_of table l)
+line_says table l are some = line_read table l.stem l.cycle are some
+
+-- what is read of the line of a lasso
+pub line_read_back : (table : List (List ℕ)) (l : Lasso Letter) (found : Option (Lasso Letter))
+    → AreNames table → IsTrue (are_distinct table) → 0 < length l.cycle → IsLassoOver table l
+    → IsLassoSaid table (printed_line table l) found → found ≡ Some l
+line_read_back table l found are distinct some over said =
+    one_said table (printed_line table l) (spelled_of table l) found (line_says table l are some)
+    said
+    ∙ ap Some (same_lasso table l distinct over)
 
 say_printed : (table : List (List ℕ)) (list : List (Lasso Letter)) → AreNames table
     → IsTrue (are_distinct table) → AreLassos list → All (IsLassoOver table) list
@@ -182,7 +186,7 @@ say_printed table (l ∷ list) names distinct are over =
     let here = line_read table l.stem l.cycle names (are 0 (omega arith)) in
     let same = same_lasso table l distinct (All-head (IsLassoOver table) l list over) in
     subst P (sym (first_line table l (printed_lassos table list) names))
-    (inr (said_of table l, list, here, ap (λ m. m ∷ list) (sym same), later))
+    (inr (spelled_of table l, list, here, ap (λ m. m ∷ list) (sym same), later))
 
 pub printed_read : (table : List (List ℕ)) (list : List (Lasso Letter)) → AreNames table
     → IsTrue (are_distinct table) → 0 < length list → AreLassos list → All (IsLassoOver table) list

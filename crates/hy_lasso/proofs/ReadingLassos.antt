@@ -10,8 +10,8 @@ use Rattle.hy_text.specs.Sets.{letter_of}
 use Rattle.hy_text.specs.Words.{SpellsWord}
 use Rattle.hy_text.proofs.Once.{one-word}
 use Rattle.hy_text.proofs.ReadingSets.{apart, behind_byte}
-use Rattle.hy_lasso.specs.LassoLines.{Spelled, SpellsStem, SpellsLasso}
-use Rattle.hy_lasso.specs.LineParts.{IsStemFound, IsCycleFound, IsLassoFound}
+use Rattle.hy_lasso.specs.LassoLines.{Spelled, lasso_of, SpellsStem, SpellsLasso, SaysLasso, IsLassoSaid}
+use Rattle.hy_lasso.specs.LineParts.{IsStemFound, IsCycleFound}
 
 -- all letters are kept
 pub all_kept : (table : List (List ℕ)) (sets : List (List (List ℕ))) (most : ℕ)
@@ -93,6 +93,11 @@ cycle_found table text letters sets end false more word e = λ others whole.
 
 -- ---- lassos
 
+pub no_lasso : (line : List ℕ)
+    → ((sets : List (List (List ℕ))) (rest : List ℕ) → ¬ SpellsStem (past_blanks line) sets rest)
+    → (said : Spelled) → ¬ SaysLasso line said
+no_lasso line none said (rest, stem, cycle) = none said.stem rest stem
+
 pub no_cycle : (text : List ℕ) (sets : List (List (List ℕ))) (rest : List ℕ)
     → SpellsStem text sets rest
     → ((cycle : List (List (List ℕ))) → ¬ SpellsWord (past_blanks rest) cycle [])
@@ -108,15 +113,15 @@ some_letters table text [] end letters word e none = absurd word
 some_letters table text (x ∷ sets) end letters word e none =
     let clash : map (letter_of table) (x ∷ sets) ≡ [] = sym e ∙ none in cc
 
-pub lasso_found : (table : List (List ℕ)) (text : List ℕ) (stem cycle : List Letter)
+pub lasso_found : (table : List (List ℕ)) (line : List ℕ) (stem cycle : List Letter)
     (sets : List (List (List ℕ))) (rest : List ℕ) (found : Option (Lasso Letter))
-    → SpellsStem text sets rest → stem ≡ map (letter_of table) sets
+    → SpellsStem (past_blanks line) sets rest → stem ≡ map (letter_of table) sets
     → IsCycleFound table (past_blanks rest) cycle true
     → IfSome found (λ l. (l.stem ≡ stem) × (l.cycle ≡ cycle)) → IfNone found (cycle ≡ [])
-    → IsLassoFound table text found
-lasso_found table text stem cycle sets rest None spelled e (round, word, f) made refused =
+    → IsLassoSaid table line found
+lasso_found table line stem cycle sets rest None spelled e (round, word, f) made refused =
     absurd (some_letters table (past_blanks rest) round [] cycle word f refused)
-lasso_found table text stem cycle sets rest (Some lasso) spelled e (round, word, f) made refused = (
+lasso_found table line stem cycle sets rest (Some lasso) spelled e (round, word, f) made refused = (
   record { stem = sets; cycle = round },
   (rest, spelled, word),
   λ i. record { stem = (made.0 ∙ e) i; cycle = (made.1 ∙ f) i },
@@ -131,3 +136,11 @@ one_lasso text said other (rest, stem, cycle) (end, front, round) =
     let (whole, none) = one-word (past_blanks end) said.cycle other.cycle [] []
     (subst P behind cycle) round in
     λ i. record { stem = same i; cycle = whole i }
+
+-- A line says one lasso.
+pub one_said : (table : List (List ℕ)) (line : List ℕ) (said : Spelled)
+    (found : Option (Lasso Letter)) → SaysLasso line said → IsLassoSaid table line found
+    → found ≡ Some (lasso_of table said)
+one_said table line said None says none = absurd (none said says)
+one_said table line said (Some lasso) says (other, also, is) =
+    ap Some (is ∙ ap (lasso_of table) (one_lasso (past_blanks line) other said also says))

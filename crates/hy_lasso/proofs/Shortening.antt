@@ -158,6 +158,12 @@ module _ (stem cycle : List Letter) (d k : ℕ) (some : 0 < length cycle) (round
   cycle-short : length (rolled (take d cycle) k) ≡ d
   cycle-short = rolled-long stem (take d cycle) w k (cut-word stem cycle w d whole-word round) shared ∙ length-take-le d cycle round.few
 
+  pub stem-within : length (take (length stem - k) stem) ≤ length stem
+  stem-within = omega (arith, stem-short)
+
+  pub cycle-within : length (rolled (take d cycle) k) ≤ length cycle
+  cycle-within = let few = round.few in omega (arith, cycle-short, few)
+
   primitive : (word : List Letter) (n : ℕ) → rolled (take d cycle) k ≡ times n word → n ≡ 1
   primitive word zero e = let pos = round.some in absurd (omega (arith, ap length e, cycle-short, pos))
   primitive word (suc zero) e = refl

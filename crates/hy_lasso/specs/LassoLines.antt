@@ -4,7 +4,7 @@
 --
 -- Space, tab and carriage return are ignored between these parts. A name that the table lacks is
 -- passed over.
-use Rattle.std.specs.Prelude.{◌≡◌, ℕ, ◌⊎◌, List, [], ◌∷◌, map}
+use Rattle.std.specs.Prelude.{◌≡◌, ℕ, ◌⊎◌, List, [], ◌∷◌, map, Option, Some, None}
 use Rattle.hy_bits.specs.Letter.{Letter}
 use Rattle.hy_formula.specs.Lassos.{Lasso}
 use Rattle.hy_text.specs.Bytes.{past_blanks}
@@ -34,6 +34,12 @@ SpellsLasso text said =
 -- The line says this lasso.
 abbrev pub SaysLasso : List ℕ → Spelled → Type 0
 SaysLasso line said = SpellsLasso (past_blanks line) said
+
+-- The line says this lasso, its names by the numbers of the table, or says none.
+abbrev pub IsLassoSaid : List (List ℕ) → List ℕ → Option (Lasso Letter) → Type 0
+IsLassoSaid table line None = (said : Spelled) → ¬ SaysLasso line said
+IsLassoSaid table line (Some lasso) =
+    (said : Spelled) × SaysLasso line said × (lasso ≡ lasso_of table said)
 
 -- The line is a text.
 abbrev pub IsText : List ℕ → Type 0

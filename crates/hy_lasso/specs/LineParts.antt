@@ -6,7 +6,7 @@ use Rattle.hy_formula.specs.Lassos.{Lasso}
 use Rattle.hy_text.specs.Lines.{SaysNothing}
 use Rattle.hy_text.specs.Sets.{letter_of}
 use Rattle.hy_text.specs.Words.{SpellsWord}
-use Rattle.hy_lasso.specs.LassoLines.{Spelled, lasso_of, SpellsStem, SpellsLasso, SaysLasso, IsFaulty}
+use Rattle.hy_lasso.specs.LassoLines.{Spelled, lasso_of, SpellsStem, SaysLasso, IsFaulty}
 
 -- A stem and its bar stand at the front of the text, and these are its letters and what stands
 -- behind the bar, or none do.
@@ -22,12 +22,6 @@ abbrev pub IsCycleFound : List (List ℕ) → List ℕ → List Letter → Bool 
 IsCycleFound table text letters false = (sets : List (List (List ℕ))) → ¬ SpellsWord text sets []
 IsCycleFound table text letters true =
     (sets : List (List (List ℕ))) × SpellsWord text sets [] × (letters ≡ map (letter_of table) sets)
-
--- The text is this lasso, or none.
-abbrev pub IsLassoFound : List (List ℕ) → List ℕ → Option (Lasso Letter) → Type 0
-IsLassoFound table text None = (said : Spelled) → ¬ SpellsLasso text said
-IsLassoFound table text (Some lasso) =
-    (said : Spelled) × SpellsLasso text said × (lasso ≡ lasso_of table said)
 
 -- The line is a text, and its lasso has been added where it says one; or it is none.
 abbrev pub IsTaken : List (List ℕ) → List ℕ → List (Lasso Letter) → List (Lasso Letter) → Bool

@@ -12,7 +12,7 @@ ghost use Rattle.hy_lasso.specs.Joint.{IsJudged};
 use crate::error::HoldsError;
 use crate::lasso::LassoList;
 use crate::meaning::holds_body;
-use crate::period::Period;
+use crate::period::are_judged;
 use hy_base::{List, NumList};
 use hy_formula::{Formula, Quant};
 use std::alloc::Global;
@@ -32,7 +32,7 @@ pub fn holds(alloc: Global, f: &Formula, list: &LassoList) -> Result<bool, Holds
     ensures limit { IfErr result (λ e. e ≡ OfLimit joint_limit → ¬ IsJudged list.now) }
     ensures causes { IfErr result (λ e. (e ≡ OfLimit joint_limit) ⊎ (e ≡ OfMemory)) }
 {
-    if Period::of_list(list).is_none() {
+    if !are_judged(list) {
         return Err(HoldsError::joint());
     }
     let choices = Choices { formula: f, list };

@@ -1,14 +1,15 @@
 //! Lassos.
 
-ghost use Rattle.std.specs.Prelude.{◌≡◌, ◌↔◌, ◌<◌, ℕ, [], length, IfSome, IfNone, IsTrue};
+ghost use Rattle.std.specs.Prelude.{◌≡◌, ◌↔◌, ◌<◌, ◌≤◌, ℕ, [], length, IfSome, IfNone, IsTrue};
 ghost use Rattle.hy_lasso.specs.Equal.{is_equal};
 ghost use Rattle.hy_lasso.specs.EqualLaws.{equal_laws, equal_partial_laws};
 ghost use Rattle.hy_lasso.specs.NormalForms.{IsNormal};
 ghost use Rattle.hy_lasso.specs.Words.{letter_at};
 
 use crate::shorten::{least_round, shared_end};
-use hy_base::List;
+use hy_base::{List, M, Remake};
 use hy_bits::{LetterMask, Letters};
+use std::alloc::Global;
 use std::marker::Model;
 
 /// An endless word that repeats: a stem, and a cycle of at least one letter that is gone round.
@@ -52,6 +53,15 @@ impl PartialEq for Lasso {
 
 impl Eq for Lasso {
     ghost laws = { equal_laws };
+}
+
+impl Remake for Lasso {
+    fn remake(&self, alloc: Global) -> M<Self> {
+        Ok(Lasso {
+            stem: self.stem.copy(alloc)?,
+            cycle: self.cycle.copy(alloc)?,
+        })
+    }
 }
 
 /// Lassos, each known by its place.
@@ -99,10 +109,13 @@ impl Lasso {
     }
 
     /// The normal form: the same letter at every position, the shortest cycle, and the shortest
-    /// stem. In place, in time linear in the lasso times the divisors of the length of the cycle.
+    /// stem, so neither is longer than before. In place, in time linear in the lasso times the
+    /// divisors of the length of the cycle.
     pub fn shorten(self) -> Lasso
         ensures word { (i : ℕ) → letter_at result i ≡ letter_at self i }
         ensures normal { IsNormal result }
+        ensures stem { length result.stem ≤ length self.stem }
+        ensures cycle { length result.cycle ≤ length self.cycle }
     {
         let Lasso {
             mut stem,

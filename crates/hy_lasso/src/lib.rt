@@ -17,6 +17,8 @@ pub use choices::holds;
 pub use error::HoldsError;
 pub use hy_text::LineError;
 pub use lasso::{Lasso, LassoList};
+pub use line::read_line;
 pub use meaning::holds_body;
+pub use period::are_judged;
 pub use print::print_lassos;
 pub use read::read_lassos;

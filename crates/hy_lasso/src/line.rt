@@ -1,7 +1,8 @@
 //! The lasso of one line.
 
 ghost use Rattle.std.specs.Prelude.{◌≡◌, [], IfOk};
-ghost use Rattle.hy_lasso.specs.LineParts.{IsStemFound, IsCycleFound, IsLassoFound, IsTaken};
+ghost use Rattle.hy_lasso.specs.LassoLines.{IsLassoSaid};
+ghost use Rattle.hy_lasso.specs.LineParts.{IsStemFound, IsCycleFound, IsTaken};
 
 use crate::lasso::{Lasso, LassoList};
 use hy_base::{List, M};
@@ -18,19 +19,20 @@ pub fn take_line(alloc: Global, line: &[u8], names: &NameTable, list: &mut Lasso
     if says_nothing(line) {
         return Ok(true);
     }
-    let Some(lasso) = read_lasso(alloc, past_blanks(line), names)? else {
+    let Some(lasso) = read_line(alloc, line, names)? else {
         return Ok(false);
     };
     list.push(lasso)?;
     Ok(true)
 }
 
-/// The lasso that the text is. `None` where it is none.
-fn read_lasso(alloc: Global, text: &[u8], names: &NameTable) -> M<Option<Lasso>>
-    ensures { IfOk result (λ found. IsLassoFound names.now text.now found) }
+/// The lasso that a line says: `None` exactly where it says none, as a line that is blank, a comment
+/// or no text. Names that the table lacks are passed over. In time and memory linear in the line.
+pub fn read_line(alloc: Global, line: &[u8], names: &NameTable) -> M<Option<Lasso>>
+    ensures { IfOk result (λ found. IsLassoSaid names.now line.now found) }
 {
     let mut stem = List::new(alloc);
-    let Some(rest) = read_stem(text, names, &mut stem)? else {
+    let Some(rest) = read_stem(past_blanks(line), names, &mut stem)? else {
         return Ok(None);
     };
     let mut cycle = List::new(alloc);

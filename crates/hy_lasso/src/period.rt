@@ -1,6 +1,6 @@
 //! How lassos repeat together.
 
-ghost use Rattle.std.specs.Prelude.{◌≡◌, ◌<◌, ◌≤◌, ◌+◌, ◌++◌, ◌∷◌, [], ℕ, List, length, All, MatchOption};
+ghost use Rattle.std.specs.Prelude.{◌≡◌, ◌<◌, ◌≤◌, ◌+◌, ◌++◌, ◌∷◌, ◌↔◌, [], ℕ, List, length, All, IsTrue, MatchOption};
 ghost use Rattle.hy_bits.specs.Letter.{Letter};
 ghost use Rattle.hy_formula.specs.Lassos.{Lasso as Endless};
 ghost use Rattle.hy_lasso.specs.Words.{picked};
@@ -77,6 +77,15 @@ impl Period {
         }
         Some(Period { stem, cycle })
     }
+}
+
+/// Whether formulas can be judged on the list: whether the longest stem and the least common multiple
+/// of the cycles of all its lassos have together at most 4,194,304 positions. In time linear in the
+/// list and, at most, in these positions.
+pub fn are_judged(list: &LassoList) -> bool
+    ensures { IsTrue result ↔ IsJudged list.now }
+{
+    Period::of_list(list).is_some()
 }
 
 /// The least common multiple of two numbers. `None` exactly where it is past 4,194,304. In time

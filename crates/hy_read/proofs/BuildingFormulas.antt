@@ -12,8 +12,10 @@ use Rattle.hy_read.specs.declared.parsed.Follow.{Follow}
 use Rattle.hy_read.specs.declared.parsed.Parsed.{Parsed}
 use Rattle.hy_read.specs.declared.symbol.Symbol.{Symbol}
 use Rattle.hy_read.specs.declared.symbol.Symbol.TheVariants as signs
-use Rattle.hy_read.specs.Answers.{Plain, plain_of}
-use Rattle.hy_read.specs.Builds.{AreBuilt, IsFormulaBuilt, meaning_in, most_of_heights, most_of_quantifiers, plain_formula, plain_formulas}
+use Rattle.hy_formula.specs.Formulas.{Plain}
+use Rattle.hy_read.specs.Answers.{plain_of}
+use Rattle.hy_formula.specs.Formulas.{plain_formula, plain_formulas}
+use Rattle.hy_read.specs.Builds.{AreBuilt, IsFormulaBuilt, meaning_in, most_of_heights, most_of_quantifiers}
 use Rattle.hy_read.specs.Grammar.{AreFormulas, IsFormula, Read, loosest}
 use Rattle.hy_read.specs.Headings.{IsHeading, quants_of}
 use Rattle.hy_read.specs.Parses.{AreLeft, Builds, IsBuilt, IsFollowed, Stops, meaning}

@@ -6,8 +6,10 @@ use Rattle.hy_read.specs.declared.build_error.BuildError.TheVariants as refusals
 use Rattle.hy_read.specs.declared.counts.Counts.{Counts}
 use Rattle.hy_read.specs.declared.error.ReadError.{ReadError}
 use Rattle.hy_read.specs.declared.error.ReadError.TheVariants.{Syntax, Unbound, Limit, Memory}
-use Rattle.hy_read.specs.Answers.{Answers, Plain, over, read_as, located, plain_of, tokens_of}
-use Rattle.hy_read.specs.Builds.{AreBuilt, meaning_in, most_of_heights, most_of_quantifiers, plain_formula, plain_formulas}
+use Rattle.hy_formula.specs.Formulas.{Plain}
+use Rattle.hy_read.specs.Answers.{Answers, over, read_as, located, plain_of, tokens_of}
+use Rattle.hy_formula.specs.Formulas.{plain_formula, plain_formulas}
+use Rattle.hy_read.specs.Builds.{AreBuilt, meaning_in, most_of_heights, most_of_quantifiers}
 use Rattle.hy_read.specs.Contract.{IsAnswer}
 use Rattle.hy_formula.specs.Trees.{Tree}
 use Rattle.std.proofs.lemmas.List.{length-map}

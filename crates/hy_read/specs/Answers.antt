@@ -1,17 +1,12 @@
 -- What a reader answers to bytes.
 use Rattle.std.specs.Prelude.{◌≡◌, ℕ, zero, List, [], ◌∷◌, length, drop, map, Bool}
 use Rattle.hy_read.specs.Tokens.{Token}
-use Rattle.hy_formula.specs.declared.prefix.Quant.{Quant}
-use Rattle.hy_formula.specs.Trees.{Tree}
+use Rattle.hy_formula.specs.Formulas.{Plain}
 use Rattle.hy_read.specs.Grammar.{Read}
 use Rattle.hy_read.specs.Scanning.{Span, Spans}
 use Rattle.hy_read.specs.Results.{Count, Result, fault, unbound, past, taken, most, Reads}
 
 -- a formula without the spellings of its variables
-pub record Plain : Type 0 where
-  pub prefix : List Quant
-  pub body : Tree
-
 abbrev pub plain_of : Read → Plain
 plain_of f = record { prefix = map (λ q. q.quant) f.quantifiers; body = f.tree }
 

@@ -1,11 +1,12 @@
 -- What is built of the formulas of a text.
 use Rattle.std.specs.Prelude.{◌≡◌, ℕ, ◌<◌, ◌≤◌, List, map, length, Option, Result, Ok, Err}
-use Rattle.hy_formula.specs.Trees.{Tree, tree_of, height}
+use Rattle.hy_formula.specs.Trees.{Tree, height}
 use Rattle.hy_formula.specs.declared.formula.Formula.{Formula}
 use Rattle.hy_read.specs.declared.build_error.BuildError.{BuildError}
 use Rattle.hy_read.specs.declared.build_error.BuildError.TheVariants.{TooHigh, Memory}
 use Rattle.hy_read.specs.declared.formulas.Built.{Built}
-use Rattle.hy_read.specs.Answers.{Plain, plain_of}
+use Rattle.hy_formula.specs.Formulas.{plain_formula, plain_formulas}
+use Rattle.hy_read.specs.Answers.{plain_of}
 use Rattle.hy_read.specs.Grammar.{Quantifier, Read}
 use Rattle.hy_read.specs.Parses.{meaning, IsFollowed}
 use Rattle.hy_read.specs.Results.{largest, variables_of}
@@ -14,13 +15,6 @@ use Rattle.hy_read.specs.Tokens.{Token}
 -- what the atoms of a formula mean, with a table of names or without
 abbrev pub meaning_in : Option (List (List ℕ)) → List Quantifier → List ℕ → List ℕ → Tree → Type 0
 meaning_in names quantifiers = meaning names (variables_of quantifiers)
-
--- a formula without where its parts lie in memory
-abbrev pub plain_formula : Formula → Plain
-plain_formula f = record { prefix = f.prefix; body = tree_of f.body }
-
-abbrev pub plain_formulas : List Formula → List Plain
-plain_formulas formulas = map plain_formula formulas
 
 abbrev pub most_of_quantifiers : List Read → ℕ
 most_of_quantifiers formulas = largest (map (λ f. length f.quantifiers) formulas)

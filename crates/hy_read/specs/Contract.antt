@@ -4,7 +4,8 @@ use Rattle.hy_base.specs.declared.limit.Kind.{Kind}
 use Rattle.hy_base.specs.declared.limit.Kind.TheVariants as kinds
 use Rattle.hy_read.specs.declared.error.ReadError.{ReadError}
 use Rattle.hy_read.specs.declared.error.ReadError.TheVariants.{Syntax, Unbound, Limit, Memory}
-use Rattle.hy_read.specs.Answers.{Plain, faulty, free, over, read_as, Answers}
+use Rattle.hy_formula.specs.Formulas.{Plain}
+use Rattle.hy_read.specs.Answers.{faulty, free, over, read_as, Answers}
 use Rattle.hy_read.specs.Results.{Count, specs, quantifiers, parens, heights, names, most}
 
 -- what a count is called in a limit

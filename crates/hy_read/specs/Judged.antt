@@ -7,7 +7,7 @@ use Rattle.hy_read.specs.declared.counts.Counts.{Counts}
 use Rattle.hy_read.specs.declared.error.ReadError.{ReadError}
 use Rattle.hy_read.specs.declared.error.ReadError.TheVariants.{Syntax, Unbound, Limit, Memory}
 use Rattle.hy_read.specs.Answers.{Answers, over, read_as}
-use Rattle.hy_read.specs.Builds.{plain_formulas}
+use Rattle.hy_formula.specs.Formulas.{plain_formulas}
 use Rattle.hy_read.specs.Contract.{kind_of_count}
 use Rattle.hy_read.specs.Parses.{AreLeft}
 use Rattle.hy_read.specs.Results.{Count, specs, quantifiers, parens, heights, names, most, names_of}

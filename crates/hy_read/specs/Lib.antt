@@ -10,6 +10,7 @@ pub mod Operators
 pub mod Parses
 pub mod Places
 pub mod Printing
+pub mod Readings
 pub mod Results
 pub mod Scanning
 pub mod Scans

@@ -5,7 +5,7 @@ use Rattle.hy_formula.specs.declared.prefix.Quant.{Quant}
 use Rattle.hy_formula.specs.Trees.{Tree, always, never, atom, not, next, finally, globally, and, or, implies, iff, until, release, weak}
 use Rattle.hy_read.specs.declared.symbol.Symbol.{Symbol}
 use Rattle.hy_read.specs.declared.symbol.Symbol.TheVariants.{And, Or, Implies, Iff, Next, Finally, Globally, Until, Release, Weak}
-use Rattle.hy_read.specs.Answers.{Plain}
+use Rattle.hy_formula.specs.Formulas.{Plain}
 use Rattle.hy_read.specs.Grammar.{quantifier_word}
 use Rattle.hy_read.specs.Symbols.{spelling}
 use Rattle.hy_text.specs.Names.{spelled}

@@ -1,12 +1,16 @@
-//! Laws of the grammar, the table of places and the answers. Each function is empty: its contract is the law.
+//! Laws of the grammar, the table of places, the answers and the printer. Each function is empty: its contract is the law.
 
-ghost use Rattle.std.specs.Prelude.{◌≡◌, ◌↔◌, ◌++◌, ◌≤◌, [], ◌∷◌, ℕ, zero, length, Bool, List, Some, None};
-ghost use Rattle.hy_read.specs.Answers.{Answer, Answers, faulty, tokens_of};
+ghost use Rattle.std.specs.Prelude.{◌≡◌, ◌↔◌, ◌++◌, ◌≤◌, ◌<◌, ◌^◌, [], ◌∷◌, ℕ, zero, length, Bool, List, Some, None, IsTrue, All};
+ghost use Rattle.hy_read.specs.Answers.{Answer, Answers, Plain, faulty, read_as, tokens_of};
 ghost use Rattle.hy_read.specs.Scanning.{Span, Spans};
 ghost use Rattle.hy_read.specs.Grammar.{AreFormulas, Derives, Flat, IsText, Read, loosest};
 ghost use Rattle.hy_read.specs.Places.{IsAllowed, IsLongest, IsViable, Place, start, operator, next_place, place_after};
 ghost use Rattle.hy_read.specs.Results.{Bound, IsBound, Reads, Result, most_open};
+ghost use Rattle.hy_read.specs.Printing.{printed};
+ghost use Rattle.hy_read.specs.Readings.{IsReading};
+ghost use Rattle.hy_formula.specs.Names.{are_distinct};
 ghost use Rattle.hy_formula.specs.Trees.{Tree, height};
+ghost use Rattle.hy_text.specs.Names.{AreNames};
 ghost use Rattle.hy_read.specs.Within.{Within};
 ghost use Rattle.hy_read.specs.Tokens.{Token, kind_of};
 
@@ -95,4 +99,26 @@ pub fn fault_answered()
 pub fn fault_fits()
     ensures { (many : Bool) (limit : ℕ) (old : List (List ℕ)) (bytes : List ℕ) (k b : ℕ)
         → Answers many limit old bytes (faulty k b) → (k ≤ length bytes) × (b ≤ length bytes) }
+{}
+
+/// The names of a reading are names, no two of them equal, and at most 64, where those of before are
+/// names and distinct; these come first.
+pub fn names_are_read()
+    ensures names { (many : Bool) (limit : ℕ) (old : List (List ℕ)) (bytes : List ℕ) (formulas : List Plain) (table : List (List ℕ)) → Answers many limit old bytes (read_as formulas table) → AreNames old → AreNames table }
+    ensures distinct { (many : Bool) (limit : ℕ) (old : List (List ℕ)) (bytes : List ℕ) (formulas : List Plain) (table : List (List ℕ)) → Answers many limit old bytes (read_as formulas table) → IsTrue (are_distinct old) → IsTrue (are_distinct table) }
+    ensures few { (many : Bool) (limit : ℕ) (old : List (List ℕ)) (bytes : List ℕ) (formulas : List Plain) (table : List (List ℕ)) → Answers many limit old bytes (read_as formulas table) → length table ≤ 64 }
+    ensures kept { (many : Bool) (limit : ℕ) (old : List (List ℕ)) (bytes : List ℕ) (formulas : List Plain) (table : List (List ℕ)) → Answers many limit old bytes (read_as formulas table) → (more : List (List ℕ)) × (table ≡ old ++ more) }
+{}
+
+/// The formulas of a reading are over its names: each atom's number is below their count. They keep
+/// the limits on quantifiers and height.
+pub fn formulas_are_over_names()
+    ensures { (many : Bool) (limit : ℕ) (old : List (List ℕ)) (bytes : List ℕ) (formulas : List Plain) (table : List (List ℕ)) → Answers many limit old bytes (read_as formulas table) → All (IsReading limit (length table)) formulas }
+{}
+
+/// A printed formula is read. Over the names that it was printed with it is the same; and what was
+/// read alone is the same, with the same names, over the names of before.
+pub fn printed_formula_is_read()
+    ensures over { (many : Bool) (limit : ℕ) (table : List (List ℕ)) (formula : Plain) → limit < 2 ^ 64 → AreNames table → IsTrue (are_distinct table) → length table ≤ 64 → IsReading limit (length table) formula → Answers many limit table (printed table formula) (read_as (formula ∷ []) table) }
+    ensures again { (many again : Bool) (limit : ℕ) (old : List (List ℕ)) (bytes : List ℕ) (formula : Plain) (table : List (List ℕ)) → Answers many limit old bytes (read_as (formula ∷ []) table) → limit < 2 ^ 64 → AreNames old → IsTrue (are_distinct old) → Answers again limit old (printed table formula) (read_as (formula ∷ []) table) }
 {}

@@ -26,8 +26,9 @@ mod word;
 pub use error::ReadError;
 pub use formulas::SpecList;
 pub use laws::{
-    allowed_is_derived, fault_answered, fault_fits, fault_found, height_without_names, one_answer,
-    one_answer_to_bytes, one_fault, one_reading, parens_are_counted, viable_begins_text,
+    allowed_is_derived, fault_answered, fault_fits, fault_found, formulas_are_over_names,
+    height_without_names, names_are_read, one_answer, one_answer_to_bytes, one_fault, one_reading,
+    parens_are_counted, printed_formula_is_read, viable_begins_text,
 };
 pub use print::print_formula;
 pub use read::{read_formula, read_specs};

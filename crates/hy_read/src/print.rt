@@ -1,8 +1,8 @@
 //! The printer of formulas.
 
-ghost use Rattle.std.specs.Prelude.{◌≡◌, ◌<◌, ◌++◌, [], slice_index_or, IfOk, OnOk};
+ghost use Rattle.std.specs.Prelude.{◌≡◌, ◌<◌, ◌++◌, IfOk, OnOk};
 ghost use Rattle.hy_formula.specs.Trees.{tree_of};
-ghost use Rattle.hy_read.specs.Builds.{plain_formula};
+ghost use Rattle.hy_formula.specs.Formulas.{plain_formula};
 ghost use Rattle.hy_read.specs.Printing.{variable_at, printed_quantifier, printed_quantifiers, printed_atom, printed_before, printed_between, printed_body, printed};
 
 use crate::symbol::Symbol;
@@ -60,20 +60,9 @@ fn push_variable(out: &mut Text, place: u8) -> M<()>
 fn push_atom(out: &mut Text, atom: &Atom, names: &NameTable) -> M<()>
     ensures { OnOk result (out.new ≡ out.old ++ printed_atom names.now atom.now.name atom.now.var) }
 {
-    push_name(out, name_at(atom.name, names))?;
+    push_name(out, names.text(atom.name))?;
     out.push(b'_')?;
     push_variable(out, atom.var)
-}
-
-/// The name of this number, or the empty one.
-fn name_at(number: u8, names: &NameTable) -> &[u8]
-    ensures { result.now ≡ slice_index_or names.now number [] }
-{
-    if (number as usize) < names.len() {
-        names.at(number)
-    } else {
-        b""
-    }
 }
 
 /// Adds a body.

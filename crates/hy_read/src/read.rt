@@ -1,7 +1,7 @@
 //! The readers: from bytes to the formulas that they are, or to what is wrong with them.
 
 ghost use Rattle.std.specs.Prelude.{◌≡◌, ◌≤◌, ◌<◌, ◌^◌, ◌++◌, ◌∷◌, [], ℕ, List as PlainList, Bool, true, false, length};
-ghost use Rattle.hy_read.specs.Builds.{plain_formula, plain_formulas};
+ghost use Rattle.hy_formula.specs.Formulas.{plain_formula, plain_formulas};
 ghost use Rattle.hy_read.specs.Contract.{IsAnswer};
 ghost use Rattle.hy_read.specs.Judged.{HasNames, HasTooManyNames, IsJudged, IsMeasured};
 

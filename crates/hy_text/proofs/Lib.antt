@@ -1,4 +1,5 @@
 pub mod FirstFaults
+pub mod Fronts
 pub mod Once
 pub mod PrintedLetters
 pub mod PrintedWords

@@ -1,7 +1,8 @@
 //! Names, plain and in quotes.
 
-ghost use Rattle.std.specs.Prelude.{◌≡◌, ◌<◌, ◌++◌, length, IfSome, OnOk};
+ghost use Rattle.std.specs.Prelude.{◌≡◌, ◌<◌, ◌++◌, length, IfSome, OnOk, OnErr};
 ghost use Rattle.std.specs.Option.{option_map};
+ghost use Rattle.hy_base.specs.Pieces.{GaveFront};
 ghost use Rattle.hy_text.specs.Names.{plain_name_at, quoted_name_at, name_at, spelled};
 ghost use Rattle.hy_text.specs.Found.{plain_pair};
 
@@ -52,9 +53,11 @@ fn read_quoted_name(text: &[u8]) -> Option<(&[u8], &[u8])>
 }
 
 /// Adds `name` to a text, with quotes exactly where it is not a letter followed by letters, digits
-/// and underscores. In time linear in the name. Refused for memory, the text may have a part of it.
+/// and underscores. In time linear in the name. Refused for memory it adds a front of that, and not
+/// all.
 pub fn push_name(out: &mut Text, name: &[u8]) -> M<()>
-    ensures { OnOk result (out.new ≡ out.old ++ spelled name.now) }
+    ensures added { OnOk result (out.new ≡ out.old ++ spelled name.now) }
+    ensures refused { OnErr result (GaveFront out.old out.new (spelled name.now)) }
 {
     if is_plain(name) {
         return out.extend(name);

@@ -1,6 +1,7 @@
 //! Sets of names in braces, each set a letter.
 
-ghost use Rattle.std.specs.Prelude.{◌≡◌, ◌<◌, ◌++◌, length, IfSome, OnOk};
+ghost use Rattle.std.specs.Prelude.{◌≡◌, ◌<◌, ◌++◌, length, IfSome, OnOk, OnErr};
+ghost use Rattle.hy_base.specs.Pieces.{GaveFront};
 ghost use Rattle.hy_text.specs.Joined.{piece};
 ghost use Rattle.hy_text.specs.Names.{spelled};
 ghost use Rattle.hy_text.specs.Sets.{with_member, printed_set};
@@ -75,9 +76,11 @@ fn with_member(letter: LetterMask, name: &[u8], names: &NameTable) -> LetterMask
 }
 
 /// Adds a set to a text: the names of the table that are in the letter, by their numbers, with no
-/// blanks. Refused for memory, the text may have a part of it.
+/// blanks. In time linear in the names of the table and of the letter. Refused for memory it adds a
+/// front of that, and not all.
 pub fn push_set(out: &mut Text, letter: &LetterMask, names: &NameTable) -> M<()>
-    ensures { OnOk result (out.new ≡ out.old ++ printed_set names.now letter.now) }
+    ensures added { OnOk result (out.new ≡ out.old ++ printed_set names.now letter.now) }
+    ensures refused { OnErr result (GaveFront out.old out.new (printed_set names.now letter.now)) }
 {
     out.push(b'{')?;
     let mut is_first = true;
@@ -92,7 +95,9 @@ pub fn push_set(out: &mut Text, letter: &LetterMask, names: &NameTable) -> M<()>
 
 /// Adds a name, with a comma before it unless it is the first one.
 fn push_member(out: &mut Text, is_first: bool, name: &[u8]) -> M<()>
-    ensures { OnOk result (out.new ≡ out.old ++ piece is_first 44 (spelled name.now)) }
+    ensures added { OnOk result (out.new ≡ out.old ++ piece is_first 44 (spelled name.now)) }
+    ensures refused { OnErr result
+        (GaveFront out.old out.new (piece is_first 44 (spelled name.now))) }
 {
     if !is_first {
         out.push(b',')?;

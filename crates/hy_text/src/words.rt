@@ -1,6 +1,9 @@
 //! Words of sets.
 
 ghost use Rattle.std.specs.Prelude.{◌≡◌, ◌++◌, ◌∷◌, [], if◌then◌else◌, List, IfOk, OnOk, OnErr};
+ghost use Rattle.hy_base.specs.Pieces.{GaveFront};
+ghost use Rattle.hy_text.specs.Joined.{piece};
+ghost use Rattle.hy_text.specs.Sets.{printed_set};
 ghost use Rattle.hy_text.specs.Words.{printed_word};
 ghost use Rattle.hy_text.specs.Found.{IsWordFound, IsWordHere};
 ghost use Rattle.hy_bits.specs.Letter.{Letter};
@@ -101,15 +104,28 @@ fn keep_letter(letters: &mut Letters, letter: LetterMask, is_wanted: bool) -> M<
     }
 }
 
-/// Adds a word to a text, each set by `push_set`. Refused for memory, the text may have a part of it.
+/// Adds a word to a text, each set by `push_set`, and semicolons between them. Refused for memory it
+/// adds a front of that, and not all.
 pub fn push_word(out: &mut Text, letters: &[LetterMask], names: &NameTable) -> M<()>
-    ensures { OnOk result (out.new ≡ out.old ++ printed_word names.now letters.now) }
+    ensures added { OnOk result (out.new ≡ out.old ++ printed_word names.now letters.now) }
+    ensures refused { OnErr result
+        (GaveFront out.old out.new (printed_word names.now letters.now)) }
 {
     for (i, letter) in letters.iter().enumerate() {
-        if i > 0 {
-            out.push(b';')?;
-        }
-        push_set(out, letter, names)?;
+        push_next(out, i == 0, letter, names)?;
     }
     Ok(())
+}
+
+/// Adds a set, with a semicolon before it unless it is the first one.
+fn push_next(out: &mut Text, is_first: bool, letter: &LetterMask, names: &NameTable) -> M<()>
+    ensures added { OnOk result
+        (out.new ≡ out.old ++ piece is_first 59 (printed_set names.now letter.now)) }
+    ensures refused { OnErr result
+        (GaveFront out.old out.new (piece is_first 59 (printed_set names.now letter.now))) }
+{
+    if !is_first {
+        out.push(b';')?;
+    }
+    push_set(out, letter, names)
 }

@@ -4,12 +4,12 @@ use Rattle.std.proofs.Math.Nat.{mul-le-mul_right}
 use Rattle.hy_formula.specs.Quantifiers.{Each}
 use Rattle.hy_formula.specs.Trees.{Tree}
 use Rattle.hy_formula.proofs.Each.{each-at}
-use Rattle.fin_monitor.specs.Codes.{atoms_of}
-use Rattle.fin_monitor.specs.Duties.{body_nodes, body_root}
+use Rattle.hy_formula.specs.Atoms.{atoms_of}
+use Rattle.ltl_closure.specs.Bodies.{body_nodes, body_root}
 use Rattle.fin_monitor.specs.Limits.{HasLargeClosure, HasSmallClosure, HasManyAtoms, HasFewAtoms, HasLargeTable, HasSmallTable}
 use Rattle.fin_monitor.proofs.Counting.{reached-most}
 use Rattle.rank_proofs.specs.Counts.{HasFewMembers}
-use Rattle.hy_read.specs.Answers.{Plain}
+use Rattle.hy_formula.specs.Formulas.{Plain}
 use Rattle.hy_words.specs.Commands.{Command}
 use Rattle.hy_top.specs.Checking.{HasManyMembers}
 use Rattle.hy_top.specs.Files.{Given, HasFormulas}
@@ -26,7 +26,7 @@ few_atoms body few many = omega (arith, few, many)
 
 small_tables : (body : Tree) → HasSmallTable body → ¬ HasLargeTable body
 small_tables body small large =
-    let most = reached-most (body_nodes body) (body_root body) large.list small.list large.reached small.reached in
+    let most = reached-most (body_nodes body true) (body_root body true) large.list small.list large.reached small.reached in
     let times = mul-le-mul_right (2 ^ length (atoms_of body)) most in
     omega (arith, times, small.few, large.many)
 

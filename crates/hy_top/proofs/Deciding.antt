@@ -10,7 +10,7 @@ use Rattle.hy_formula.specs.Quantifiers.{Each}
 use Rattle.hy_formula.specs.declared.classes.Class.{Class}
 use Rattle.hy_formula.specs.declared.classes.Class.TheVariants as classes
 use Rattle.hy_formula.specs.declared.prefix.Quant.{Quant}
-use Rattle.hy_read.specs.Answers.{Plain}
+use Rattle.hy_formula.specs.Formulas.{Plain}
 use Rattle.ea_reduce.specs.Fulfilled.{IsOfOneKind}
 use Rattle.ea_reduce.specs.Plans.{PlainPlan}
 use Rattle.ea_reduce.specs.Refused.{HasFewMaps, RefusesClass as Unlike}

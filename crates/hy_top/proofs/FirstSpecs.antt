@@ -14,10 +14,11 @@ use Rattle.hy_formula.specs.Quantifiers.{Each}
 use Rattle.hy_formula.specs.Trees.{Tree}
 use Rattle.hy_finite.specs.declared.event.Placed.{Placed}
 use Rattle.hy_finite.specs.declared.lengths.Lengths.{Lengths}
-use Rattle.hy_read.specs.Answers.{Plain, Answers, read_as, plain_of, tokens_of, located}
+use Rattle.hy_formula.specs.Formulas.{Plain}
+use Rattle.hy_read.specs.Answers.{Answers, read_as, plain_of, tokens_of, located}
 use Rattle.hy_read.specs.Scanning.{Span}
 use Rattle.hy_read.specs.Tokens.{Token}
-use Rattle.hy_read.specs.Builds.{plain_formula, plain_formulas}
+use Rattle.hy_formula.specs.Formulas.{plain_formula, plain_formulas}
 use Rattle.hy_read.specs.Grammar.{Read}
 use Rattle.hy_read.specs.Results.{Count, specs, quantifiers, parens, heights, names, in_order, largest, most, count_of, first_past, Result, fault, unbound, past, taken, Reads}
 use Rattle.fin_monitor.specs.Limits.{HasLargeClosure, HasSmallClosure, HasManyAtoms, HasFewAtoms, HasLargeTable, IsTaken}

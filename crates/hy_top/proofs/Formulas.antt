@@ -6,7 +6,7 @@ use Rattle.hy_formula.specs.Classes.{class_of}
 use Rattle.hy_formula.specs.Quantifiers.{Each}
 use Rattle.hy_formula.specs.declared.classes.Class.{Class}
 use Rattle.hy_formula.proofs.Each.{each-at}
-use Rattle.hy_read.specs.Answers.{Plain}
+use Rattle.hy_formula.specs.Formulas.{Plain}
 use Rattle.ea_reduce.specs.Plans.{PlainPlan, PlainJob}
 use Rattle.ea_reduce.specs.Refused.{HasFewMaps, HasManyMaps, most_maps}
 use Rattle.rank_proofs.specs.Counts.{HasFewMembers}

@@ -11,7 +11,7 @@ use Rattle.hy_lasso.specs.declared.error.HoldsError.TheVariants.{Memory as OfMem
 use Rattle.hy_lasso.specs.Joint.{IsJudged}
 use Rattle.hy_lasso.specs.Limits.{joint_limit}
 use Rattle.hy_lasso.specs.LassoFiles.{IsLassosAnswer}
-use Rattle.hy_read.specs.Answers.{Plain}
+use Rattle.hy_formula.specs.Formulas.{Plain}
 use Rattle.hy_answer.specs.declared.answer.Answer.{Answer}
 use Rattle.hy_answer.specs.declared.answer.Answer.TheVariants as answers
 use Rattle.hy_answer.specs.Outputs.{out_text}

@@ -13,5 +13,4 @@ pub mod Reading
 pub mod Silence
 pub mod Sources
 pub mod StageOrder
-pub mod Texts
 pub mod Worded

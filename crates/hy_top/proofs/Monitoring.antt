@@ -13,7 +13,7 @@ use Rattle.hy_finite.specs.declared.lengths.Lengths.{Lengths}
 use Rattle.hy_finite.specs.EventAnswers.{IsCheckAnswer, IsRefusal}
 use Rattle.hy_finite.specs.EventFiles.{IsEventFile}
 use Rattle.made_traces.specs.MadeTraces.{made_trace, made_traces}
-use Rattle.hy_read.specs.Answers.{Plain}
+use Rattle.hy_formula.specs.Formulas.{Plain}
 use Rattle.hy_answer.specs.declared.answer.Answer.{Answer}
 use Rattle.hy_answer.specs.declared.answer.Answer.TheVariants.{Prefix}
 use Rattle.hy_answer.specs.Outputs.{out_text}

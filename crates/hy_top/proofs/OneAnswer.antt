@@ -11,7 +11,7 @@ use Rattle.hy_finite.specs.Traces.{Trace}
 use Rattle.rv_core.specs.Endings.{Spec, IsClean, FirstViolated}
 use Rattle.rv_core.specs.Histories.{History, empty_history, Step, refused, goes, step, arrives}
 use Rattle.hy_lasso.specs.Words.{Satisfies as Meant}
-use Rattle.hy_read.specs.Answers.{Plain}
+use Rattle.hy_formula.specs.Formulas.{Plain}
 use Rattle.hy_finite.proofs.OneAnswer.{one-events}
 use Rattle.rv_core.proofs.Ending.{first-one}
 use Rattle.ea_core.specs.Decided.{Implies, TellsApart}

@@ -5,7 +5,7 @@ use Rattle.hy_base.specs.Shelf.{Read, ReadsFile, ReadsFiles}
 use Rattle.hy_base.specs.declared.reading.FileError.{FileError}
 use Rattle.hy_base.specs.declared.reading.FileError.TheVariants as errors
 use Rattle.hy_base.specs.declared.shelf.Shelf.{Ghosts}
-use Rattle.hy_read.specs.Answers.{Plain}
+use Rattle.hy_formula.specs.Formulas.{Plain}
 use Rattle.hy_files.specs.Contents.{Content, IsText, IsRefused}
 use Rattle.hy_files.specs.Faults.{read_fault}
 use Rattle.hy_files.specs.Steps.{Takes, Fails, unread, spent, refused}

@@ -4,7 +4,7 @@ use Rattle.hy_formula.specs.Classes.{class_of}
 use Rattle.hy_formula.specs.Quantifiers.{Each}
 use Rattle.hy_formula.specs.declared.classes.Class.{Class}
 use Rattle.hy_formula.specs.declared.classes.Class.TheVariants.{Exists, Forall, ExistsForall, Other}
-use Rattle.hy_read.specs.Answers.{Plain}
+use Rattle.hy_formula.specs.Formulas.{Plain}
 use Rattle.hy_answer.specs.declared.answer.Answer.{Answer}
 use Rattle.hy_answer.specs.declared.answer.Answer.TheVariants.{Prefix}
 use Rattle.hy_words.specs.Commands.{Command, monitor, monitor_made, judge, decide, imply, compare, check}

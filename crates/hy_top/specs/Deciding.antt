@@ -8,7 +8,7 @@ use Rattle.hy_bits.specs.Letter.{Letter}
 use Rattle.hy_formula.specs.Quantifiers.{Each}
 use Rattle.hy_formula.specs.declared.classes.Class.{Class}
 use Rattle.hy_formula.specs.Lassos.{Lasso}
-use Rattle.hy_read.specs.Answers.{Plain}
+use Rattle.hy_formula.specs.Formulas.{Plain}
 use Rattle.ea_reduce.specs.Plans.{PlainPlan, reduction, implication}
 use Rattle.ea_reduce.specs.Refused.{HasFewMaps, HasManyMaps}
 use Rattle.rank_proofs.specs.declared.rank_proof.RankProof.{RankProof}

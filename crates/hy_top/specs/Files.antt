@@ -1,7 +1,7 @@
 -- What came of reading the files of a command, and what was found in them.
 use Rattle.std.specs.Prelude.{◌≡◌, ℕ, zero, suc, List, [], ◌++◌, length, Some, Ok, slice_get}
 use Rattle.hy_base.specs.Shelf.{Read}
-use Rattle.hy_read.specs.Answers.{Plain}
+use Rattle.hy_formula.specs.Formulas.{Plain}
 use Rattle.hy_files.specs.Contents.{IsText, IsRefused}
 use Rattle.hy_files.specs.declared.fault.FileFault.{FileFault}
 use Rattle.hy_answer.specs.declared.answer.Answer.{Answer}

@@ -9,7 +9,7 @@ use Rattle.hy_formula.specs.declared.prefix.Quant.{Quant}
 use Rattle.hy_lasso.specs.Joint.{IsJudged}
 use Rattle.hy_lasso.specs.LassoFiles.{IsLassosAnswer}
 use Rattle.hy_lasso.specs.Words.{Satisfies}
-use Rattle.hy_read.specs.Answers.{Plain}
+use Rattle.hy_formula.specs.Formulas.{Plain}
 use Rattle.hy_answer.specs.declared.answer.Answer.{Answer}
 use Rattle.hy_answer.specs.declared.answer.Answer.TheVariants.{OnTrue, OnFalse, Limit, Memory}
 use Rattle.hy_words.specs.Commands.{Command, monitor, monitor_made, judge, decide, imply, compare, check}

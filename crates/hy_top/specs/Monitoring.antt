@@ -14,7 +14,7 @@ use Rattle.hy_finite.specs.declared.lengths.Lengths.{Lengths}
 use Rattle.hy_finite.specs.EventFiles.{IsEventFile}
 use Rattle.hy_finite.specs.Traces.{Trace}
 use Rattle.made_traces.specs.MadeTraces.{made_traces}
-use Rattle.hy_read.specs.Answers.{Plain}
+use Rattle.hy_formula.specs.Formulas.{Plain}
 use Rattle.fin_monitor.specs.Limits.{HasLargeClosure, HasSmallClosure, HasManyAtoms, HasFewAtoms, HasLargeTable, IsTaken}
 use Rattle.rv_core.specs.Endings.{Spec, IsClean}
 use Rattle.rv_core.specs.Histories.{History, empty_history, Refusal, no_session, no_save, too_long, too_many_sessions, too_many_saves, Step, refused, goes, step, arrives}

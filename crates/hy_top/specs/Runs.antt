@@ -5,7 +5,7 @@ use Rattle.hy_base.specs.Shelf.{ReadsFiles}
 use Rattle.hy_base.specs.Sink.{GivesWhole, FailsToGive}
 use Rattle.hy_base.specs.declared.shelf.Shelf.{Ghosts}
 use Rattle.hy_base.specs.declared.sink.Sink as sink
-use Rattle.hy_read.specs.Answers.{Plain}
+use Rattle.hy_formula.specs.Formulas.{Plain}
 use Rattle.hy_answer.specs.declared.answer.Answer.{Answer}
 use Rattle.hy_answer.specs.declared.answer.Answer.TheVariants.{Words, WriteFault, Memory}
 use Rattle.hy_answer.specs.declared.answer.Extras.{Extras}
@@ -61,12 +61,12 @@ pub data Comes {S : Type 0} (g : Ghosts S) (tool : Tool) (words : List (List ℕ
       → Follows g old new command answer text → Comes g tool words old new answer text
 
 -- What is answered once the text of the answer that was due was written: that answer. Where a put failed it is
--- `WriteFault`, and where memory ran out nothing was written.
+-- `WriteFault`, and where memory ran out no put was made.
 abbrev pub IsWritten : {O : Type 0} → sink.Ghosts O → O → O → Answer → List ℕ → Answer → Type 0
 IsWritten g old new due text answer =
     ((answer ≡ due) × GivesWhole g old new text)
     ⊎ ((answer ≡ WriteFault) × (0 < length text) × FailsToGive g old new text)
-    ⊎ ((answer ≡ Memory) × GivesWhole g old new [])
+    ⊎ ((answer ≡ Memory) × (old ≡ new))
 
 -- The names of the files that the words name: those of their command, or none; where memory ran out over the words no
 -- line needs them.

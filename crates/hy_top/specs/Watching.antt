@@ -16,7 +16,7 @@ use Rattle.hy_files.specs.Faults.{line_fault}
 use Rattle.hy_answer.specs.declared.answer.Answer.{Answer}
 use Rattle.hy_answer.specs.declared.answer.Answer.TheVariants.{Session, Limit, Memory}
 use Rattle.hy_answer.specs.Refusals.{fault_answer}
-use Rattle.hy_read.specs.Answers.{Plain}
+use Rattle.hy_formula.specs.Formulas.{Plain}
 use Rattle.hy_top.specs.Monitoring.{Comes, EventsCome, IsNoViolation, IsOutcome, whole_traces}
 use Rattle.hy_top.specs.declared.source.Source.{Source}
 use Rattle.hy_top.specs.declared.source.Source.TheVariants.{Lines, Made}

@@ -3,7 +3,7 @@
 ghost use Rattle.std.specs.Prelude.{◌≡◌, ◌<◌, ◌-◌, ◌^◌, ◌∷◌, [], List, ℕ, Bool, length};
 ghost use Rattle.hy_base.specs.Shelf.{KeepsShelf};
 ghost use Rattle.hy_formula.specs.Trees.{tree_of};
-ghost use Rattle.hy_read.specs.Builds.{plain_formula};
+ghost use Rattle.hy_formula.specs.Formulas.{plain_formula};
 ghost use Rattle.hy_answer.specs.Outputs.{out_text};
 ghost use Rattle.hy_words.specs.Commands.{judge, decide, imply, compare};
 ghost use Rattle.hy_top.specs.Deciding.{Outcome, refusal_answer};

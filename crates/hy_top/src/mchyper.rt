@@ -3,7 +3,7 @@
 ghost use Rattle.std.specs.Prelude.{◌≡◌, ◌+◌, ◌<◌, ◌≤◌, ◌^◌, [], List, ℕ, Bool, length, slice_index_or, IfOk};
 ghost use Rattle.hy_base.specs.Shelf.{KeepsShelf};
 ghost use Rattle.hy_base.specs.declared.reading.TheConstants.{BYTES_LIMIT};
-ghost use Rattle.hy_read.specs.Builds.{plain_formula};
+ghost use Rattle.hy_formula.specs.Formulas.{plain_formula};
 ghost use Rattle.hy_answer.specs.Outputs.{out_text};
 ghost use Rattle.hy_words.specs.Commands.{check};
 ghost use Rattle.hy_top.specs.Checking.{IsCheck, checked_answer};
@@ -121,13 +121,10 @@ fn checked_answer(checked: Checked) -> Answer
 }
 
 /// The name with a number.
-#[tactic(auto, using(crate::proofs::Texts::name_found, crate::proofs::Texts::name_past))]
 fn name_text(alloc: Global, names: &NameTable, name: u8) -> M<Text>
     ensures { IfOk result (λ text. text ≡ slice_index_or names.now name []) }
 {
     let mut text = Text::new(alloc);
-    if (name as usize) < names.len() {
-        text.extend(names.at(name))?;
-    }
+    text.extend(names.text(name))?;
     Ok(text)
 }

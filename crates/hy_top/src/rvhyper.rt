@@ -4,7 +4,7 @@ ghost use Rattle.std.specs.Prelude.{◌≡◌, ◌≤◌, ◌<◌, ◌^◌, ℕ,
 ghost use Rattle.hy_base.specs.Shelf.{KeepsShelf};
 ghost use Rattle.hy_base.specs.declared.reading.TheConstants.{BYTES_LIMIT};
 ghost use Rattle.hy_formula.specs.declared.formula.Formula.{Formula};
-ghost use Rattle.hy_read.specs.Builds.{plain_formulas};
+ghost use Rattle.hy_formula.specs.Formulas.{plain_formulas};
 ghost use Rattle.rv_core.specs.Built.{HasFewQuantifiers, IsNewRefusal};
 ghost use Rattle.hy_answer.specs.Outputs.{out_text};
 ghost use Rattle.hy_words.specs.Commands.{monitor, monitor_made};

@@ -5,7 +5,8 @@ use Rattle.std.proofs.Math.Seq.{get_or-append_seam}
 use Rattle.std.proofs.lemmas.Bool.{cases_eq}
 use Rattle.std.proofs.lemmas.List.{get_or_append_left, length-take}
 use Rattle.std.proofs.lemmas.List.Elements.{Contains-append_left, Contains-get_or, Contains-push, Contains-push_cases}
-use Rattle.aig_net.specs.Nets.{latch_variable, row}
+use Rattle.aig_net.specs.Nets.{latch_variable}
+use Rattle.hy_base.specs.Rows.{row}
 use Rattle.aig_net.specs.Executions.{Word}
 use Rattle.chain_check.specs.declared.logs.Learned.{Learned}
 use Rattle.chain_check.specs.Clauses.{Clause, SatisfiesAll}
@@ -18,7 +19,7 @@ use Rattle.cnf_frames.specs.declared.queries.Asked.TheVariants.{Keep}
 use Rattle.cnf_frames.specs.declared.queries.Query.{Query}
 use Rattle.cnf_frames.specs.declared.queries.FrameError.{FrameError}
 use Rattle.cnf_frames.specs.declared.queries.FrameError.TheVariants.{Limit, Memory}
-use Rattle.cnf_frames.specs.Facts.{AllHold, AllIn, IsSafe, fact_at}
+use Rattle.cnf_frames.specs.Facts.{AllHold, AllIn, IsSafe, fact_at, HoldsIn}
 use Rattle.cnf_frames.specs.Queries.{IsQuery, IsRefusal, IsWithin, clauses_of, group_of, groups, variables_of}
 use Rattle.cnf_frames.specs.QueryPaths.{IsKeepPath, word_of}
 use Rattle.cnf_frames.specs.Proofs.{AreKeepsWithin, AreKept, IsRefuted, log_at}
@@ -28,7 +29,7 @@ use Rattle.cnf_frames.proofs.Groups.{of-group}
 use Rattle.cnf_frames.proofs.Surviving.{survives}
 use Rattle.invar_find.specs.declared.kept.SpentGroup.{SpentGroup}
 use Rattle.invar_find.specs.Kepts.{AreStarting, IsKept, IsSpentGroup, IsStopped}
-use Rattle.invar_find.specs.Parts.{AreThose, HoldsIn, IsOutside, IsSublist}
+use Rattle.invar_find.specs.Parts.{AreThose, IsOutside, IsSublist}
 use Rattle.invar_find.specs.Searches.{IsSearching}
 use Rattle.invar_find.proofs.Sublists.{sublist-among, sublist-length, sublist-shorter, sublist-trans, those-all}
 use Rattle.invar_find.proofs.Starting.{candidate-in, holds-alike}

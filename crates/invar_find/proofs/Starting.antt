@@ -4,14 +4,15 @@ use Rattle.std.specs.Prelude.{Contains, ◌↔◌, Result, Ok, Err, IfOk}
 use Rattle.std.proofs.lemmas.List.Elements.{Contains-append_cases}
 use Rattle.hy_base.proofs.Members.{contains-none, contains-cases}
 use Rattle.aig_net.specs.declared.parts.Reset.{Reset}
-use Rattle.aig_net.specs.Nets.{Net, Valuation, IsStart, ResetTo, latch_variable, row}
+use Rattle.aig_net.specs.Nets.{Net, Valuation, IsStart, ResetTo, latch_variable}
+use Rattle.hy_base.specs.Rows.{row}
 use Rattle.live_safe.specs.declared.safe_net.SafeNet.{SafeNet}
 use Rattle.cnf_frames.specs.declared.facts.Fact.{Fact}
 use Rattle.cnf_frames.specs.declared.facts.Fact.TheVariants.{Zero, One, Same, Differ}
-use Rattle.cnf_frames.specs.Facts.{FactHolds, AllIn, IsIn, IsSafe}
-use Rattle.cnf_frames.specs.Queries.{for_each}
+use Rattle.cnf_frames.specs.Facts.{FactHolds, AllIn, IsIn, IsSafe, HoldsIn}
+use Rattle.chain_check.specs.FewClauses.{for_each}
 use Rattle.invar_find.specs.Candidates.{candidates, pairs_with, single_facts}
-use Rattle.invar_find.specs.Parts.{AreThose, HoldsIn}
+use Rattle.invar_find.specs.Parts.{AreThose}
 use Rattle.invar_find.specs.Searches.{IsSearching}
 use Rattle.invar_find.proofs.Sublists.{sublist-among, sublist-length}
 

@@ -2,7 +2,7 @@
 use Rattle.std.specs.Prelude.{ℕ, List, [], ◌∷◌, ◌++◌, min}
 use Rattle.cnf_frames.specs.declared.facts.Fact.{Fact}
 use Rattle.cnf_frames.specs.declared.facts.Fact.TheVariants.{Zero, One, Same, Differ}
-use Rattle.cnf_frames.specs.Queries.{for_each}
+use Rattle.chain_check.specs.FewClauses.{for_each}
 
 -- for each of n latches that it is 0, and that it is 1
 abbrev pub single_facts : ℕ → List Fact

@@ -1,7 +1,6 @@
 -- Parts of lists of facts.
-use Rattle.std.specs.Prelude.{◌≡◌, ◌≢◌, ℕ, Bool, false, true, List, [], ◌∷◌, Contains}
+use Rattle.std.specs.Prelude.{ℕ, List, [], ◌∷◌, Contains}
 use Rattle.cnf_frames.specs.declared.facts.Fact.{Fact}
-use Rattle.cnf_frames.specs.declared.facts.Fact.TheVariants.{Zero, One, Same, Differ}
 use Rattle.cnf_frames.specs.Queries.{group_of}
 
 -- some of the facts, in their order
@@ -15,13 +14,6 @@ pub record AreThose (P : Fact → Type 0) (all some : List Fact) : Type 0 where
   pub sublist : IsSublist some all
   pub right : (f : Fact) → Contains some f → P f
   pub whole : (f : Fact) → Contains all f → P f → Contains some f
-
--- The fact holds where the latches have these values, by place.
-abbrev pub HoldsIn : (ℕ → Bool) → Fact → Type 0
-HoldsIn state (Zero j) = state j ≡ false
-HoldsIn state (One j) = state j ≡ true
-HoldsIn state (Same i j) = state i ≡ state j
-HoldsIn state (Differ i j) = state i ≢ state j
 
 -- The fact is not of the group.
 abbrev pub IsOutside : List Fact → ℕ → Fact → Type 0

@@ -1,7 +1,7 @@
 //! The facts that are tried.
 
 ghost use Rattle.std.specs.Prelude.{◌≡◌, ◌<◌, ◌^◌, ◌++◌, IfOk, OnOk, min};
-ghost use Rattle.cnf_frames.specs.Queries.{for_each};
+ghost use Rattle.chain_check.specs.FewClauses.{for_each};
 ghost use Rattle.invar_find.specs.Candidates as facts;
 ghost use Rattle.invar_find.specs.Candidates.{pairs_with, single_facts};
 

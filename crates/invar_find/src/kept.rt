@@ -2,7 +2,8 @@
 
 use chain_check::Log;
 use cnf_frames::{Inv, LogList};
-use hy_base::List;
+use hy_base::{List, M, Remake};
+use std::alloc::Global;
 
 /// A group of facts that was left out, since the conflicts were spent on its query.
 #[derive(Drop)]
@@ -13,6 +14,16 @@ pub struct SpentGroup {
     pub group: u32,
     /// What was learned.
     pub log: Log,
+}
+
+impl Remake for SpentGroup {
+    fn remake(&self, alloc: Global) -> M<Self> {
+        Ok(SpentGroup {
+            facts: self.facts.copy(alloc)?,
+            group: self.group,
+            log: self.log.copy(alloc)?,
+        })
+    }
 }
 
 /// Groups that were left out, in the order in which they were asked.

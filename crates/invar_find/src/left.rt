@@ -1,12 +1,13 @@
 //! What is left of facts.
 
 ghost use Rattle.std.specs.Prelude.{◌≡◌, ◌*◌, ◌+◌, ◌<◌, ◌≤◌, ◌↔◌, ℕ, Contains, length, IsTrue, IfOk};
-ghost use Rattle.aig_net.specs.Nets.{latch_variable, row, variables};
+ghost use Rattle.aig_net.specs.Nets.{latch_variable, variables};
+ghost use Rattle.hy_base.specs.Rows.{row};
 ghost use Rattle.live_safe.specs.declared.safe_net.SafeNet.{SafeNet};
-ghost use Rattle.cnf_frames.specs.Facts.{AllIn, IsIn, IsSafe};
+ghost use Rattle.cnf_frames.specs.Facts.{AllIn, IsIn, IsSafe, HoldsIn};
 ghost use Rattle.cnf_frames.specs.Queries.{group_of};
 ghost use Rattle.cnf_frames.specs.QueryPaths.{word_of};
-ghost use Rattle.invar_find.specs.Parts.{AreThose, HoldsIn, IsOutside};
+ghost use Rattle.invar_find.specs.Parts.{AreThose, IsOutside};
 
 use cnf_frames::{Fact, Inv};
 use hy_base::{List, M};

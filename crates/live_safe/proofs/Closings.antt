@@ -2,7 +2,8 @@
 use Rattle.std.proofs.Common.{◌≡◌, ℕ, List, [], ◌∷◌, length, sym, ap, ◌∙◌}
 use Rattle.aig_net.specs.declared.maker.Gates.{Gates}
 use Rattle.aig_net.specs.Nets.{Net, literal_at, IsNet}
-use Rattle.aig_net.specs.Wires.{Fits, FitsAll, Makes, MakesAll, listed}
+use Rattle.aig_net.specs.Wires.{Fits, FitsAll, Makes, MakesAll}
+use Rattle.hy_base.specs.Rows.{listed}
 use Rattle.live_safe.specs.declared.places.Places.{Places}
 use Rattle.live_safe.specs.declared.moved.Moved.{Moved}
 use Rattle.live_safe.specs.declared.closing.Saving.{Saving}

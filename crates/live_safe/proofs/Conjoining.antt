@@ -1,9 +1,10 @@
 -- A conjunction that is made one wire after the other.
 use Rattle.std.proofs.Common.{◌≡◌, ℕ, zero, suc, ◌+◌, ◌-◌, ◌<◌, ◌≤◌, List, [], ◌∷◌, ◌++◌, length, refl, sym, ap, ◌∙◌, subst, arith, append_assoc, length-append}
 use Rattle.aig_net.specs.declared.parts.And.{And}
-use Rattle.aig_net.specs.Wires.{Wire, literal, made, Fits, Makes, both, all_of, and_of, listed}
+use Rattle.aig_net.specs.Wires.{Wire, literal, made, Fits, Makes, both, all_of, and_of}
+use Rattle.hy_base.specs.Rows.{listed}
 use Rattle.aig_net.proofs.Wiring.{grows}
-use Rattle.aig_net.proofs.Listed.{last-listed}
+use Rattle.hy_base.proofs.Listed.{last-listed}
 use Rattle.aig_net.proofs.Making.{all-of-last}
 use Rattle.live_safe.proofs.Sizes.{all-of-append}
 

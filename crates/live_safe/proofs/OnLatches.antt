@@ -1,9 +1,10 @@
 -- `bad` depends on latches alone.
 use Rattle.std.proofs.Common.{◌≡◌, ℕ, suc, ◌+◌, ◌*◌, ◌<◌, Bool, not, ◌&&◌, cond, List, [], ◌∷◌, length, sym, ap, ◌∙◌, arith}
 use Rattle.aig_net.specs.Nets.{Net, Valuation, literal_value, latch_variable, IsRight}
-use Rattle.aig_net.specs.Wires.{Wire, literal, both, equal, all_of, listed, wire_at, wire_value}
+use Rattle.aig_net.specs.Wires.{Wire, literal, both, equal, all_of, wire_at, wire_value}
+use Rattle.hy_base.specs.Rows.{listed}
 use Rattle.aig_net.proofs.Literals.{value-even}
-use Rattle.aig_net.proofs.Listed.{append-listed, each-listed}
+use Rattle.hy_base.proofs.Listed.{append-listed, each-listed}
 use Rattle.live_safe.specs.Safe.{bad_wires, copied_latch, has_begun, raw, safe_inputs, safe_latches, saved, seen, to_safe}
 use Rattle.live_safe.proofs.SafeGates.{bad-value, many-safe-latches}
 

@@ -6,8 +6,8 @@ use Rattle.aig_net.specs.declared.parts.Reset.{Reset}
 use Rattle.aig_net.specs.declared.parts.Reset.TheVariants.{Zero}
 use Rattle.aig_net.specs.declared.parts.NetParts.{NetParts}
 use Rattle.aig_net.specs.Nets.{Net, literal_at}
-use Rattle.aig_net.specs.Wires.{listed}
-use Rattle.aig_net.proofs.Listed.{at-listed, at-map, length-listed}
+use Rattle.hy_base.specs.Rows.{listed}
+use Rattle.hy_base.proofs.Listed.{at-listed, at-map, length-listed}
 use Rattle.live_safe.specs.declared.closing.Nexts.{Nexts}
 use Rattle.live_safe.specs.declared.moved.Moved.{Moved}
 use Rattle.live_safe.specs.Safe.{bad, begun_nexts, closing, has_begun, next_saved, safe_inputs, safe_latches, safe_literal, to_safe}

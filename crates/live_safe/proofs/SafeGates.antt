@@ -3,12 +3,12 @@ use Rattle.std.proofs.Common.{◌≡◌, ℕ, suc, ◌+◌, ◌-◌, ◌*◌, �
 use Rattle.hy_base.proofs.Truths.{cond-below, cond-above}
 use Rattle.aig_net.specs.declared.parts.And.{And}
 use Rattle.aig_net.specs.Nets.{Net, no_and, Valuation, literal_value, and_value, reset_at, and_at, literal_at, latch_variable, first_and, AreRight, IsRight}
-use Rattle.aig_net.specs.Wires.{listed, Wire, literal, wire_value, wire_at}
+use Rattle.aig_net.specs.Wires.{Wire, literal, wire_value, wire_at}
+use Rattle.hy_base.specs.Rows.{listed}
 use Rattle.live_safe.specs.Safe.{effective_at, begun_nexts, has_begun, safe_inputs, take, saved, safe_first, effective, effectives, safe_variable, safe_literal, safe_and, safe_ands, saving_wires, saving, grab, next_saved, seen_wire, copy_wire, bad_wire, closing_wires, closing, safe_latches, to_safe, shown}
 use Rattle.aig_net.proofs.Literals.{value-under, value-even}
-use Rattle.aig_net.proofs.Listed.{length-listed}
+use Rattle.hy_base.proofs.Listed.{length-listed, append-each, map-each, listed-each, listed-append}
 use Rattle.aig_net.proofs.Wiring.{all-right, right-first, and-of-value}
-use Rattle.aig_net.proofs.Listed.{append-each, map-each, listed-each, listed-append}
 use Rattle.live_safe.proofs.Shapes.{length-shape}
 
 -- ---- the variables of the net

@@ -5,12 +5,12 @@ use Rattle.std.proofs.lemmas.List.{length-map}
 use Rattle.aig_net.specs.declared.parts.Reset.{Reset}
 use Rattle.aig_net.specs.declared.parts.Reset.TheVariants.{Zero, One, Free}
 use Rattle.aig_net.specs.Nets.{Net, no_and, reset_at, and_at, literal_at, latch_variable, first_and, variables, Below, AreOrdered, AreTurned, AreNames, is_name, IsNet}
-use Rattle.aig_net.specs.Wires.{all_of, listed, Wire, literal, both, equal, wire_at, WireBelow}
+use Rattle.aig_net.specs.Wires.{all_of, Wire, literal, both, equal, wire_at, WireBelow}
+use Rattle.hy_base.specs.Rows.{listed}
 use Rattle.live_safe.specs.Safe.{effective_at, begun_nexts, count_below, is_free, is_set, free_at, has_begun, safe_inputs, saved, seen, raw, copied_latch, safe_first, effective, effectives, safe_variable, safe_literal, safe_and, safe_ands, saving_wires, saving, next_saved, seen_wire, copy_wire, bad_wires, bad_wire, bad, closing_wires, closing, safe_latches, to_safe}
 use Rattle.aig_net.proofs.Literals.{below-even, below-under}
 use Rattle.aig_net.proofs.Wiring.{below-more, below-max, below-min, wire-more, all-grow, all-ordered, all-turned}
-use Rattle.aig_net.proofs.Listed.{each-append, each-map, each-listed, append-listed}
-use Rattle.aig_net.proofs.Listed.{length-listed}
+use Rattle.hy_base.proofs.Listed.{each-append, each-map, each-listed, append-listed, length-listed}
 use Rattle.live_safe.proofs.Shapes.{count-below, facts-shape}
 use Rattle.live_safe.proofs.SafeGates.{first-safe, variable-early, variable-latch, variable-and, many-wires}
 use Rattle.live_safe.proofs.Unfolding.{is-set-begun}

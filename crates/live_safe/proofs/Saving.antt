@@ -7,12 +7,14 @@ use Rattle.aig_net.specs.declared.parts.Reset.TheVariants.{Zero, One, Free}
 use Rattle.aig_net.specs.Nets.{Net, ResetTo, Valuation, literal_value, reset_at, literal_at, latch_variable, first_and, variables, Below, IsRight, IsStart, IsStep, AllTrue, IsNet}
 use Rattle.aig_net.specs.Executions.{Word, IsRun, IsLassoExecution, Lasso, gone, no_values}
 use Rattle.live_safe.specs.Paths.{IsBadPath}
-use Rattle.aig_net.specs.Wires.{all_of, listed, Wire, literal, both, equal, wire_value, wire_at}
+use Rattle.aig_net.specs.Wires.{all_of, Wire, literal, both, equal, wire_value, wire_at}
+use Rattle.hy_base.specs.Rows.{listed}
 use Rattle.live_safe.specs.Safe.{begun_nexts, count_below, is_free, is_set, free_at, has_begun, safe_inputs, take, free_input, shape, saved, seen, raw, copied_latch, begun, safe_first, effective, safe_literal, grab, next_saved, bad_wires, closing, safe_latches, to_safe, shown, shown_word}
 use Rattle.aig_net.proofs.Literals.{value-even, value-same}
 use Rattle.aig_net.proofs.Valuations.{filled, valuation-right, valuation-given, valuation-only}
 use Rattle.aig_net.proofs.Rounds.{at-round, gone-recurs}
-use Rattle.aig_net.proofs.Listed.{true-or-left, true-or-right, each-map, append-listed, each-listed}
+use Rattle.hy_base.proofs.Listed.{each-map, append-listed, each-listed}
+use Rattle.aig_net.proofs.Disjunctions.{true-or-left, true-or-right}
 use Rattle.live_safe.proofs.Shapes.{ShapeFacts, shape-facts, facts-shape, count-below, chosen, chosen-at}
 use Rattle.live_safe.proofs.Starts.{false-start}
 use Rattle.aig_net.proofs.Closings.{closed-run}

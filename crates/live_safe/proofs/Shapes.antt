@@ -5,8 +5,8 @@ use Rattle.std.proofs.lemmas.List.{get_or_append_left, get_or_at}
 use Rattle.hy_base.proofs.Truths.{counted-if, more-if}
 use Rattle.aig_net.specs.Nets.{Net}
 use Rattle.live_safe.specs.Safe.{count_below, shape}
-use Rattle.aig_net.specs.Wires.{listed}
-use Rattle.aig_net.proofs.Listed.{length-listed, listed-append, append-listed}
+use Rattle.hy_base.specs.Rows.{listed}
+use Rattle.hy_base.proofs.Listed.{length-listed, listed-append, append-listed}
 
 -- ---- the latches of a safe net
 

@@ -5,9 +5,10 @@ use Rattle.aig_net.specs.declared.parts.And.{And}
 use Rattle.aig_net.specs.declared.parts.Reset.{Reset}
 use Rattle.aig_net.specs.declared.parts.Reset.TheVariants.{Zero, One, Free}
 use Rattle.aig_net.specs.Nets.{Net, variables, reset_at}
-use Rattle.aig_net.specs.Wires.{Wire, literal, both, equal, all_of, listed, made_all, wire_at}
+use Rattle.aig_net.specs.Wires.{Wire, literal, both, equal, all_of, made_all, wire_at}
+use Rattle.hy_base.specs.Rows.{listed}
 use Rattle.aig_net.proofs.Costs.{all-cost, cost, many-made}
-use Rattle.aig_net.proofs.Listed.{each-listed, length-listed}
+use Rattle.hy_base.proofs.Listed.{each-listed, length-listed}
 use Rattle.live_safe.specs.Safe.{bad_wire, copied_latch, copy_wire, effective, effective_at, effectives, free_at, has_begun, raw, safe_and, safe_ands, safe_first, saved, saving, saving_wires, seen, seen_wire, to_safe}
 use Rattle.live_safe.proofs.Counting.{count-upto}
 use Rattle.live_safe.proofs.SafeGates.{first-safe}

@@ -5,10 +5,11 @@ use Rattle.aig_net.specs.declared.parts.And.{And}
 use Rattle.aig_net.specs.declared.parts.Reset.{Reset}
 use Rattle.aig_net.specs.declared.maker.Gates.{Gates}
 use Rattle.aig_net.specs.Nets.{Net, no_and, variables, literal_at, and_at, Below, AllBelow, IsNet, opposite}
-use Rattle.aig_net.specs.Wires.{Wire, Made, made, MadeAll, made_all, Fits, FitsAll, Makes, MakesAll, and_of, literal, opposed, both, either, listed}
+use Rattle.aig_net.specs.Wires.{Wire, Made, made, MadeAll, made_all, Fits, FitsAll, Makes, MakesAll, and_of, literal, opposed, both, either}
+use Rattle.hy_base.specs.Rows.{listed}
 use Rattle.aig_net.proofs.Wiring.{all-grow, all-length, grows}
 use Rattle.aig_net.proofs.Making.{all-ands, all-literals}
-use Rattle.aig_net.proofs.Listed.{at-listed, length-listed}
+use Rattle.hy_base.proofs.Listed.{at-listed, length-listed}
 use Rattle.live_safe.specs.declared.places.Places.{Places}
 use Rattle.live_safe.specs.declared.moved.Moved.{Moved}
 use Rattle.live_safe.specs.Safe.{safe_first, take, saved, effective_at, effectives, safe_and, safe_ands, saving, saving_wires, grab, next_saved, seen_wire, copy_wire, bad_wire, closing, closing_wires, bad}

@@ -1,7 +1,8 @@
 -- A loop that makes one wire of a list after the other: there is room for the next, and it is made.
 use Rattle.std.proofs.Common.{◌≡◌, ℕ, ◌+◌, ◌<◌, List, [], ◌∷◌, ◌++◌, sym, subst}
 use Rattle.aig_net.specs.declared.parts.And.{And}
-use Rattle.aig_net.specs.Wires.{Wire, Fits, FitsAll, Makes, MakesAll, listed}
+use Rattle.aig_net.specs.Wires.{Wire, Fits, FitsAll, Makes, MakesAll}
+use Rattle.hy_base.specs.Rows.{listed}
 use Rattle.aig_net.proofs.Making.{fits_next, next_made}
 
 pub room-next : (first other : ℕ) (old ands : List And) (f : ℕ → Wire) (j n : ℕ) (ls : List ℕ)

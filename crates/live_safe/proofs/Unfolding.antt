@@ -7,11 +7,12 @@ use Rattle.aig_net.specs.declared.parts.Reset.TheVariants.{Zero, One, Free}
 use Rattle.aig_net.specs.Nets.{Net, ResetTo, Valuation, literal_value, reset_at, literal_at, latch_variable, IsRight, IsStart, IsStep, AllTrue}
 use Rattle.aig_net.specs.Executions.{Word, IsLassoExecution, lasso_of}
 use Rattle.live_safe.specs.Paths.{IsBadPath}
-use Rattle.aig_net.specs.Wires.{all_of, listed, Wire, literal, both, equal, wire_value, wire_at}
+use Rattle.aig_net.specs.Wires.{all_of, Wire, literal, both, equal, wire_value, wire_at}
+use Rattle.hy_base.specs.Rows.{listed}
 use Rattle.live_safe.specs.Safe.{begun_nexts, count_below, is_set, set_at, has_begun, safe_inputs, take, saved, seen, raw, copied_latch, begun, effective, safe_literal, grab, next_saved, copy_wire, seen_wire, bad_wires, closing, safe_latches, to_safe, shown_word}
 use Rattle.aig_net.proofs.Literals.{value-even}
 use Rattle.aig_net.proofs.Rounds.{length-part, at-part}
-use Rattle.aig_net.proofs.Listed.{map-each, listed-append, listed-each}
+use Rattle.hy_base.proofs.Listed.{map-each, listed-append, listed-each}
 use Rattle.live_safe.proofs.Shapes.{ShapeFacts, shape-facts, count-below}
 use Rattle.live_safe.proofs.SafeGates.{safe-value, shown-right, shown-latch, effective-value, grab-value, next_saved-value, seen-value, copy-value, bad-value}
 use Rattle.aig_net.proofs.Looping.{loop-run}

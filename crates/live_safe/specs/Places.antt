@@ -4,7 +4,8 @@ use Rattle.aig_net.specs.declared.parts.And.{And}
 use Rattle.aig_net.specs.declared.parts.Reset.{Reset}
 use Rattle.aig_net.specs.declared.maker.Gates.{Gates}
 use Rattle.aig_net.specs.Nets.{Net, under, literal_at, reset_at, variables}
-use Rattle.aig_net.specs.Wires.{Wire, literal, opposed, both, either, equal, choice, listed, all_of, and_of}
+use Rattle.aig_net.specs.Wires.{Wire, literal, opposed, both, either, equal, choice, all_of, and_of}
+use Rattle.hy_base.specs.Rows.{listed}
 use Rattle.live_safe.specs.declared.places.Places.{Places}
 use Rattle.live_safe.specs.declared.moved.Moved.{Moved}
 use Rattle.live_safe.specs.declared.closing.Nexts.{Nexts}

@@ -5,7 +5,8 @@ use Rattle.aig_net.specs.declared.parts.Reset.{Reset}
 use Rattle.aig_net.specs.declared.parts.Reset.TheVariants.{Zero, One, Free}
 use Rattle.aig_net.specs.Nets.{Net, under, literal_at, reset_at, Valuation, literal_value}
 use Rattle.aig_net.specs.Executions.{Word}
-use Rattle.aig_net.specs.Wires.{Wire, literal, opposed, both, either, equal, choice, listed, all_of, and_of, MadeAll, made_all}
+use Rattle.aig_net.specs.Wires.{Wire, literal, opposed, both, either, equal, choice, all_of, and_of, MadeAll, made_all}
+use Rattle.hy_base.specs.Rows.{listed}
 use Rattle.live_safe.specs.declared.safe_net.SafeNet.{SafeNet}
 
 -- how many numbers below one pass the test

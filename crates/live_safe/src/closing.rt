@@ -2,7 +2,8 @@
 
 ghost use Rattle.std.specs.Prelude.{◌≡◌, ◌<◌, ◌≤◌, ◌^◌, [], ◌∷◌, length, All, IfOk, OnOk};
 ghost use Rattle.aig_net.specs.Nets.{IsNet};
-ghost use Rattle.aig_net.specs.Wires.{Fits, FitsAll, Makes, MakesAll, listed};
+ghost use Rattle.aig_net.specs.Wires.{Fits, FitsAll, Makes, MakesAll};
+ghost use Rattle.hy_base.specs.Rows.{listed};
 ghost use Rattle.live_safe.specs.Safe.{closing, safe_ands};
 ghost use Rattle.live_safe.specs.Places.{AreGates, AreNexts, HasRoom, Reaches, SafeFits, bad_of, copy_next_of, moved_of, places_of, saving_of, seen_next, seen_next_of};
 

@@ -1,7 +1,8 @@
 //! The effective values of latches: at the start those of their resets, later their own.
 
 ghost use Rattle.std.specs.Prelude.{◌≡◌, ◌+◌, ◌<◌, ◌^◌, length, IfOk};
-ghost use Rattle.aig_net.specs.Wires.{Fits, FitsAll, Makes, MakesAll, listed};
+ghost use Rattle.aig_net.specs.Wires.{Fits, FitsAll, Makes, MakesAll};
+ghost use Rattle.hy_base.specs.Rows.{listed};
 ghost use Rattle.live_safe.specs.Safe.{effective_wire};
 ghost use Rattle.live_safe.specs.Places.{HasRoom, effective_of, free_before};
 

@@ -1,5 +1,5 @@
 -- Bodies that are to hold together, under maps of their variables.
-use Rattle.std.specs.Prelude.{ℕ, ◌<◌, Bool, List, [], ◌∷◌, ◌++◌, length, map, slice_index_or, All, IsTrue}
+use Rattle.std.specs.Prelude.{◌≡◌, ℕ, ◌<◌, Bool, List, [], ◌∷◌, ◌++◌, length, map, slice_index_or, All, IsTrue}
 use Rattle.hy_formula.specs.Trees.{Tree, tree_of, vars_below}
 use Rattle.hy_formula.specs.Temporal.{Span, Words, SatisfiesAt}
 use Rattle.hy_formula.specs.Normals.{Normal, normal_form, Signed}
@@ -7,6 +7,18 @@ use Rattle.hy_formula.specs.Renamed.{renamed, with_variables}
 use Rattle.ltl_closure.specs.declared.job.Job.{Job}
 use Rattle.ltl_closure.specs.Nodes.{Node}
 use Rattle.ltl_closure.specs.Closures.{closure, nodes_of, number_in}
+
+-- a job without where its parts lie in memory
+pub record PlainJob : Type 0 where
+  pub body : Tree
+  pub positive : Bool
+  pub maps : List (List ℕ)
+
+abbrev pub plain_job : Job → PlainJob
+plain_job job = record { body = tree_of job.body; positive = job.positive; maps = job.maps }
+
+abbrev pub plain_jobs : List Job → List PlainJob
+plain_jobs jobs = map plain_job jobs
 
 -- a body, whether it is to hold, and the variable that each of its variables stands for
 pub record Task : Type 0 where
@@ -66,3 +78,8 @@ IsMapped job = All (λ m. IsTrue (vars_below (length m) (tree_of job.body))) job
 abbrev pub AreMappedBelow : ℕ → List Task → Type 0
 AreMappedBelow n [] = Unit {0}
 AreMappedBelow n (task ∷ tasks) = ((v : ℕ) → variable_in task.map v < n) × AreMappedBelow n tasks
+
+-- The map has each variable below n for itself.
+pub record IsIdentity (m : List ℕ) (n : ℕ) : Type 0 where
+  pub long : length m ≡ n
+  pub same : (v : ℕ) → v < n → variable_in m v ≡ v

@@ -1,3 +1,4 @@
+pub mod Bodies
 pub mod Closures
 pub mod Jobs
 pub mod Nodes

@@ -1,19 +1,21 @@
 //! The closure of jobs.
 
-ghost use Rattle.std.specs.Prelude.{◌≡◌, ◌<◌, ◌≤◌, ◌++◌, ℕ, List, All, length, IfOk, OnOk, IsErrOf};
-ghost use Rattle.hy_formula.specs.Trees.{tree_of};
+ghost use Rattle.std.specs.Prelude.{◌≡◌, ◌<◌, ◌≤◌, ◌++◌, ℕ, List, All, length, IfOk, IsTrue, OnOk, IsErrOf};
+ghost use Rattle.hy_formula.specs.Trees.{tree_of, vars_below};
+ghost use Rattle.ltl_closure.specs.Bodies.{body_closure, body_nodes};
 ghost use Rattle.ltl_closure.specs.Nodes.{node_at, PartsBelow};
 ghost use Rattle.ltl_closure.specs.Plain.{plain_node};
 ghost use Rattle.ltl_closure.specs.Closures.{closure};
-ghost use Rattle.ltl_closure.specs.Jobs.{Task, tasks_by, tasks_of, forms_of, task_nodes, closure_of, IsMapped};
+ghost use Rattle.ltl_closure.specs.Jobs.{Task, tasks_by, tasks_of, forms_of, task_nodes, closure_of, IsIdentity, IsMapped};
 ghost use Rattle.ltl_closure.specs.Numbered.{Visited, IsNumberOf};
 
 use crate::closure_error::ClosureError;
-use crate::job::{Job, JobList};
+use crate::job::{Job, JobList, VariableMap};
 use crate::node::Node;
 use crate::numbering::Numbering;
-use hy_base::NumList;
+use hy_base::{M, NumList};
 use hy_bits::BitRow;
+use hy_formula::Body;
 use indexmap::IndexSet;
 use std::alloc::Global;
 use std::marker::Model;
@@ -61,6 +63,37 @@ impl Closure {
         for job in jobs.as_slice() {
             visit_job(&mut numbering, job, &mut roots)?;
         }
+        Ok(Closure {
+            members: numbering.members,
+            roots,
+        })
+    }
+
+    /// The closure of the normal form of a body whose variables are below `variables`, negated where
+    /// not `positive`; each variable stands for itself, and the body is the only root.
+    ///
+    /// `Limit` comes exactly where there are more than 1,024 members, and as soon as one more is
+    /// met. In time linear in the body.
+    pub fn of_body(
+        alloc: Global,
+        body: &Body,
+        variables: u8,
+        positive: bool,
+    ) -> Result<Closure, ClosureError>
+        requires { IsTrue (vars_below variables (tree_of body.now)) }
+        ensures closure { IfOk result (λ c. c ≡ body_closure (tree_of body.now) positive) }
+        ensures few { OnOk result (length (body_nodes (tree_of body.now) positive) ≤ 1024) }
+        ensures limit { IsErrOf result ClosureError.Limit
+            → 1024 < length (body_nodes (tree_of body.now) positive) }
+    {
+        let map = identity(alloc, variables)?;
+        let mut numbering = Numbering::new(alloc);
+        let root = numbering.visit(body, map.as_slice(), positive, None)?;
+        if numbering.full {
+            return Err(ClosureError::Limit);
+        }
+        let mut roots = NumList::new(alloc);
+        roots.push(u32::from(root))?;
         Ok(Closure {
             members: numbering.members,
             roots,
@@ -127,4 +160,15 @@ fn visit_job(numbering: &mut Numbering, job: &Job, roots: &mut NumList) -> Resul
         roots.push(u32::from(root))?;
     }
     Ok(())
+}
+
+/// The map of each of so many variables to itself.
+fn identity(alloc: Global, variables: u8) -> M<VariableMap>
+    ensures { IfOk result (λ m. IsIdentity m variables) }
+{
+    let mut map = VariableMap::new(alloc);
+    for variable in 0..variables {
+        map.push(variable)?;
+    }
+    Ok(map)
 }

@@ -10,5 +10,5 @@ mod numbering;
 
 pub use closure::{Closure, Obl};
 pub use closure_error::ClosureError;
-pub use job::{Job, JobList, MapList, VariableMap};
+pub use job::{Job, JobList, MapList, VariableMap, copy_jobs};
 pub use node::Node;

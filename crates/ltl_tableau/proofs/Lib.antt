@@ -2,7 +2,7 @@ pub mod Bounded
 pub mod Choosing
 pub mod Distinct
 pub mod Gone
-pub mod Pigeons
+pub mod SameSets
 pub mod Refuting
 pub mod Running
 pub mod Saturating

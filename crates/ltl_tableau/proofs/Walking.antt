@@ -1,10 +1,11 @@
 -- From words that repeat and on which the roots hold: an accepting walk.
+use Rattle.std.specs.FinSet.{contains}
 use Rattle.std.proofs.Common.{◌≡◌, ℕ, zero, suc, ◌+◌, ◌-◌, ◌*◌, ◌/◌, ◌%◌, ◌^◌, ◌<◌, ◌≤◌, ◌⊎◌, false, List, [], ◌∷◌, length, get_or, inl, inr, refl, sym, ap, ◌∙◌, subst, arith}
 use Rattle.std.specs.List.{Contains}
 use Rattle.std.proofs.Math.Nat.{add-mul-mod_self_right, mod-eq_of_lt, mod-lt, mod-add-div', mul-pos, suc-mul, mul-suc, mul-add}
 use Rattle.std.proofs.lemmas.Bool.{cases_eq, cases_lt}
 use Rattle.std.proofs.lemmas.List.Elements.{Contains-get_or}
-use Rattle.hy_base.proofs.Places.{two-equal}
+use Rattle.hy_base.proofs.RowNumbers.{two-rows}
 use Rattle.hy_formula.specs.Temporal.{endless, Words, IsDecided, Repeats}
 use Rattle.hy_formula.specs.Normals.{Normal, HoldsAt}
 use Rattle.hy_formula.specs.Lassos.{Lasso}
@@ -14,7 +15,7 @@ use Rattle.ltl_tableau.specs.Walks.{no_branch, gone, IsWalk, IsAccepting}
 use Rattle.hy_formula.proofs.Repeating.{Steady, steady-tree, decided-repeating}
 use Rattle.hy_formula.proofs.Unrolling.{plain, plain-right}
 use Rattle.hy_lasso.proofs.LassoWords.{in-stem, in-cycle}
-use Rattle.ltl_tableau.proofs.Pigeons.{bits, bits-below, same-members}
+use Rattle.ltl_tableau.proofs.SameSets.{same-members}
 use Rattle.ltl_tableau.proofs.Running as running
 
 -- ---- lists of the first values of a function
@@ -109,7 +110,7 @@ module _ (nodes : List Node) (form : ℕ → Normal) (words : Words) (s c : ℕ)
 
   again : Again
   again =
-      let (t, u, lt, le, e) = two-equal (2 ^ length nodes) (λ t. bits (length nodes) (set (s + c * t))) (λ t le. bits-below (length nodes) _) in
+      let (t, u, lt, le, e) = two-rows (length nodes) (λ t. contains (set (s + c * t))) in
       again-of t u lt (sym (same-members (length nodes) _ _ (inside (s + c * t)) (inside (s + c * u)) e))
 
   module _ (a p : ℕ) (late : s ≤ a) (some : 0 < p) (m : ℕ) (multiple : p ≡ c * m) (same : set (a + p) ≡ set a) where

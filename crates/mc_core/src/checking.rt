@@ -10,8 +10,9 @@ use crate::checked::Checked;
 use crate::judging::judge;
 use crate::mc_error::McError;
 use aig_net::Net;
-use formula_nets::{closure_for, safe_for, signals_are_own};
+use formula_nets::{safe_for, signals_are_own};
 use hy_formula::{Class, Formula, NameTable, class};
+use ltl_closure::Closure;
 use net_names::signals_of;
 use std::alloc::Global;
 
@@ -60,7 +61,7 @@ fn check_as(
     signals_are_own(); // and the signals of names
     let n = formula.prefix.len() as u8;
     let body = &formula.body;
-    let closure = closure_for(alloc, body, n, existential)?;
+    let closure = Closure::of_body(alloc, body, n, existential)?;
     let signals = signals_of(alloc, net, body, names)?;
     let safe = safe_for(alloc, net, n, body, existential, &closure, &signals)?;
     judge(alloc, net, formula, existential, &signals, &safe, ask)

@@ -1,3 +1,2 @@
 pub mod MeaningLemmas
-pub mod NameSets
 pub mod SignalTables

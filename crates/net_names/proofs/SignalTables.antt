@@ -10,7 +10,8 @@ use Rattle.aig_net.specs.Signals.{has_signal, is_for, literal_of}
 use Rattle.net_names.specs.declared.meaning.Meaning.{Meaning}
 use Rattle.net_names.specs.declared.meaning.Meaning.TheVariants.{Nothing, Literal, Several}
 use Rattle.net_names.specs.Meanings.{AreBelow, Means}
-use Rattle.net_names.specs.Names.{HasLiteral, IsFirstBad, IsOnly, has_name, name_at}
+use Rattle.hy_formula.specs.Atoms.{has_name}
+use Rattle.net_names.specs.Names.{HasLiteral, IsFirstBad, IsOnly, name_at}
 
 -- a list whose names are below k has none of it
 lacks : (signals : List Signal) (k : ℕ) → All (λ s. s.name < k) signals →

@@ -7,7 +7,8 @@ use Rattle.aig_net.specs.Nets.{Net}
 use Rattle.aig_net.specs.Signals.{has_signal}
 use Rattle.net_names.specs.declared.meaning.Meaning.{Meaning}
 use Rattle.net_names.specs.declared.meaning.Meaning.TheVariants.{Nothing, Literal, Several}
-use Rattle.net_names.specs.Names.{IsOnly, has_name, name_at}
+use Rattle.hy_formula.specs.Atoms.{has_name}
+use Rattle.net_names.specs.Names.{IsOnly, name_at}
 
 -- P holds of no literal, of this one alone, or of several.
 abbrev pub Means : (ℕ → Type 0) → Meaning → Type 0

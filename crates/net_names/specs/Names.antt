@@ -1,28 +1,13 @@
 -- What the names of a formula stand for in a net: the literals of the inputs, latches and outputs
 -- that have the name. An empty name is none.
-use Rattle.std.specs.Prelude.{◌≡◌, ◌≢◌, ℕ, ◌+◌, ◌*◌, ◌<◌, ◌⊎◌, ◌||◌, Bool, true, false, nat_eq, IsTrue, List, [], length, slice_index_or, Contains, All}
-use Rattle.hy_formula.specs.Trees.{Tree, atom, not, next, finally, globally, and, or, implies, iff, until, release, weak}
+use Rattle.std.specs.Prelude.{◌≡◌, ◌≢◌, ℕ, ◌+◌, ◌*◌, ◌<◌, ◌⊎◌, Bool, true, false, IsTrue, List, [], length, slice_index_or, Contains, All}
+use Rattle.hy_formula.specs.Trees.{Tree}
+use Rattle.hy_formula.specs.Atoms.{has_name}
 use Rattle.aig_net.specs.declared.signals.Signal.{Signal}
 use Rattle.aig_net.specs.Nets.{Net, literal_at}
 use Rattle.aig_net.specs.Signals.{are_signals, has_signal}
 use Rattle.net_names.specs.declared.name_error.NameError.{NameError}
 use Rattle.net_names.specs.declared.name_error.NameError.TheVariants.{Bad, Memory}
-
--- whether the name, by its number, stands in an atom
-abbrev pub has_name : Tree → ℕ → Bool
-has_name (atom a v) name = nat_eq a name
-has_name (not f) name = has_name f name
-has_name (next f) name = has_name f name
-has_name (finally f) name = has_name f name
-has_name (globally f) name = has_name f name
-has_name (and f g) name = has_name f name || has_name g name
-has_name (or f g) name = has_name f name || has_name g name
-has_name (implies f g) name = has_name f name || has_name g name
-has_name (iff f g) name = has_name f name || has_name g name
-has_name (until f g) name = has_name f name || has_name g name
-has_name (release f g) name = has_name f name || has_name g name
-has_name (weak f g) name = has_name f name || has_name g name
-has_name _ name = false
 
 -- the name with a number
 abbrev pub name_at : List (List ℕ) → ℕ → List ℕ

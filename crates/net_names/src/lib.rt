@@ -7,4 +7,4 @@ mod naming;
 
 pub use meaning::{Meaning, meaning_of};
 pub use name_error::NameError;
-pub use naming::{names_of, signals_of};
+pub use naming::signals_of;

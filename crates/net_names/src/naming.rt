@@ -1,38 +1,14 @@
 //! The signals of the names of a formula.
 
-ghost use Rattle.std.specs.Prelude.{◌≡◌, ℕ, IfErr, IfOk};
-ghost use Rattle.std.specs.FinSet.{contains};
+ghost use Rattle.std.specs.Prelude.{IfErr, IfOk};
 ghost use Rattle.hy_formula.specs.Trees.{tree_of};
-ghost use Rattle.net_names.specs.Names.{AreSignals, IsNameRefusal, has_name, name_at};
+ghost use Rattle.net_names.specs.Names.{AreSignals, IsNameRefusal};
 
 use crate::meaning::{Meaning, meaning_of};
 use crate::name_error::NameError;
 use aig_net::{Net, Signal, Signals};
-use hy_bits::LetterMask;
-use hy_formula::{Body, NameTable};
+use hy_formula::{Body, NameTable, names_of};
 use std::alloc::Global;
-
-/// The numbers of the names in the atoms of a body, in time linear in it.
-#[tactic(auto, using(crate::proofs::NameSets::no_name, crate::proofs::NameSets::one_name, crate::proofs::NameSets::either_name))]
-pub fn names_of(body: &Body) -> LetterMask
-    ensures { (k : ℕ) → contains result k ≡ has_name (tree_of body.now) k }
-{
-    match body {
-        Body::True | Body::False => LetterMask::empty(),
-        Body::Atom(a) => LetterMask::empty().with(usize::from(a.name)),
-        Body::Not(f) => names_of(f),
-        Body::Next(f) => names_of(f),
-        Body::Finally(f) => names_of(f),
-        Body::Globally(f) => names_of(f),
-        Body::And(f, g) => names_of(f).union(&names_of(g)),
-        Body::Or(f, g) => names_of(f).union(&names_of(g)),
-        Body::Implies(f, g) => names_of(f).union(&names_of(g)),
-        Body::Iff(f, g) => names_of(f).union(&names_of(g)),
-        Body::Until(f, g) => names_of(f).union(&names_of(g)),
-        Body::Release(f, g) => names_of(f).union(&names_of(g)),
-        Body::Weak(f, g) => names_of(f).union(&names_of(g)),
-    }
-}
 
 /// The signals of the names of a body, those of variable 0, in the order of the names' numbers. In
 /// time linear in the names of the net, for each name of the body.
@@ -55,7 +31,7 @@ pub fn signals_of(
     let mut signals = Signals::new(alloc);
     for k in 0..64u8 {
         if used.has(usize::from(k)) {
-            let literal = match meaning_of(net, name_of(names, k)) {
+            let literal = match meaning_of(net, names.text(k)) {
                 Meaning::Literal(literal) => literal,
                 Meaning::Nothing => {
                     return Err(NameError::Bad {
@@ -79,15 +55,4 @@ pub fn signals_of(
     }
     signals.len(); // what signals keep
     Ok(signals)
-}
-
-/// The name with a number, empty where there is none.
-fn name_of(names: &NameTable, k: u8) -> &[u8]
-    ensures { result.now ≡ name_at names.now k }
-{
-    if usize::from(k) < names.len() {
-        names.at(k)
-    } else {
-        &[]
-    }
 }

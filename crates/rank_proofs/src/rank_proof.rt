@@ -1,4 +1,5 @@
-use hy_base::{List, NumList};
+use hy_base::{List, M, NumList, Remake};
+use std::alloc::Global;
 
 /// A branch of a proof.
 #[derive(Drop)]
@@ -8,6 +9,16 @@ pub struct ProofBranch {
     pub now: NumList,
     /// The members that are to hold at the next position, ascending.
     pub next: NumList,
+}
+
+impl Remake for ProofBranch {
+    fn remake(&self, alloc: Global) -> M<Self> {
+        Ok(ProofBranch {
+            rank: self.rank,
+            now: self.now.copy(alloc)?,
+            next: self.next.copy(alloc)?,
+        })
+    }
 }
 
 /// A proof that no lassos fulfil a plan: the reachable branches of its closure, ranked so that no

@@ -10,7 +10,7 @@ use Rattle.aig_net.specs.Wires.{Wire, literal, opposed, either, wire_at, WireBel
 use Rattle.sym_tableau.specs.Oracles.{is_temporal, foretold, oracles_below, oracles, moved, moved_literal, moved_and, oracle, owed, attached_latches, attached_first, member_wire, members, gathered, optional, promise, beginning, end_of, promises, ends, kept_wires, fair_wires, no_names, attach}
 use Rattle.aig_net.proofs.Literals.{below-even, below-opposite, below-under, renumbered}
 use Rattle.aig_net.proofs.Wiring.{below-more, all-grow, all-length, all-ordered, all-turned, each-length, each-grow, each-ordered, made-turned}
-use Rattle.aig_net.proofs.Listed.{each-append, each-listed, each-map, length-listed}
+use Rattle.hy_base.proofs.Listed.{each-append, each-listed, each-map, length-listed}
 use Rattle.sym_tableau.proofs.Counting.{oracles-upto}
 use Rattle.sym_tableau.proofs.Gathering.{gathered-all}
 use Rattle.sym_tableau.proofs.Parts.{moved-early, moved-late, many-latches, many-resets, and-moved, facts-latch}

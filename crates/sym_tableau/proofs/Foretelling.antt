@@ -16,7 +16,8 @@ use Rattle.sym_tableau.specs.Oracles.{read, is_temporal, foretold, oracles_below
 use Rattle.aig_net.proofs.Literals.{value-same, value-even}
 use Rattle.aig_net.proofs.Valuations.{filled, valuation-right, valuation-given, valuation-only}
 use Rattle.aig_net.proofs.Wiring.{all-length, lit-from}
-use Rattle.aig_net.proofs.Listed.{each-append, each-map, true-or-left, true-or-right, kept-or}
+use Rattle.hy_base.proofs.Listed.{each-append, each-map}
+use Rattle.aig_net.proofs.Disjunctions.{true-or-left, true-or-right, kept-or}
 use Rattle.sym_tableau.proofs.Gathering.{gathered-all}
 use Rattle.sym_tableau.proofs.Parts.{oracle-below, moved-value, moved-early, moved-late, latch-moved, many-latches, member-value, promise-value, end-value, old-right, facts-latch, reset-oracle, reset-started, reset-old}
 use Rattle.sym_tableau.proofs.Heeding.{to-local}

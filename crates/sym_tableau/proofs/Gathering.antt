@@ -3,7 +3,7 @@ use Rattle.std.proofs.Common.{◌≡◌, ℕ, zero, suc, ◌+◌, ◌<◌, List,
 use Rattle.std.proofs.lemmas.Bool.{cases_eq}
 use Rattle.std.proofs.lemmas.List.{get_or_append_left, get_or-append-add}
 use Rattle.aig_net.specs.Wires.{Wire, literal, wire_at}
-use Rattle.aig_net.proofs.Listed.{each-append}
+use Rattle.hy_base.proofs.Listed.{each-append}
 use Rattle.sym_tableau.specs.Oracles.{gathered}
 
 abbrev Has : (ℕ → List Wire) → ℕ → Wire → Type 0

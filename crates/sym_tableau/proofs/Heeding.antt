@@ -16,7 +16,8 @@ use Rattle.sym_tableau.specs.Oracles.{read, is_temporal, foretold, oracles_below
 use Rattle.aig_net.proofs.Literals.{value-even, value-opposite}
 use Rattle.aig_net.proofs.Wiring.{all-length, lit-from}
 use Rattle.sym_tableau.proofs.Parts.{LatchFacts, oracle-below, moved-value, latch-moved, member-value, promise-value, end-value, old-right, latch-facts, many-latches, reset-old, reset-started}
-use Rattle.aig_net.proofs.Listed.{append-each, map-each, or-true, or-kept}
+use Rattle.hy_base.proofs.Listed.{append-each, map-each}
+use Rattle.aig_net.proofs.Disjunctions.{or-true, or-kept}
 use Rattle.sym_tableau.proofs.Gathering.{gathered-has}
 
 module _ (v : Valuation) (constant : v 0 ≡ false) (signal : ℕ → ℕ → ℕ) (lit : ℕ → ℕ) (o k : ℕ)

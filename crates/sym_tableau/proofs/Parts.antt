@@ -8,11 +8,12 @@ use Rattle.ltl_closure.specs.Nodes.{Node, node_at}
 use Rattle.aig_net.specs.declared.parts.And.{And}
 use Rattle.aig_net.specs.declared.parts.Reset.TheVariants.{Zero}
 use Rattle.aig_net.specs.Nets.{Net, no_and, Valuation, literal_value, and_value, and_at, literal_at, reset_at, latch_variable, first_and, AreRight, IsRight}
-use Rattle.aig_net.specs.Wires.{Wire, listed, wire_value, wire_at, made_each}
+use Rattle.aig_net.specs.Wires.{Wire, wire_value, wire_at, made_each}
+use Rattle.hy_base.specs.Rows.{listed}
 use Rattle.sym_tableau.specs.Oracles.{is_temporal, oracles_below, oracles, moved, moved_literal, moved_and, oracle, attached_latches, attached_resets, attached_first, member_wire, members, promises, ends, kept_wires, fair_wires, attach}
 use Rattle.aig_net.proofs.Literals.{value-same, value-under, value-even}
 use Rattle.aig_net.proofs.Wiring.{all-right, each-right}
-use Rattle.aig_net.proofs.Listed.{append-listed, at-listed, each-map, length-listed, listed-append, map-each}
+use Rattle.hy_base.proofs.Listed.{append-listed, at-listed, each-map, length-listed, listed-append, map-each}
 
 pub oracle-below : (nodes : List Node) (n k : ℕ) → k < n → is_temporal (node_at nodes k) ≡ true →
     oracles_below nodes k < oracles_below nodes n

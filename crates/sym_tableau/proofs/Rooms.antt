@@ -5,9 +5,10 @@ use Rattle.aig_net.specs.declared.parts.And.{And}
 use Rattle.aig_net.specs.declared.signals.Signal.{Signal}
 use Rattle.aig_net.specs.Nets.{Net, no_and, and_at, literal_at, variables, Below, AllBelow, IsNet}
 use Rattle.aig_net.specs.Signals.{is_for, literal_of}
-use Rattle.aig_net.specs.Wires.{Wire, FitsAll, listed}
+use Rattle.aig_net.specs.Wires.{Wire, FitsAll}
+use Rattle.hy_base.specs.Rows.{listed}
 use Rattle.aig_net.proofs.Wiring.{all-grow, each-grow}
-use Rattle.aig_net.proofs.Listed.{at-listed, at-map, length-listed, listed-last}
+use Rattle.hy_base.proofs.Listed.{at-listed, at-map, length-listed, listed-last}
 use Rattle.ltl_closure.specs.Nodes.{Node, node_at}
 use Rattle.sym_tableau.specs.declared.places.Places.{Places}
 use Rattle.sym_tableau.specs.Oracles.{attached_first, beginning, ends, gathered, kept_wires, member_wire, members, moved_and, moved_literal, oracle, oracles, promise, promises, signal_in}

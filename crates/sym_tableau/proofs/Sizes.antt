@@ -7,7 +7,7 @@ use Rattle.aig_net.specs.Nets.{Net, literal_at, variables}
 use Rattle.aig_net.specs.Wires.{Wire, literal, opposed, either, wire_at}
 use Rattle.aig_net.proofs.Wiring.{all-length}
 use Rattle.aig_net.proofs.Costs.{all-cost, cost, each-cost}
-use Rattle.aig_net.proofs.Listed.{each-append, each-map}
+use Rattle.hy_base.proofs.Listed.{each-append, each-map}
 use Rattle.sym_tableau.specs.Oracles.{attach, attached_first, beginning, end_of, ends, fair_wires, foretold, gathered, is_temporal, kept_wires, member_wire, members, moved_and, moved_literal, optional, oracle, owed, promise, promises}
 use Rattle.sym_tableau.proofs.Counting.{oracles-few}
 use Rattle.sym_tableau.proofs.Gathering.{gathered-all}

@@ -2,10 +2,11 @@
 use Rattle.std.proofs.Common.{◌≡◌, ℕ, zero, suc, ◌+◌, ◌-◌, ◌<◌, ◌≤◌, List, [], ◌∷◌, ◌++◌, length, refl, sym, ap, ◌∙◌, subst, arith, append_assoc, append-nil}
 use Rattle.aig_net.specs.declared.parts.And.{And}
 use Rattle.aig_net.specs.Nets.{literal_at}
-use Rattle.aig_net.specs.Wires.{Wire, listed, made, made_all, made_each, Fits, FitsAll, Makes}
+use Rattle.aig_net.specs.Wires.{Wire, made, made_all, made_each, Fits, FitsAll, Makes}
+use Rattle.hy_base.specs.Rows.{listed}
 use Rattle.aig_net.proofs.Wiring.{all-grow, grows}
 use Rattle.aig_net.proofs.Making.{all-ands, all-literals}
-use Rattle.aig_net.proofs.Listed.{listed-last}
+use Rattle.hy_base.proofs.Listed.{listed-last}
 use Rattle.sym_tableau.specs.Oracles.{gathered}
 use Rattle.sym_tableau.specs.Places.{Adds, FitsEach, MakesEach}
 

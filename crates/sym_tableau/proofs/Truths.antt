@@ -12,7 +12,7 @@ use Rattle.aig_net.specs.Nets.{Valuation, literal_value}
 use Rattle.aig_net.specs.Wires.{wire_value}
 use Rattle.sym_tableau.specs.Oracles.{is_temporal, foretold, member_wire}
 use Rattle.aig_net.proofs.Literals.{value-opposite}
-use Rattle.aig_net.proofs.Listed.{true-or-left, true-or-right}
+use Rattle.aig_net.proofs.Disjunctions.{true-or-left, true-or-right}
 
 pub as-bool : {P : Type 0} → Decided P → Bool
 as-bool (inl p) = true

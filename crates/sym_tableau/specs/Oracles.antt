@@ -10,7 +10,8 @@ use Rattle.aig_net.specs.declared.signals.Signal.{Signal}
 use Rattle.aig_net.specs.Nets.{Net, under, opposite, literal_value, literal_at}
 use Rattle.aig_net.specs.Executions.{Word}
 use Rattle.aig_net.specs.Signals.{literal_of}
-use Rattle.aig_net.specs.Wires.{Wire, literal, opposed, both, either, listed, MadeAll, made_all, made_each}
+use Rattle.aig_net.specs.Wires.{Wire, literal, opposed, both, either, MadeAll, made_all, made_each}
+use Rattle.hy_base.specs.Rows.{listed}
 
 -- the literal of a name and a variable; one that is missing is false
 abbrev pub signal_in : List Signal → ℕ → ℕ → ℕ

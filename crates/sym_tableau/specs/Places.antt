@@ -5,7 +5,8 @@ use Rattle.aig_net.specs.declared.parts.Reset.{Reset}
 use Rattle.aig_net.specs.declared.parts.Reset.TheVariants.{Zero}
 use Rattle.aig_net.specs.declared.signals.Signal.{Signal}
 use Rattle.aig_net.specs.Nets.{Net, Below, under, literal_at, variables}
-use Rattle.aig_net.specs.Wires.{Wire, literal, opposed, either, listed, made_all, made_each}
+use Rattle.aig_net.specs.Wires.{Wire, literal, opposed, either, made_all, made_each}
+use Rattle.hy_base.specs.Rows.{listed}
 use Rattle.ltl_closure.specs.Nodes.{Node, node_at}
 use Rattle.sym_tableau.specs.declared.attaching.Promised.{Promised}
 use Rattle.sym_tableau.specs.declared.places.Places.{Places}

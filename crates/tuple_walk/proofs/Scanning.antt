@@ -12,7 +12,8 @@ use Rattle.hy_bits.specs.Letter.{Letter}
 use Rattle.hy_formula.specs.Quantifiers.{Each}
 use Rattle.hy_finite.specs.declared.lengths.Lengths.{Lengths}
 use Rattle.hy_finite.specs.Traces.{Trace, judged}
-use Rattle.fin_monitor.specs.Codes.{IndexedAtom, one_if, code_of, part_of, joint_letter}
+use Rattle.hy_formula.specs.Atoms.{IndexedAtom}
+use Rattle.fin_monitor.specs.Codes.{one_if, code_of, part_of, joint_letter}
 use Rattle.fin_monitor.specs.Machines.{Machine, is_accepting}
 use Rattle.fin_monitor.proofs.CodeBits.{code-or}
 use Rattle.trace_trie.specs.Numbered.{Numbered}

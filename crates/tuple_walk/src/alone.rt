@@ -4,7 +4,7 @@ ghost use Rattle.std.specs.Prelude.{◌≡◌, ◌-◌, ◌<◌, ◌≤◌, leng
 ghost use Rattle.std.specs.Bool.{OnTrue, OnFalse};
 ghost use Rattle.std.specs.FinSet.{empty};
 ghost use Rattle.hy_formula.specs.Quantifiers.{Each};
-ghost use Rattle.hy_finite.specs.Traces.{judged, of_two, trace_words};
+ghost use Rattle.hy_finite.specs.Traces.{judged, trace_words};
 ghost use Rattle.fin_monitor.specs.Machines.{codes, code_at, states_of};
 ghost use Rattle.tuple_walk.specs.Alone.{IsAlone, left_of};
 ghost use Rattle.tuple_walk.specs.Places.{AreSome};
@@ -16,7 +16,7 @@ use crate::tuple::Tuple;
 use crate::walk::{MOST_PLACES, Walk};
 use hy_base::Steps;
 use hy_bits::LetterMask;
-use hy_finite::Lengths;
+use hy_finite::of_two;
 use std::sync::ledger::Ledger;
 
 impl<'a> Walk<'a> {
@@ -148,16 +148,6 @@ impl<'a> Walk<'a> {
         ensures within { result < codes (machine_in self.now) }
     {
         self.monitor.part(0, letter_at(first, i)) | self.monitor.part(1, letter_at(second, i))
-    }
-}
-
-/// The least of two lengths or the greatest, by the rule.
-fn of_two(lengths: Lengths, a: usize, b: usize) -> usize
-    ensures { result ≡ of_two lengths a b }
-{
-    match lengths {
-        Lengths::Min => a.min(b),
-        Lengths::Pad => a.max(b),
     }
 }
 

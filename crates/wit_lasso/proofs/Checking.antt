@@ -1,31 +1,28 @@
 -- A circuit and a formula: paths to bad of the formula's safe net are tuples of executions that
 -- satisfy the body, or its negation.
 use Rattle.std.proofs.Common.{◌≡◌, ℕ, zero, suc, ◌+◌, ◌-◌, ◌/◌, ◌<◌, ◌↔◌, Bool, true, false, List, [], ◌∷◌, length, get_or, IsTrue, inl, inr, refl, sym, ap, ◌∙◌, subst, arith}
-use Rattle.std.proofs.lemmas.List.{length-map}
 use Rattle.hy_formula.specs.Trees.{Tree, vars_below}
 use Rattle.hy_formula.specs.Temporal.{endless, Words, SatisfiesAt, Decided, Repeats, IsDecided}
-use Rattle.hy_formula.specs.Normals.{Normal, HoldsAt, Signed}
+use Rattle.hy_formula.specs.Normals.{Normal, HoldsAt, Signed, normal_form}
 use Rattle.hy_formula.specs.Quantifiers.{Each, IsTuple, repeated}
-use Rattle.hy_formula.specs.Renamed.{with_variables}
 use Rattle.hy_formula.specs.declared.prefix.Quant.TheVariants.{Exists, Forall}
 use Rattle.hy_formula.proofs.Deciding.{decided-like}
 use Rattle.hy_formula.proofs.Repeating.{decided-repeating}
 use Rattle.hy_formula.proofs.Tuples.{every-tuple, some-tuple}
-use Rattle.ltl_closure.specs.Closures.{closure, form_in, node_of}
-use Rattle.ltl_closure.specs.Jobs.{Task, forms_of, form_of_task, variable_in}
+use Rattle.ltl_closure.specs.Bodies.{body_nodes, body_root}
+use Rattle.ltl_closure.specs.Closures.{closure, form_in}
 use Rattle.ltl_closure.specs.Nodes.{Node, Numbers}
-use Rattle.ltl_closure.proofs.Closing.{closure-numbers, number-found}
-use Rattle.ltl_closure.proofs.Tasks.{forms-there, none-closed}
-use Rattle.ltl_closure.proofs.Roots.{root-right}
+use Rattle.ltl_closure.proofs.Closing.{closure-numbers}
+use Rattle.ltl_closure.proofs.OneBody.{body-right, root-inside}
 use Rattle.aig_net.specs.declared.signals.Signal.{Signal}
 use Rattle.aig_net.specs.Nets.{Net, Below, variables, literal_value, literal_at, IsNet}
 use Rattle.aig_net.specs.Executions.{Word, Lasso, IsExecution, IsLassoExecution, gone, no_lasso, lasso_of, part, Recurs}
 use Rattle.aig_net.specs.Signals.{visible}
 use Rattle.aig_net.proofs.Literals.{value-same}
-use Rattle.aig_net.proofs.Listed.{length-listed, at-listed}
+use Rattle.hy_base.proofs.Listed.{length-listed, at-listed}
 use Rattle.aig_net.proofs.Rounds.{gone-recurs, recurring}
 use Rattle.aig_net.proofs.Closings.{gone-execution, recurring-execution}
-use Rattle.aig_net.specs.Wires.{listed}
+use Rattle.hy_base.specs.Rows.{listed}
 use Rattle.self_compose.specs.Copies.{compose, copy}
 use Rattle.self_compose.proofs.Tuples.{composed-net, copy-execution, copy-recurs, copy-value}
 use Rattle.self_compose.proofs.Periods.{join-lasso}
@@ -37,7 +34,7 @@ use Rattle.live_safe.specs.Paths.{IsBadPath}
 use Rattle.live_safe.specs.Safe.{shown_word}
 use Rattle.live_safe.proofs.Saving.{lasso-path}
 use Rattle.live_safe.proofs.Unfolding.{unfolding-path}
-use Rattle.wit_lasso.specs.FormulaNets.{AreOwn, Tableau, body_nodes, body_roots, body_task, copy_signals, formula_net, formula_safe, formula_tableau, identity_map, tableau_net}
+use Rattle.wit_lasso.specs.FormulaNets.{AreOwn, Tableau, copy_signals, formula_net, formula_safe, formula_tableau, tableau_net}
 use Rattle.wit_lasso.specs.Satisfaction.{IsVisible, Meets, Satisfies, Trace, no_trace, trace_words}
 use Rattle.wit_lasso.proofs.Bodies.{body-same, signed-same}
 use Rattle.wit_lasso.proofs.CopySignals.{copies-below, signal-copied}
@@ -103,20 +100,17 @@ module _ (net : Net) (good : IsNet net) (signals : List Signal) (are : AreOwn ne
   abbrev sig : ℕ → ℕ → ℕ
   sig = signal_in (copy_signals n signals)
 
-  abbrev tasks : List Task
-  tasks = body_task n body b ∷ []
-
   abbrev nodes : List Node
-  nodes = body_nodes n body b
+  nodes = body_nodes body b
 
   abbrev roots : List ℕ
-  roots = body_roots n body b
+  roots = body_root body b ∷ []
 
   abbrev form : ℕ → Normal
-  form = form_in (closure (forms_of tasks))
+  form = form_in (closure (normal_form b body ∷ []))
 
   numbers : Numbers nodes form
-  numbers = closure-numbers (forms_of tasks)
+  numbers = closure-numbers (normal_form b body ∷ [])
 
   all-net : IsNet all
   all-net = composed-net net n some good
@@ -144,37 +138,15 @@ module _ (net : Net) (good : IsNet net) (signals : List Signal) (are : AreOwn ne
   abbrev Rooted : Words → Type 0
   Rooted words = HoldsAt endless words (form (literal_at roots 0)) 0
 
-  own-variable : (v : ℕ) → v < n → variable_in (identity_map n) v ≡ v
-  own-variable v lt = let plain : 0 + v ≡ v = omega arith in
-      at-listed 0 n (λ v. v) 0 v lt ∙ plain
-
-  kept : (words : Words) (a v i : ℕ) → v < n →
-      with_variables (variable_in (identity_map n)) words a v i ≡ words a v i
-  kept words a v i lt = ap (λ v. words a v i) (own-variable v lt)
-
-  abbrev own-words : Words → Words
-  own-words words = with_variables (variable_in (identity_map n)) words
-
   root-says : (words : Words) → IsDecided endless words → Rooted words → Says words
-  root-says words decided h =
-      signed-same b n some (own-words words) words (kept words) body small
-      ((root-right endless words decided tasks 0 (body_task n body b) refl).0 h)
+  root-says words decided h = (body-right endless words decided body b).0 h
 
   says-root : (words : Words) → IsDecided endless words → Says words → Rooted words
-  says-root words decided h =
-      (root-right endless words decided tasks 0 (body_task n body b) refl).1
-      (signed-same b n some words (own-words words) (λ a v i lt. sym (kept words a v i lt)) body
-      small h)
+  says-root words decided h = (body-right endless words decided body b).1 h
 
-  root-inside : (r : ℕ) → r < 1 → literal_at roots r < length nodes
-  root-inside zero lt =
-      let there = forms-there (forms_of tasks) [] none-closed in
-      let (p, _, below, e) = there.0 in
-      let found = number-found (closure (forms_of tasks)) (form_of_task (body_task n body b)) p below
-      e in
-      let many = length-map (closure (forms_of tasks)) (node_of (closure (forms_of tasks))) in
-      omega (arith, found.0, below, many)
-  root-inside (suc r) lt = absurd (omega arith)
+  each-inside : (r : ℕ) → r < 1 → literal_at roots r < length nodes
+  each-inside zero lt = root-inside body b
+  each-inside (suc r) lt = absurd (omega arith)
 
   net-is : IsNet (formula_net net signals n body b)
   net-is = attached-net all nodes all-net sig roots sig-below numbers.parts
@@ -239,7 +211,7 @@ module _ (net : Net) (good : IsNet net) (signals : List Signal) (are : AreOwn ne
       decided in
       let new-is : IsExecution (formula_net net signals n body b) new =
       new-execution all all-net nodes form numbers sig sig-below roots whole whole-is decided
-      root-inside roots-hold' in
+      each-inside roots-hold' in
       let new-recurs : Recurs new (suc s) p =
       wider-recurs all all-net nodes form numbers sig sig-below roots whole whole-is decided s p
       recurs in
@@ -264,7 +236,7 @@ module _ (net : Net) (good : IsNet net) (signals : List Signal) (are : AreOwn ne
       (root-says (read sig word) decided
       (roots-hold all nodes sig roots (gone lasso)
       (gone-execution (formula_net net signals n body b) lasso is) form numbers 0 (omega arith)
-      (root-inside 0 (omega arith))))
+      (each-inside 0 (omega arith))))
 
   -- the traces of the copies
   module _ (lasso : Lasso) (is : IsLassoExecution (formula_net net signals n body b) lasso) where

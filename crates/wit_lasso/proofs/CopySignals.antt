@@ -7,7 +7,7 @@ use Rattle.hy_base.proofs.Truths.{and-false, and-true}
 use Rattle.aig_net.specs.declared.signals.Signal.{Signal}
 use Rattle.aig_net.specs.Nets.{Net, Below, variables}
 use Rattle.aig_net.specs.Signals.{literal_of}
-use Rattle.aig_net.specs.Wires.{listed}
+use Rattle.hy_base.specs.Rows.{listed}
 use Rattle.aig_net.proofs.Copying.{each-copied}
 use Rattle.self_compose.specs.Copies.{compose, copy_literal}
 use Rattle.self_compose.proofs.Tuples.{copy-below}

@@ -17,10 +17,11 @@ use Rattle.aig_net.specs.declared.run.ValueLasso.{ValueLasso}
 use Rattle.aig_net.specs.declared.signals.Signal.{Signal}
 use Rattle.aig_net.specs.Executions.{gone, no_values, step_at, value_in}
 use Rattle.aig_net.specs.Following.{row_at}
-use Rattle.aig_net.specs.Nets.{Net, Valuation, literal_value, row, variables}
+use Rattle.aig_net.specs.Nets.{Net, Valuation, literal_value, variables}
+use Rattle.hy_base.specs.Rows.{row}
 use Rattle.aig_net.specs.Signals.{are_signals, is_for, literal_of, shown}
 use Rattle.aig_net.specs.Simulations.{IsExecutionOf, valuations}
-use Rattle.aig_net.proofs.Listed.{at-map}
+use Rattle.hy_base.proofs.Listed.{at-map}
 use Rattle.aig_net.proofs.Rounds as rounds
 use Rattle.sym_tableau.specs.Places.{AreWithin}
 use Rattle.wit_lasso.specs.Seeing.{AreSeen, Counts, IsSeen, IsTraceOf, ShowsTrace}

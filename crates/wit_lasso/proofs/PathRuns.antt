@@ -6,14 +6,16 @@ use Rattle.hy_base.proofs.Places.{below-row}
 use Rattle.aig_net.specs.declared.parts.Reset.{Reset}
 use Rattle.aig_net.specs.declared.parts.Reset.TheVariants.{Zero, One, Free}
 use Rattle.aig_net.specs.declared.run.Run.{Run}
-use Rattle.aig_net.specs.Nets.{Net, IsNet, Valuation, latch_variable, literal_value, reset_at, row}
+use Rattle.aig_net.specs.Nets.{Net, IsNet, Valuation, latch_variable, literal_value, reset_at}
+use Rattle.hy_base.specs.Rows.{row, listed}
 use Rattle.aig_net.specs.Executions.{Word, lasso_of, part, step_at}
 use Rattle.aig_net.specs.Following.{row_at}
 use Rattle.aig_net.specs.Copies.{own_values}
 use Rattle.aig_net.specs.Simulations.{IsRunOf, inputs_of, latches_of}
-use Rattle.aig_net.specs.Wires.{listed, wire_value}
+use Rattle.aig_net.specs.Wires.{wire_value}
 use Rattle.aig_net.proofs.Copying.{length-copied}
-use Rattle.aig_net.proofs.Listed.{at-listed, length-listed, listed-same, true-or-left, true-or-right}
+use Rattle.hy_base.proofs.Listed.{at-listed, length-listed, listed-same}
+use Rattle.aig_net.proofs.Disjunctions.{true-or-left, true-or-right}
 use Rattle.aig_net.proofs.Literals.{value-even}
 use Rattle.self_compose.specs.Copies.{compose, place}
 use Rattle.sym_tableau.specs.Oracles.{moved, oracles}

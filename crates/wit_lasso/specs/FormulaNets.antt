@@ -5,29 +5,13 @@ use Rattle.hy_formula.specs.Trees.{Tree}
 use Rattle.aig_net.specs.declared.signals.Signal.{Signal}
 use Rattle.aig_net.specs.Copies.{copied}
 use Rattle.aig_net.specs.Nets.{Net, variables}
-use Rattle.aig_net.specs.Wires.{listed}
 use Rattle.self_compose.specs.Copies.{compose, copy_literal}
 use Rattle.ltl_closure.specs.Nodes.{Node}
-use Rattle.ltl_closure.specs.Jobs.{Task, task_nodes, task_roots}
+use Rattle.ltl_closure.specs.Bodies.{body_nodes, body_root}
 use Rattle.sym_tableau.specs.Oracles.{attach, signal_in}
 use Rattle.sym_tableau.specs.Places.{AreWithin}
 use Rattle.live_safe.specs.declared.safe_net.SafeNet.{SafeNet}
 use Rattle.live_safe.specs.Safe.{to_safe}
-
--- each variable stands for itself
-abbrev pub identity_map : ℕ → List ℕ
-identity_map n = listed 0 n (λ v. v)
-
--- the body, negated where the value is false
-abbrev pub body_task : ℕ → Tree → Bool → Task
-body_task n body positive =
-    record { body = body; positive = positive; map = identity_map n }
-
-abbrev pub body_nodes : ℕ → Tree → Bool → List Node
-body_nodes n body positive = task_nodes (body_task n body positive ∷ [])
-
-abbrev pub body_roots : ℕ → Tree → Bool → List ℕ
-body_roots n body positive = task_roots (body_task n body positive ∷ [])
 
 -- the signal of variable c, in copy c
 abbrev pub copy_signal : ℕ → ℕ → Signal → Signal
@@ -49,9 +33,9 @@ tableau_net net n t = attach (compose net n) t.nodes t.signals t.roots
 
 abbrev pub formula_tableau : List Signal → ℕ → Tree → Bool → Tableau
 formula_tableau signals n body positive = record {
-  nodes = body_nodes n body positive;
+  nodes = body_nodes body positive;
   signals = signal_in (copy_signals n signals);
-  roots = body_roots n body positive;
+  roots = body_root body positive ∷ [];
 }
 
 abbrev pub formula_net : Net → List Signal → ℕ → Tree → Bool → Net

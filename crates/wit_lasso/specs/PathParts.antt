@@ -5,9 +5,9 @@ use Rattle.aig_net.specs.declared.parts.Reset.{Reset}
 use Rattle.aig_net.specs.declared.parts.Reset.TheVariants.{Zero, One, Free}
 use Rattle.aig_net.specs.declared.run.Run.{Run}
 use Rattle.aig_net.specs.Copies.{own_values}
-use Rattle.aig_net.specs.Nets.{Net, reset_at, row}
+use Rattle.aig_net.specs.Nets.{Net, reset_at}
+use Rattle.hy_base.specs.Rows.{row, listed}
 use Rattle.aig_net.specs.Following.{row_at}
-use Rattle.aig_net.specs.Wires.{listed}
 use Rattle.live_safe.specs.Safe.{count_below, is_free}
 
 abbrev pub is_free_at : List Reset → ℕ → Bool

@@ -8,7 +8,8 @@ use Rattle.hy_lasso.specs.Words.{letter_at}
 use Rattle.aig_net.specs.declared.run.Run.{Run}
 use Rattle.aig_net.specs.declared.run.ValueLasso.{ValueLasso}
 use Rattle.aig_net.specs.declared.signals.Signal.{Signal}
-use Rattle.aig_net.specs.Nets.{Net, Valuation, literal_value, row, variables}
+use Rattle.aig_net.specs.Nets.{Net, Valuation, literal_value, variables}
+use Rattle.hy_base.specs.Rows.{row}
 use Rattle.aig_net.specs.Executions.{Word, gone}
 use Rattle.aig_net.specs.Following.{row_at}
 use Rattle.aig_net.specs.Signals.{is_for, shown, visible}

@@ -4,7 +4,8 @@ ghost use Rattle.std.specs.Prelude.{◌≡◌, ℕ, ◌<◌, false, length, IfOk
 ghost use Rattle.hy_lasso.specs.NormalForms.{IsNormal};
 ghost use Rattle.aig_net.specs.Executions.{gone};
 ghost use Rattle.aig_net.specs.Following.{row_at};
-ghost use Rattle.aig_net.specs.Nets.{Below, row, variables};
+ghost use Rattle.aig_net.specs.Nets.{Below, variables};
+ghost use Rattle.hy_base.specs.Rows.{row};
 ghost use Rattle.aig_net.specs.Simulations.{IsExecutionOf, valuations};
 ghost use Rattle.sym_tableau.specs.Places.{AreWithin};
 ghost use Rattle.wit_lasso.specs.Seeing.{AreRunValues, AreSeen, Counts, IsSeen, IsTraceOf, ShowsTrace};

@@ -1,9 +1,8 @@
 //! From a path of a safe net to runs of the copies.
 
 ghost use Rattle.std.specs.Prelude.{◌≡◌, ℕ, suc, ◌+◌, ◌*◌, ◌<◌, ◌≤◌, ◌^◌, true, false, length, take, drop, IfOk};
-ghost use Rattle.aig_net.specs.Nets.{row};
+ghost use Rattle.hy_base.specs.Rows.{row, listed};
 ghost use Rattle.aig_net.specs.Following.{row_at};
-ghost use Rattle.aig_net.specs.Wires.{listed};
 ghost use Rattle.live_safe.specs.Safe.{is_free as free_reset};
 ghost use Rattle.wit_lasso.specs.PathParts.{AreRows, free_before, own_latches, own_run, start_value as value_at_start};
 ghost use Rattle.wit_lasso.specs.Unfoldings.{GoesToBad, IsSafeOf, IsUnfolding};
@@ -33,7 +32,7 @@ pub fn unfold(alloc: Global, net: &Net, n: u8, safe: &SafeNet, path: &Path) -> M
 }
 
 /// The runs of the copies, where the step `start` is the first that saves, by the input at `place`.
-#[tactic(auto, using(aig_net::proofs::Listed::listed_next))]
+#[tactic(auto, using(hy_base::proofs::Listed::listed_next))]
 fn runs_of(alloc: Global, net: &Net, n: u8, rows: &[Row], place: usize, start: usize) -> M<RunList>
     requires fit { AreRows net.now n place rows.now }
     requires start { start ≤ length rows.now }
@@ -107,7 +106,7 @@ fn saving_step(rows: &[Row], place: usize) -> usize
 }
 
 /// The latches of copy `c` of `n` at the start, by the inputs of the uninitialised ones.
-#[tactic(auto, using(live_safe::proofs::Counting::count_more, crate::proofs::Places::free_place, aig_net::proofs::Listed::listed_next))]
+#[tactic(auto, using(live_safe::proofs::Counting::count_more, crate::proofs::Places::free_place, hy_base::proofs::Listed::listed_next))]
 fn start_latches(alloc: Global, resets: &[Reset], n: u8, c: u8, free: &[bool]) -> M<Row>
     requires copy { c < n }
     requires long { free_before resets.now (length resets.now) * n ≤ length free.now }

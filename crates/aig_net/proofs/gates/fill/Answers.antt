@@ -1,5 +1,6 @@
 use Rattle.std.proofs.Common.{◌&&◌, ◌∙◌, ap, arith}
-use Rattle.aig_net.specs.Nets.{literal_value, and_at, row}
+use Rattle.aig_net.specs.Nets.{literal_value, and_at}
+use Rattle.hy_base.specs.Rows.{row}
 use Rattle.aig_net.proofs.GateLemmas.{one-more, first-same}
 use Rattle.aig_net.proofs.gates.fill.Goals as goal
 

@@ -1,5 +1,6 @@
 use Rattle.std.proofs.Common.{◌<◌, ℕ, IsTrue}
-use Rattle.aig_net.specs.Nets.{literal_value, literal_at, row}
+use Rattle.aig_net.specs.Nets.{literal_value, literal_at}
+use Rattle.hy_base.specs.Rows.{row}
 use Rattle.aig_net.proofs.simulation.are_true.Given as goal
 
 -- the literals so far are true

@@ -1,5 +1,6 @@
 use Rattle.std.proofs.Common.{◌<◌, ℕ, IsTrue}
-use Rattle.aig_net.specs.Nets.{literal_value, row}
+use Rattle.aig_net.specs.Nets.{literal_value}
+use Rattle.hy_base.specs.Rows.{row}
 use Rattle.aig_net.specs.Following.{row_at}
 use Rattle.aig_net.proofs.simulation.is_seen.Given as goal
 

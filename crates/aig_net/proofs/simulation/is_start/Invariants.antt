@@ -1,5 +1,6 @@
 use Rattle.std.proofs.Common.{◌<◌, ℕ}
-use Rattle.aig_net.specs.Nets.{ResetTo, reset_at, row}
+use Rattle.aig_net.specs.Nets.{ResetTo, reset_at}
+use Rattle.hy_base.specs.Rows.{row}
 use Rattle.aig_net.proofs.simulation.is_start.Given as goal
 
 -- the latches so far may start so

@@ -1,6 +1,7 @@
 use Rattle.std.proofs.Common.{◌≡◌, length, List, Bool, ◌++◌, take, drop, sym, ◌∙◌, ap, subst, arith, IsTrue}
 use Rattle.std.proofs.Math.Seq.{take-append_seam}
-use Rattle.aig_net.specs.Nets.{AllTrue, row}
+use Rattle.aig_net.specs.Nets.{AllTrue}
+use Rattle.hy_base.specs.Rows.{row}
 use Rattle.aig_net.proofs.States.{no_state}
 use Rattle.aig_net.proofs.simulation.state.Goals as goal
 

@@ -1,6 +1,7 @@
 use Rattle.std.proofs.Common.{◌≡◌, ◌++◌}
 use Rattle.std.specs.Prelude.{neg_ℤ}
-use Rattle.cnf_frames.specs.Queries.{for_each, alone, latch_in}
+use Rattle.cnf_frames.specs.Queries.{latch_in}
+use Rattle.chain_check.specs.FewClauses.{for_each, alone}
 use Rattle.cnf_frames.proofs.frames.add_start.Given as goal
 
 -- those so far are added

@@ -1,5 +1,6 @@
 use Rattle.std.proofs.Common.{◌≡◌, ◌++◌}
-use Rattle.cnf_frames.specs.Queries.{for_each, good_clauses}
+use Rattle.cnf_frames.specs.Queries.{good_clauses}
+use Rattle.chain_check.specs.FewClauses.{for_each}
 use Rattle.cnf_frames.proofs.queries.add_goods.Given as goal
 
 -- those so far are added

@@ -1,7 +1,8 @@
 use Rattle.std.proofs.Common.{refl, ◌∙◌}
 use Rattle.std.proofs.lemmas.Result.{err_from_is_err_and}
 use Rattle.cnf_frames.specs.declared.queries.Asked.TheVariants.{Base}
-use Rattle.cnf_frames.specs.Queries.{clauses_of, variables_of, literals_in}
+use Rattle.cnf_frames.specs.Queries.{clauses_of, variables_of}
+use Rattle.chain_check.specs.FewClauses.{literals_in}
 use Rattle.cnf_frames.proofs.Counting.{base-counted}
 use Rattle.cnf_frames.proofs.Querying.{refused-as, within-as, base-made}
 use Rattle.cnf_frames.proofs.queries.base_query.Goals as goal

@@ -5,7 +5,8 @@ use Rattle.cnf_frames.specs.declared.facts.Fact.{Fact}
 use Rattle.cnf_frames.specs.declared.queries.Asked.TheVariants.{Keep}
 use Rattle.cnf_frames.specs.Counts.{keep_literals}
 use Rattle.cnf_frames.specs.Facts.{AllIn}
-use Rattle.cnf_frames.specs.Queries.{clauses_of, variables_of, literals_in, for_each, some_further, facts_clauses, fails_clauses, group_of}
+use Rattle.cnf_frames.specs.Queries.{clauses_of, variables_of, facts_clauses, fails_clauses, group_of}
+use Rattle.chain_check.specs.FewClauses.{literals_in, for_each, some_further}
 use Rattle.cnf_frames.proofs.Counting.{keep-counted}
 use Rattle.cnf_frames.proofs.Groups.{group-in}
 use Rattle.cnf_frames.proofs.Querying.{refused-as, within-as, keep-made}

@@ -3,7 +3,8 @@ use Rattle.std.proofs.lemmas.Result.{MatchResult-weaker}
 use Rattle.cnf_frames.specs.declared.queries.Asked.TheVariants.{Step}
 use Rattle.cnf_frames.specs.declared.queries.FrameError.TheVariants.{Limit}
 use Rattle.cnf_frames.specs.Counts.{step_literals}
-use Rattle.cnf_frames.specs.Queries.{clauses_of, variables_of, literals_in}
+use Rattle.cnf_frames.specs.Queries.{clauses_of, variables_of}
+use Rattle.chain_check.specs.FewClauses.{literals_in}
 use Rattle.cnf_frames.proofs.Counting.{step-counted}
 use Rattle.cnf_frames.proofs.Querying.{refused-as, within-as, step-variables}
 use Rattle.cnf_frames.proofs.queries.step_fits.Goals as goal

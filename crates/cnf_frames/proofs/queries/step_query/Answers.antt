@@ -2,7 +2,8 @@ use Rattle.std.proofs.Common.{◌++◌, suc, ◌∙◌, ap}
 use Rattle.std.proofs.lemmas.Result.{err_from_is_err_and}
 use Rattle.cnf_frames.specs.declared.queries.Asked.TheVariants.{Step}
 use Rattle.cnf_frames.specs.Counts.{step_literals}
-use Rattle.cnf_frames.specs.Queries.{clauses_of, variables_of, literals_in, for_each, good_clauses}
+use Rattle.cnf_frames.specs.Queries.{clauses_of, variables_of, good_clauses}
+use Rattle.chain_check.specs.FewClauses.{literals_in, for_each}
 use Rattle.cnf_frames.proofs.Counting.{step-counted}
 use Rattle.cnf_frames.proofs.Querying.{refused-as, within-as, step-made, step-variables, step-start}
 use Rattle.cnf_frames.proofs.queries.step_query.Goals as goal

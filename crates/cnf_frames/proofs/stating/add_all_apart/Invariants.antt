@@ -1,5 +1,6 @@
 use Rattle.std.proofs.Common.{◌≡◌, ◌++◌}
-use Rattle.cnf_frames.specs.Queries.{for_each, apart_from, pair_start}
+use Rattle.cnf_frames.specs.Queries.{apart_from, pair_start}
+use Rattle.chain_check.specs.FewClauses.{for_each}
 use Rattle.cnf_frames.proofs.stating.add_all_apart.Given as goal
 
 -- those so far are added, and the next further variable is that of the next frame

@@ -1,5 +1,6 @@
 use Rattle.std.proofs.Common.{◌≡◌, ◌++◌}
-use Rattle.cnf_frames.specs.Queries.{for_each, latch_differs}
+use Rattle.cnf_frames.specs.Queries.{latch_differs}
+use Rattle.chain_check.specs.FewClauses.{for_each}
 use Rattle.cnf_frames.proofs.stating.add_apart.Given as goal
 
 -- those so far are added

@@ -1,5 +1,6 @@
 use Rattle.std.proofs.Common.{◌≡◌, suc, ◌+◌, ◌++◌}
-use Rattle.cnf_frames.specs.Queries.{for_each, apart_clauses, pair_start}
+use Rattle.cnf_frames.specs.Queries.{apart_clauses, pair_start}
+use Rattle.chain_check.specs.FewClauses.{for_each}
 use Rattle.cnf_frames.proofs.stating.add_apart_from.Given as goal
 
 -- those so far are added

@@ -1,5 +1,6 @@
 use Rattle.std.proofs.Common.{◌≡◌, ◌++◌}
-use Rattle.cnf_frames.specs.Queries.{for_each, fact_clauses}
+use Rattle.cnf_frames.specs.Queries.{fact_clauses}
+use Rattle.chain_check.specs.FewClauses.{for_each}
 use Rattle.cnf_frames.specs.Facts.{fact_at}
 use Rattle.cnf_frames.proofs.stating.add_facts.Given as goal
 

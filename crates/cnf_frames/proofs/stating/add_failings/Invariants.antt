@@ -1,5 +1,6 @@
 use Rattle.std.proofs.Common.{◌≡◌, ◌++◌}
-use Rattle.cnf_frames.specs.Queries.{for_each, fails_clauses}
+use Rattle.cnf_frames.specs.Queries.{fails_clauses}
+use Rattle.chain_check.specs.FewClauses.{for_each}
 use Rattle.cnf_frames.proofs.stating.add_failings.Given as goal
 
 -- those so far are added

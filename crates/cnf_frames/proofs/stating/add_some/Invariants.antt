@@ -1,5 +1,5 @@
 use Rattle.std.proofs.Common.{◌≡◌, ◌+◌, [], ◌∷◌}
-use Rattle.cnf_frames.specs.Queries.{for_each, further}
+use Rattle.chain_check.specs.FewClauses.{for_each, further}
 use Rattle.cnf_frames.proofs.stating.add_some.Given as goal
 
 -- those so far are there

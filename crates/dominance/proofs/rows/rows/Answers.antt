@@ -2,7 +2,7 @@ use Rattle.std.proofs.Common.{List, ◌++◌, ◌∷◌, [], map, take, sym, ap,
 use Rattle.std.specs.Prelude.{replicate}
 use Rattle.std.proofs.lemmas.Bool.{ne_eqb}
 use Rattle.std.proofs.lemmas.List.{take_all}
-use Rattle.fin_monitor.specs.Codes.{IndexedAtom, plain_atom}
+use Rattle.hy_formula.specs.Atoms.{IndexedAtom, plain_atom}
 use Rattle.fin_monitor.specs.Seen.{machine_of}
 use Rattle.dominance.specs.Choices.{Row, AreRows}
 use Rattle.dominance.proofs.Asking.{rows-none, rows-same, rows-double, atom-taken, atom-small}

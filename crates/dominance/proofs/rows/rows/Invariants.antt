@@ -1,5 +1,5 @@
 use Rattle.std.proofs.Common.{map, take}
-use Rattle.fin_monitor.specs.Codes.{plain_atom}
+use Rattle.hy_formula.specs.Atoms.{plain_atom}
 use Rattle.dominance.specs.Choices.{AreRows}
 use Rattle.dominance.proofs.rows.rows.Given as goal
 

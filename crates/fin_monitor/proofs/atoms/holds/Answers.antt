@@ -3,7 +3,7 @@ use Rattle.std.specs.List.{list_any}
 use Rattle.std.proofs.lemmas.List.{take_all}
 use Rattle.std.proofs.lemmas.Nat.Bits.{shr_and_one}
 use Rattle.hy_formula.specs.declared.atom.Atom.{Atom}
-use Rattle.fin_monitor.specs.Codes.{plain_atom, is_atom}
+use Rattle.hy_formula.specs.Atoms.{plain_atom, is_atom}
 use Rattle.fin_monitor.proofs.CodeBits.{letter-past}
 use Rattle.fin_monitor.proofs.AtomLists.{atom-bit}
 use Rattle.fin_monitor.proofs.atoms.holds.Goals as goal

@@ -2,7 +2,7 @@ use Rattle.std.proofs.Common.{◌≡◌, map, sym, ◌∙◌, ℕ, false, List, 
 use Rattle.std.specs.List.{list_any}
 use Rattle.std.proofs.lemmas.List.{take_all}
 use Rattle.hy_formula.specs.declared.atom.Atom.{Atom}
-use Rattle.fin_monitor.specs.Codes.{plain_atom, is_atom}
+use Rattle.hy_formula.specs.Atoms.{plain_atom, is_atom}
 use Rattle.fin_monitor.specs.Lefts.{IsAtomMask}
 use Rattle.fin_monitor.proofs.CodeBits.{mask-past, small-power}
 use Rattle.fin_monitor.proofs.AtomLists.{atom-mask}

@@ -1,6 +1,6 @@
 use Rattle.std.proofs.Common.{◌≡◌, false, take, map}
 use Rattle.std.specs.List.{list_any}
-use Rattle.fin_monitor.specs.Codes.{plain_atom, is_atom}
+use Rattle.hy_formula.specs.Atoms.{plain_atom, is_atom}
 use Rattle.fin_monitor.proofs.atoms.mask_of.Given as goal
 
 abbrev pub invariant-loop-i : goal.invariant-loop-i

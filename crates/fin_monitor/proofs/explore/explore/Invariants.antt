@@ -1,6 +1,6 @@
 use Rattle.std.proofs.Common.{◌≡◌, ◌-◌, ◌*◌, ◌^◌, ◌<◌, ◌≤◌, length, map}
 use Rattle.hy_formula.specs.Quantifiers.{Each}
-use Rattle.fin_monitor.specs.Codes.{plain_atom}
+use Rattle.hy_formula.specs.Atoms.{plain_atom}
 use Rattle.fin_monitor.specs.Lefts.{kept_lists}
 use Rattle.fin_monitor.specs.Reductions.{AreFirsts}
 use Rattle.fin_monitor.specs.Tables.{AreAllLefts, IsExplored}

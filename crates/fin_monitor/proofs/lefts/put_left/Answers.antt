@@ -1,6 +1,6 @@
 use Rattle.std.proofs.Common.{◌∷◌, [], List, Bool, map, cond, sym, ap, ◌∙◌, subst}
 use Rattle.std.specs.Bool.{beq}
-use Rattle.fin_monitor.specs.Codes.{plain_atom}
+use Rattle.hy_formula.specs.Atoms.{plain_atom}
 use Rattle.fin_monitor.specs.Duties.{Duty, no_duty, strongly, weakly}
 use Rattle.fin_monitor.specs.Lefts.{IsFamilyOf, kept_lists}
 use Rattle.fin_monitor.proofs.Exploring.{on-ok-map}

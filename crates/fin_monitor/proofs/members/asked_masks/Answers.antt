@@ -1,6 +1,6 @@
 use Rattle.std.proofs.Common.{◌∷◌, [], ◌+◌, ℕ, List, length, map, sym, ap, ◌∙◌, subst, arith, length-append}
 use Rattle.ltl_closure.specs.Plain.{plain_node}
-use Rattle.fin_monitor.specs.Codes.{plain_atom}
+use Rattle.hy_formula.specs.Atoms.{plain_atom}
 use Rattle.fin_monitor.specs.Lefts.{AreAsked}
 use Rattle.fin_monitor.proofs.Masks.{masks-more}
 use Rattle.fin_monitor.proofs.members.asked_masks.Goals as goal

@@ -1,7 +1,7 @@
 use Rattle.std.proofs.Common.{List, map, ap, subst, arith}
 use Rattle.std.proofs.lemmas.List.{take_all}
 use Rattle.hy_formula.specs.declared.atom.Atom.{Atom}
-use Rattle.fin_monitor.specs.Codes.{plain_atom}
+use Rattle.hy_formula.specs.Atoms.{plain_atom}
 use Rattle.fin_monitor.specs.Parts.{bits_of, AreNamesOf}
 use Rattle.fin_monitor.proofs.Naming.{names-more}
 use Rattle.fin_monitor.proofs.parts.names_of.Goals as goal

@@ -1,6 +1,6 @@
 use Rattle.std.proofs.Common.{◌≡◌, ◌+◌, ℕ, List, map, sym, subst, arith}
 use Rattle.fin_monitor.specs.declared.variable_parts.VariableParts.{VariableParts}
-use Rattle.fin_monitor.specs.Codes.{plain_atom}
+use Rattle.hy_formula.specs.Atoms.{plain_atom}
 use Rattle.fin_monitor.specs.Parts.{AreParts}
 use Rattle.fin_monitor.proofs.LowParts.{no-parts, parts-more}
 use Rattle.fin_monitor.proofs.parts.parts_by_variable.Goals as goal

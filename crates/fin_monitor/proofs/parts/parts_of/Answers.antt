@@ -1,7 +1,7 @@
 use Rattle.std.proofs.Common.{◌&&◌, nat_eq, map, ap, arith}
 use Rattle.std.specs.FinSet.{contains}
 use Rattle.std.proofs.lemmas.List.{length-map}
-use Rattle.fin_monitor.specs.Codes.{plain_atom}
+use Rattle.hy_formula.specs.Atoms.{plain_atom}
 use Rattle.fin_monitor.specs.Parts.{bits_of}
 use Rattle.fin_monitor.proofs.CodeBits.{small-code}
 use Rattle.fin_monitor.proofs.parts.parts_of.Goals as goal

@@ -1,5 +1,5 @@
 use Rattle.std.proofs.Common.{◌++◌, sym, ap, ◌∙◌}
-use Rattle.aig_net.specs.Wires.{listed}
+use Rattle.hy_base.specs.Rows.{listed}
 use Rattle.aig_net.proofs.Copying.{one_item}
 use Rattle.wit_lasso.specs.FormulaNets.{copy_signal}
 use Rattle.wit_lasso.proofs.Letters.{got}

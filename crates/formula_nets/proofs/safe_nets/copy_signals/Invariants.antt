@@ -1,5 +1,5 @@
 use Rattle.std.proofs.Common.{◌≡◌, ◌++◌, take}
-use Rattle.aig_net.specs.Wires.{listed}
+use Rattle.hy_base.specs.Rows.{listed}
 use Rattle.wit_lasso.specs.FormulaNets.{copy_signal, copy_signals}
 use Rattle.formula_nets.proofs.safe_nets.copy_signals.Given as goal
 

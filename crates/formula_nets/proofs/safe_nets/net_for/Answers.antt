@@ -1,4 +1,4 @@
-use Rattle.std.proofs.Common.{◌≡◌, ℕ, ◌≤◌, List, IfOk, sym, ap, ◌∙◌, subst, arith}
+use Rattle.std.proofs.Common.{◌≡◌, ℕ, ◌≤◌, List, [], ◌∷◌, IfOk, sym, ap, ◌∙◌, subst, arith}
 use Rattle.hy_formula.specs.Trees.{tree_of}
 use Rattle.aig_net.specs.declared.signals.Signal.{Signal}
 use Rattle.aig_net.specs.Nets.{Net, variables}
@@ -7,7 +7,8 @@ use Rattle.sym_tableau.specs.Oracles.{attach, signal_in}
 use Rattle.sym_tableau.specs.Places.{AreWithin, AttachFits}
 use Rattle.ltl_closure.specs.Jobs.{Rooted}
 use Rattle.ltl_closure.specs.Nodes.{Node}
-use Rattle.wit_lasso.specs.FormulaNets.{body_nodes, body_roots, copy_signals, formula_net}
+use Rattle.ltl_closure.specs.Bodies.{body_nodes, body_root}
+use Rattle.wit_lasso.specs.FormulaNets.{copy_signals, formula_net}
 use Rattle.wit_lasso.proofs.CopySignals.{copies-within}
 use Rattle.formula_nets.proofs.Growing.{attach-grows, literals-small}
 use Rattle.formula_nets.proofs.safe_nets.net_for.Goals as goal
@@ -23,15 +24,15 @@ room-composed net signals n nodes roots room =
 pub compose-requires-clause-room : goal.compose-requires-clause-room
 compose-requires-clause-room c =
     room-composed c.args.net.now c.args.signals.now c.args.n
-    (body_nodes c.args.n (tree_of c.args.body.now) c.args.positive)
-    (body_roots c.args.n (tree_of c.args.body.now) c.args.positive) c.requires.room
+    (body_nodes (tree_of c.args.body.now) c.args.positive)
+    (body_root (tree_of c.args.body.now) c.args.positive ∷ []) c.requires.room
 
 pub copy_signals-requires-clause-small : goal.copy_signals-requires-clause-small
 copy_signals-requires-clause-small c =
     literals-small c.args.net.now c.args.n c.args.signals.now c.requires.own.within
     (room-composed c.args.net.now c.args.signals.now c.args.n
-    (body_nodes c.args.n (tree_of c.args.body.now) c.args.positive)
-    (body_roots c.args.n (tree_of c.args.body.now) c.args.positive) c.requires.room)
+    (body_nodes (tree_of c.args.body.now) c.args.positive)
+    (body_root (tree_of c.args.body.now) c.args.positive ∷ []) c.requires.room)
 
 pub attach-requires-clause-signals : goal.attach-requires-clause-signals
 attach-requires-clause-signals c =

@@ -1,7 +1,7 @@
 use Rattle.std.proofs.Common.{[], ◌∷◌}
 use Rattle.std.proofs.lemmas.Result.{err_from_is_err_and}
 use Rattle.hy_formula.specs.declared.formula.Formula.{Formula}
-use Rattle.hy_read.specs.Builds.{plain_formula}
+use Rattle.hy_formula.specs.Formulas.{plain_formula}
 use Rattle.hy_files.specs.Steps.{unread}
 use Rattle.hy_files.proofs.Failing.{none-more, formula-fails}
 use Rattle.hy_files.proofs.files.formula_in.Goals as goal

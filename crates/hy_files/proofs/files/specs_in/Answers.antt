@@ -1,5 +1,5 @@
 use Rattle.std.proofs.lemmas.Result.{err_from_is_err_and}
-use Rattle.hy_read.specs.Builds.{plain_formulas}
+use Rattle.hy_formula.specs.Formulas.{plain_formulas}
 use Rattle.hy_files.specs.Steps.{unread}
 use Rattle.hy_files.proofs.Failing.{none-more, specs-fail}
 use Rattle.hy_files.proofs.files.specs_in.Goals as goal

@@ -1,6 +1,6 @@
 use Rattle.std.proofs.Common.{sym, ap, ◌∙◌, Err, add-one}
 use Rattle.std.proofs.lemmas.Result.{err_from_is_err_and}
-use Rattle.hy_read.specs.Builds.{plain_formulas}
+use Rattle.hy_formula.specs.Formulas.{plain_formulas}
 use Rattle.hy_read.proofs.Reading.{survey_refused, formulas_of, count_refused}
 use Rattle.hy_read.proofs.read.read_text.Goals as goal
 

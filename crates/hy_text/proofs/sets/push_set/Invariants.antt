@@ -1,4 +1,4 @@
-use Rattle.std.proofs.Common.{◌++◌, true, map}
+use Rattle.std.proofs.Common.{◌≡◌, ℕ, List, ◌++◌, true, map}
 use Rattle.hy_text.specs.Joined.{pieces}
 use Rattle.hy_text.specs.Names.{spelled}
 use Rattle.hy_text.specs.Sets.{members_of}
@@ -7,4 +7,4 @@ use Rattle.hy_text.proofs.sets.push_set.Given as goal
 
 -- what is printed so far, and what is left
 abbrev pub invariant-loop-i : goal.invariant-loop-i
-invariant-loop-i l = NamesLeft l.names l.letter (l.initial.out ++ pieces true 44 (map spelled (members_of l.names l.letter))) l.i l.is_first l.out
+invariant-loop-i l = (made : List ℕ) × (l.out ≡ l.initial.out ++ made) × NamesLeft l.names l.letter (pieces true 44 (map spelled (members_of l.names l.letter))) l.i l.is_first made

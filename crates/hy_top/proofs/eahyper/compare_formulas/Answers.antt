@@ -1,4 +1,4 @@
-use Rattle.hy_read.specs.Builds.{plain_formula}
+use Rattle.hy_formula.specs.Formulas.{plain_formula}
 use Rattle.hy_top.proofs.Deciding.{compare-same, compare-first, compare-second, compare-refused}
 use Rattle.hy_top.proofs.eahyper.compare_formulas.Goals as goal
 

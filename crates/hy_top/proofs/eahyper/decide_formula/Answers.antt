@@ -1,4 +1,4 @@
-use Rattle.hy_read.specs.Builds.{plain_formula}
+use Rattle.hy_formula.specs.Formulas.{plain_formula}
 use Rattle.hy_top.proofs.Deciding.{decide-sat, decide-unsat, decide-refused}
 use Rattle.hy_top.proofs.eahyper.decide_formula.Goals as goal
 

@@ -1,4 +1,4 @@
-use Rattle.hy_read.specs.Builds.{plain_formula}
+use Rattle.hy_formula.specs.Formulas.{plain_formula}
 use Rattle.hy_top.proofs.Deciding.{imply-not, imply-yes, imply-refused}
 use Rattle.hy_top.proofs.eahyper.imply_formula.Goals as goal
 

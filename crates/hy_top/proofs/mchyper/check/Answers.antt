@@ -1,6 +1,6 @@
 use Rattle.std.proofs.Common.{ℕ, ◌≤◌, false, List, [], ◌∷◌, length, refl}
 use Rattle.hy_base.specs.declared.shelf.Shelf.{Ghosts}
-use Rattle.hy_read.specs.Answers.{Plain}
+use Rattle.hy_formula.specs.Formulas.{Plain}
 use Rattle.hy_words.specs.Commands.{check}
 use Rattle.hy_files.specs.Contents.{one_formula}
 use Rattle.hy_files.specs.Steps.{Takes}

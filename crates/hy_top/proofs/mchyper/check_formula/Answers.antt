@@ -1,5 +1,5 @@
 use Rattle.std.proofs.Common.{arith}
-use Rattle.hy_read.specs.Builds.{plain_formula}
+use Rattle.hy_formula.specs.Formulas.{plain_formula}
 use Rattle.hy_top.specs.Checking.{spent}
 use Rattle.hy_top.proofs.Checking.{check-found, check-prefix, check-limit, check-cnf, check-name}
 use Rattle.hy_top.proofs.mchyper.check_formula.Goals as goal

@@ -1,6 +1,6 @@
 use Rattle.std.proofs.Common.{◌≡◌, ◌++◌, [], ◌∷◌}
 use Rattle.cnf_frames.specs.declared.facts.Fact.TheVariants.{Same, Differ}
-use Rattle.cnf_frames.specs.Queries.{for_each}
+use Rattle.chain_check.specs.FewClauses.{for_each}
 use Rattle.invar_find.proofs.candidates.add_pairs.Given as goal
 
 abbrev pub invariant-loop-i : goal.invariant-loop-i

@@ -1,5 +1,5 @@
 use Rattle.std.proofs.Common.{◌≡◌, ◌++◌}
-use Rattle.cnf_frames.specs.Queries.{for_each}
+use Rattle.chain_check.specs.FewClauses.{for_each}
 use Rattle.invar_find.specs.Candidates.{single_facts, pairs_with}
 use Rattle.invar_find.proofs.candidates.candidates.Given as goal
 

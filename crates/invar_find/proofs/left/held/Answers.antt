@@ -1,7 +1,8 @@
 use Rattle.std.proofs.Common.{◌≡◌, true, false, List, [], sym, refl, subst, ◌∙◌}
-use Rattle.aig_net.specs.Nets.{row}
+use Rattle.hy_base.specs.Rows.{row}
 use Rattle.cnf_frames.specs.declared.facts.Fact.{Fact}
-use Rattle.invar_find.specs.Parts.{AreThose, HoldsIn}
+use Rattle.invar_find.specs.Parts.{AreThose}
+use Rattle.cnf_frames.specs.Facts.{HoldsIn}
 use Rattle.invar_find.proofs.Sublists.{those-none, those-taken, those-left}
 use Rattle.invar_find.proofs.left.held.Goals as goal
 use Rattle.invar_find.proofs.left.held.Goals.{then-holds+in_ok-push, else-holds}

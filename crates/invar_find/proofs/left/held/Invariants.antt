@@ -1,6 +1,7 @@
 use Rattle.std.proofs.Common.{take}
-use Rattle.aig_net.specs.Nets.{row}
-use Rattle.invar_find.specs.Parts.{AreThose, HoldsIn}
+use Rattle.hy_base.specs.Rows.{row}
+use Rattle.invar_find.specs.Parts.{AreThose}
+use Rattle.cnf_frames.specs.Facts.{HoldsIn}
 use Rattle.invar_find.proofs.left.held.Given as goal
 
 abbrev pub invariant-loop-fact : goal.invariant-loop-fact

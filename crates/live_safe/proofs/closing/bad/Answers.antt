@@ -1,5 +1,6 @@
 use Rattle.std.proofs.Common.{◌≡◌, ℕ, List, ◌∙◌, ap}
-use Rattle.aig_net.specs.Wires.{Wire, equal, listed, literal}
+use Rattle.aig_net.specs.Wires.{Wire, equal, literal}
+use Rattle.hy_base.specs.Rows.{listed}
 use Rattle.live_safe.specs.declared.places.Places.{Places}
 use Rattle.live_safe.specs.Places.{copy_of, latch_of, same_of, saved_of, seen_of}
 use Rattle.live_safe.proofs.Conjoining.{joined-room, literal-joined, literal-room, wire-joined, wire-room}

@@ -1,5 +1,6 @@
 use Rattle.std.proofs.Common.{◌≡◌, ◌++◌}
-use Rattle.aig_net.specs.Wires.{Makes, all_of, listed, literal}
+use Rattle.aig_net.specs.Wires.{Makes, all_of, literal}
+use Rattle.hy_base.specs.Rows.{listed}
 use Rattle.live_safe.specs.Places.{saved_of, same_of, seen_of}
 use Rattle.live_safe.proofs.closing.bad.Given as goal
 

@@ -1,5 +1,6 @@
 use Rattle.std.proofs.Common.{◌≡◌}
-use Rattle.aig_net.specs.Wires.{MakesAll, listed}
+use Rattle.aig_net.specs.Wires.{MakesAll}
+use Rattle.hy_base.specs.Rows.{listed}
 use Rattle.live_safe.specs.Places.{seen_next_of}
 use Rattle.live_safe.proofs.closing.seen_nexts.Given as goal
 

@@ -1,5 +1,6 @@
 use Rattle.std.proofs.Common.{◌≡◌}
-use Rattle.aig_net.specs.Wires.{MakesAll, listed}
+use Rattle.aig_net.specs.Wires.{MakesAll}
+use Rattle.hy_base.specs.Rows.{listed}
 use Rattle.live_safe.specs.Places.{effective_of, free_before}
 use Rattle.live_safe.proofs.effective.effective_values.Given as goal
 

@@ -3,7 +3,8 @@ use Rattle.aig_net.specs.declared.parts.And.{And}
 use Rattle.aig_net.specs.declared.parts.Reset.{Reset}
 use Rattle.aig_net.specs.declared.maker.Gates.{Gates}
 use Rattle.aig_net.specs.Nets.{Net, IsNet}
-use Rattle.aig_net.specs.Wires.{MakesAll, listed}
+use Rattle.aig_net.specs.Wires.{MakesAll}
+use Rattle.hy_base.specs.Rows.{listed}
 use Rattle.live_safe.specs.declared.places.Places.{Places}
 use Rattle.live_safe.specs.declared.moved.Moved.{Moved}
 use Rattle.live_safe.specs.Safe.{safe_first, effective_at, effectives, safe_and}

@@ -1,5 +1,5 @@
 use Rattle.std.proofs.Common.{◌≡◌, ℕ, suc, ◌+◌, List, [], ◌∷◌, ◌++◌, sym, ap, ◌∙◌, arith}
-use Rattle.aig_net.proofs.Listed.{listed-last}
+use Rattle.hy_base.proofs.Listed.{listed-last}
 use Rattle.live_safe.specs.Places.{no_names}
 use Rattle.live_safe.proofs.making.without_names.Goals as goal
 

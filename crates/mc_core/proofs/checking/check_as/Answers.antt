@@ -5,7 +5,8 @@ use Rattle.hy_base.specs.declared.limit.Kind.TheVariants.{Closure}
 use Rattle.hy_formula.specs.Trees.{tree_of}
 use Rattle.aig_net.specs.Nets.{variables}
 use Rattle.live_safe.specs.declared.safe_net.SafeNet.{SafeNet}
-use Rattle.wit_lasso.specs.FormulaNets.{body_nodes, formula_safe}
+use Rattle.ltl_closure.specs.Bodies.{body_nodes}
+use Rattle.wit_lasso.specs.FormulaNets.{formula_safe}
 use Rattle.formula_nets.specs.Posed.{IsPosed, checked_safe}
 use Rattle.mc_core.specs.declared.checked.Checked.{Checked}
 use Rattle.mc_core.specs.declared.mc_error.McError.{McError}
@@ -18,14 +19,12 @@ returns-in_err-closure c =
     let p = err_from_is_err_and c.from_residual.result c.from_residual.ensures.1 in
     let A : Result Checked McError → Type 0 = IsAnswer c.args.net.now c.args.names.now
     c.args.formula.now.prefix (tree_of c.args.formula.now.body) c.args.ask.now in
-    let N : ℕ → Type 0 = λ n. most Closure < length (body_nodes n
-    (tree_of c.args.formula.now.body) c.args.existential) in
-    let B : Bool → Type 0 = λ b. most Closure < length (body_nodes
-    (length c.args.formula.now.prefix) (tree_of c.args.formula.now.body) b) in
+    let B : Bool → Type 0 = λ b. most Closure < length (body_nodes (tree_of
+    c.args.formula.now.body) b) in
     subst A (sym (p.1 ∙ ap (λ (e : McError). Err e) p.2))
     (unclosed c.args.net.now c.args.names.now c.args.formula.now.prefix
     (tree_of c.args.formula.now.body) c.args.ask.now c.in_err-closure.field-0.0 c.requires.taken
-    (λ h. subst B c.requires.kind (subst N c.len-n.ensures.len (c.in_err-closure.ensures.limit h))))
+    (λ h. subst B c.requires.kind (c.in_err-closure.ensures.limit h)))
 
 pub returns-in_err-signals : goal.returns-in_err-signals
 returns-in_err-signals c =
@@ -33,14 +32,12 @@ returns-in_err-signals c =
     c.from_residual-in_err-signals.ensures.1 in
     let A : Result Checked McError → Type 0 = IsAnswer c.args.net.now c.args.names.now
     c.args.formula.now.prefix (tree_of c.args.formula.now.body) c.args.ask.now in
-    let N : ℕ → Type 0 = λ n. length (body_nodes n (tree_of c.args.formula.now.body)
-    c.args.existential) ≤ most Closure in
-    let B : Bool → Type 0 = λ b. length (body_nodes (length c.args.formula.now.prefix)
-    (tree_of c.args.formula.now.body) b) ≤ most Closure in
+    let B : Bool → Type 0 = λ b. length (body_nodes (tree_of c.args.formula.now.body) b)
+    ≤ most Closure in
     subst A (sym (p.1 ∙ ap (λ (e : McError). Err e) p.2))
     (unnamed c.args.net.now c.args.names.now c.args.formula.now.prefix
     (tree_of c.args.formula.now.body) c.args.ask.now c.in_err-signals.field-0.0 c.requires.taken
-    (subst B c.requires.kind (subst N c.len-n.ensures.len c.in_ok-closure.ensures.few))
+    (subst B c.requires.kind c.in_ok-closure.ensures.few)
     c.in_err-signals.ensures.refused)
 
 pub safe_for-requires-clause-own : goal.safe_for-requires-clause-own
@@ -50,14 +47,12 @@ safe_for-requires-clause-own c =
 
 pub safe_for-requires-clause-room : goal.safe_for-requires-clause-room
 safe_for-requires-clause-room c =
-    let N : ℕ → Type 0 = λ n. length (body_nodes n (tree_of c.args.formula.now.body)
-    c.args.existential) ≤ most Closure in
-    let B : Bool → Type 0 = λ b. length (body_nodes (length c.args.formula.now.prefix)
-    (tree_of c.args.formula.now.body) b) ≤ most Closure in
+    let B : Bool → Type 0 = λ b. length (body_nodes (tree_of c.args.formula.now.body) b)
+    ≤ most Closure in
     let posed : IsPosed c.args.net.now c.args.names.now c.args.formula.now.prefix
     (tree_of c.args.formula.now.body) c.in_ok-signals.signals = record {
       taken = c.requires.taken;
-      few = subst B c.requires.kind (subst N c.len-n.ensures.len c.in_ok-closure.ensures.few);
+      few = subst B c.requires.kind c.in_ok-closure.ensures.few;
       signals_are = c.in_ok-signals.ensures.signals;
     } in
     let M : ℕ → Type 0 = λ n. variables (formula_safe c.args.net.now c.in_ok-signals.signals n
@@ -82,14 +77,12 @@ judge-requires-clause-safe c =
 
 pub returns : goal.returns
 returns c =
-    let N : ℕ → Type 0 = λ n. length (body_nodes n (tree_of c.args.formula.now.body)
-    c.args.existential) ≤ most Closure in
-    let B : Bool → Type 0 = λ b. length (body_nodes (length c.args.formula.now.prefix)
-    (tree_of c.args.formula.now.body) b) ≤ most Closure in
+    let B : Bool → Type 0 = λ b. length (body_nodes (tree_of c.args.formula.now.body) b)
+    ≤ most Closure in
     let posed : IsPosed c.args.net.now c.args.names.now c.args.formula.now.prefix
     (tree_of c.args.formula.now.body) c.in_ok-signals.signals = record {
       taken = c.requires.taken;
-      few = subst B c.requires.kind (subst N c.len-n.ensures.len c.in_ok-closure.ensures.few);
+      few = subst B c.requires.kind c.in_ok-closure.ensures.few;
       signals_are = c.in_ok-signals.ensures.signals;
     } in
     let same : c.in_ok-safe.safe ≡ checked_safe c.args.net.now c.in_ok-signals.signals

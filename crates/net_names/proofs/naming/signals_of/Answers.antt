@@ -3,7 +3,8 @@ use Rattle.std.specs.FinSet.{contains}
 use Rattle.hy_formula.specs.Trees.{tree_of}
 use Rattle.aig_net.specs.declared.signals.Signal.{Signal}
 use Rattle.net_names.specs.Meanings.{AreBelow}
-use Rattle.net_names.specs.Names.{IsOnly, has_name}
+use Rattle.hy_formula.specs.Atoms.{has_name}
+use Rattle.net_names.specs.Names.{IsOnly}
 use Rattle.net_names.proofs.SignalTables.{below_push, below_skip, first_none, first_several, fresh_name, literal_only}
 use Rattle.net_names.proofs.naming.signals_of.Goals as goal
 use Rattle.net_names.proofs.naming.signals_of.Goals.{then-has+in-Literal+in_ok-push, else-has}
@@ -15,7 +16,7 @@ returns-in-Nothing-clause-refused c =
     ∙ ap (contains c.names_of-used.result) (sym c.from.ensures) ∙ sym c.has.ensures
     ∙ c.if-has.true in
     first_none c.args.net.now c.args.names.now (tree_of c.args.body.now) c.loop-k.k
-    c.loop-k.signals c.meaning_of.result c.name_of.result.now c.name_of.ensures c.loop-k.invariant
+    c.loop-k.signals c.meaning_of.result c.text.result.now c.text.ensures c.loop-k.invariant
     on c.meaning_of.ensures c.in-Nothing.is
 
 pub returns-in-Several-clause-refused : goal.returns-in-Several-clause-refused
@@ -25,7 +26,7 @@ returns-in-Several-clause-refused c =
     ∙ ap (contains c.names_of-used.result) (sym c.from.ensures) ∙ sym c.has.ensures
     ∙ c.if-has.true in
     first_several c.args.net.now c.args.names.now (tree_of c.args.body.now) c.loop-k.k
-    c.loop-k.signals c.meaning_of.result c.name_of.result.now c.name_of.ensures c.loop-k.invariant
+    c.loop-k.signals c.meaning_of.result c.text.result.now c.text.ensures c.loop-k.invariant
     on c.meaning_of.ensures c.in-Several.is
 
 pub push-requires-clause-new : goal.push-requires-clause-new
@@ -45,9 +46,9 @@ loop-k-preserved c =
           below_push c.args.net.now c.args.names.now (tree_of c.args.body.now) c.loop-k.k
           c.loop-k.signals c.if-has.signals
           (record { name = c.loop-k.k; var = 0; literal = w.in-Literal.literal }) on refl refl
-          (subst P w.name_of.ensures
+          (subst P w.text.ensures
           (literal_only c.args.net.now c.args.names.now (tree_of c.args.body.now)
-          w.name_of.result.now w.meaning_of.result w.in-Literal.literal w.meaning_of.ensures
+          w.text.result.now w.meaning_of.result w.in-Literal.literal w.meaning_of.ensures
           w.in-Literal.is))
           c.loop-k.invariant (w.signals-is ∙ w.in_ok-push.ensures.added)
       | else-has w ↦

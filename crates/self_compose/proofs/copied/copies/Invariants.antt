@@ -1,5 +1,5 @@
 use Rattle.std.proofs.Common.{◌≡◌, ◌++◌, take}
-use Rattle.aig_net.specs.Wires.{listed}
+use Rattle.hy_base.specs.Rows.{listed}
 use Rattle.aig_net.specs.Copies.{copied}
 use Rattle.self_compose.proofs.copied.copies.Given as goal
 

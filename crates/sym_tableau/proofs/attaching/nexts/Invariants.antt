@@ -1,5 +1,5 @@
 use Rattle.std.proofs.Common.{◌≡◌, ◌∷◌, ◌++◌, map, take}
-use Rattle.aig_net.specs.Wires.{listed}
+use Rattle.hy_base.specs.Rows.{listed}
 use Rattle.sym_tableau.specs.Places.{moved_of, oracle_of}
 use Rattle.sym_tableau.proofs.attaching.nexts.Given as goal
 

@@ -1,6 +1,6 @@
 use Rattle.std.proofs.Common.{◌≡◌, ◌∷◌, ◌++◌, take}
 use Rattle.aig_net.specs.declared.parts.Reset.TheVariants.{Zero}
-use Rattle.aig_net.specs.Wires.{listed}
+use Rattle.hy_base.specs.Rows.{listed}
 use Rattle.sym_tableau.proofs.attaching.resets.Given as goal
 
 -- the oracles so far

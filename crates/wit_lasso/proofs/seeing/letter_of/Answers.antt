@@ -1,7 +1,8 @@
 use Rattle.std.proofs.Common.{◌-◌, length, drop, sym, subst, arith}
 use Rattle.hy_bits.specs.Letter.{Letter}
 use Rattle.aig_net.specs.declared.signals.Signal.{Signal}
-use Rattle.aig_net.specs.Nets.{Below, row}
+use Rattle.aig_net.specs.Nets.{Below}
+use Rattle.hy_base.specs.Rows.{row}
 use Rattle.wit_lasso.specs.Seeing.{IsSeen}
 use Rattle.wit_lasso.proofs.Letters.{got, small_name, seen-more, seen-none}
 use Rattle.wit_lasso.proofs.seeing.letter_of.Goals as goal

@@ -1,5 +1,5 @@
 use Rattle.std.proofs.Common.{drop}
-use Rattle.aig_net.specs.Nets.{row}
+use Rattle.hy_base.specs.Rows.{row}
 use Rattle.wit_lasso.specs.Seeing.{IsSeen}
 use Rattle.wit_lasso.proofs.seeing.letter_of.Given as goal
 

@@ -3,7 +3,7 @@ use Rattle.std.proofs.lemmas.List.{length-map}
 use Rattle.std.specs.FinSet.{contains}
 use Rattle.hy_bits.specs.Letter.{Letter}
 use Rattle.aig_net.specs.Following.{row_at}
-use Rattle.aig_net.specs.Nets.{row}
+use Rattle.hy_base.specs.Rows.{row}
 use Rattle.sym_tableau.specs.Places.{AreWithin}
 use Rattle.wit_lasso.specs.Seeing.{AreSeen}
 use Rattle.wit_lasso.proofs.Letters.{shows-rows, sound-cycle, sound-stem}

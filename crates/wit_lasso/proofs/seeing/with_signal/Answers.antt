@@ -1,7 +1,7 @@
 use Rattle.std.proofs.Common.{sym, ap, ◌∙◌, subst}
 use Rattle.std.specs.FinSet.{insert, remove}
 use Rattle.hy_bits.specs.Letter.{Letter}
-use Rattle.aig_net.specs.Nets.{row}
+use Rattle.hy_base.specs.Rows.{row}
 use Rattle.wit_lasso.specs.Seeing.{Counts}
 use Rattle.wit_lasso.proofs.Letters.{counts_false, counts_true}
 use Rattle.wit_lasso.proofs.seeing.with_signal.Goals as goal

@@ -1,5 +1,5 @@
 use Rattle.std.proofs.Common.{◌≡◌}
-use Rattle.aig_net.specs.Wires.{listed}
+use Rattle.hy_base.specs.Rows.{listed}
 use Rattle.wit_lasso.specs.PathParts.{own_run}
 use Rattle.wit_lasso.proofs.unfolding.runs_of.Given as goal
 

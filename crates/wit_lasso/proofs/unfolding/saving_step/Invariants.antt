@@ -1,5 +1,5 @@
 use Rattle.std.proofs.Common.{◌≡◌, ℕ, ◌<◌, false}
-use Rattle.aig_net.specs.Nets.{row}
+use Rattle.hy_base.specs.Rows.{row}
 use Rattle.aig_net.specs.Following.{row_at}
 use Rattle.wit_lasso.proofs.unfolding.saving_step.Given as goal
 

@@ -1,6 +1,6 @@
 use Rattle.std.proofs.Common.{◌≡◌, ◌+◌, ◌*◌}
-use Rattle.aig_net.specs.Nets.{reset_at, row}
-use Rattle.aig_net.specs.Wires.{listed}
+use Rattle.aig_net.specs.Nets.{reset_at}
+use Rattle.hy_base.specs.Rows.{row, listed}
 use Rattle.wit_lasso.specs.PathParts.{free_before, start_value}
 use Rattle.wit_lasso.proofs.unfolding.start_latches.Given as goal
 

@@ -1,6 +1,6 @@
 use Rattle.std.proofs.Common.{◌≡◌, ◌+◌, ◌*◌, List, length, ap, ◌∙◌, subst, arith}
 use Rattle.aig_net.specs.Nets.{variables}
-use Rattle.aig_net.proofs.Listed.{length-listed}
+use Rattle.hy_base.proofs.Listed.{length-listed}
 use Rattle.chain_check.specs.Clauses.{Clause, SatisfiesAll}
 use Rattle.cnf_frames.specs.QueryPaths.{word_of}
 use Rattle.cnf_frames.proofs.Answering.{answered}

@@ -1,6 +1,6 @@
 use Rattle.std.proofs.Common.{◌≡◌, ◌+◌, ◌*◌}
 use Rattle.aig_net.specs.Nets.{variables}
-use Rattle.aig_net.specs.Wires.{listed}
+use Rattle.hy_base.specs.Rows.{listed}
 use Rattle.cnf_frames.proofs.Rows.{values_from}
 use Rattle.cnf_frames.proofs.queries.Query.path.Given as goal
 

@@ -1,7 +1,8 @@
 use Rattle.std.proofs.Common.{◌<◌, ◌≤◌, ◌*◌, ℕ, map, length, sym, subst, arith}
 use Rattle.std.proofs.lemmas.Result.{IfErr-weaker}
 use Rattle.hy_formula.specs.Quantifiers.{Each}
-use Rattle.fin_monitor.specs.Codes.{plain_atom, letter_of}
+use Rattle.hy_formula.specs.Atoms.{plain_atom}
+use Rattle.fin_monitor.specs.Codes.{letter_of}
 use Rattle.fin_monitor.specs.Duties.{residual_at, later}
 use Rattle.fin_monitor.specs.Lefts.{kept_lists}
 use Rattle.fin_monitor.specs.Tables.{row_of, AreAllLefts, Puts, Follows, IsPutRefusal, IsTableRefusal}

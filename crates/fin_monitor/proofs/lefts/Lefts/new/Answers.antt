@@ -1,5 +1,5 @@
 use Rattle.std.proofs.Common.{rules, ◌∷◌, [], ◌+◌, ℕ, length, map, sym, ap, ◌∙◌, subst, arith, length-append}
-use Rattle.fin_monitor.specs.Codes.{plain_atom}
+use Rattle.hy_formula.specs.Atoms.{plain_atom}
 use Rattle.fin_monitor.specs.Lefts.{kept_lists, AreLefts}
 use Rattle.fin_monitor.proofs.Stepping.{lefts-more}
 use Rattle.fin_monitor.proofs.lefts.Lefts.new.Goals as goal

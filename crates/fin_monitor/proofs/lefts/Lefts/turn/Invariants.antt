@@ -1,5 +1,5 @@
 use Rattle.std.proofs.Common.{◌≡◌, length, map}
-use Rattle.fin_monitor.specs.Codes.{plain_atom}
+use Rattle.hy_formula.specs.Atoms.{plain_atom}
 use Rattle.fin_monitor.specs.Lefts.{kept_lists}
 use Rattle.fin_monitor.proofs.Stepping.{AreTurned}
 use Rattle.fin_monitor.proofs.lefts.Lefts.turn.Given as goal

@@ -1,5 +1,5 @@
 use Rattle.std.proofs.Common.{◌∷◌, [], map, length, ap, arith, length-append}
-use Rattle.fin_monitor.specs.Codes.{plain_atom}
+use Rattle.hy_formula.specs.Atoms.{plain_atom}
 use Rattle.fin_monitor.proofs.Exploring.{all-lefts}
 use Rattle.fin_monitor.proofs.KeptLefts.{each-push, each-first}
 use Rattle.fin_monitor.proofs.lefts_by_code.LeftsByCode.new.Goals as goal

@@ -1,7 +1,8 @@
 use Rattle.std.proofs.Common.{◌≡◌, ◌<◌, ◌%◌, ℕ, map, length, sym, ap, ◌∙◌, subst, arith}
 use Rattle.std.proofs.Math.Nat.{mod-lt}
 use Rattle.std.proofs.lemmas.List.{get_or-set_same}
-use Rattle.fin_monitor.specs.Codes.{plain_atom, letter_of}
+use Rattle.hy_formula.specs.Atoms.{plain_atom}
+use Rattle.fin_monitor.specs.Codes.{letter_of}
 use Rattle.fin_monitor.specs.Duties.{residual_step, Same}
 use Rattle.fin_monitor.specs.Lefts.{kept_lists, AreLefts, IsFamily, IsStepOf}
 use Rattle.fin_monitor.specs.Tables.{AreAllLefts}

@@ -1,6 +1,6 @@
 use Rattle.std.proofs.Common.{length, ap, map, arith}
 use Rattle.std.proofs.lemmas.List.{length-map}
-use Rattle.fin_monitor.specs.Codes.{plain_atom}
+use Rattle.hy_formula.specs.Atoms.{plain_atom}
 use Rattle.fin_monitor.proofs.monitor.Monitor.atoms.Goals as goal
 
 pub returns-clause-atoms : goal.returns-clause-atoms

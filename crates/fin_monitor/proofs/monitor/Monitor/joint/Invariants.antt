@@ -1,5 +1,6 @@
 use Rattle.std.proofs.Common.{◌≡◌, ◌≤◌, drop, length, map}
-use Rattle.fin_monitor.specs.Codes.{plain_atom, code_of, joint_letter}
+use Rattle.hy_formula.specs.Atoms.{plain_atom}
+use Rattle.fin_monitor.specs.Codes.{code_of, joint_letter}
 use Rattle.fin_monitor.proofs.monitor.Monitor.joint.Given as goal
 
 abbrev pub invariant-loop-i : goal.invariant-loop-i

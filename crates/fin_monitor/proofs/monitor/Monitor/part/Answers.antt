@@ -1,6 +1,6 @@
 use Rattle.std.proofs.Common.{◌<◌, ◌^◌, ◌&&◌, ℕ, nat_eq, length, map, sym, ◌∙◌, subst, arith}
 use Rattle.std.specs.FinSet.{contains}
-use Rattle.fin_monitor.specs.Codes.{plain_atom}
+use Rattle.hy_formula.specs.Atoms.{plain_atom}
 use Rattle.fin_monitor.specs.Seen.{machine_of}
 use Rattle.fin_monitor.proofs.CodeBits.{code-lt, small-code}
 use Rattle.fin_monitor.proofs.Naming.{past-none}

@@ -1,6 +1,6 @@
 use Rattle.std.proofs.Common.{◌≡◌, length, sym, ◌∙◌, map, arith}
 use Rattle.std.proofs.lemmas.List.{length-map}
-use Rattle.fin_monitor.specs.Codes.{plain_atom}
+use Rattle.hy_formula.specs.Atoms.{plain_atom}
 use Rattle.fin_monitor.specs.Seen.{machine_of}
 use Rattle.fin_monitor.proofs.Places.{shifted-fits, shifted-inside, entry-is, entry-within}
 use Rattle.fin_monitor.proofs.monitor.Monitor.step.Goals as goal

@@ -1,7 +1,7 @@
 use Rattle.std.proofs.Common.{◌∙◌, List, take, subst}
 use Rattle.hy_bits.specs.Letter.{Letter}
 use Rattle.hy_lasso.specs.Rounds.{IsLeastRound, IsSharedEnd}
-use Rattle.hy_lasso.proofs.Shortening.{same-word, normal}
+use Rattle.hy_lasso.proofs.Shortening.{same-word, normal, stem-within, cycle-within}
 use Rattle.hy_lasso.proofs.lasso.Lasso.shorten.Goals as goal
 
 -- what the steps found
@@ -33,3 +33,13 @@ pub returns-clause-normal : goal.returns-clause-normal
 returns-clause-normal c =
     rw (c.rotate_right.ensures, c.len-2.ensures, c.truncate-2.ensures, c.len.ensures, c.truncate.ensures)
     (normal _ _ _ _ c.self.invariant (round_of c) (shared_of c))
+
+pub returns-clause-stem : goal.returns-clause-stem
+returns-clause-stem c =
+    rw (c.truncate-2.ensures, c.len.ensures, ← c.self.view_is)
+    (stem-within _ _ _ _ c.self.invariant (round_of c) (shared_of c))
+
+pub returns-clause-cycle : goal.returns-clause-cycle
+returns-clause-cycle c =
+    rw (c.rotate_right.ensures, c.len-2.ensures, c.truncate.ensures, ← c.self.view_is)
+    (cycle-within _ _ _ _ c.self.invariant (round_of c) (shared_of c))
