@@ -20,9 +20,14 @@ struct Printed {
 pub(crate) fn report(rt: &HostRuntime, case: &CircuitCase) -> Result<bool> {
     ensure!(case.text.len() <= BYTES_LIMIT, "the text is too long");
     match read_aiger(rt.alloc(), case.text.as_slice()) {
-        Ok(net) => tell(rt, case, net_differs(rt.alloc(), case, &net)?),
+        Ok(net) => judge(rt, case, &net),
         Err(error) => tell_refusal(rt, case, error),
     }
+}
+
+/// Prints what differs in the net of a text, and says whether nothing does.
+fn judge(rt: &HostRuntime, case: &CircuitCase, net: &Net) -> Result<bool> {
+    tell(rt, case, net_differs(rt.alloc(), case, net)?)
 }
 
 /// Prints what differs behind the name of a case, and says whether nothing does.
@@ -134,8 +139,16 @@ fn is_another(wanted: &Text, given: &Text) -> bool {
 /// Whether the net of a text is printed like this.
 fn reads_back(alloc: Global, text: &Text, aag: &Text) -> Result<bool> {
     ensure!(text.len() <= BYTES_LIMIT, "the text is too long");
-    let net = read_aiger(alloc, text.as_slice())?;
-    Ok(print_aag(alloc, &net)?.as_slice() == aag.as_slice())
+    match read_aiger(alloc, text.as_slice()) {
+        Ok(net) => is_printed(alloc, &net, aag),
+        Err(error) => bail!("a printed net is refused: {error}"),
+    }
+}
+
+/// Whether a net is printed like this.
+fn is_printed(alloc: Global, net: &Net, aag: &Text) -> Result<bool> {
+    let given = print_aag(alloc, net)?;
+    Ok(given.as_slice() == aag.as_slice())
 }
 
 /// Whether each run gives the rows that are expected.

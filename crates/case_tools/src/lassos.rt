@@ -52,9 +52,8 @@ fn is_judged<T: Tools>(
 
 /// Whether a command prints this text.
 fn prints<T: Tools>(alloc: Global, trial: &mut Trial, text: &[u8]) -> Result<bool> {
-    let mut stage = trial.stage(alloc)?;
-    trial.run::<T>(alloc, &mut stage)?;
-    Ok(stage.out() == text)
+    let given = trial.run::<T>(alloc)?;
+    Ok(given.out.as_slice() == text)
 }
 
 /// Makes a command of the judge, over the formula and the lassos.

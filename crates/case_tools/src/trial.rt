@@ -28,22 +28,18 @@ pub(crate) struct Trial {
 
 /// The files and the streams of a run.
 #[derive(Drop)]
-pub(crate) struct Stage {
+struct Stage {
     shelf: MemShelf,
     out: MemSink,
     err: MemSink,
 }
 
-impl Stage {
-    /// What the output received.
-    pub(crate) fn out(&self) -> &[u8] {
-        self.out.bytes()
-    }
-
-    /// What the error stream received.
-    pub(crate) fn err(&self) -> &[u8] {
-        self.err.bytes()
-    }
+/// What a command gave.
+#[derive(Drop)]
+pub(crate) struct Given {
+    pub status: u8,
+    pub out: Text,
+    pub err: Text,
 }
 
 impl Trial {
@@ -82,8 +78,14 @@ impl Trial {
         Ok(())
     }
 
+    /// Runs the command, whose files go out of the trial.
+    pub(crate) fn run<T: Tools>(&mut self, alloc: Global) -> Result<Given> {
+        let mut stage = self.stage(alloc)?;
+        self.run_on::<T>(alloc, &mut stage)
+    }
+
     /// What the command finds, which goes out of the trial.
-    pub(crate) fn stage(&mut self, alloc: Global) -> M<Stage> {
+    fn stage(&mut self, alloc: Global) -> M<Stage> {
         let out = MemSink::new(
             alloc,
             self.room,
@@ -105,9 +107,9 @@ impl Trial {
         })
     }
 
-    /// Runs the command, and gives its exit status.
-    pub(crate) fn run<T: Tools>(&self, alloc: Global, stage: &mut Stage) -> Result<u8> {
-        T::status_of(
+    /// Runs the command over these files and streams.
+    fn run_on<T: Tools>(&self, alloc: Global, stage: &mut Stage) -> Result<Given> {
+        let status = T::status_of(
             alloc,
             self.tool.as_str(),
             self.words.as_slice(),
@@ -115,24 +117,28 @@ impl Trial {
             &mut stage.out,
             &mut stage.err,
         )
-        .context("no tool has this name")
+        .context("no tool has this name")?;
+        Ok(Given {
+            status,
+            out: copied(alloc, stage.out.bytes())?,
+            err: copied(alloc, stage.err.bytes())?,
+        })
     }
+}
+
+/// A text of these bytes.
+fn copied(alloc: Global, bytes: &[u8]) -> M<Text> {
+    let mut text = Text::new(alloc);
+    text.extend(bytes)?;
+    Ok(text)
 }
 
 /// A file of this name and these bytes.
 fn file_of(alloc: Global, name: &[u8], bytes: &[u8]) -> M<File> {
-    let mut file = File {
-        name: Text::new(alloc),
-        bytes: Text::new(alloc),
-    };
-    fill(&mut file, name, bytes)?;
-    Ok(file)
-}
-
-/// Gives an empty file its name and its bytes.
-fn fill(file: &mut File, name: &[u8], bytes: &[u8]) -> M<()> {
-    file.name.extend(name)?;
-    file.bytes.extend(bytes)
+    Ok(File {
+        name: copied(alloc, name)?,
+        bytes: copied(alloc, bytes)?,
+    })
 }
 
 /// The numbers of a list, which has none from then on.
