@@ -9,8 +9,15 @@ use std::alloc::Global;
 /// The most quantifiers of a formula.
 const QUANTIFIERS: u8 = 8;
 
+/// The closure of the body of the formula of a text, with each variable standing for itself.
+pub fn body_closure(alloc: Global, text: &str) -> Result<Closure> {
+    let mut names = NameTable::new(alloc)?;
+    let formula = formula_of(alloc, text, &mut names)?;
+    closure_of(alloc, &formula, true)
+}
+
 /// The formula of the text, whose names are added to the table.
-pub fn formula_of(alloc: Global, text: &str, names: &mut NameTable) -> Result<Formula> {
+pub(crate) fn formula_of(alloc: Global, text: &str, names: &mut NameTable) -> Result<Formula> {
     let bytes = text.as_bytes();
     if bytes.len() > u32::MAX as usize {
         bail!("the file is too long");
@@ -22,7 +29,7 @@ pub fn formula_of(alloc: Global, text: &str, names: &mut NameTable) -> Result<Fo
 }
 
 /// The closure of the body of a formula, or of its negation where not `positive`.
-pub fn closure_of(alloc: Global, formula: &Formula, positive: bool) -> Result<Closure> {
+pub(crate) fn closure_of(alloc: Global, formula: &Formula, positive: bool) -> Result<Closure> {
     match Closure::of_body(alloc, &formula.body, formula.prefix.len() as u8, positive) {
         Ok(c) => Ok(c),
         Err(error) => bail!("no closure: {error:?}"),

@@ -1,5 +1,5 @@
-//! What the programs for benches and cases share: formulas of texts, runs as words, and the nets of
-//! formulas on circuits.
+//! What benches and cases share: closures of formulas, runs as words, and the nets of formulas on
+//! circuits.
 #![tactic(auto)]
 
 mod formulas;
@@ -7,6 +7,6 @@ mod nets;
 mod runs;
 mod signals;
 
-pub use formulas::{closure_of, formula_of};
-pub use nets::{composed, formula_net, safe_of};
+pub use formulas::body_closure;
+pub use nets::{composed, formula_net, safe_net};
 pub use runs::{rows_text, run_of};

@@ -61,8 +61,14 @@ fn with_oracles(alloc: Global, net: &Net, closure: &Closure, signals: &Signals) 
     Ok(made)
 }
 
+/// The safe net of the net that a formula makes of another.
+pub fn safe_net(alloc: Global, net: &Net, text: &str) -> Result<Net> {
+    let with_oracles = formula_net(alloc, net, text)?;
+    Ok(safe_of(alloc, &with_oracles)?.net)
+}
+
 /// The safe net of a net.
-pub fn safe_of(alloc: Global, net: &Net) -> Result<SafeNet>
+fn safe_of(alloc: Global, net: &Net) -> Result<SafeNet>
     ensures { IfOk result (λ made. made ≡ safe_net_of net.now) }
 {
     let fairs = (net.fairs().len() as u64).saturating_mul(5);

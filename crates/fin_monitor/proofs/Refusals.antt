@@ -1,5 +1,5 @@
 -- Why a body has no monitor, by which of its parts is too large.
-use Rattle.std.proofs.Common.{◌≡◌, Result, Ok, Err, sym, subst}
+use Rattle.std.proofs.Common.{◌≡◌, Result, Ok, Err, sym, subst, true}
 use Rattle.std.specs.Result.{IfErr, IsErrAnd}
 use Rattle.hy_base.specs.declared.limit.Kind.TheVariants as kind
 use Rattle.hy_formula.specs.Trees.{Tree}

@@ -1,5 +1,5 @@
 -- When a body has no monitor: its closure, its atoms or its table is too large.
-use Rattle.std.specs.Prelude.{ℕ, ◌*◌, ◌^◌, ◌<◌, ◌≤◌, List, length}
+use Rattle.std.specs.Prelude.{ℕ, ◌*◌, ◌^◌, ◌<◌, ◌≤◌, List, length, true}
 use Rattle.hy_base.specs.declared.limit.Kind.TheVariants.{Closure, Atoms, Table}
 use Rattle.hy_formula.specs.Trees.{Tree}
 use Rattle.fin_monitor.specs.declared.monitor_error.MonitorError.{MonitorError}

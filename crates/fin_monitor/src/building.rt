@@ -1,6 +1,6 @@
 //! The closure of a body, and its residuals.
 
-ghost use Rattle.std.specs.Prelude.{◌≡◌, ◌≤◌, ◌<◌, ◌∷◌, [], slice_index, length, map, IfOk, IfErr, OnOk, IsTrue};
+ghost use Rattle.std.specs.Prelude.{◌≡◌, ◌≤◌, ◌<◌, ◌∷◌, [], slice_index, length, map, IfOk, IfErr, OnOk, IsTrue, true};
 ghost use Rattle.hy_formula.specs.Trees.{tree_of, vars_below};
 ghost use Rattle.hy_formula.specs.Atoms.{plain_atom};
 ghost use Rattle.ltl_closure.specs.Bodies.{body_nodes, body_root};

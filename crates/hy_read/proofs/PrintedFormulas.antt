@@ -4,7 +4,8 @@ use Rattle.std.proofs.lemmas.Bool.{le-ltb}
 use Rattle.std.proofs.lemmas.List.Elements.{All-head}
 use Rattle.hy_formula.specs.Names.{are_distinct}
 use Rattle.hy_text.specs.Names.{AreNames}
-use Rattle.hy_read.specs.Answers.{Answers, Plain, plain_of, read_as, tokens_of}
+use Rattle.hy_formula.specs.Formulas.{Plain}
+use Rattle.hy_read.specs.Answers.{Answers, plain_of, read_as, tokens_of}
 use Rattle.hy_read.specs.Grammar.{AreFormulas, IsFormula, Quantifier, Read, loosest, quantifier_tokens}
 use Rattle.hy_read.specs.Printing.{printed, printed_body}
 use Rattle.hy_read.specs.Readings.{IsReading}

@@ -11,7 +11,8 @@ use Rattle.hy_formula.proofs.Names.{place_of-lt}
 use Rattle.hy_text.specs.Names.{AreNames}
 use Rattle.hy_read.specs.declared.symbol.Symbol.{Symbol}
 use Rattle.hy_read.specs.declared.symbol.Symbol.TheVariants as signs
-use Rattle.hy_read.specs.Answers.{Answers, Plain, located, plain_of, read_as, tokens_of}
+use Rattle.hy_formula.specs.Formulas.{Plain}
+use Rattle.hy_read.specs.Answers.{Answers, located, plain_of, read_as, tokens_of}
 use Rattle.hy_read.specs.Grammar.{AreFormulas, Derives, IsFormula, Quantifier, Read, alone, joined, constant, prefixed, named, grouped, binary_of, constant_of, unary_of}
 use Rattle.hy_read.specs.Readings.{IsReading, names_below}
 use Rattle.hy_read.specs.Results.{Bound, Count, IsBound, Reads, Result, count_of, fault, first_past, in_order, largest, most, names_of, past, taken, unbound, variables_of}

@@ -1,7 +1,7 @@
 -- What is known of the formulas that a reader answers.
 use Rattle.std.specs.Prelude.{ℕ, ◌≤◌, ◌&&◌, nat_lt, length, Bool, true, IsTrue}
 use Rattle.hy_formula.specs.Trees.{Tree, always, never, atom, not, next, finally, globally, and, or, implies, iff, until, release, weak, height, vars_below}
-use Rattle.hy_read.specs.Answers.{Plain}
+use Rattle.hy_formula.specs.Formulas.{Plain}
 
 -- whether the number of every name is below a number
 abbrev pub names_below : ℕ → Tree → Bool

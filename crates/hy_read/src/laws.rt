@@ -1,7 +1,8 @@
 //! Laws of the grammar, the table of places, the answers and the printer. Each function is empty: its contract is the law.
 
 ghost use Rattle.std.specs.Prelude.{◌≡◌, ◌↔◌, ◌++◌, ◌≤◌, ◌<◌, ◌^◌, [], ◌∷◌, ℕ, zero, length, Bool, List, Some, None, IsTrue, All};
-ghost use Rattle.hy_read.specs.Answers.{Answer, Answers, Plain, faulty, read_as, tokens_of};
+ghost use Rattle.hy_formula.specs.Formulas.{Plain};
+ghost use Rattle.hy_read.specs.Answers.{Answer, Answers, faulty, read_as, tokens_of};
 ghost use Rattle.hy_read.specs.Scanning.{Span, Spans};
 ghost use Rattle.hy_read.specs.Grammar.{AreFormulas, Derives, Flat, IsText, Read, loosest};
 ghost use Rattle.hy_read.specs.Places.{IsAllowed, IsLongest, IsViable, Place, start, operator, next_place, place_after};

@@ -1,5 +1,5 @@
 -- What is counted of the bodies that a command has monitors of.
-use Rattle.std.proofs.Common.{◌^◌, List, length, inl, inr, subst, arith}
+use Rattle.std.proofs.Common.{◌^◌, List, length, inl, inr, subst, arith, true}
 use Rattle.std.proofs.Math.Nat.{mul-le-mul_right}
 use Rattle.hy_formula.specs.Quantifiers.{Each}
 use Rattle.hy_formula.specs.Trees.{Tree}

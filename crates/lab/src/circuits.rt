@@ -6,7 +6,7 @@ use aig_net::{Net, simulate};
 use aiger_print::{print_aag, print_aig};
 use aiger_read::{AigerError, read_aiger};
 use anyhow::{Result, bail};
-use bench_tools::{composed, formula_net, rows_text, run_of, safe_of};
+use bench_tools::{composed, rows_text, run_of, safe_net};
 use hy_base::{BYTES_LIMIT, DiskShelf, FileError, read_all};
 use std::io::Write;
 use std::process::ExitCode;
@@ -99,15 +99,9 @@ pub fn safe(rt: &HostRuntime, words: &[String]) -> Result<ExitCode> {
     };
     let text = text_of(rt, formula.as_str())?;
     match net_of(rt, file.as_str()) {
-        Ok(net) => print_safe(rt, &net, text.as_str()),
+        Ok(net) => print_net(rt, &safe_net(rt.alloc(), &net, text.as_str())?, false),
         Err(refused) => tell(rt, refused),
     }
-}
-
-fn print_safe(rt: &HostRuntime, net: &Net, formula: &str) -> Result<ExitCode> {
-    let with_oracles = formula_net(rt.alloc(), net, formula)?;
-    let safe = safe_of(rt.alloc(), &with_oracles)?;
-    print_net(rt, &safe.net, false)
 }
 
 /// The net of a file.

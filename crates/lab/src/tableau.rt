@@ -4,9 +4,8 @@ ghost use Rattle.std.specs.Prelude.{◌≡◌, ◌*◌, ◌-◌, ◌≤◌, ◌<
 
 use crate::files::text_of;
 use anyhow::{Result, bail};
-use bench_tools::{closure_of, formula_of};
+use bench_tools::body_closure;
 use hy_bits::each_width;
-use hy_formula::NameTable;
 use ltl_closure::Closure;
 use ltl_tableau::{Tableau, TableauError};
 use rank_check::Graph;
@@ -24,9 +23,7 @@ pub fn run(rt: &HostRuntime, words: &[String]) -> Result<ExitCode> {
         Ok(states) if states < u32::MAX => states,
         _ => bail!("the number of states is below 4294967295"),
     };
-    let mut names = NameTable::new(rt.alloc())?;
-    let formula = formula_of(rt.alloc(), text_of(rt, file.as_str())?.as_str(), &mut names)?;
-    let c = closure_of(rt.alloc(), &formula, true)?;
+    let c = body_closure(rt.alloc(), text_of(rt, file.as_str())?.as_str())?;
     println!(rt; "members {}", c.len())?;
     each_width!(c.len(), build(rt, &c, states))
 }

@@ -1,4 +1,4 @@
-use Rattle.std.proofs.Common.{◌≡◌, ◌^◌, ℕ, List, map, sym, ap, ◌∙◌, subst, slice_index}
+use Rattle.std.proofs.Common.{◌≡◌, ◌^◌, ℕ, List, map, sym, ap, ◌∙◌, subst, slice_index, true}
 use Rattle.hy_formula.specs.Trees.{tree_of}
 use Rattle.hy_formula.specs.declared.atom.Atom.{Atom}
 use Rattle.hy_formula.specs.Atoms.{plain_atom}

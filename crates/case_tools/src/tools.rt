@@ -1,0 +1,18 @@
+//! What runs the commands of cases.
+
+use hy_base::{MemShelf, MemSink};
+use std::alloc::Global;
+
+/// The tools that are tried.
+pub trait Tools {
+    /// Runs a tool over files and streams in memory, and gives its exit status, or `None` where no
+    /// tool has this name.
+    fn status_of(
+        alloc: Global,
+        name: &str,
+        words: &[String],
+        shelf: &mut MemShelf,
+        out: &mut MemSink,
+        err: &mut MemSink,
+    ) -> Option<u8>;
+}

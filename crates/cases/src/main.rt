@@ -1,0 +1,43 @@
+//! Tries the cases of the files that its arguments name: commands of the three tools over files and
+//! streams in memory, and circuits. It prints a line for each file, and before it what differs in each
+//! case whose answer is another than the expected one. `case_tools` says how a case is written.
+#![tactic(auto)]
+
+use anyhow::Result;
+use case_tools::{Tools, run_files};
+use hy_base::{MemShelf, MemSink};
+use hy_top::run;
+use hy_words::Tool;
+use std::alloc::Global;
+
+/// The three tools. Nothing is promised of them here: what a run promises is proved, and the cases say
+/// what is expected.
+struct Proved;
+
+impl Tools for Proved {
+    fn status_of(
+        alloc: Global,
+        name: &str,
+        words: &[String],
+        shelf: &mut MemShelf,
+        out: &mut MemSink,
+        err: &mut MemSink,
+    ) -> Option<u8> {
+        let tool = tool_of(name)?;
+        Some(run(alloc, tool, words, shelf, out, err).status)
+    }
+}
+
+/// The tool of this name.
+fn tool_of(name: &str) -> Option<Tool> {
+    match name {
+        "eahyper" => Some(Tool::EaHyper),
+        "rvhyper" => Some(Tool::RvHyper),
+        "mchyper" => Some(Tool::McHyper),
+        _ => None,
+    }
+}
+
+fn main(rt: HostRuntime) -> Result<()> {
+    run_files::<Proved>(&rt)
+}
