@@ -1,0 +1,191 @@
+-- What the heads of proofs, logs and runs leave wanted.
+use Rattle.std.proofs.Common.{◌≡◌, ◌≢◌, ℕ, zero, suc, ◌-◌, ◌↔◌, Bool, true, false, cond, nat_eq, List, [], ◌∷◌, get_or, inl, inr, refl, sym, ap, subst, arith}
+use Rattle.std.specs.Prelude.{codes}
+use Rattle.std.specs.List.{onto_first}
+use Rattle.hy_text.specs.Bytes.{past_blanks}
+use Rattle.hy_text.specs.Words.{SpellsWord}
+use Rattle.hy_lasso.specs.LassoLines.{SpellsStem, SaysLasso}
+use Rattle.hy_text.specs.Cuts.{cut_at}
+use Rattle.cert_text.specs.Lines.{Line, words_of, Speaks}
+use Rattle.hy_text.specs.Numbers.{SaysNumber}
+use Rattle.cert_text.specs.Numbers.{SaysOne, SaysTwo}
+use Rattle.cert_text.specs.RankLines.{SaysRankHead, SaysBranch, SaysReason}
+use Rattle.cert_text.specs.InductionLines.{SaysInductionHead, SaysLogHead, SaysLearned}
+use Rattle.cert_text.specs.RunLines.{SaysRunsHead, SaysRun}
+use Rattle.cert_text.specs.Wants.{Ends, Many, FillRanks, FillLogs, FillShown, FillEvidence}
+use Rattle.cert_text.proofs.Evidence.{FillInduction}
+use Rattle.cert_text.proofs.NumbersRead.{same_number}
+
+-- ---- one number, two numbers
+
+pub same_one : (front : List ℕ) (line : Line) (m n : ℕ) → SaysOne (front ∷ []) line m
+    → SaysOne (front ∷ []) line n → m ≡ n
+same_one front line m n (x, words, says) (y, others, also) =
+    let same : x ≡ y = cc in
+    let P : List ℕ → Type 0 = λ w. SaysNumber w m in
+    same_number y m n (subst P same says) also
+
+pub same_second : (one two : List ℕ) (line : Line) (m n : ℕ) → SaysOne (one ∷ two ∷ []) line m
+    → SaysOne (one ∷ two ∷ []) line n → m ≡ n
+same_second one two line m n (x, words, says) (y, others, also) =
+    let same : x ≡ y = cc in
+    let P : List ℕ → Type 0 = λ w. SaysNumber w m in
+    same_number y m n (subst P same says) also
+
+pub same_two : (one two : List ℕ) (line : Line) (m n p q : ℕ) → SaysTwo (one ∷ two ∷ []) line m n
+    → SaysTwo (one ∷ two ∷ []) line p q → (m ≡ p) × (n ≡ q)
+same_two one two line m n p q (x, y, words, says, second) (v, w, others, also, last) =
+    let first_same : x ≡ v = cc in
+    let second_same : y ≡ w = cc in
+    let P : List ℕ → Type 0 = λ t. SaysNumber t m in
+    let Q : List ℕ → Type 0 = λ t. SaysNumber t n in (
+      same_number v m p (subst P first_same says) also,
+      same_number w n q (subst Q second_same
+          second) last,
+    )
+
+-- ---- no head is a lasso
+
+onto-first : (b : ℕ) (ps : List (List ℕ)) (piece : List ℕ) (more : List (List ℕ))
+    → onto_first b ps ≡ piece ∷ more → get_or piece 0 b ≡ b
+onto-first b [] piece more e = ap (λ w. get_or w 0 b) (sym (piece_is e))
+  where
+    piece_is : (b ∷ []) ∷ [] ≡ piece ∷ more → b ∷ [] ≡ piece
+    piece_is e = cc
+onto-first b (p ∷ ps) piece more e = ap (λ w. get_or w 0 b) (sym (piece_is e))
+  where
+    piece_is : (b ∷ p) ∷ ps ≡ piece ∷ more → b ∷ p ≡ piece
+    piece_is e = cc
+
+cut-first : (x : Bool) (b : ℕ) (ps : List (List ℕ)) (word : List ℕ) (more : List (List ℕ))
+    → cond x ([] ∷ ps) (onto_first b ps) ≡ (112 ∷ word) ∷ more → b ≡ 112
+cut-first true b ps word more e = let clash : [] ≡ 112 ∷ word = cc in absurd (cc)
+cut-first false b ps word more e = sym (onto-first b ps (112 ∷ word) more e)
+
+first_byte : (line word : List ℕ) (more : List (List ℕ)) → words_of line ≡ (112 ∷ word) ∷ more
+    → (rest : List ℕ) × (line ≡ 112 ∷ rest)
+first_byte [] word more e = let clash : [] ≡ 112 ∷ word = cc in absurd (cc)
+first_byte (b ∷ line) word more e =
+    (line, ap (λ x. x ∷ line) (cut-first (nat_eq b 32) b (cut_at 32 line) word more e))
+
+no_word : (rest end : List ℕ) (sets : List (List (List ℕ))) → ¬ SpellsWord (112 ∷ rest) sets end
+no_word rest end [] spelled = spelled
+no_word rest end (names ∷ []) (behind, (inner, brace, members), blank, bare) =
+    absurd (omega (arith, ap (λ w. get_or w 0 0) brace))
+no_word rest end (names ∷ more ∷ sets) (behind, next, (inner, brace, members), blank, tail) =
+    absurd (omega (arith, ap (λ w. get_or w 0 0) brace))
+
+no_stem : (rest end : List ℕ) (sets : List (List (List ℕ))) → ¬ SpellsStem (112 ∷ rest) sets end
+no_stem rest end [] bar = absurd (omega (arith, ap (λ w. get_or w 0 0) bar))
+no_stem rest end (names ∷ sets) spelled = no_word rest (124 ∷ end) (names ∷ sets) spelled
+
+-- A line that begins with the word proof says no lasso.
+pub proof_no_lasso : (line : Line) (more : List (List ℕ)) → words_of line ≡ codes "proof" ∷ more
+    → ¬ Speaks SaysLasso line
+proof_no_lasso line more e (said, (end, stem, cycle)) =
+    let (rest, is) = first_byte line (codes "roof") more e in
+    let P : List ℕ → Type 0 = λ l. SpellsStem (past_blanks l) said.stem end in
+    no_stem rest end said.stem (subst P is stem)
+
+-- ---- heads
+
+pub rank_step : (n b r : ℕ) (line : Line) (rest : List Line) → n ≢ 0 → SaysRankHead line b r
+    → FillRanks n (line ∷ rest)
+    ↔ Many (Speaks SaysBranch) b (Many (Speaks SaysReason) r (FillRanks (n - 1))) rest
+rank_step zero b r line rest some says = absurd (some refl)
+rank_step (suc n) b r line rest some says =
+    let less : n ≡ suc n - 1 = omega arith in
+    let P : ℕ → Type 0 = λ m. Many (Speaks SaysBranch) b (Many (Speaks SaysReason) r
+    (FillRanks m)) rest in (
+      λ (p, q, also, fill).
+          let (one, two) = same_two (codes "proof") (codes "rank") line p q b r also says in
+          let Q : ℕ → Type 0 = λ m. Many (Speaks SaysBranch) m (Many (Speaks SaysReason) q
+          (FillRanks n)) rest in
+          let R : ℕ → Type 0 = λ m. Many (Speaks SaysBranch) b (Many (Speaks SaysReason) m
+          (FillRanks n)) rest in
+          subst P less (subst R two (subst Q one fill)),
+      λ fill. (b, r, says, subst P (sym less) fill),
+    )
+
+pub log_step : (n k : ℕ) (line : Line) (rest : List Line) → n ≢ 0 → SaysLogHead line k
+    → FillLogs n (line ∷ rest) ↔ Many (Speaks SaysLearned) k (FillLogs (n - 1)) rest
+log_step zero k line rest some says = absurd (some refl)
+log_step (suc n) k line rest some says =
+    let less : n ≡ suc n - 1 = omega arith in
+    let P : ℕ → Type 0 = λ m. Many (Speaks SaysLearned) k (FillLogs m) rest in (
+      λ (j, also, fill).
+          let one = same_one (codes "log") line j k also says in
+          let Q : ℕ → Type 0 = λ m. Many (Speaks SaysLearned) m (FillLogs n) rest in
+          subst P less (subst Q one fill),
+      λ fill. (k, says, subst P (sym less) fill),
+    )
+
+pub induction_step : (k f : ℕ) (line : Line) (rest : List Line) → SaysInductionHead line k f
+    → FillEvidence (line ∷ rest) ↔ FillInduction k f rest
+induction_step k f line rest says = (
+  λ fill. elim fill [
+    | inl (p, q, also, fill) ↦
+        let (one, two) = same_two (codes "proof") (codes "induction") line p q k f also says in
+        let Q : ℕ → Type 0 = λ m. FillInduction m q rest in
+        subst (λ (m : ℕ). FillInduction k m rest) two (subst Q one fill)
+    | inr (speaks, fill) ↦ absurd (proof_no_lasso line _ says.2 speaks)
+  ],
+  λ fill. inl (k, f, says, fill),
+)
+
+pub runs_step : (n : ℕ) (line : Line) (rest : List Line) → SaysRunsHead line n
+    → FillShown (line ∷ rest) ↔ Many (Speaks SaysRun) n Ends rest
+runs_step n line rest says = (
+  λ fill. elim fill [
+    | inl (m, also, fill) ↦
+        let one = same_second (codes "proof") (codes "runs") line m n also says in
+        let Q : ℕ → Type 0 = λ m. Many (Speaks SaysRun) m Ends rest in subst Q one fill
+    | inr (speaks, fill) ↦ absurd (proof_no_lasso line _ says.1 speaks)
+  ],
+  λ fill. inl (n, says, fill),
+)
+
+-- another line
+pub no_rank : (n : ℕ) (line : Line) (rest : List Line) → n ≢ 0
+    → ((b r : ℕ) → ¬ SaysRankHead line b r) → ¬ FillRanks n (line ∷ rest)
+no_rank zero line rest some none fill = some refl
+no_rank (suc n) line rest some none (b, r, says, fill) = none b r says
+
+pub no_log : (n : ℕ) (line : Line) (rest : List Line) → n ≢ 0
+    → ((k : ℕ) → ¬ SaysLogHead line k) → ¬ FillLogs n (line ∷ rest)
+no_log zero line rest some none fill = some refl
+no_log (suc n) line rest some none (k, says, fill) = none k says
+
+-- ---- lassos, where no head stands
+
+pub lasso_evidence : (line : Line) (rest : List Line)
+    → ((k f : ℕ) → ¬ SaysInductionHead line k f) → Speaks SaysLasso line
+    → FillEvidence (line ∷ rest) ↔ FillShown rest
+lasso_evidence line rest none says = (
+  λ fill. elim fill [
+    | inl (k, f, head, fill) ↦ absurd (none k f head)
+    | inr (_, fill) ↦ fill
+  ],
+  λ fill. inr (says, fill),
+)
+
+pub no_evidence : (line : Line) (rest : List Line) → ((k f : ℕ) → ¬ SaysInductionHead line k f)
+    → ¬ Speaks SaysLasso line → ¬ FillEvidence (line ∷ rest)
+no_evidence line rest none silent fill = elim fill [
+  | inl (k, f, head, fill) ↦ none k f head
+  | inr (says, fill) ↦ silent says
+]
+
+pub lasso_shown : (line : Line) (rest : List Line) → ((n : ℕ) → ¬ SaysRunsHead line n)
+    → Speaks SaysLasso line → FillShown (line ∷ rest) ↔ FillShown rest
+lasso_shown line rest none says = (
+  λ fill. elim fill [ inl (n, head, fill) ↦ absurd (none n head) | inr (_, fill) ↦ fill ],
+  λ fill. inr (says, fill),
+)
+
+pub no_shown : (line : Line) (rest : List Line) → ((n : ℕ) → ¬ SaysRunsHead line n)
+    → ¬ Speaks SaysLasso line → ¬ FillShown (line ∷ rest)
+no_shown line rest none silent fill = elim fill [
+  | inl (n, head, fill) ↦ none n head
+  | inr (says, fill) ↦ silent says
+]

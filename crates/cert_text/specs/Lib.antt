@@ -1,0 +1,10 @@
+pub mod Certificates
+pub mod InductionLines
+pub mod LineParts
+pub mod Lines
+pub mod Numbers
+pub mod Printed
+pub mod RankLines
+pub mod RunLines
+pub mod Texts
+pub mod Wants

@@ -1,0 +1,102 @@
+//! The lines of proofs by induction.
+
+ghost use Rattle.std.specs.Prelude.{◌↔◌, ◌<◌, ◌^◌, ℕ, MatchOption, IfSome, IsTrue};
+ghost use Rattle.cert_text.specs.Lines.{Speaks};
+ghost use Rattle.cert_text.specs.InductionLines.{SaysInductionHead, SaysFact, SaysLogHead, SaysLearned};
+ghost use Rattle.cert_text.specs.LineParts.{IsClauseFound, IsChain};
+
+use crate::numbers::{
+    are_two_numbers, is_count, is_literal, is_one_number, one_number, two_numbers,
+};
+use crate::words::{equals, past_word};
+use hy_text::cut;
+
+/// The depth of a proof that begins with the line, and how many facts it has.
+pub fn induction_head(line: &[u8]) -> Option<(u64, u64)>
+    ensures said { MatchOption result ((k f : ℕ) → ¬ SaysInductionHead line.now k f)
+        (λ counts. SaysInductionHead line.now counts.0 counts.1) }
+    ensures short { IfSome result (λ counts. (counts.0 < 10 ^ 10) × (counts.1 < 10 ^ 10)) }
+{
+    let Some(rest) = past_word(line, b"proof") else {
+        return None;
+    };
+    let Some(counts) = past_word(rest, b"induction") else {
+        return None;
+    };
+    two_numbers(counts)
+}
+
+/// Whether the line says a fact.
+pub fn is_fact(line: &[u8]) -> bool
+    ensures { IsTrue result ↔ Speaks SaysFact line.now }
+{
+    let Some(fact) = past_word(line, b"f") else {
+        return false;
+    };
+    let Some((sign, latches)) = cut(fact, b' ') else {
+        return false;
+    };
+    if equals(sign, b"0") || equals(sign, b"1") {
+        return is_one_number(latches);
+    }
+    if equals(sign, b"=") || equals(sign, b"!") {
+        return are_two_numbers(latches);
+    }
+    false
+}
+
+/// How many clauses a log has that begins with the line.
+pub fn log_head(line: &[u8]) -> Option<u64>
+    ensures { MatchOption result ((n : ℕ) → ¬ SaysLogHead line.now n)
+        (λ n. SaysLogHead line.now n) }
+{
+    let Some(count) = past_word(line, b"log") else {
+        return None;
+    };
+    one_number(count)
+}
+
+/// Whether the line says a learned clause and its chain.
+pub fn is_learned(line: &[u8]) -> bool
+    ensures { IsTrue result ↔ Speaks SaysLearned line.now }
+{
+    let Some(entry) = past_word(line, b"c") else {
+        return false;
+    };
+    let Some(chain) = past_clause(entry) else {
+        return false;
+    };
+    is_chain(chain)
+}
+
+/// What stands behind the literals at the front of the text, the 0 that ends them and its space. In
+/// time linear in the text.
+fn past_clause(text: &[u8]) -> Option<&[u8]>
+    ensures { IsClauseFound text.now result }
+{
+    let mut left = text;
+    while let Some((word, rest)) = cut(left, b' ') {
+        if equals(word, b"0") {
+            return Some(rest);
+        }
+        if !is_literal(word) {
+            return None;
+        }
+        left = rest;
+    }
+    None
+}
+
+/// Whether the text is the numbers of a chain and the 0 that ends them. In time linear in the text.
+fn is_chain(text: &[u8]) -> bool
+    ensures { IsTrue result ↔ IsChain text.now }
+{
+    let mut left = text;
+    while let Some((word, rest)) = cut(left, b' ') {
+        if !is_count(word) {
+            return false;
+        }
+        left = rest;
+    }
+    equals(left, b"0")
+}

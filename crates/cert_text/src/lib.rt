@@ -1,0 +1,21 @@
+//! Which bytes are a certificate text, and at which line others go wrong. A certificate is what the
+//! tools print of an answer with its evidence: lassos, rank proofs, proofs by induction, runs.
+#![tactic(auto)]
+
+mod fault;
+mod induction_lines;
+mod lasso_lines;
+pub mod laws;
+mod numbers;
+mod question;
+mod rank_lines;
+mod run_lines;
+mod take;
+mod want;
+mod words;
+
+pub use fault::fault_in;
+pub use question::Question;
+
+#[cfg(test)]
+mod tests;
