@@ -32,8 +32,6 @@ mod letters;
 #[cfg(test)]
 mod made;
 #[cfg(test)]
-mod made_bodies;
-#[cfg(test)]
 mod monitors;
 #[cfg(test)]
 mod name_tables;
