@@ -1,0 +1,73 @@
+//! The names of a body.
+
+ghost use Rattle.std.specs.Prelude.{◌≡◌, ◌≤◌, IfOk, OnOk, length, nat_eq};
+ghost use Rattle.std.specs.List.{list_any};
+ghost use Rattle.hy_formula.specs.Trees.{tree_of};
+ghost use Rattle.bound_search.specs.Names.{name_place, names_of, with_name, with_names};
+
+use hy_base::{List, M, NumList};
+use hy_formula::Body;
+use std::alloc::Global;
+
+/// The names of a body, each once, in the order in which they are met. In time linear in the body
+/// times the names.
+pub fn names_of(alloc: Global, body: &Body) -> M<NumList>
+    ensures { IfOk result (λ names. names ≡ names_of (tree_of body.now)) }
+{
+    let mut names = List::new(alloc);
+    add_names(&mut names, body)?;
+    Ok(names)
+}
+
+/// Whether the name is there.
+fn has(names: &NumList, name: u32) -> bool
+    ensures { result ≡ list_any (nat_eq name) names.now }
+{
+    names.as_slice().iter().any(|x| name == *x)
+}
+
+/// Adds the name where it is new.
+fn add_name(names: &mut NumList, name: u32) -> M<()>
+    ensures { OnOk result (names.new ≡ with_name name names.old) }
+{
+    if !has(names, name) {
+        names.push(name)?;
+    }
+    Ok(())
+}
+
+/// Adds the names of the body that are new.
+fn add_names(names: &mut NumList, body: &Body) -> M<()>
+    ensures { OnOk result (names.new ≡ with_names (tree_of body.now) names.old) }
+{
+    match body {
+        Body::True | Body::False => Ok(()),
+        Body::Atom(a) => add_name(names, a.name as u32),
+        Body::Not(f) | Body::Next(f) | Body::Finally(f) | Body::Globally(f) => add_names(names, f),
+        Body::And(f, g)
+        | Body::Or(f, g)
+        | Body::Implies(f, g)
+        | Body::Iff(f, g)
+        | Body::Until(f, g)
+        | Body::Release(f, g)
+        | Body::Weak(f, g) => {
+            add_names(names, f)?;
+            add_names(names, g)
+        }
+    }
+}
+
+/// The place of a name in the list.
+pub fn place_of(name: u32, names: &NumList) -> usize
+    ensures place { result ≡ name_place name names.now }
+    ensures within { result ≤ length names.now }
+{
+    let mut place = 0;
+    for x in names.as_slice() {
+        if name == *x {
+            return place;
+        }
+        place += 1;
+    }
+    place
+}
