@@ -32,6 +32,8 @@ mod letters;
 #[cfg(test)]
 mod made;
 #[cfg(test)]
+mod made_bodies;
+#[cfg(test)]
 mod monitors;
 #[cfg(test)]
 mod name_tables;
