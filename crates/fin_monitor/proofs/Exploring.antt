@@ -259,6 +259,7 @@ put-refusal nodes root atoms old r table bits same is family reach (Limit kind.S
 put-refusal nodes root atoms old r table bits same is family reach (Limit kind.Variables) h = absurd h
 put-refusal nodes root atoms old r table bits same is family reach (Limit kind.CnfVariables) h = absurd h
 put-refusal nodes root atoms old r table bits same is family reach (Limit kind.CnfLiterals) h = absurd h
+put-refusal nodes root atoms old r table bits same is family reach (Limit kind.StrategyNames) h = absurd h
 put-refusal nodes root atoms old r table bits same is family reach Memory h = tt
 
 -- ---- the rows of the table

@@ -33,6 +33,7 @@ closure-refused body (Limit kind.Saves) h = absurd h
 closure-refused body (Limit kind.Variables) h = absurd h
 closure-refused body (Limit kind.CnfVariables) h = absurd h
 closure-refused body (Limit kind.CnfLiterals) h = absurd h
+closure-refused body (Limit kind.StrategyNames) h = absurd h
 closure-refused body Memory h = tt
 
 pub atoms-refused : (body : Tree) → HasSmallClosure body → (e : MonitorError) → IsAtomsRefusal body e → IsRefusal body e
@@ -53,6 +54,7 @@ atoms-refused body small (Limit kind.Saves) h = absurd h
 atoms-refused body small (Limit kind.Variables) h = absurd h
 atoms-refused body small (Limit kind.CnfVariables) h = absurd h
 atoms-refused body small (Limit kind.CnfLiterals) h = absurd h
+atoms-refused body small (Limit kind.StrategyNames) h = absurd h
 atoms-refused body small Memory h = tt
 
 pub table-refused : (body : Tree) → HasSmallClosure body → HasFewAtoms body → (e : MonitorError) → IsTableRefusal (body_nodes body true) (body_root body true) (atoms_of body) e → IsRefusal body e
@@ -73,4 +75,5 @@ table-refused body small few (Limit kind.Saves) h = absurd h
 table-refused body small few (Limit kind.Variables) h = absurd h
 table-refused body small few (Limit kind.CnfVariables) h = absurd h
 table-refused body small few (Limit kind.CnfLiterals) h = absurd h
+table-refused body small few (Limit kind.StrategyNames) h = absurd h
 table-refused body small few Memory h = tt

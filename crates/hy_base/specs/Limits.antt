@@ -1,7 +1,7 @@
 -- How much of each kind is taken.
 use Rattle.std.specs.Prelude.{ℕ}
 use Rattle.hy_base.specs.declared.limit.Kind.{Kind}
-use Rattle.hy_base.specs.declared.limit.Kind.TheVariants.{Bytes, Specs, Quantifiers, Parens, Height, Names, Instances, Closure, Joint, Atoms, Table, Length, Sessions, Saves, Variables, CnfVariables, CnfLiterals}
+use Rattle.hy_base.specs.declared.limit.Kind.TheVariants.{Bytes, Specs, Quantifiers, Parens, Height, Names, Instances, Closure, Joint, Atoms, Table, Length, Sessions, Saves, Variables, CnfVariables, CnfLiterals, StrategyNames}
 
 -- the number past which a count is too much
 abbrev pub most : Kind → ℕ
@@ -22,3 +22,4 @@ most Saves = 64
 most Variables = 1048576
 most CnfVariables = 16777216
 most CnfLiterals = 134217728
+most StrategyNames = 64

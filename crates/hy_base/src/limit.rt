@@ -40,6 +40,8 @@ pub enum Kind {
     CnfVariables,
     /// Literals of a query.
     CnfLiterals,
+    /// Names of the formula that asks about a circuit which a strategy drives.
+    StrategyNames,
 }
 
 impl Kind {
@@ -65,6 +67,7 @@ impl Kind {
             Kind::Variables => 1_048_576,
             Kind::CnfVariables => 16_777_216,
             Kind::CnfLiterals => 134_217_728,
+            Kind::StrategyNames => 64,
         }
     }
 }

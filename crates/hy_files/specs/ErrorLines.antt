@@ -31,6 +31,7 @@ kind_text kinds.Saves = codes "saves"
 kind_text kinds.Variables = codes "variables"
 kind_text kinds.CnfVariables = codes "cnf-variables"
 kind_text kinds.CnfLiterals = codes "cnf-literals"
+kind_text kinds.StrategyNames = codes "strategy-names"
 
 abbrev pub class_text : Class → List ℕ
 class_text classes.Exists = codes "exists"

@@ -32,6 +32,7 @@ fn kind_text(kind: Kind) -> &'static [u8]
         Kind::Variables => b"variables",
         Kind::CnfVariables => b"cnf-variables",
         Kind::CnfLiterals => b"cnf-literals",
+        Kind::StrategyNames => b"strategy-names",
     }
 }
 

@@ -1,5 +1,6 @@
 -- Which questions are refused, and what comes of the others.
 use Rattle.std.specs.Prelude.{◌≡◌, ℕ, ◌*◌, ◌<◌, ◌≤◌, List, [], ◌∷◌}
+use Rattle.hy_base.specs.declared.limit.Kind.TheVariants.{StrategyNames}
 use Rattle.hy_formula.specs.declared.prefix.Quant.{Quant}
 use Rattle.hy_formula.specs.declared.prefix.Quant.TheVariants.{Forall}
 use Rattle.hy_formula.specs.Classes.{class_of}
@@ -8,7 +9,7 @@ use Rattle.aig_net.specs.declared.signals.Signal.{Signal}
 use Rattle.aig_net.specs.Nets.{Net}
 use Rattle.net_names.specs.Names.{AreSignals, IsFirstBad}
 use Rattle.strat_compose.specs.declared.question.DriveError.{DriveError}
-use Rattle.strat_compose.specs.declared.question.DriveError.TheVariants.{Memory, Name, Names, Prefix, Shape}
+use Rattle.strat_compose.specs.declared.question.DriveError.TheVariants.{Limit, Memory, Name, Prefix, Shape}
 use Rattle.strat_compose.specs.declared.question.Driven.{Driven}
 use Rattle.hy_formula.specs.Atoms.{atoms_of}
 use Rattle.strat_compose.specs.Driving.{IsStrategy, driven, fresh_names, name_count, parts_of, signal_of}
@@ -47,8 +48,8 @@ IsRefusal net strategy prefix body names (Prefix class) =
 IsRefusal net strategy prefix body names (Shape inputs outputs) =
     (m e : ℕ) × IsForallExists prefix m e × (¬ IsStrategy net strategy m e)
     × (inputs ≡ net.inputs * m) × (outputs ≡ net.inputs * e)
-IsRefusal net strategy prefix body names Names =
-    (m e : ℕ) × AreShaped net strategy prefix m e × (64 < name_count net e (atoms_of body))
+IsRefusal net strategy prefix body names (Limit kind) =
+    (kind ≡ StrategyNames) × (m e : ℕ) × AreShaped net strategy prefix m e × (64 < name_count net e (atoms_of body))
 IsRefusal net strategy prefix body names (Name name twice) =
     (m e : ℕ) × AreShaped net strategy prefix m e
     × (name_count net e (atoms_of body) ≤ 64) × IsFirstBad net names body name twice
