@@ -92,6 +92,13 @@ reason_said line rest cut = (
         absurd (omega (arith, ap (λ w. get_or w 0 0) same))
     reason-number (Some n) says = (n, (one_behind (codes "u") [] line rest n cut).1 says)
 
+-- no reason without an until, and none with one
+pub no_reason_words : (line : Line) → line ≢ codes "n"
+    → ((next : List ℕ) (more : List (List ℕ)) → words_of line ≢ codes "u" ∷ next ∷ more)
+    → ¬ Speaks SaysReason line
+no_reason_words line other none (None, says) = other says
+no_reason_words line other none (Some n, (word, words, says)) = none word [] words
+
 -- ---- facts
 
 -- the words of a fact
@@ -240,3 +247,9 @@ branch_said line rank now next b words (r, rank_says) (ks, now_says) is = (
       record { rank = r; now = ks; next = ms },
       (rank, now, next, words, rank_says, now_says, next_says),
     )
+
+-- other words
+pub no_branch_words : (line : Line)
+    → ((rank now next : List ℕ) → words_of line ≢ codes "b" ∷ rank ∷ now ∷ next ∷ [])
+    → ¬ Speaks SaysBranch line
+no_branch_words line none (branch, (x, y, z, words, rank, now, next)) = none x y z words

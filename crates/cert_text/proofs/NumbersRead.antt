@@ -189,16 +189,11 @@ ascend_step least n word words says le =
       λ ascend. let next : n + 1 ≡ suc n = omega arith in (n, says, le, subst P next ascend),
     )
 
--- a number that is too small
-pub ascend_low : (least n : ℕ) (word : List ℕ) (words : List (List ℕ)) → SaysNumber word n
-    → n < least → ¬ AscendFrom least (word ∷ words)
-ascend_low least n word words says lt (m, also, low, ascend) =
-    absurd (omega (arith, same_number word m n also says))
-
--- a word that is no number
-pub ascend_none : (least : ℕ) (word : List ℕ) (words : List (List ℕ))
-    → ((n : ℕ) → ¬ SaysNumber word n) → ¬ AscendFrom least (word ∷ words)
-ascend_none least word words none (m, also, low, ascend) = none m also
+-- a word that is no number, or one that is too small
+pub ascend_below : (least : ℕ) (word : List ℕ) (words : List (List ℕ))
+    → ((n : ℕ) → SaysNumber word n → n < least) → ¬ AscendFrom least (word ∷ words)
+ascend_below least word words below (n, says, low, ascend) =
+    absurd (omega (arith, below n says))
 
 -- ---- the answers of the reader of ascending numbers
 

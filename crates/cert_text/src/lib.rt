@@ -6,6 +6,7 @@ mod fault;
 mod induction_lines;
 mod lasso_lines;
 pub mod laws;
+mod members;
 mod numbers;
 mod question;
 mod rank_lines;
@@ -16,6 +17,7 @@ mod words;
 
 pub use fault::fault_in;
 pub use question::Question;
+pub use rank_lines::{rank_head, read_branch, read_reason};
 
 #[cfg(test)]
 mod tests;

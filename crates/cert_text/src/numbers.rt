@@ -1,6 +1,6 @@
 //! Lines of numbers, literals, and ascending lists of numbers.
 
-ghost use Rattle.std.specs.Prelude.{◌↔◌, ◌<◌, ◌^◌, ℕ, [], MatchOption, IfSome, IsTrue};
+ghost use Rattle.std.specs.Prelude.{◌↔◌, ◌<◌, ◌≤◌, ◌^◌, ℕ, [], MatchOption, IfSome, IsTrue};
 ghost use Rattle.cert_text.specs.LineParts.{SaysAscending};
 ghost use Rattle.cert_text.specs.Lines.{Speaks};
 ghost use Rattle.hy_text.specs.Numbers.{SaysNumber};
@@ -103,17 +103,27 @@ fn are_ascending(text: &[u8]) -> bool
     let mut left = text;
     let mut least = 0;
     while let Some((piece, rest)) = cut(left, b',') {
-        let Some(n) = number(piece) else {
+        let Some(n) = number_from(piece, least) else {
             return false;
         };
-        if n < least {
-            return false;
-        }
         least = n + 1;
         left = rest;
     }
-    match number(left) {
-        Some(n) => least <= n,
+    match number_from(left, least) {
+        Some(_) => true,
         None => false,
+    }
+}
+
+/// The number that the word says, where it is no smaller than the least that may come.
+#[inline(always)]
+pub fn number_from(word: &[u8], least: u64) -> Option<u64>
+    ensures says { MatchOption result ((n : ℕ) → SaysNumber word.now n → n < least)
+        (λ n. SaysNumber word.now n × (least ≤ n)) }
+    ensures short { IfSome result (λ n. n < 10 ^ 10) }
+{
+    match number(word) {
+        Some(n) if least <= n => Some(n),
+        _ => None,
     }
 }
