@@ -16,6 +16,7 @@ mod words;
 
 pub use fault::fault_in;
 pub use question::Question;
+pub use run_lines::read_run;
 
 #[cfg(test)]
 mod tests;
