@@ -1,5 +1,5 @@
 -- What the readers of parts of lines answer.
-use Rattle.std.specs.Prelude.{ℕ, Bool, ◌||◌, nat_eq, List, [], ◌∷◌, Option, Some, None}
+use Rattle.std.specs.Prelude.{◌≡◌, ℕ, Bool, ◌||◌, nat_eq, List, [], ◌∷◌, Option, Some, None}
 use Rattle.std.specs.List.Sorted.{IsStrictlyIncreasing}
 use denote.Ref.{Bor}
 use Rattle.chain_check.specs.Clauses.{Clause}
@@ -37,3 +37,9 @@ IsStemFound text (Some rest) = (sets : List (List (List ℕ))) × SpellsStem tex
 -- a 0 or a 1
 abbrev pub is_binary : ℕ → Bool
 is_binary b = nat_eq b 48 || nat_eq b 49
+
+-- The line is this word, a space, and these two texts with a bar between them.
+pub record AreRunParts (line first stem cycle : List ℕ) : Type 0 where
+  pub rows : List ℕ
+  pub words : words_of line ≡ first ∷ rows ∷ []
+  pub parts : cut_at 124 rows ≡ stem ∷ cycle ∷ []

@@ -1,5 +1,5 @@
 -- Lines, their words, and what lines say one after another.
-use Rattle.std.specs.Prelude.{ℕ, List}
+use Rattle.std.specs.Prelude.{ℕ, List, Option, Some, None}
 use Rattle.hy_formula.specs.Quantifiers.{AreMatched}
 use Rattle.hy_text.specs.Cuts.{cut_at}
 
@@ -17,3 +17,8 @@ Say Says = AreMatched Says
 -- The line says some value.
 abbrev pub Speaks : {A : Type 0} → (List ℕ → A → Type 0) → Line → Type 0
 Speaks Says line = (x : _) × Says line x
+
+-- The line says this value, or says none.
+abbrev pub IsSaid : {A : Type 0} → (List ℕ → A → Type 0) → Line → Option A → Type 0
+IsSaid Says line None = ¬ Speaks Says line
+IsSaid Says line (Some x) = Says line x

@@ -18,6 +18,7 @@ mod words;
 pub use fault::fault_in;
 pub use question::Question;
 pub use rank_lines::{rank_head, read_branch, read_reason};
+pub use run_lines::read_run;
 
 #[cfg(test)]
 mod tests;
