@@ -2,10 +2,13 @@
 //! tools print of an answer with its evidence: lassos, rank proofs, proofs by induction, runs.
 #![tactic(auto)]
 
+mod fact_line;
 mod fault;
 mod induction_lines;
 mod lasso_lines;
 pub mod laws;
+mod learned_lines;
+mod literals;
 mod numbers;
 mod question;
 mod rank_lines;
@@ -14,7 +17,10 @@ mod take;
 mod want;
 mod words;
 
+pub use fact_line::FactLine;
 pub use fault::fault_in;
+pub use induction_lines::{induction_head, log_head, read_fact};
+pub use learned_lines::read_learned;
 pub use question::Question;
 
 #[cfg(test)]
