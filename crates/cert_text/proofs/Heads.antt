@@ -114,23 +114,12 @@ latches-of : (line sign latches other : List ℕ) (words : List (List ℕ))
     → words_of latches ≡ words
 latches-of line sign latches other words fact e = let both = sym fact.parts ∙ e in cc
 
--- a fact about one latch
-pub one_latch : (line sign latches : List ℕ) → IsFactLine line sign latches
-    → (sign ≡ codes "0") ⊎ (sign ≡ codes "1") → Speaks (SaysOne []) latches ↔ Speaks SaysFact line
-one_latch line sign latches fact which = (
-  λ (a, (x, words, says)). elim which [
-    | inl is ↦ (Zero a, (x, whole x is words, says))
-    | inr is ↦ (One a, (x, whole x is words, says))
-  ],
-  λ (said, says). latch said says,
-)
+-- no number behind a sign of facts about one latch
+pub no_latch : (line sign latches : List ℕ) → IsFactLine line sign latches
+    → (sign ≡ codes "0") ⊎ (sign ≡ codes "1") → ((a : ℕ) → ¬ SaysOne [] latches a)
+    → ¬ Speaks SaysFact line
+no_latch line sign latches fact which none (said, says) = latch said says
   where
-    whole : {other : List ℕ} (x : List ℕ) → sign ≡ other → words_of latches ≡ x ∷ []
-        → words_of line ≡ codes "f" ∷ other ∷ x ∷ []
-    whole {other} x is words =
-        fact.parts ∙ ap (λ s. codes "f" ∷ s ∷ words_of latches) is
-        ∙ ap (λ l. codes "f" ∷ other ∷ l) words
-
     not_two : {other : List ℕ} → (get_or other 0 0 ≡ 48 → ⊥) → (get_or other 0 0 ≡ 49 → ⊥)
         → sign ≡ other → ⊥
     not_two zero_not one_not is = elim which [
@@ -138,36 +127,24 @@ one_latch line sign latches fact which = (
       | inr e ↦ one_not (ap (λ w. get_or w 0 0) (sym is ∙ e))
     ]
 
-    latch : (said : Fact) → SaysFact line said → Speaks (SaysOne []) latches
+    latch : (said : Fact) → ¬ SaysFact line said
     latch (Zero a) (x, words, says) =
-        (a, (x, latches-of line sign latches (codes "0") (x ∷ []) fact words, says))
+        none a (x, latches-of line sign latches (codes "0") (x ∷ []) fact words, says)
     latch (One a) (x, words, says) =
-        (a, (x, latches-of line sign latches (codes "1") (x ∷ []) fact words, says))
+        none a (x, latches-of line sign latches (codes "1") (x ∷ []) fact words, says)
     latch (Same a b) (x, y, words, says, also) =
-        absurd (not_two (λ e. omega (arith, e)) (λ e. omega (arith, e))
-        (sign-of line sign latches (codes "=") (x ∷ y ∷ []) fact words))
+        not_two (λ e. omega (arith, e)) (λ e. omega (arith, e))
+        (sign-of line sign latches (codes "=") (x ∷ y ∷ []) fact words)
     latch (Differ a b) (x, y, words, says, also) =
-        absurd (not_two (λ e. omega (arith, e)) (λ e. omega (arith, e))
-        (sign-of line sign latches (codes "!") (x ∷ y ∷ []) fact words))
+        not_two (λ e. omega (arith, e)) (λ e. omega (arith, e))
+        (sign-of line sign latches (codes "!") (x ∷ y ∷ []) fact words)
 
--- a fact about two latches
-pub two_latches : (line sign latches : List ℕ) → IsFactLine line sign latches
-    → (sign ≡ codes "=") ⊎ (sign ≡ codes "!")
-    → ((m n : ℕ) × SaysTwo [] latches m n) ↔ Speaks SaysFact line
-two_latches line sign latches fact which = (
-  λ (a, b, (x, y, words, says, also)). elim which [
-    | inl is ↦ (Same a b, (x, y, whole x y is words, says, also))
-    | inr is ↦ (Differ a b, (x, y, whole x y is words, says, also))
-  ],
-  λ (said, says). latch said says,
-)
+-- no two numbers behind a sign of facts about two latches
+pub no_latches : (line sign latches : List ℕ) → IsFactLine line sign latches
+    → (sign ≡ codes "=") ⊎ (sign ≡ codes "!") → ((a b : ℕ) → ¬ SaysTwo [] latches a b)
+    → ¬ Speaks SaysFact line
+no_latches line sign latches fact which none (said, says) = latch said says
   where
-    whole : {other : List ℕ} (x y : List ℕ) → sign ≡ other → words_of latches ≡ x ∷ y ∷ []
-        → words_of line ≡ codes "f" ∷ other ∷ x ∷ y ∷ []
-    whole {other} x y is words =
-        fact.parts ∙ ap (λ s. codes "f" ∷ s ∷ words_of latches) is
-        ∙ ap (λ l. codes "f" ∷ other ∷ l) words
-
     not_one : {other : List ℕ} → (get_or other 0 0 ≡ 61 → ⊥) → (get_or other 0 0 ≡ 33 → ⊥)
         → sign ≡ other → ⊥
     not_one same_not differ_not is = elim which [
@@ -175,17 +152,17 @@ two_latches line sign latches fact which = (
       | inr e ↦ differ_not (ap (λ w. get_or w 0 0) (sym is ∙ e))
     ]
 
-    latch : (said : Fact) → SaysFact line said → (m n : ℕ) × SaysTwo [] latches m n
+    latch : (said : Fact) → ¬ SaysFact line said
     latch (Zero a) (x, words, says) =
-        absurd (not_one (λ e. omega (arith, e)) (λ e. omega (arith, e))
-        (sign-of line sign latches (codes "0") (x ∷ []) fact words))
+        not_one (λ e. omega (arith, e)) (λ e. omega (arith, e))
+        (sign-of line sign latches (codes "0") (x ∷ []) fact words)
     latch (One a) (x, words, says) =
-        absurd (not_one (λ e. omega (arith, e)) (λ e. omega (arith, e))
-        (sign-of line sign latches (codes "1") (x ∷ []) fact words))
+        not_one (λ e. omega (arith, e)) (λ e. omega (arith, e))
+        (sign-of line sign latches (codes "1") (x ∷ []) fact words)
     latch (Same a b) (x, y, words, says, also) =
-        (a, b, (x, y, latches-of line sign latches (codes "=") (x ∷ y ∷ []) fact words, says, also))
+        none a b (x, y, latches-of line sign latches (codes "=") (x ∷ y ∷ []) fact words, says, also)
     latch (Differ a b) (x, y, words, says, also) =
-        (a, b, (x, y, latches-of line sign latches (codes "!") (x ∷ y ∷ []) fact words, says, also))
+        none a b (x, y, latches-of line sign latches (codes "!") (x ∷ y ∷ []) fact words, says, also)
 
 -- no fact
 pub no_fact : (line sign latches : List ℕ) → IsFactLine line sign latches → sign ≢ codes "0"

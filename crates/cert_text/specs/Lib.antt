@@ -1,4 +1,5 @@
 pub mod Certificates
+pub mod FactLines
 pub mod InductionLines
 pub mod LineParts
 pub mod Lines
@@ -6,5 +7,6 @@ pub mod Numbers
 pub mod Printed
 pub mod RankLines
 pub mod RunLines
+pub mod Shortened
 pub mod Texts
 pub mod Wants

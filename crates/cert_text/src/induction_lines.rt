@@ -1,13 +1,13 @@
 //! The lines of proofs by induction.
 
 ghost use Rattle.std.specs.Prelude.{◌↔◌, ◌<◌, ◌^◌, ℕ, MatchOption, IfSome, IsTrue};
+ghost use Rattle.cert_text.specs.FactLines.{IsFactRead};
 ghost use Rattle.cert_text.specs.Lines.{Speaks};
 ghost use Rattle.cert_text.specs.InductionLines.{SaysInductionHead, SaysFact, SaysLogHead, SaysLearned};
 ghost use Rattle.cert_text.specs.LineParts.{IsClauseFound, IsChain};
 
-use crate::numbers::{
-    are_two_numbers, is_count, is_literal, is_one_number, one_number, two_numbers,
-};
+use crate::fact_line::FactLine;
+use crate::numbers::{is_count, is_literal, one_number, two_numbers};
 use crate::words::{equals, past_word};
 use hy_text::cut;
 
@@ -26,23 +26,51 @@ pub fn induction_head(line: &[u8]) -> Option<(u64, u64)>
     two_numbers(counts)
 }
 
+/// The fact that the line says.
+pub fn read_fact(line: &[u8]) -> Option<FactLine>
+    ensures { IsFactRead line.now result }
+{
+    let Some(fact) = past_word(line, b"f") else {
+        return None;
+    };
+    let Some((sign, latches)) = cut(fact, b' ') else {
+        return None;
+    };
+    if equals(sign, b"0") {
+        return match one_number(latches) {
+            Some(a) => Some(FactLine::Zero(a)),
+            None => None,
+        };
+    }
+    if equals(sign, b"1") {
+        return match one_number(latches) {
+            Some(a) => Some(FactLine::One(a)),
+            None => None,
+        };
+    }
+    if equals(sign, b"=") {
+        return match two_numbers(latches) {
+            Some((a, b)) => Some(FactLine::Same(a, b)),
+            None => None,
+        };
+    }
+    if equals(sign, b"!") {
+        return match two_numbers(latches) {
+            Some((a, b)) => Some(FactLine::Differ(a, b)),
+            None => None,
+        };
+    }
+    None
+}
+
 /// Whether the line says a fact.
 pub fn is_fact(line: &[u8]) -> bool
     ensures { IsTrue result ↔ Speaks SaysFact line.now }
 {
-    let Some(fact) = past_word(line, b"f") else {
-        return false;
-    };
-    let Some((sign, latches)) = cut(fact, b' ') else {
-        return false;
-    };
-    if equals(sign, b"0") || equals(sign, b"1") {
-        return is_one_number(latches);
+    match read_fact(line) {
+        Some(_) => true,
+        None => false,
     }
-    if equals(sign, b"=") || equals(sign, b"!") {
-        return are_two_numbers(latches);
-    }
-    false
 }
 
 /// How many clauses a log has that begins with the line.

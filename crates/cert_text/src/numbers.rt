@@ -59,16 +59,6 @@ pub fn is_one_number(line: &[u8]) -> bool
     }
 }
 
-/// Whether two numbers are all that the line says.
-pub fn are_two_numbers(line: &[u8]) -> bool
-    ensures { IsTrue result ↔ ((m n : ℕ) × SaysTwo [] line.now m n) }
-{
-    match two_numbers(line) {
-        Some(_) => true,
-        None => false,
-    }
-}
-
 /// Whether the word says a number from 1 on.
 pub fn is_count(word: &[u8]) -> bool
     ensures { IsTrue result ↔ Speaks SaysCount word.now }

@@ -1,0 +1,6 @@
+pub mod Ending
+pub mod Places
+pub mod Shortness
+pub mod Starting
+pub mod Walking
+pub mod Whole

@@ -1,0 +1,67 @@
+//! The judge of proofs by induction.
+
+ghost use Rattle.std.specs.Prelude.{◌≡◌, ◌↔◌, ◌≤◌, ◌∷◌, ◌++◌, [], List, length, IfOk, IfErr, IsTrue};
+ghost use Rattle.hy_base.specs.declared.reading.TheConstants.{BYTES_LIMIT};
+ghost use Rattle.hy_text.specs.Lines.{lines_of};
+ghost use Rattle.cert_text.specs.InductionLines.{SayInductionProof};
+ghost use Rattle.cert_text.specs.Lines.{Line};
+ghost use Rattle.cnf_frames.specs.Facts.{IsSafe};
+ghost use Rattle.cnf_frames.specs.declared.inductions.InductionProof.{InductionProof};
+ghost use Rattle.induction_judge.specs.Good.{IsGoodInduction, IsRefusedInduction};
+
+use crate::facts::take_facts;
+use crate::queries::are_refuted;
+use aig_net::Net;
+use cert_text::induction_head;
+use cnf_frames::{FrameError, Inv};
+use hy_text::split_line;
+use live_safe::SafeNet;
+use std::alloc::Global;
+
+/// No tool makes a deeper proof.
+const MOST_DEPTH: u64 = 100_000;
+
+/// Whether the lines of the text, each with its line feed, are a good proof by induction that no path
+/// from the start of the net is bad: where they are no proof at all, nothing is said. A depth past
+/// 100,000, and facts that name no latch or are not true at the start, are no good before a query is
+/// made. In time linear in the text, the queries, and the sizes of the clauses of the chains, and in
+/// the memory of one query and of one log's clauses; no count of the text takes memory.
+///
+/// # Errors
+///
+/// `Limit` where a query of the proof has too many variables or literals: the step query's is asked
+/// first, then they come in the order of their logs.
+pub fn judge_induction(alloc: Global, safe: &SafeNet, text: &[u8]) -> Result<bool, FrameError>
+    requires safe { IsSafe safe.now }
+    requires short { length text.now ≤ BYTES_LIMIT }
+    ensures judged { IfOk result (λ good. (lines : List Line) (proof : InductionProof)
+        → lines_of text.now ≡ lines ++ [] ∷ [] → SayInductionProof lines proof
+        → IsTrue good ↔ IsGoodInduction safe.now proof) }
+    ensures refused { IfErr result (λ e. (lines : List Line) (proof : InductionProof)
+        → lines_of text.now ≡ lines ++ [] ∷ [] → SayInductionProof lines proof
+        → IsRefusedInduction safe.now proof e) }
+{
+    let (line, rest) = split_line(text);
+    let Some(rest) = rest else {
+        return Ok(false);
+    };
+    let Some((depth, count)) = induction_head(line) else {
+        return Ok(false);
+    };
+    if depth > MOST_DEPTH {
+        return Ok(false);
+    }
+    let mut facts = Inv::new(alloc);
+    let Some(logs) = take_facts(latches_of(&safe.net), count, rest, &mut facts)? else {
+        return Ok(false);
+    };
+    are_refuted(alloc, safe, &facts, depth as u32, logs)
+}
+
+/// How many latches the net has.
+fn latches_of(net: &Net) -> u32
+    ensures { result ≡ length net.now.latches }
+{
+    net.variables(); // what each net keeps
+    net.latches().len() as u32
+}

@@ -1,0 +1,13 @@
+//! Judges the proof by induction of a certificate text about a circuit, with no search: each query is
+//! made again, and its log is checked line by line.
+#![tactic(auto)]
+
+mod facts;
+mod judge;
+mod logs;
+mod queries;
+
+pub use judge::judge_induction;
+
+#[cfg(test)]
+mod tests;
