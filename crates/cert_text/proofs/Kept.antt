@@ -1,6 +1,6 @@
 -- What readers of learned clauses keep: the values of the words so far, made short.
 use Rattle.std.proofs.Common.{◌≡◌, ℕ, zero, suc, ◌↔◌, Bool, true, false, List, [], ◌∷◌, ◌++◌, map, refl, sym, ◌∙◌, ap, arith, append_assoc}
-use Rattle.std.specs.Prelude.{codes, ℤ, pos, neg_ℤ, unsigned_abs, IsTrue}
+use Rattle.std.specs.Prelude.{codes, ℤ, pos, neg_ℤ, IsTrue}
 use Rattle.std.proofs.lemmas.List.{map-append}
 use Rattle.chain_check.specs.Clauses.{Clause}
 use Rattle.hy_text.specs.Numbers.{SaysNumber}
@@ -14,10 +14,6 @@ use Rattle.cert_text.proofs.WordsRead.{EndedLeft, ended_last}
 
 -- ---- literals
 
-pub abs_opposite : (n : ℕ) → unsigned_abs (neg_ℤ (pos n)) ≡ n
-abs_opposite zero = refl
-abs_opposite (suc n) = refl
-
 -- a minus and a number
 pub opposite_said : (word variable : List ℕ) (n : ℕ) → word ≡ 45 ∷ variable → SaysCount variable n
     → SaysLiteral word (neg_ℤ (pos n))
@@ -25,13 +21,6 @@ opposite_said word variable zero e says = absurd (omega (arith, says.some))
 opposite_said word variable (suc n) e says = record {
   spelled = e ∙ ap (λ w. 45 ∷ w) says.number.spelled;
   some = omega arith;
-  short = says.number.short;
-}
-
-pub positive_said : (word : List ℕ) (n : ℕ) → SaysCount word n → SaysLiteral word (pos n)
-positive_said word n says = record {
-  spelled = says.number.spelled;
-  some = says.some;
   short = says.number.short;
 }
 

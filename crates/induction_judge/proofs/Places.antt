@@ -16,21 +16,9 @@ use Rattle.cnf_frames.specs.Queries.{IsQuery, variables_of, groups}
 use Rattle.cert_text.specs.Lines.{Line}
 use Rattle.cert_text.specs.InductionLines.{SayLogs}
 use Rattle.induction_judge.specs.Asking.{places, asked_at, AreRefuted}
-use Rattle.induction_judge.specs.Good.{IsAskedOf}
 use Rattle.induction_judge.specs.Reading.{AreLines, AreLogs, IsLogAt}
 
 -- ---- one place
-
-pub asked_is : (facts : List Fact) (depth i : ℕ) → IsAskedOf facts depth (asked_at facts depth i)
-asked_is facts depth i =
-    is (nat_lt i (groups facts)) (nat_le (i - groups facts) depth) refl refl
-  where
-    is : (b c : Bool) → nat_lt i (groups facts) ≡ b → nat_le (i - groups facts) depth ≡ c
-        → IsAskedOf facts depth
-        (cond b (Keep facts i) (cond c (Base (i - groups facts)) (Step facts depth)))
-    is true c lt _ = (refl, ltb-true i (groups facts) lt)
-    is false true _ le = leb-true (i - groups facts) depth le
-    is false false _ _ = (refl, refl)
 
 keep-at : (facts : List Fact) (depth i : ℕ) → i < groups facts
     → asked_at facts depth i ≡ Keep facts i

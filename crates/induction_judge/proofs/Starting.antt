@@ -59,9 +59,6 @@ start_taken latches line said None says none = λ fact also start.
 start_taken latches line said (Some taken) says (same, start) =
     let P : Fact → Type 0 = SaysFact line in (subst P (sym same) says, start)
 
-pub none_start : (latches : ℕ) (facts : List Fact) → facts ≡ [] → AreStartFacts latches facts
-none_start latches facts none fact (k, lt, _) = absurd (omega (arith, lt, ap length none))
-
 pub one_start : (latches : ℕ) (facts now : List Fact) (fact : Fact) → AreStartFacts latches facts
     → IsStartFact latches fact → now ≡ facts ++ fact ∷ [] → AreStartFacts latches now
 one_start latches facts now fact before start is f there =

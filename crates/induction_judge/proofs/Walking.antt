@@ -73,12 +73,6 @@ AreLeft {A} Says text n left k taken =
     (values : List A) (rest : List Line) → AreSaid Says text n values rest
     → (more : List A) × (values ≡ taken ++ more) × AreSaid Says left k more rest
 
-pub none_taken : {A : Type 0} (Says : Line → A → Type 0) (text : List ℕ) (n k : ℕ)
-    (taken : List A) → k ≡ n → taken ≡ [] → AreLeft Says text n text k taken
-none_taken Says text n k taken same none values rest said =
-    let P : ℕ → Type 0 = λ m. AreSaid Says text m values rest in
-    (values, ap (λ l. l ++ values) (sym none), subst P (sym same) said)
-
 -- The next line says this value.
 pub one_taken : {A : Type 0} (Says : Line → A → Type 0)
     → ((line : Line) (x y : A) → Says line x → Says line y → x ≡ y)
