@@ -1,0 +1,4 @@
+pub mod FrontLassos
+pub mod Seeing
+pub mod TracedLines
+pub mod Witnessed

@@ -1,0 +1,20 @@
+use Rattle.std.proofs.Common.{[], ◌∷◌}
+use Rattle.std.specs.Prelude.{codes}
+use Rattle.cert_text.proofs.Stepping.{proof_no_lasso}
+use Rattle.run_judge.proofs.FrontLassos.{empty_no_lasso}
+use Rattle.run_judge.proofs.laws.lassos_end.Goals as goal
+
+pub returns-clause-ranks : goal.returns-clause-ranks
+returns-clause-ranks c line b r said (one, two, words, first, second) says =
+    proof_no_lasso line (codes "rank" ∷ one ∷ two ∷ []) words (said, says)
+
+pub returns-clause-induction : goal.returns-clause-induction
+returns-clause-induction c line k f said (one, two, words, first, second) says =
+    proof_no_lasso line (codes "induction" ∷ one ∷ two ∷ []) words (said, says)
+
+pub returns-clause-runs : goal.returns-clause-runs
+returns-clause-runs c line n said (word, words, says_number) says =
+    proof_no_lasso line (codes "runs" ∷ word ∷ []) words (said, says)
+
+pub returns-clause-empty : goal.returns-clause-empty
+returns-clause-empty c = empty_no_lasso
