@@ -1,8 +1,6 @@
 -- What checking a formula on a circuit comes to is the answer of the run.
-use Rattle.std.proofs.Common.{◌≡◌, ◌⊎◌, ◌<◌, ◌≤◌, ℕ, Bool, true, false, List, [], ◌∷◌, ◌++◌, Ok, inl, inr, refl, sym, ap, subst, ◌∙◌, arith, cond, ◌&&◌, nat_eq, Some, is_some, true≢false, eqb-true}
-use Rattle.hy_base.specs.Limits.{most}
+use Rattle.std.proofs.Common.{◌≡◌, ◌⊎◌, ℕ, Bool, true, false, List, [], ◌∷◌, Ok, inl, inr, refl, sym, ap, subst, ◌∙◌, cond, ◌&&◌, nat_eq, Some, is_some, true≢false, eqb-true}
 use Rattle.hy_base.specs.declared.limit.Kind.{Kind}
-use Rattle.hy_base.specs.declared.limit.Kind.TheVariants.{Closure}
 use Rattle.hy_base.specs.declared.limit.Kind.TheVariants as kinds
 use Rattle.hy_base.specs.declared.limit.Limit.{Limit as Past}
 use Rattle.hy_base.specs.declared.shelf.Shelf.{Ghosts}
@@ -13,8 +11,8 @@ use Rattle.hy_formula.specs.Formulas.{Plain}
 use Rattle.hy_formula.specs.Trees.{Tree}
 use Rattle.aig_net.specs.Nets.{Net}
 use Rattle.aig_net.specs.declared.signals.Signal.{Signal}
-use Rattle.net_names.specs.Names.{IsFirstBad, AreSignals, IsOnly, name_at}
-use Rattle.formula_nets.specs.Posed.{checked_safe, members}
+use Rattle.net_names.specs.Names.{AreSignals, IsOnly, name_at}
+use Rattle.formula_nets.specs.Posed.{checked_safe}
 use Rattle.formula_nets.proofs.SameSignals.{same-satisfaction}
 use Rattle.mc_core.specs.Answers.{IsAnswer, IsChecked, IsRefused as IsUnchecked}
 use Rattle.mc_core.specs.declared.ask.Ask.{Ask}
