@@ -1,8 +1,6 @@
 -- What checking a formula on a circuit comes to is the answer of the run.
-use Rattle.std.proofs.Common.{◌≡◌, ◌⊎◌, ◌<◌, ◌≤◌, ℕ, Bool, true, false, List, [], ◌∷◌, ◌++◌, Ok, inl, inr, refl, sym, ap, subst, ◌∙◌, arith, cond, ◌&&◌, nat_eq, Some, is_some, true≢false, eqb-true}
-use Rattle.hy_base.specs.Limits.{most}
+use Rattle.std.proofs.Common.{◌≡◌, ◌⊎◌, ℕ, Bool, true, false, List, [], ◌∷◌, Ok, inl, inr, refl, sym, ap, subst, ◌∙◌, cond, ◌&&◌, nat_eq, Some, is_some, true≢false, eqb-true}
 use Rattle.hy_base.specs.declared.limit.Kind.{Kind}
-use Rattle.hy_base.specs.declared.limit.Kind.TheVariants.{Closure}
 use Rattle.hy_base.specs.declared.limit.Kind.TheVariants as kinds
 use Rattle.hy_base.specs.declared.limit.Limit.{Limit as Past}
 use Rattle.hy_base.specs.declared.shelf.Shelf.{Ghosts}
@@ -10,11 +8,11 @@ use Rattle.hy_formula.specs.Classes.{class_of}
 use Rattle.hy_formula.specs.declared.classes.Class.{Class}
 use Rattle.hy_formula.specs.declared.classes.Class.TheVariants as classes
 use Rattle.hy_formula.specs.Formulas.{Plain}
+use Rattle.hy_formula.specs.Trees.{Tree}
 use Rattle.aig_net.specs.Nets.{Net}
 use Rattle.aig_net.specs.declared.signals.Signal.{Signal}
-use Rattle.aiger_body.specs.Outcomes as outcomes
-use Rattle.net_names.specs.Names.{IsFirstBad, AreSignals, IsOnly, IsBadName, name_at}
-use Rattle.formula_nets.specs.Posed.{checked_safe, members}
+use Rattle.net_names.specs.Names.{AreSignals, IsOnly, name_at}
+use Rattle.formula_nets.specs.Posed.{checked_safe}
 use Rattle.formula_nets.proofs.SameSignals.{same-satisfaction}
 use Rattle.mc_core.specs.Answers.{IsAnswer, IsChecked, IsRefused as IsUnchecked}
 use Rattle.mc_core.specs.declared.ask.Ask.{Ask}
@@ -32,23 +30,24 @@ use Rattle.mc_core.specs.declared.mc_error.McError.TheVariants as errors
 use Rattle.hy_answer.specs.declared.answer.Answer.{Answer}
 use Rattle.hy_answer.specs.declared.answer.Answer.TheVariants as answers
 use Rattle.hy_answer.specs.Outputs.{out_text}
-use Rattle.hy_words.specs.Commands.{Command, check}
+use Rattle.hy_words.specs.Commands.{check}
+use Rattle.hy_top.specs.Orders.{Order, checking, order_of}
 use Rattle.hy_top.specs.Checking.{HasPair, ComesBy, found, facts_stop, paths_stop, checked_answer, IsCheck, untaken, large_closure, bad_name, done, spent}
 use Rattle.hy_top.specs.Classes.{is_of_one_kind}
-use Rattle.hy_files.specs.Contents.{one_formula, circuit, IsCircuit}
+use Rattle.hy_files.specs.Contents.{one_formula, circuit}
 use Rattle.hy_top.specs.Files.{Given, HasFormulas}
-use Rattle.hy_top.specs.Runs.{Follows, extras_of}
-use Rattle.hy_top.specs.Stages.{First, here, later, count, closure, joint, atoms, table, work, Passed, stages_of_formulas}
+use Rattle.hy_top.specs.Ready.{StandForOne}
+use Rattle.hy_top.specs.Runs.{Follows}
+use Rattle.hy_top.specs.Stages.{First, here, later, count, closure, joint, atoms, table, work}
 use Rattle.hy_top.specs.Stages.{names as names_stage}
 use Rattle.hy_files.specs.Steps.{Takes, TakesCircuit}
 use Rattle.std.specs.Bool.{IsTrue}
 use Rattle.std.specs.List.{Contains}
 use Rattle.hy_base.proofs.Members.{contains-here, contains-later}
 use Rattle.aig_net.specs.Signals.{has_signal, literal_of}
-use Rattle.hy_top.proofs.Bodies.{closure_passed, atoms_passed, table_passed}
-use Rattle.hy_top.proofs.Formulas.{class_passed, instances_passed}
-use Rattle.hy_top.proofs.Progress.{Progress, Ends, begun, goes_on, ends_here, answers_behind, runs_short, texts_once}
-use Rattle.hy_top.proofs.Reading.{bytes_once}
+use Rattle.hy_top.proofs.Completing.{within, work_follows}
+use Rattle.hy_top.proofs.Formulas.{class_passed}
+use Rattle.hy_top.proofs.Progress.{Progress, Ends, begun, goes_on, ends_here, answers_behind, runs_short}
 
 -- ---- classes
 
@@ -92,11 +91,6 @@ module _ (net : Net) (names : List (List ℕ)) (f : Plain) (ask : Ask) where
 
 -- ---- the run
 
--- A name that stands for one literal is not bad.
-pub only-not-bad : (net : Net) (name : List ℕ) (l : ℕ) (twice : Bool) → IsOnly net name l → ¬ IsBadName net name twice
-only-not-bad net name l false only bad = bad l only.has
-only-not-bad net name l true only (m, n, one, two, other) = other (only.only m one ∙ sym (only.only n two))
-
 signal-there : (signals : List Signal) (name : ℕ) → IsTrue (has_signal signals name 0) → (s : Signal) × Contains signals s × (s.name ≡ name)
 signal-there [] name there = absurd (true≢false (sym there))
 signal-there (s ∷ signals) name there = by (nat_eq s.name name) (nat_eq s.var 0) refl there (signal-there signals name)
@@ -107,91 +101,69 @@ signal-there (s ∷ signals) name there = by (nat_eq s.name name) (nat_eq s.var 
     by true false e known behind = let (r, more, same) = behind known in (r, contains-later s r signals more, same)
     by false b e known behind = let (r, more, same) = behind known in (r, contains-later s r signals more, same)
 
-no-bad-name : (net : Net) (names : List (List ℕ)) (f : Plain) (signals : List Signal) → AreSignals net names f.body signals → (name : ℕ) (twice : Bool)
-    → ¬ IsFirstBad net names f.body name twice
-no-bad-name net names f signals are name twice bad =
-    let (s, there, same) = signal-there signals name (are.every name bad.there) in
+-- Where signals stand for the names of a body, each of these stands for one literal.
+stand-for-one : (net : Net) (names : List (List ℕ)) (body : Tree) (signals : List Signal) → AreSignals net names body signals
+    → StandForOne net names body
+stand-for-one net names body signals are name there =
+    let (s, among, same) = signal-there signals name (are.every name there) in
     let P : ℕ → Type 0 = λ n. IsOnly net (name_at names n) s.literal in
-    only-not-bad net (name_at names name) s.literal twice (subst P same (are.each s there).1) bad.bad
-
-module _ (command : Command) (given : Given) (net other : Net) (f g : Plain) (names later : List (List ℕ)) where
-  pub pair_once : HasPair command given net f names → HasPair command given other g later → (net ≡ other) × (f ≡ g) × (names ≡ later)
-  pair_once one two =
-      let bytes = bytes_once given 0 one.bytes two.bytes one.came two.came in
-      let P : List ℕ → Type 0 = λ b. IsCircuit b net in
-      let texts = texts_once command given _ (f ∷ []) (g ∷ []) names later one.has two.has in
-      let nets : outcomes.read net ≡ outcomes.read other = sym (subst P bytes one.circuit) ∙ two.circuit in
-      let formulas = texts.0 in
-      (cc, cc, texts.1)
+    (s.literal, subst P same (are.each s among).1)
 
 module _ {S : Type 0} (g : Ghosts S) (old mid new : S) (file formula : List ℕ) (ask : Ask) (proof : Bool) (net : Net) (first : TakesCircuit g old mid file net) where
-  abbrev pub command : Command
-  command = check file formula ask.depth ask.conflicts ask.plain proof
+  abbrev pub order : Order
+  order = order_of (check file formula ask.depth ask.conflicts ask.plain proof)
 
   abbrev pub as_text : Takes g old mid file 4 [] circuit [] []
   as_text = record { bytes = first.bytes; read = first.read; is = ((net, first.is), refl, refl) }
 
-  read_first : Progress g command old mid (Ok first.bytes ∷ []) [] []
-  read_first = goes_on g command old old mid [] [] [] [] [] file (begun g command old) refl as_text
+  read_first : Progress g order old mid (Ok first.bytes ∷ []) [] []
+  read_first = goes_on g order old old mid [] [] [] [] [] file (begun g order old) refl as_text
 
   -- The run ends at the formula.
   pub ends_at_formula : (shown : List (List ℕ)) (a : Answer) → Ends g mid new formula 4 [] 1 one_formula a
-      → Follows g old new command a (out_text (extras_of command) shown a)
-  ends_at_formula shown a ends = ends_here g command old mid new (Ok first.bytes ∷ []) [] [] shown formula a read_first refl ends
+      → Follows g old new order a (out_text order.extras shown a)
+  ends_at_formula shown a ends = ends_here g order old mid new (Ok first.bytes ∷ []) [] [] shown formula a read_first refl ends
 
   module _ (f : Plain) (names : List (List ℕ)) (second : Takes g mid new formula 4 [] one_formula (f ∷ []) names) where
     abbrev given : Given
     given = Ok first.bytes ∷ Ok second.bytes ∷ []
 
-    read_all : Progress g command old new given (f ∷ []) names
-    read_all = goes_on g command old mid new (Ok first.bytes ∷ []) [] (f ∷ []) [] names formula read_first refl second
+    read_all : Progress g order old new given (f ∷ []) names
+    read_all = goes_on g order old mid new (Ok first.bytes ∷ []) [] (f ∷ []) [] names formula read_first refl second
 
-    pair : HasPair command given net f names
+    pair : HasPair order given net f names
     pair = record { bytes = first.bytes; came = refl; circuit = first.is; has = read_all.texts }
 
-    has : HasFormulas command given (f ∷ [])
+    has : HasFormulas order given (f ∷ [])
     has = (names, read_all.texts)
 
-    behind : (a : Answer) → First command given (stages_of_formulas ++ work ∷ []) a → Follows g old new command a (out_text (extras_of command) names a)
-    behind a rest = answers_behind g command old new given (f ∷ []) names a read_all refl rest
-
-    few-passed : members f.prefix f.body ≤ most Closure → Passed command given (count closure)
-    few-passed few = closure_passed command given (f ∷ []) has tt tt (λ past.
-        let (nets, formulas, tables) = pair_once command given past.net net past.formula f past.names names past.pair pair in
-        let P : Plain → Type 0 = λ h. most Closure < members h.prefix h.body in
-        let many = subst P formulas past.many in omega (arith, few, many))
-
+    -- Behind the class, and the instances, which are not counted, the closure comes.
     behind_class : (a : Answer) → is_of_one_kind (class_of f.prefix) ≡ true
-        → First command given (count closure ∷ count joint ∷ count atoms ∷ count table ∷ names_stage ∷ work ∷ []) a → Follows g old new command a (out_text (extras_of command) names a)
+        → First order given (count closure ∷ count joint ∷ count atoms ∷ count table ∷ names_stage ∷ work ∷ []) a
+        → Follows g old new order a (out_text order.extras names a)
     behind_class a taken rest =
-        behind a (later (class_passed command given (f ∷ []) has (taken, tt)) (later (instances_passed command given (f ∷ []) has tt) rest))
-
-    behind_counts : (a : Answer) → is_of_one_kind (class_of f.prefix) ≡ true → members f.prefix f.body ≤ most Closure
-        → First command given (names_stage ∷ work ∷ []) a → Follows g old new command a (out_text (extras_of command) names a)
-    behind_counts a taken few rest =
-        behind_class a taken
-        (later (few-passed few)
-        (later (λ b met. met.0.judges)
-        (later (atoms_passed command given (f ∷ []) has tt) (later (table_passed command given (f ∷ []) has tt) rest))))
+        answers_behind g order old new given (f ∷ []) names a read_all refl
+        (later (class_passed order given (f ∷ []) has (taken, tt)) (later (λ b met. met.0) rest))
 
     -- The run follows what the check comes to.
-    pub check_follows : (a : Answer) → IsCheck net names f ask a → Follows g old new command a (out_text (extras_of command) names a)
+    pub check_follows : (a : Answer) → IsCheck net names f ask a → Follows g old new order a (out_text order.extras names a)
     check_follows _ (untaken class is other) =
-        behind _ (here (record { formulas = f ∷ []; has = has; place = 0; class = class; first = (is, other); answered = refl }))
+        answers_behind g order old new given (f ∷ []) names _ read_all refl
+        (here (record { formulas = f ∷ []; has = has; place = 0; class = class; first = (is, other); answered = refl }))
     check_follows _ (large_closure taken many) =
-        behind_class _ taken (here (inr (inr (record { checks = tt; net = net; formula = f; names = names; pair = pair; many = many })), refl))
+        behind_class _ taken (here (record { net = net; formula = f; names = names; pair = pair; many = many }, refl))
     check_follows _ (bad_name taken few name twice bad) =
-        behind_counts _ taken few (here (record { checks = tt; net = net; formula = f; names = names; pair = pair; name = name; twice = twice; bad = bad; answered = refl }))
+        behind_class _ taken
+        (later (λ b met. within order given (f ∷ []) has (checking ask) (few, tt) closure met.0)
+        (later (λ b met. met.0)
+        (later (λ b met. met.0)
+        (later (λ b met. met.0)
+        (here (record { net = net; formula = f; names = names; pair = pair; name = name; twice = twice; bad = bad; answered = refl }))))))
     check_follows a (done _ taken signals posed comes) =
-        behind_counts a taken posed.few
-        (later (λ b refuses.
-        let (nets, formulas, tables) = pair_once command given refuses.net net refuses.formula f refuses.names names refuses.pair pair in
-        let P : Net → Type 0 = λ n. IsFirstBad n refuses.names refuses.formula.body refuses.name refuses.twice in
-        let Q : Plain → Type 0 = λ h. IsFirstBad net refuses.names h.body refuses.name refuses.twice in
-        let R : List (List ℕ) → Type 0 = λ t. IsFirstBad net t f.body refuses.name refuses.twice in
-        no-bad-name net names f signals posed.signals_are refuses.name refuses.twice (subst R tables (subst Q formulas (subst P nets refuses.bad))))
-        (here (record { net = net; formula = f; names = names; pair = pair; signals = signals; posed = posed; comes = comes })))
-    check_follows _ spent = runs_short g command old new given (f ∷ []) names read_all
+        work_follows g order old new given (f ∷ []) names read_all refl a (taken, tt) (posed.few, tt)
+        (net, f, names, pair, stand-for-one net names f.body signals posed.signals_are)
+        (record { net = net; formula = f; names = names; pair = pair; signals = signals; posed = posed; comes = comes })
+    check_follows _ spent = runs_short g order old new given (f ∷ []) names read_all
 
 -- ---- one check
 

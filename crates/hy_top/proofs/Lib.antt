@@ -1,9 +1,11 @@
 pub mod Bodies
 pub mod Checking
+pub mod Completing
 pub mod Counting
 pub mod Deciding
 pub mod EventSteps
 pub mod FirstSpecs
+pub mod FoundOnce
 pub mod Formulas
 pub mod Judging
 pub mod Monitoring

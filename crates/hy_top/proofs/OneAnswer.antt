@@ -19,24 +19,24 @@ use Rattle.ea_core.specs.Undecided.{HasFewBranches, HasManyBranches}
 use Rattle.ea_core.proofs.Searching.{not-both}
 use Rattle.hy_answer.specs.declared.answer.Answer.{Answer}
 use Rattle.hy_answer.specs.declared.answer.Answer.TheVariants as answers
-use Rattle.hy_words.specs.Commands.{Command, monitor, monitor_made, judge, decide, imply, compare, check}
-use Rattle.hy_top.specs.Classes.{takes, file_of, RefusesClass, FirstUntaken}
-use Rattle.hy_top.specs.Contents.{content_of, most_quantifiers}
+use Rattle.hy_top.specs.Orders.{Order, Origin, of_file, of_number, Question, satisfiability, implication, equivalence, Task, watching, judging, deciding, checking, content_of, file_of}
+use Rattle.hy_top.specs.Classes.{FirstUntaken}
 use Rattle.hy_top.specs.Dropping.{AgreeUncounted, counted_alike, counted_otherwise}
 use Rattle.hy_top.specs.Deciding.{plan_of, plan_against, Determines, DecidesBy, DecidesOne, DecidesTwo, ComparesTwo, sat, unsat, implied, not_implied, beyond, equivalent, first_alone, second_alone, many_branches}
 use Rattle.mc_core.specs.declared.ask.Ask.{Ask}
 use Rattle.aig_net.specs.Nets.{Net}
 use Rattle.net_names.specs.Names.{AreSignals, IsFirstBad, IsBadName, name_at}
-use Rattle.hy_top.proofs.Checking.{pair_once, only-not-bad, comes_agree}
-use Rattle.hy_top.specs.Checking.{RefusesName, Checks, ComesBy}
-use Rattle.hy_top.specs.Files.{Given, RefusesText}
+use Rattle.hy_top.proofs.Checking.{comes_agree}
+use Rattle.hy_top.proofs.Completing.{only-not-bad}
+use Rattle.hy_top.proofs.FoundOnce.{lassos_once, pair_once}
+use Rattle.hy_top.specs.Checking.{Checks, ComesBy}
+use Rattle.hy_top.specs.Files.{Given, RefusesText, RefusesClass}
 use Rattle.hy_top.specs.Judging.{Judges, holds, fails}
 use Rattle.hy_top.specs.Monitoring.{specs_of, IsViolation, IsNoViolation, Comes, EventsCome, AreEvents, Monitors}
 use Rattle.hy_top.specs.Monitoring.{ComesTo as ComesToAnswer}
 use Rattle.hy_top.specs.Stages.{names as names_stage}
-use Rattle.hy_top.specs.Stages.{Stage, opening, reading, size, text, class, count, work, Met, First, here, later, ComesTo, Agree, same, other_tuple, other_model, other_proof, other_implied, other_proofs, other_witness, other_side}
+use Rattle.hy_top.specs.Stages.{Stage, opening, reading, size, text, class, count, work, Met, First, here, later, IsMisnamed, ComesTo, Agree, same, other_tuple, other_model, other_proof, other_implied, other_proofs, other_witness, other_side}
 use Rattle.hy_top.proofs.Formulas.{of_formulas, untaken_once}
-use Rattle.hy_top.proofs.Judging.{lassos_once}
 use Rattle.hy_top.proofs.Progress.{texts_once}
 use Rattle.hy_top.proofs.Reading.{bytes_once}
 use Rattle.hy_files.specs.Contents.{IsRefused}
@@ -108,26 +108,21 @@ dropping-agrees lengths one_way other_way specs (placed ∷ events) h a b one tw
     (λ next. ComesToAnswer lengths other_way specs next events b) a b (AgreeUncounted a b) (counted_alike a b)
     (λ next x y. dropping-agrees lengths one_way other_way specs events next a b x y) one two
 
--- A command has one list of events.
-one-list : (command : Command) (given : Given) (names : List (List ℕ)) (events others : List Placed) → AreEvents command given names events
-    → AreEvents command given names others → events ≡ others
-one-list (monitor specs traces lengths drop) given names events others (bytes, came, said) (more, also, again) =
+-- There is one list of events.
+one-list : (origin : Origin) (given : Given) (names : List (List ℕ)) (events others : List Placed) → AreEvents origin given names events
+    → AreEvents origin given names others → events ≡ others
+one-list of_file given names events others (bytes, came, said) (more, also, again) =
     let P : List ℕ → Type 0 = λ bs. SayEvents names 1 (lines_of bs) events in
     one-events names 1 (lines_of more) events others (subst P (bytes_once given 1 bytes more came also) said) again
-one-list (monitor_made specs n lengths drop) given names events others one two = one ∙ sym two
-one-list (judge formula list) given names events others none two = absurd none
-one-list (decide formula states proof) given names events others none two = absurd none
-one-list (imply first second states proof) given names events others none two = absurd none
-one-list (compare first second states proof) given names events others none two = absurd none
-one-list (check circuit formula depth conflicts plain proof) given names events others none two = absurd none
+one-list (of_number n) given names events others one two = one ∙ sym two
 
-verdicts-agree : (command : Command) (given : Given) (lengths : Lengths) (drop : Bool) (formulas : List Plain)
-    (names : List (List ℕ)) (a b : Answer) → EventsCome lengths drop (specs_of formulas) (AreEvents command given names) a
-    → EventsCome lengths drop (specs_of formulas) (AreEvents command given names) b → Agree a b
-verdicts-agree command given lengths drop formulas names a b (events, said, one) (others, also, two) =
+verdicts-agree : (origin : Origin) (given : Given) (lengths : Lengths) (drop : Bool) (formulas : List Plain)
+    (names : List (List ℕ)) (a b : Answer) → EventsCome lengths drop (specs_of formulas) (AreEvents origin given names) a
+    → EventsCome lengths drop (specs_of formulas) (AreEvents origin given names) b → Agree a b
+verdicts-agree origin given lengths drop formulas names a b (events, said, one) (others, also, two) =
     let P : List Placed → Type 0 = λ es. ComesToAnswer lengths drop (specs_of formulas) empty_history es a in
     events-agree lengths drop (specs_of formulas) others empty_history a b
-    (subst P (one-list command given names events others said also) one) two
+    (subst P (one-list origin given names events others said also) one) two
 
 -- ---- two decisions
 
@@ -198,57 +193,59 @@ comparisons_agree f g n _ _ (many_branches more) (many_branches also) = same (an
 
 -- ---- one stage, one answer
 
-module _ (command : Command) (given : Given) where
-  text_agrees : (k : ℕ) (a b : Answer) → RefusesText command given k a → RefusesText command given k b → a ≡ b
+module _ (order : Order) (given : Given) where
+  text_agrees : (k : ℕ) (a b : Answer) → RefusesText order given k a → RefusesText order given k b → a ≡ b
   text_agrees k a b one two =
-      let names = (texts_once command given k one.formulas two.formulas one.names two.names one.before two.before).1 in
+      let names = (texts_once order given k one.formulas two.formulas one.names two.names one.before two.before).1 in
       let bytes = bytes_once given k one.bytes two.bytes one.came two.came in
-      let P : List (List ℕ) → Type 0 = λ n. IsRefused (most_quantifiers command) n two.bytes (content_of command k) one.fault in
-      let Q : List ℕ → Type 0 = λ b. IsRefused (most_quantifiers command) one.names b (content_of command k) one.fault in
+      let P : List (List ℕ) → Type 0 = λ n. IsRefused order.quantifiers n two.bytes (content_of order k) one.fault in
+      let Q : List ℕ → Type 0 = λ b. IsRefused order.quantifiers one.names b (content_of order k) one.fault in
       let fault =
-      refused_once (most_quantifiers command) two.names two.bytes (content_of command k) one.fault two.fault (subst P names (subst Q bytes one.refused)) two.refused in
+      refused_once order.quantifiers two.names two.bytes (content_of order k) one.fault two.fault (subst P names (subst Q bytes one.refused)) two.refused in
       one.answered ∙ ap (fault_answer k) fault ∙ sym two.answered
 
-  class_agrees : (a b : Answer) → RefusesClass command given a → RefusesClass command given b → a ≡ b
+  class_agrees : (a b : Answer) → RefusesClass order given a → RefusesClass order given b → a ≡ b
   class_agrees a b one two =
-      let P : List Plain → Type 0 = λ fs. FirstUntaken (takes command) fs one.place one.class in
+      let P : List Plain → Type 0 = λ fs. FirstUntaken order.takes fs one.place one.class in
       let (place, found) =
-      untaken_once (takes command) two.formulas one.place two.place one.class two.class
-      (subst P (of_formulas command given two.formulas two.has one.formulas one.has) one.first) two.first in
-      one.answered ∙ ap (λ p. answers.Prefix (file_of command p) one.class) place ∙ ap (answers.Prefix (file_of command two.place)) found ∙ sym two.answered
+      untaken_once order.takes two.formulas one.place two.place one.class two.class
+      (subst P (of_formulas order given two.formulas two.has one.formulas one.has) one.first) two.first in
+      one.answered ∙ ap (λ p. answers.Prefix (file_of order p) one.class) place ∙ ap (answers.Prefix (file_of order two.place)) found ∙ sym two.answered
 
-  judgements_agree : (a b : Answer) → Judges command given a → Judges command given b → Agree a b
+  judgements_agree : (a b : Answer) → Judges order given a → Judges order given b → Agree a b
   judgements_agree _ _ (holds f list has one) (holds g other also two) = same answers.OnTrue
   judgements_agree _ _ (holds f list has one) (fails g other also two) =
-      let (formula, lists) = lassos_once command given f g list other has also in
+      let (formula, lists) = lassos_once order given f g list other has also in
       let P : Plain → Type 0 = λ h. Meant list h.prefix h.body in
       let Q : List (Lasso Letter) → Type 0 = λ l. Meant l g.prefix g.body in
       absurd (two (subst Q lists (subst P formula one)))
   judgements_agree _ _ (fails f list has one) (holds g other also two) =
-      let (formula, lists) = lassos_once command given g f other list also has in
+      let (formula, lists) = lassos_once order given g f other list also has in
       let P : Plain → Type 0 = λ h. Meant other h.prefix h.body in
       let Q : List (Lasso Letter) → Type 0 = λ l. Meant l f.prefix f.body in
       absurd (one (subst Q lists (subst P formula two)))
   judgements_agree _ _ (fails f list has one) (fails g other also two) = same answers.OnFalse
 
-  monitors_agree : (lengths : Lengths) (drop : Bool) (a b : Answer) → Monitors lengths drop command given a
-      → Monitors lengths drop command given b → Agree a b
-  monitors_agree lengths drop a b one two =
-      let (formulas, names) = texts_once command given 1 one.formulas two.formulas one.names two.names one.first two.first in
-      let P : List Plain → Type 0 = λ fs. EventsCome lengths drop (specs_of fs) (AreEvents command given one.names) a in
-      let Q : List (List ℕ) → Type 0 = λ ns. EventsCome lengths drop (specs_of two.formulas) (AreEvents command given ns) a in
-      verdicts-agree command given lengths drop two.formulas two.names a b (subst Q names (subst P formulas one.verdict)) two.verdict
+  monitors_agree : (origin : Origin) (lengths : Lengths) (drop : Bool) (a b : Answer) → Monitors origin lengths drop order given a
+      → Monitors origin lengths drop order given b → Agree a b
+  monitors_agree origin lengths drop a b one two =
+      let (formulas, names) = texts_once order given 1 one.formulas two.formulas one.names two.names one.first two.first in
+      let P : List Plain → Type 0 = λ fs. EventsCome lengths drop (specs_of fs) (AreEvents origin given one.names) a in
+      let Q : List (List ℕ) → Type 0 = λ ns. EventsCome lengths drop (specs_of two.formulas) (AreEvents origin given ns) a in
+      verdicts-agree origin given lengths drop two.formulas two.names a b (subst Q names (subst P formulas one.verdict)) two.verdict
 
-decided_agree : (command : Command) (formulas : List Plain) (a b : Answer) → DecidesBy command formulas a → DecidesBy command formulas b → Agree a b
-decided_agree (decide formula states proof) (f ∷ []) a b one two = decisions_agree f states a b one two
-decided_agree (imply first second states proof) (f ∷ g ∷ []) a b one two = implications_agree f g states a b one two
-decided_agree (compare first second states proof) (f ∷ g ∷ []) a b one two = comparisons_agree f g states a b one two
-decided_agree _ _ a b one two = absurd one
+decided_agree : (question : Question) (states : ℕ) (formulas : List Plain) (a b : Answer) → DecidesBy question states formulas a
+    → DecidesBy question states formulas b → Agree a b
+decided_agree satisfiability states (f ∷ []) a b one two = decisions_agree f states a b one two
+decided_agree implication states (f ∷ g ∷ []) a b one two = implications_agree f g states a b one two
+decided_agree equivalence states (f ∷ g ∷ []) a b one two = comparisons_agree f g states a b one two
+decided_agree _ states _ a b one two = absurd one
 
-determined_agree : (command : Command) (given : Given) (a b : Answer) → Determines command given a → Determines command given b → Agree a b
-determined_agree command given a b one two =
-    let P : List Plain → Type 0 = λ fs. DecidesBy command fs a in
-    decided_agree command two.formulas a b (subst P (of_formulas command given two.formulas two.has one.formulas one.has) one.decides) two.decides
+determined_agree : (question : Question) (states : ℕ) (order : Order) (given : Given) (a b : Answer) → Determines question states order given a
+    → Determines question states order given b → Agree a b
+determined_agree question states order given a b one two =
+    let P : List Plain → Type 0 = λ fs. DecidesBy question states fs a in
+    decided_agree question states two.formulas a b (subst P (of_formulas order given two.formulas two.has one.formulas one.has) one.decides) two.decides
 
 bad_once : (net : Net) (name : List ℕ) (a b : Bool) → IsBadName net name a → IsBadName net name b → a ≡ b
 bad_once net name false false one two = refl
@@ -269,18 +266,19 @@ first_bad_once net names f j k a b one two =
     let P : ℕ → Type 0 = λ n. IsBadName net (name_at names n) a in
     (same, bad_once net (name_at names k) a b (subst P same one.bad) two.bad)
 
-names_agree : (command : Command) (given : Given) (a b : Answer) → RefusesName command given a → RefusesName command given b → a ≡ b
-names_agree command given a b one two =
-    let (nets, formulas, tables) = pair_once command given one.net two.net one.formula two.formula one.names two.names one.pair two.pair in
+names_agree : (task : Task) (order : Order) (given : Given) (a b : Answer) → IsMisnamed task order given a → IsMisnamed task order given b → a ≡ b
+names_agree (checking ask) order given a b one two =
+    let (nets, formulas, tables) = pair_once order given one.net two.net one.formula two.formula one.names two.names one.pair two.pair in
     let P : Net → Type 0 = λ n. IsFirstBad n one.names one.formula.body one.name one.twice in
     let Q : Plain → Type 0 = λ h. IsFirstBad two.net one.names h.body one.name one.twice in
     let R : List (List ℕ) → Type 0 = λ t. IsFirstBad two.net t two.formula.body one.name one.twice in
     let (name, twice) = first_bad_once two.net two.names two.formula one.name two.name one.twice two.twice (subst R tables (subst Q formulas (subst P nets one.bad))) two.bad in
     one.answered ∙ (λ i. answers.Name (name_at (tables i) (name i)) (twice i)) ∙ sym two.answered
+names_agree _ order given a b one two = absurd one
 
-checks_agree : (command : Command) (given : Given) (ask : Ask) (a b : Answer) → Checks ask command given a → Checks ask command given b → Agree a b
-checks_agree command given ask a b one two =
-    let (nets, formulas, tables) = pair_once command given one.net two.net one.formula two.formula one.names two.names one.pair two.pair in
+checks_agree : (ask : Ask) (order : Order) (given : Given) (a b : Answer) → Checks ask order given a → Checks ask order given b → Agree a b
+checks_agree ask order given a b one two =
+    let (nets, formulas, tables) = pair_once order given one.net two.net one.formula two.formula one.names two.names one.pair two.pair in
     let P : Net → Type 0 = λ n. AreSignals n one.names one.formula.body one.signals in
     let Q : Plain → Type 0 = λ h. AreSignals two.net one.names h.body one.signals in
     let R : List (List ℕ) → Type 0 = λ t. AreSignals two.net t two.formula.body one.signals in
@@ -289,31 +287,25 @@ checks_agree command given ask a b one two =
     comes_agree two.net two.names two.formula ask one.signals two.signals (subst R tables (subst Q formulas (subst P nets one.posed.signals_are))) two.posed.signals_are
     a b (subst V formulas (subst U nets one.comes)) two.comes
 
-works_agree : (command : Command) (given : Given) (a b : Answer) → ComesTo command given a → ComesTo command given b → Agree a b
-works_agree (monitor specs traces lengths drop) given a b one two =
-    monitors_agree (monitor specs traces lengths drop) given lengths drop a b one two
-works_agree (monitor_made specs n lengths drop) given a b one two =
-    monitors_agree (monitor_made specs n lengths drop) given lengths drop a b one two
-works_agree (judge formula list) given a b one two = judgements_agree (judge formula list) given a b one two
-works_agree (decide formula states proof) given a b one two = determined_agree (decide formula states proof) given a b one two
-works_agree (imply first second states proof) given a b one two = determined_agree (imply first second states proof) given a b one two
-works_agree (compare first second states proof) given a b one two = determined_agree (compare first second states proof) given a b one two
-works_agree (check circuit formula depth conflicts plain proof) given a b one two =
-    checks_agree (check circuit formula depth conflicts plain proof) given _ a b one two
+works_agree : (task : Task) (order : Order) (given : Given) (a b : Answer) → ComesTo task order given a → ComesTo task order given b → Agree a b
+works_agree (watching origin lengths drop) order given a b one two = monitors_agree order given origin lengths drop a b one two
+works_agree judging order given a b one two = judgements_agree order given a b one two
+works_agree (deciding question states) order given a b one two = determined_agree question states order given a b one two
+works_agree (checking ask) order given a b one two = checks_agree ask order given a b one two
 
-one_stage : (command : Command) (given : Given) (stage : Stage) (a b : Answer) → Met command given stage a → Met command given stage b → Agree a b
-one_stage command given (opening k) a b e f = agree (e.1 ∙ sym f.1)
-one_stage command given (reading k) a b e f = agree (e.1 ∙ sym f.1)
-one_stage command given (size k) a b e f = agree (e.1 ∙ sym f.1)
-one_stage command given (text k) a b e f = agree (text_agrees command given k a b e f)
-one_stage command given class a b e f = agree (class_agrees command given a b e f)
-one_stage command given (count quantity) a b e f = agree (e.1 ∙ sym f.1)
-one_stage command given names_stage a b e f = agree (names_agree command given a b e f)
-one_stage command given work a b e f = works_agree command given a b e f
+one_stage : (order : Order) (given : Given) (stage : Stage) (a b : Answer) → Met order given stage a → Met order given stage b → Agree a b
+one_stage order given (opening k) a b e f = agree (e.1 ∙ sym f.1)
+one_stage order given (reading k) a b e f = agree (e.1 ∙ sym f.1)
+one_stage order given (size k) a b e f = agree (e.1 ∙ sym f.1)
+one_stage order given (text k) a b e f = agree (text_agrees order given k a b e f)
+one_stage order given class a b e f = agree (class_agrees order given a b e f)
+one_stage order given (count quantity) a b e f = agree (e.1 ∙ sym f.1)
+one_stage order given names_stage a b e f = agree (names_agree order.task order given a b e f)
+one_stage order given work a b e f = works_agree order.task order given a b e f
 
-pub first_once : (command : Command) (given : Given) (stages : List Stage) (a b : Answer) → First command given stages a → First command given stages b → Agree a b
-first_once command given [] a b one two = elim one [ ]
-first_once command given (stage ∷ stages) a b (here met) (here other) = one_stage command given stage a b met other
-first_once command given (stage ∷ stages) a b (here met) (later passed two) = absurd (passed a met)
-first_once command given (stage ∷ stages) a b (later passed one) (here met) = absurd (passed b met)
-first_once command given (stage ∷ stages) a b (later passed one) (later again two) = first_once command given stages a b one two
+pub first_once : (order : Order) (given : Given) (stages : List Stage) (a b : Answer) → First order given stages a → First order given stages b → Agree a b
+first_once order given [] a b one two = elim one [ ]
+first_once order given (stage ∷ stages) a b (here met) (here other) = one_stage order given stage a b met other
+first_once order given (stage ∷ stages) a b (here met) (later passed two) = absurd (passed a met)
+first_once order given (stage ∷ stages) a b (later passed one) (here met) = absurd (passed b met)
+first_once order given (stage ∷ stages) a b (later passed one) (later again two) = first_once order given stages a b one two

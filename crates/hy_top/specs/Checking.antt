@@ -22,42 +22,31 @@ use Rattle.mc_core.specs.declared.checked.Checked.TheVariants as checked
 use Rattle.hy_files.specs.Contents.{IsCircuit}
 use Rattle.hy_answer.specs.declared.answer.Answer.{Answer}
 use Rattle.hy_answer.specs.declared.answer.Answer.TheVariants.{Holds, Violated, UnknownDepth, UnknownConflicts, Name, Prefix, Limit, CnfLimit, Memory}
-use Rattle.hy_words.specs.Commands.{Command, monitor, monitor_made, judge, decide, imply, compare, check}
 use Rattle.hy_top.specs.Classes.{is_of_one_kind}
+use Rattle.hy_top.specs.Orders.{Order}
 use Rattle.hy_top.specs.Files.{Given, Came, HasAll}
 
-abbrev pub IsChecking : Command → Type 0
-IsChecking (check circuit formula depth conflicts plain proof) = Unit {0}
-IsChecking (monitor specs traces lengths drop) = ⊥
-IsChecking (monitor_made specs count lengths drop) = ⊥
-IsChecking (judge formula list) = ⊥
-IsChecking (decide formula states proof) = ⊥
-IsChecking (imply first second states proof) = ⊥
-IsChecking (compare first second states proof) = ⊥
-
 -- The files are this circuit and this formula, whose names have these numbers.
-pub record HasPair (command : Command) (given : Given) (net : Net) (formula : Plain) (names : List (List ℕ)) : Type 0 where
+pub record HasPair (order : Order) (given : Given) (net : Net) (formula : Plain) (names : List (List ℕ)) : Type 0 where
   pub bytes : List ℕ
   pub came : Came given 0 (Ok bytes)
   pub circuit : IsCircuit bytes net
-  pub has : HasAll command given (formula ∷ []) names
+  pub has : HasAll order given (formula ∷ []) names
 
 -- The closure of the formula that is checked has too many members.
-pub record HasManyMembers (command : Command) (given : Given) : Type 0 where
-  pub checks : IsChecking command
+pub record HasManyMembers (order : Order) (given : Given) : Type 0 where
   pub net : Net
   pub formula : Plain
   pub names : List (List ℕ)
-  pub pair : HasPair command given net formula names
+  pub pair : HasPair order given net formula names
   pub many : most Closure < members formula.prefix formula.body
 
 -- A name of the formula stands for nothing in the circuit, or for different literals: the first such name.
-pub record RefusesName (command : Command) (given : Given) (answer : Answer) : Type 0 where
-  pub checks : IsChecking command
+pub record RefusesName (order : Order) (given : Given) (answer : Answer) : Type 0 where
   pub net : Net
   pub formula : Plain
   pub names : List (List ℕ)
-  pub pair : HasPair command given net formula names
+  pub pair : HasPair order given net formula names
   pub name : ℕ
   pub twice : Bool
   pub bad : IsFirstBad net names formula.body name twice
@@ -81,11 +70,11 @@ pub data ComesBy (net : Net) (signals : List Signal) (f : Plain) (ask : Ask) : A
       → ComesBy net signals f ask (CnfLimit kind limit kept)
 
 -- The files are a circuit and a formula, the names of the formula stand for signals, and this is what the check comes to.
-pub record Checks (ask : Ask) (command : Command) (given : Given) (answer : Answer) : Type 0 where
+pub record Checks (ask : Ask) (order : Order) (given : Given) (answer : Answer) : Type 0 where
   pub net : Net
   pub formula : Plain
   pub names : List (List ℕ)
-  pub pair : HasPair command given net formula names
+  pub pair : HasPair order given net formula names
   pub signals : List Signal
   pub posed : IsPosed net names formula.prefix formula.body signals
   pub comes : ComesBy net signals formula ask answer

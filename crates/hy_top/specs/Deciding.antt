@@ -1,6 +1,6 @@
 -- What is answered for a formula that is decided, and for two formulas of which one is to imply the other, or that are
 -- to be equivalent.
-use Rattle.std.specs.Prelude.{◌⊎◌, ℕ, cond, List, [], ◌∷◌}
+use Rattle.std.specs.Prelude.{◌⊎◌, ℕ, Bool, cond, List, [], ◌∷◌}
 use Rattle.std.specs.List.{Contains}
 use Rattle.hy_base.specs.Limits.{most}
 use Rattle.hy_base.specs.declared.limit.Kind.TheVariants.{Instances, Closure}
@@ -9,7 +9,8 @@ use Rattle.hy_formula.specs.Quantifiers.{Each}
 use Rattle.hy_formula.specs.declared.classes.Class.{Class}
 use Rattle.hy_formula.specs.Lassos.{Lasso}
 use Rattle.hy_formula.specs.Formulas.{Plain}
-use Rattle.ea_reduce.specs.Plans.{PlainPlan, reduction, implication}
+use Rattle.ea_reduce.specs.Plans as plans
+use Rattle.ea_reduce.specs.Plans.{PlainPlan}
 use Rattle.ea_reduce.specs.Refused.{HasFewMaps, HasManyMaps}
 use Rattle.rank_proofs.specs.declared.rank_proof.RankProof.{RankProof}
 use Rattle.rank_proofs.specs.Counts.{HasManyMembers}
@@ -21,38 +22,38 @@ use Rattle.ea_core.specs.Decided.{Decides, DecidesImplication, DecidesEquivalenc
 use Rattle.ea_core.specs.Undecided.{IsCounted, IsWithin, AreWithin, HasFewBranches, HasManyBranches}
 use Rattle.hy_answer.specs.declared.answer.Answer.{Answer}
 use Rattle.hy_answer.specs.declared.answer.Answer.TheVariants.{Sat, Unsat, Implied, NotImplied, Equivalent, NotEquivalent, States, Prefix, Limit, Memory}
-use Rattle.hy_words.specs.Commands.{Command, decide, imply, compare}
-use Rattle.hy_top.specs.Classes.{takes, file_of, FirstUntaken, AreTaken}
+use Rattle.hy_top.specs.Classes.{FirstUntaken, AreTaken}
+use Rattle.hy_top.specs.Orders.{Order, Question, satisfiability, implication, equivalence}
 use Rattle.hy_top.specs.Files.{Given, HasFormulas}
 
 -- the plan of a formula, and that of the claim that one does not imply another
 abbrev pub plan_of : Plain → PlainPlan
-plan_of f = reduction f.prefix f.body
+plan_of f = plans.reduction f.prefix f.body
 
 abbrev pub plan_against : Plain → Plain → PlainPlan
-plan_against f g = implication f.prefix f.body g.prefix g.body
+plan_against f g = plans.implication f.prefix f.body g.prefix g.body
 
--- the plans of a command with these formulas
-abbrev pub plans_of : Command → List Plain → List PlainPlan
-plans_of (decide formula states proof) (f ∷ []) = plan_of f ∷ []
-plans_of (imply first second states proof) (f ∷ g ∷ []) = plan_against f g ∷ []
-plans_of (compare first second states proof) (f ∷ g ∷ []) = plan_against f g ∷ plan_against g f ∷ []
-plans_of command formulas = []
+-- the plans of a question about these formulas
+abbrev pub plans_of : Question → List Plain → List PlainPlan
+plans_of satisfiability (f ∷ []) = plan_of f ∷ []
+plans_of implication (f ∷ g ∷ []) = plan_against f g ∷ []
+plans_of equivalence (f ∷ g ∷ []) = plan_against f g ∷ plan_against g f ∷ []
+plans_of question formulas = []
 
 -- Some plan has a job of too many maps.
-pub record HasManyInstances (command : Command) (given : Given) : Type 0 where
+pub record HasManyInstances (question : Question) (order : Order) (given : Given) : Type 0 where
   pub formulas : List Plain
-  pub has : HasFormulas command given formulas
+  pub has : HasFormulas order given formulas
   pub plan : PlainPlan
-  pub of : Contains (plans_of command formulas) plan
+  pub of : Contains (plans_of question formulas) plan
   pub many : HasManyMaps plan
 
 -- Some plan's closure has too many members.
-pub record HasLargeClosure (command : Command) (given : Given) : Type 0 where
+pub record HasLargeClosure (question : Question) (order : Order) (given : Given) : Type 0 where
   pub formulas : List Plain
-  pub has : HasFormulas command given formulas
+  pub has : HasFormulas order given formulas
   pub plan : PlainPlan
-  pub of : Contains (plans_of command formulas) plan
+  pub of : Contains (plans_of question formulas) plan
   pub many : HasManyMembers plan
 
 -- A formula is satisfiable or not, or its plan reaches more than n branches.
@@ -85,17 +86,18 @@ pub data ComparesTwo (f g : Plain) (n : ℕ) : Answer → Type 0 where
       ⊎ (HasFewBranches (plan_against f g) n × Implies f.prefix f.body g.prefix g.body × HasManyBranches (plan_against g f) n)
       → ComparesTwo f g n (States n)
 
--- The work of the command on its formulas comes to this answer.
-abbrev pub DecidesBy : Command → List Plain → Answer → Type 0
-DecidesBy (decide formula states proof) (f ∷ []) answer = DecidesOne f states answer
-DecidesBy (imply first second states proof) (f ∷ g ∷ []) answer = DecidesTwo f g states answer
-DecidesBy (compare first second states proof) (f ∷ g ∷ []) answer = ComparesTwo f g states answer
-DecidesBy command formulas answer = ⊥
+-- By at most so many branches the question about these formulas comes to this answer.
+abbrev pub DecidesBy : Question → ℕ → List Plain → Answer → Type 0
+DecidesBy satisfiability states (f ∷ []) answer = DecidesOne f states answer
+DecidesBy implication states (f ∷ g ∷ []) answer = DecidesTwo f g states answer
+DecidesBy equivalence states (f ∷ g ∷ []) answer = ComparesTwo f g states answer
+DecidesBy question states formulas answer = ⊥
 
-pub record Determines (command : Command) (given : Given) (answer : Answer) : Type 0 where
+-- The question about the formulas of the files comes to this answer.
+pub record Determines (question : Question) (states : ℕ) (order : Order) (given : Given) (answer : Answer) : Type 0 where
   pub formulas : List Plain
-  pub has : HasFormulas command given formulas
-  pub decides : DecidesBy command formulas answer
+  pub has : HasFormulas order given formulas
+  pub decides : DecidesBy question states formulas answer
 
 -- the answer for an error of a decision
 abbrev pub refusal_answer : ℕ → EaError → Answer
@@ -104,14 +106,15 @@ refusal_answer states (errors.Limit limit) = Limit limit.kind limit.limit
 refusal_answer states errors.States = States states
 refusal_answer states errors.Memory = Memory
 
--- What deciding the formulas of a command comes to: the first of these that is met, or memory ran out.
-pub data Outcome (command : Command) (formulas : List Plain) : Answer → Type 0 where
-  untaken : (place : ℕ) (class : Class) → FirstUntaken (takes command) formulas place class
-      → Outcome command formulas (Prefix (file_of command place) class)
-  many_instances : AreTaken command formulas → (plan : PlainPlan) → Contains (plans_of command formulas) plan → HasManyMaps plan
-      → Outcome command formulas (Limit Instances (most Instances))
-  large_closure : AreTaken command formulas → Each HasFewMaps (plans_of command formulas) → (plan : PlainPlan)
-      → Contains (plans_of command formulas) plan → HasManyMembers plan → Outcome command formulas (Limit Closure (most Closure))
-  done : (answer : Answer) → AreTaken command formulas → Each IsCounted (plans_of command formulas)
-      → DecidesBy command formulas answer → Outcome command formulas answer
-  spent : Outcome command formulas Memory
+-- What a question about formulas of classes that are taken comes to: the first of these that is met, or memory ran out.
+pub data Outcome (takes : Class → Bool) (question : Question) (states : ℕ) (formulas : List Plain) : Answer → Type 0 where
+  untaken : (place : ℕ) (class : Class) → FirstUntaken takes formulas place class
+      → Outcome takes question states formulas (Prefix place class)
+  many_instances : AreTaken takes formulas → (plan : PlainPlan) → Contains (plans_of question formulas) plan → HasManyMaps plan
+      → Outcome takes question states formulas (Limit Instances (most Instances))
+  large_closure : AreTaken takes formulas → Each HasFewMaps (plans_of question formulas) → (plan : PlainPlan)
+      → Contains (plans_of question formulas) plan → HasManyMembers plan
+      → Outcome takes question states formulas (Limit Closure (most Closure))
+  done : (answer : Answer) → AreTaken takes formulas → Each IsCounted (plans_of question formulas)
+      → DecidesBy question states formulas answer → Outcome takes question states formulas answer
+  spent : Outcome takes question states formulas Memory

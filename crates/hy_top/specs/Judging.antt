@@ -12,40 +12,30 @@ use Rattle.hy_lasso.specs.Words.{Satisfies}
 use Rattle.hy_formula.specs.Formulas.{Plain}
 use Rattle.hy_answer.specs.declared.answer.Answer.{Answer}
 use Rattle.hy_answer.specs.declared.answer.Answer.TheVariants.{OnTrue, OnFalse, Limit, Memory}
-use Rattle.hy_words.specs.Commands.{Command, monitor, monitor_made, judge, decide, imply, compare, check}
+use Rattle.hy_top.specs.Orders.{Order}
 use Rattle.hy_top.specs.Files.{Given, Came, HasTexts}
 
 -- The first file is this formula, and the second has these lassos.
-pub record HasLassos (command : Command) (given : Given) (formula : Plain) (list : List (Lasso Letter)) : Type 0 where
+pub record HasLassos (order : Order) (given : Given) (formula : Plain) (list : List (Lasso Letter)) : Type 0 where
   pub names : List (List ℕ)
-  pub first : HasTexts command given 1 (formula ∷ []) names
+  pub first : HasTexts order given 1 (formula ∷ []) names
   pub bytes : List ℕ
   pub came : Came given 1 (Ok bytes)
   pub read : IsLassosAnswer names bytes (Ok list)
 
-abbrev pub IsJudging : Command → Type 0
-IsJudging (monitor specs traces lengths drop) = ⊥
-IsJudging (monitor_made specs count lengths drop) = ⊥
-IsJudging (judge formula list) = Unit {0}
-IsJudging (decide formula states proof) = ⊥
-IsJudging (imply first second states proof) = ⊥
-IsJudging (compare first second states proof) = ⊥
-IsJudging (check circuit formula depth conflicts plain proof) = ⊥
-
--- All lassos of the command together repeat only after too many positions.
-pub record IsTooJoint (command : Command) (given : Given) : Type 0 where
-  pub judges : IsJudging command
+-- All lassos of the file together repeat only after too many positions.
+pub record IsTooJoint (order : Order) (given : Given) : Type 0 where
   pub formula : Plain
   pub list : List (Lasso Letter)
-  pub lassos : HasLassos command given formula list
+  pub lassos : HasLassos order given formula list
   pub long : ¬ IsJudged list
 
 -- The lassos satisfy the formula, or they do not.
-pub data Judges (command : Command) (given : Given) : Answer → Type 0 where
-  holds : (formula : Plain) (list : List (Lasso Letter)) → HasLassos command given formula list
-      → Satisfies list formula.prefix formula.body → Judges command given OnTrue
-  fails : (formula : Plain) (list : List (Lasso Letter)) → HasLassos command given formula list
-      → (¬ Satisfies list formula.prefix formula.body) → Judges command given OnFalse
+pub data Judges (order : Order) (given : Given) : Answer → Type 0 where
+  holds : (formula : Plain) (list : List (Lasso Letter)) → HasLassos order given formula list
+      → Satisfies list formula.prefix formula.body → Judges order given OnTrue
+  fails : (formula : Plain) (list : List (Lasso Letter)) → HasLassos order given formula list
+      → (¬ Satisfies list formula.prefix formula.body) → Judges order given OnFalse
 
 -- What judging a list comes to: whether it satisfies the formula, or that all its lassos repeat together too late.
 pub data IsJudgement (prefix : List Quant) (body : Tree) (list : List (Lasso Letter)) : Answer → Type 0 where

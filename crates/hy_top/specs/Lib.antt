@@ -1,11 +1,12 @@
 pub mod Checking
 pub mod Classes
-pub mod Contents
 pub mod Deciding
 pub mod Dropping
 pub mod Files
 pub mod Judging
 pub mod Monitoring
+pub mod Orders
+pub mod Ready
 pub mod Runs
 pub mod Stages
 pub mod Watching

@@ -22,8 +22,8 @@ use Rattle.rv_core.specs.Keeping.{IsKeptCount}
 use Rattle.rv_core.specs.Replies.{IsFound}
 use Rattle.hy_answer.specs.declared.answer.Answer.{Answer}
 use Rattle.hy_answer.specs.declared.answer.Answer.TheVariants.{NoViolation, Violation, Prefix, Session, Limit, Memory}
-use Rattle.hy_words.specs.Commands.{Command, monitor, monitor_made, judge, decide, imply, compare, check}
 use Rattle.hy_top.specs.Classes.{is_universal, FirstUntaken}
+use Rattle.hy_top.specs.Orders.{Order, Origin, of_file, of_number}
 use Rattle.hy_top.specs.Files.{Given, Came, HasTexts, HasFormulas}
 
 -- ---- the formulas
@@ -39,21 +39,11 @@ SomePlain Q formulas = (f : Plain) × Contains formulas f × Q f.body
 abbrev pub EachPlain : (Tree → Type 0) → List Plain → Type 0
 EachPlain Q formulas = Each (λ (f : Plain). Q f.body) formulas
 
--- the formulas that a command has monitors of
-abbrev pub monitored : Command → List Plain → List Plain
-monitored (monitor specs traces lengths drop) formulas = formulas
-monitored (monitor_made specs count lengths drop) formulas = formulas
-monitored (judge formula list) formulas = []
-monitored (decide formula states proof) formulas = []
-monitored (imply first second states proof) formulas = []
-monitored (compare first second states proof) formulas = []
-monitored (check circuit formula depth conflicts plain proof) formulas = []
-
--- It holds of some body that the command has a monitor of.
-pub record SomeBody (Q : Tree → Type 0) (command : Command) (given : Given) : Type 0 where
+-- It holds of the body of some formula of the files.
+pub record SomeBody (Q : Tree → Type 0) (order : Order) (given : Given) : Type 0 where
   pub formulas : List Plain
-  pub has : HasFormulas command given formulas
-  pub some : SomePlain Q (monitored command formulas)
+  pub has : HasFormulas order given formulas
+  pub some : SomePlain Q formulas
 
 -- what a formula says of tuples
 abbrev pub spec_of : Plain → Spec
@@ -118,24 +108,17 @@ abbrev pub whole_traces : ℕ → List Trace → List Placed
 whole_traces k [] = []
 whole_traces k (t ∷ ts) = record { line = k; event = Whole t } ∷ whole_traces (suc k) ts
 
--- The events that a command monitors are these, where its formulas have these names: those of its second file, or made
--- traces.
-abbrev pub AreEvents : Command → Given → List (List ℕ) → List Placed → Type 0
-AreEvents (monitor specs traces lengths drop) given names events =
-    (bytes : List ℕ) × Came given 1 (Ok bytes) × IsEventFile names bytes events
-AreEvents (monitor_made specs count lengths drop) given names events = events ≡ whole_traces 0 (made_traces names count)
-AreEvents (judge formula list) given names events = ⊥
-AreEvents (decide formula states proof) given names events = ⊥
-AreEvents (imply first second states proof) given names events = ⊥
-AreEvents (compare first second states proof) given names events = ⊥
-AreEvents (check circuit formula depth conflicts plain proof) given names events = ⊥
+-- The events of this origin are these, where the formulas have these names: those of the second file, or made traces.
+abbrev pub AreEvents : Origin → Given → List (List ℕ) → List Placed → Type 0
+AreEvents of_file given names events = (bytes : List ℕ) × Came given 1 (Ok bytes) × IsEventFile names bytes events
+AreEvents (of_number count) given names events = events ≡ whole_traces 0 (made_traces names count)
 
 -- The first file has formulas, and this is what the events come to with them.
-pub record Monitors (lengths : Lengths) (drop : Bool) (command : Command) (given : Given) (answer : Answer) : Type 0 where
+pub record Monitors (origin : Origin) (lengths : Lengths) (drop : Bool) (order : Order) (given : Given) (answer : Answer) : Type 0 where
   pub formulas : List Plain
   pub names : List (List ℕ)
-  pub first : HasTexts command given 1 formulas names
-  pub verdict : EventsCome lengths drop (specs_of formulas) (AreEvents command given names) answer
+  pub first : HasTexts order given 1 formulas names
+  pub verdict : EventsCome lengths drop (specs_of formulas) (AreEvents origin given names) answer
 
 -- What formulas come to on events that are so: the first of these that is met, or memory ran out.
 pub data IsOutcome (lengths : Lengths) (drop : Bool) (formulas : List Plain) (AreSo : List Placed → Type 0) : Answer → Type 0 where

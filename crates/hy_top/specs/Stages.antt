@@ -1,5 +1,5 @@
 -- The order of refusals, in one place. A run looks at one stage after another, and the first that is met answers.
-use Rattle.std.specs.Prelude.{◌≡◌, ◌⊎◌, ℕ, zero, suc, ◌<◌, List, [], ◌∷◌, ◌++◌, length, Err}
+use Rattle.std.specs.Prelude.{◌≡◌, ℕ, zero, suc, ◌<◌, List, [], ◌∷◌, ◌++◌, length, Err}
 use Rattle.hy_base.specs.Limits.{most}
 use Rattle.hy_base.specs.declared.limit.Kind.{Kind}
 use Rattle.hy_base.specs.declared.limit.Kind.TheVariants as kinds
@@ -12,13 +12,13 @@ use Rattle.fin_monitor.specs.Limits.{HasLargeClosure, HasManyAtoms, HasLargeTabl
 use Rattle.hy_answer.specs.declared.answer.Answer.{Answer}
 use Rattle.hy_answer.specs.declared.answer.Answer.TheVariants.{Holds, Violated, UnknownDepth, UnknownConflicts, CnfLimit}
 use Rattle.hy_answer.specs.declared.answer.Answer.TheVariants.{Sat, Unsat, Implied, NotImplied, Equivalent, NotEquivalent, Violation, OpenFault, ReadFault, Limit}
-use Rattle.hy_words.specs.Commands.{Command, monitor, monitor_made, judge, decide, imply, compare, check, files_of}
-use Rattle.hy_top.specs.Files.{Given, Came, RefusesText}
-use Rattle.hy_top.specs.Classes.{RefusesClass}
-use Rattle.hy_top.specs.Checking as checking
-use Rattle.hy_top.specs.Deciding as deciding
-use Rattle.hy_top.specs.Judging as judging
-use Rattle.hy_top.specs.Monitoring as monitoring
+use Rattle.hy_top.specs.Orders.{Order, Task, watching, judging, deciding, checking}
+use Rattle.hy_top.specs.Files.{Given, Came, RefusesText, RefusesClass}
+use Rattle.hy_top.specs.Checking.{HasManyMembers, RefusesName, Checks}
+use Rattle.hy_top.specs.Deciding as decisions
+use Rattle.hy_top.specs.Deciding.{HasManyInstances, Determines}
+use Rattle.hy_top.specs.Judging.{IsTooJoint, Judges}
+use Rattle.hy_top.specs.Monitoring.{SomeBody, Monitors}
 
 -- what is counted over all formulas of a command before the work
 pub data Quantity : Type 0 where
@@ -71,66 +71,69 @@ abbrev pub stages_of_formulas : List Stage
 stages_of_formulas = class ∷ count instances ∷ count closure ∷ count joint ∷ count atoms ∷ count table ∷ names ∷ []
 
 -- the stages that come before the work
-abbrev pub stages_before_work : Command → List Stage
-stages_before_work command = stages_of_files (length (files_of command)) ++ stages_of_formulas
+abbrev pub stages_before_work : Order → List Stage
+stages_before_work order = stages_of_files (length order.files) ++ stages_of_formulas
 
 -- the order of refusals
-abbrev pub stages_of : Command → List Stage
-stages_of command = stages_before_work command ++ work ∷ []
+abbrev pub stages_of : Order → List Stage
+stages_of order = stages_before_work order ++ work ∷ []
 
--- The quantity is past its limit.
-abbrev pub IsPast : Command → Given → Quantity → Type 0
-IsPast command given instances = deciding.HasManyInstances command given
-IsPast command given closure =
-    deciding.HasLargeClosure command given ⊎ monitoring.SomeBody HasLargeClosure command given ⊎ checking.HasManyMembers command given
-IsPast command given joint = judging.IsTooJoint command given
-IsPast command given atoms = monitoring.SomeBody HasManyAtoms command given
-IsPast command given table = monitoring.SomeBody HasLargeTable command given
+-- The quantity is past its limit; a quantity that the task does not count never is.
+abbrev pub IsPast : Task → Order → Given → Quantity → Type 0
+IsPast (deciding question states) order given instances = HasManyInstances question order given
+IsPast (deciding question states) order given closure = decisions.HasLargeClosure question order given
+IsPast (watching origin lengths drop) order given closure = SomeBody HasLargeClosure order given
+IsPast (checking ask) order given closure = HasManyMembers order given
+IsPast judging order given joint = IsTooJoint order given
+IsPast (watching origin lengths drop) order given atoms = SomeBody HasManyAtoms order given
+IsPast (watching origin lengths drop) order given table = SomeBody HasLargeTable order given
+IsPast _ order given _ = ⊥
 
--- The work of the command comes to this answer.
-abbrev pub ComesTo : Command → Given → Answer → Type 0
-ComesTo (monitor specs traces lengths drop) given answer = monitoring.Monitors lengths drop (monitor specs traces lengths drop) given answer
-ComesTo (monitor_made specs n lengths drop) given answer = monitoring.Monitors lengths drop (monitor_made specs n lengths drop) given answer
-ComesTo (judge formula list) given answer = judging.Judges (judge formula list) given answer
-ComesTo (decide formula states proof) given answer = deciding.Determines (decide formula states proof) given answer
-ComesTo (imply first second states proof) given answer = deciding.Determines (imply first second states proof) given answer
-ComesTo (compare first second states proof) given answer = deciding.Determines (compare first second states proof) given answer
-ComesTo (check circuit formula depth conflicts plain proof) given answer =
-    checking.Checks (record { depth = depth; conflicts = conflicts; plain = plain }) (check circuit formula depth conflicts plain proof) given answer
+-- A name that the task looks for is not found, or is not one, and so is answered.
+abbrev pub IsMisnamed : Task → Order → Given → Answer → Type 0
+IsMisnamed (checking ask) order given answer = RefusesName order given answer
+IsMisnamed _ order given answer = ⊥
+
+-- The work of the task comes to this answer.
+abbrev pub ComesTo : Task → Order → Given → Answer → Type 0
+ComesTo (watching origin lengths drop) order given answer = Monitors origin lengths drop order given answer
+ComesTo judging order given answer = Judges order given answer
+ComesTo (deciding question states) order given answer = Determines question states order given answer
+ComesTo (checking ask) order given answer = Checks ask order given answer
 
 -- The stage is met, and this answers it.
-abbrev pub Met : Command → Given → Stage → Answer → Type 0
-Met command given (opening k) answer = Came given k (Err errors.OpenFailed) × (answer ≡ OpenFault k)
-Met command given (reading k) answer = Came given k (Err errors.ReadFailed) × (answer ≡ ReadFault k)
-Met command given (size k) answer = Came given k (Err errors.Limit) × (answer ≡ Limit kinds.Bytes BYTES_LIMIT)
-Met command given (text k) answer = RefusesText command given k answer
-Met command given class answer = RefusesClass command given answer
-Met command given (count quantity) answer =
-    IsPast command given quantity × (answer ≡ Limit (kind_of quantity) (most (kind_of quantity)))
-Met command given names answer = checking.RefusesName command given answer
-Met command given work answer = ComesTo command given answer
+abbrev pub Met : Order → Given → Stage → Answer → Type 0
+Met order given (opening k) answer = Came given k (Err errors.OpenFailed) × (answer ≡ OpenFault k)
+Met order given (reading k) answer = Came given k (Err errors.ReadFailed) × (answer ≡ ReadFault k)
+Met order given (size k) answer = Came given k (Err errors.Limit) × (answer ≡ Limit kinds.Bytes BYTES_LIMIT)
+Met order given (text k) answer = RefusesText order given k answer
+Met order given class answer = RefusesClass order given answer
+Met order given (count quantity) answer =
+    IsPast order.task order given quantity × (answer ≡ Limit (kind_of quantity) (most (kind_of quantity)))
+Met order given names answer = IsMisnamed order.task order given answer
+Met order given work answer = ComesTo order.task order given answer
 
-abbrev pub Passed : Command → Given → Stage → Type 0
-Passed command given stage = (answer : Answer) → ¬ Met command given stage answer
+abbrev pub Passed : Order → Given → Stage → Type 0
+Passed order given stage = (answer : Answer) → ¬ Met order given stage answer
 
-abbrev pub AllPassed : Command → Given → List Stage → Type 0
-AllPassed command given [] = Unit {0}
-AllPassed command given (stage ∷ stages) = Passed command given stage × AllPassed command given stages
+abbrev pub AllPassed : Order → Given → List Stage → Type 0
+AllPassed order given [] = Unit {0}
+AllPassed order given (stage ∷ stages) = Passed order given stage × AllPassed order given stages
 
 -- The first stage of these that is met gives this answer.
-pub data First (command : Command) (given : Given) : List Stage → Answer → Type 0 where
-  here : {stage : Stage} {stages : List Stage} {answer : Answer} → Met command given stage answer
-      → First command given (stage ∷ stages) answer
-  later : {stage : Stage} {stages : List Stage} {answer : Answer} → Passed command given stage
-      → First command given stages answer → First command given (stage ∷ stages) answer
+pub data First (order : Order) (given : Given) : List Stage → Answer → Type 0 where
+  here : {stage : Stage} {stages : List Stage} {answer : Answer} → Met order given stage answer
+      → First order given (stage ∷ stages) answer
+  later : {stage : Stage} {stages : List Stage} {answer : Answer} → Passed order given stage
+      → First order given stages answer → First order given (stage ∷ stages) answer
 
 -- What the words and the files decide.
-abbrev pub IsRight : Command → Given → Answer → Type 0
-IsRight command given answer = First command given (stages_of command) answer
+abbrev pub IsRight : Order → Given → Answer → Type 0
+IsRight order given answer = First order given (stages_of order) answer
 
 -- A file is opened only where nothing of the files before it is met.
-abbrev pub InTurn : Command → Given → Type 0
-InTurn command given = (k : ℕ) → k < length given → AllPassed command given (stages_of_files k)
+abbrev pub InTurn : Order → Given → Type 0
+InTurn order given = (k : ℕ) → k < length given → AllPassed order given (stages_of_files k)
 
 -- The limit is one of queries.
 abbrev pub IsQueryLimit : Kind → Type 0

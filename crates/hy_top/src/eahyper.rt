@@ -1,14 +1,16 @@
 //! `eahyper`: from its files to its answers.
 
-ghost use Rattle.std.specs.Prelude.{◌≡◌, ◌<◌, ◌-◌, ◌^◌, ◌∷◌, [], List, ℕ, Bool, length};
+ghost use Rattle.std.specs.Prelude.{◌≡◌, ◌<◌, ◌-◌, ◌^◌, ◌∷◌, [], Bool, length};
 ghost use Rattle.hy_base.specs.Shelf.{KeepsShelf};
 ghost use Rattle.hy_formula.specs.Trees.{tree_of};
 ghost use Rattle.hy_formula.specs.Formulas.{plain_formula};
 ghost use Rattle.hy_answer.specs.Outputs.{out_text};
 ghost use Rattle.hy_words.specs.Commands.{judge, decide, imply, compare};
+ghost use Rattle.hy_top.specs.Classes.{is_decided, is_of_one_kind};
 ghost use Rattle.hy_top.specs.Deciding.{Outcome, refusal_answer};
 ghost use Rattle.hy_top.specs.Judging.{IsJudgement};
-ghost use Rattle.hy_top.specs.Runs.{Follows, extras_of};
+ghost use Rattle.hy_top.specs.Orders.{order_of, satisfiability, implication, equivalence};
+ghost use Rattle.hy_top.specs.Runs.{Follows};
 
 use ea_core::{Both, Decision, EaError};
 use hy_answer::{Answer, fault_answer};
@@ -31,9 +33,9 @@ pub fn judge<S: Shelf>(
 ) -> Answer
     requires { names.old ≡ [] }
     ensures keeps { KeepsShelf S.Shelf shelf.old shelf.new }
-    ensures follows { let command = judge formula.now lassos.now in
-        Follows S.Shelf shelf.old shelf.new command result
-        (out_text (extras_of command) names.new result) }
+    ensures follows { let order = order_of (judge formula.now lassos.now) in
+        Follows S.Shelf shelf.old shelf.new order result
+        (out_text order.extras names.new result) }
 {
     let formula = match formula_in(alloc, shelf, formula, MOST_QUANTIFIERS, names) {
         Ok(formula) => formula,
@@ -74,9 +76,9 @@ pub fn decide<S: Shelf>(
     requires empty { names.old ≡ [] }
     requires states { states < 2 ^ 32 - 1 }
     ensures keeps { KeepsShelf S.Shelf shelf.old shelf.new }
-    ensures follows { (proof : Bool) → let command = decide formula.now states proof in
-        Follows S.Shelf shelf.old shelf.new command result
-        (out_text (extras_of command) names.new result) }
+    ensures follows { (proof : Bool) → let order = order_of (decide formula.now states proof) in
+        Follows S.Shelf shelf.old shelf.new order result
+        (out_text order.extras names.new result) }
 {
     match formula_in(alloc, shelf, formula, MOST_QUANTIFIERS, names) {
         Ok(formula) => decide_formula(alloc, &formula, states),
@@ -87,8 +89,7 @@ pub fn decide<S: Shelf>(
 /// Whether the formula is satisfiable.
 fn decide_formula(alloc: Global, formula: &Formula, states: u32) -> Answer
     requires { states < 2 ^ 32 - 1 }
-    ensures { (name : List ℕ) (proof : Bool)
-        → Outcome (decide name states proof) (plain_formula formula.now ∷ []) result }
+    ensures { Outcome is_decided satisfiability states (plain_formula formula.now ∷ []) result }
 {
     match ea_core::decide(alloc, formula, states) {
         Ok(Decision::Sat(list)) => Answer::Sat { list },
@@ -109,9 +110,10 @@ pub fn imply<S: Shelf>(
     requires empty { names.old ≡ [] }
     requires states { states < 2 ^ 32 - 1 }
     ensures keeps { KeepsShelf S.Shelf shelf.old shelf.new }
-    ensures follows { (proof : Bool) → let command = imply files.entry.0.now files.entry.1.now states proof in
-        Follows S.Shelf shelf.old shelf.new command result
-        (out_text (extras_of command) names.new result) }
+    ensures follows { (proof : Bool) → let order =
+        order_of (imply files.entry.0.now files.entry.1.now states proof) in
+        Follows S.Shelf shelf.old shelf.new order result
+        (out_text order.extras names.new result) }
 {
     let first = match formula_in(alloc, shelf, files.0, MOST_QUANTIFIERS, names) {
         Ok(formula) => formula,
@@ -126,7 +128,7 @@ pub fn imply<S: Shelf>(
 /// Whether the first formula implies the second.
 fn imply_formula(alloc: Global, first: &Formula, second: &Formula, states: u32) -> Answer
     requires { states < 2 ^ 32 - 1 }
-    ensures { (name other : List ℕ) (proof : Bool) → Outcome (imply name other states proof)
+    ensures { Outcome is_of_one_kind implication states
         (plain_formula first.now ∷ plain_formula second.now ∷ []) result }
 {
     match ea_core::implies(alloc, first, second, states) {
@@ -148,9 +150,10 @@ pub fn compare<S: Shelf>(
     requires empty { names.old ≡ [] }
     requires states { states < 2 ^ 32 - 1 }
     ensures keeps { KeepsShelf S.Shelf shelf.old shelf.new }
-    ensures follows { (proof : Bool) → let command = compare files.entry.0.now files.entry.1.now states proof in
-        Follows S.Shelf shelf.old shelf.new command result
-        (out_text (extras_of command) names.new result) }
+    ensures follows { (proof : Bool) → let order =
+        order_of (compare files.entry.0.now files.entry.1.now states proof) in
+        Follows S.Shelf shelf.old shelf.new order result
+        (out_text order.extras names.new result) }
 {
     let first = match formula_in(alloc, shelf, files.0, MOST_QUANTIFIERS, names) {
         Ok(formula) => formula,
@@ -165,7 +168,7 @@ pub fn compare<S: Shelf>(
 /// Whether the formulas are equivalent.
 fn compare_formulas(alloc: Global, first: &Formula, second: &Formula, states: u32) -> Answer
     requires { states < 2 ^ 32 - 1 }
-    ensures { (name other : List ℕ) (proof : Bool) → Outcome (compare name other states proof)
+    ensures { Outcome is_of_one_kind equivalence states
         (plain_formula first.now ∷ plain_formula second.now ∷ []) result }
 {
     match ea_core::equivalent(alloc, first, second, states) {

@@ -2,6 +2,7 @@
 #![tactic(auto)]
 
 mod eahyper;
+mod file_names;
 mod host;
 mod laws;
 mod mchyper;
@@ -11,5 +12,5 @@ mod source;
 mod watching;
 
 pub use host::run_here;
-pub use laws::{dropping, one_answer, verdict};
+pub use laws::{complete, dropping, one_answer, verdict};
 pub use runs::{Done, run};

@@ -7,7 +7,8 @@ ghost use Rattle.hy_formula.specs.Formulas.{plain_formula};
 ghost use Rattle.hy_answer.specs.Outputs.{out_text};
 ghost use Rattle.hy_words.specs.Commands.{check};
 ghost use Rattle.hy_top.specs.Checking.{IsCheck, checked_answer};
-ghost use Rattle.hy_top.specs.Runs.{Follows, extras_of};
+ghost use Rattle.hy_top.specs.Orders.{order_of};
+ghost use Rattle.hy_top.specs.Runs.{Follows};
 
 use aig_net::Net;
 use formula_nets::circuits_have_room;
@@ -32,10 +33,10 @@ pub fn check<S: Shelf>(
     requires empty { names.old ≡ [] }
     requires conflicts { ask.now.conflicts < 2 ^ 31 }
     ensures keeps { KeepsShelf S.Shelf shelf.old shelf.new }
-    ensures follows { (proof : Bool) → let command = check files.entry.0.now files.entry.1.now
-        ask.now.depth ask.now.conflicts ask.now.plain proof in
-        Follows S.Shelf shelf.old shelf.new command result
-        (out_text (extras_of command) names.new result) }
+    ensures follows { (proof : Bool) → let order = order_of (check files.entry.0.now
+        files.entry.1.now ask.now.depth ask.now.conflicts ask.now.plain proof) in
+        Follows S.Shelf shelf.old shelf.new order result
+        (out_text order.extras names.new result) }
 {
     let net = match circuit_in(alloc, shelf, files.0) {
         Ok(net) => net,

@@ -1,15 +1,17 @@
 //! A run: from words and files to an answer, a text and a status.
 
-ghost use Rattle.std.specs.Prelude.{◌≡◌, ◌⊎◌, ◌∷◌, List, [], ℕ, IfOk, IfErr};
+ghost use Rattle.std.specs.Prelude.{◌≡◌, ◌⊎◌, List, [], ℕ, IfOk, IfErr};
 ghost use Rattle.hy_base.specs.Shelf.{KeepsShelf};
 ghost use Rattle.hy_base.specs.Sink.{KeepsSink};
 ghost use Rattle.hy_files.specs.ErrorLines.{Received, plain};
 ghost use Rattle.hy_answer.specs.Outputs.{error_line, out_text, status_of};
-ghost use Rattle.hy_words.specs.Commands.{IsCommand, HasNoCommand, files_of};
+ghost use Rattle.hy_words.specs.Commands.{IsCommand, HasNoCommand};
 ghost use Rattle.hy_words.specs.Said.{said_by};
 ghost use Rattle.hy_words.specs.Words.{texts};
-ghost use Rattle.hy_top.specs.Runs.{Comes, Follows, IsSaid, IsWritten, Names, extras_of, named};
+ghost use Rattle.hy_top.specs.Orders.{order_of, file_names};
+ghost use Rattle.hy_top.specs.Runs.{Comes, Follows, IsSaid, IsWritten, Names, names_in};
 
+use crate::file_names::FileNames;
 use crate::{eahyper, mchyper, rvhyper};
 use hy_answer::{Answer, Extras, out_text, status_of, write_error};
 use hy_base::{Memory, Shelf, Sink, SinkFailed, write_all};
@@ -23,6 +25,15 @@ const PLAIN: Extras = Extras {
     kept: false,
     proof: false,
 };
+
+/// What is due to a command: its answer, what the text of the answer shows beside the verdict, and the
+/// names of the command's files.
+#[derive(Drop)]
+struct Due<'a> {
+    answer: Answer,
+    extras: Extras,
+    files: FileNames<'a>,
+}
 
 /// The end of a run: its exit status, and what it answered.
 #[derive(Drop)]
@@ -60,28 +71,29 @@ pub fn run<S: Shelf, O: Sink, E: Sink>(
         Ok(command) => command,
         Err(due) => return finish(alloc, due, PLAIN, &names, &[], out, err),
     };
-    let due = due_to(alloc, shelf, command, &mut names);
-    let extras = extras_of(command);
-    let (first, second) = files_of(command);
-    match second {
-        None => finish(alloc, due, extras, &names, &[first], out, err),
-        Some(second) => finish(alloc, due, extras, &names, &[first, second], out, err),
-    }
+    let Due {
+        answer,
+        extras,
+        files,
+    } = due_to(alloc, shelf, command, &mut names);
+    finish(alloc, answer, extras, &names, files.as_slice(), out, err)
 }
 
-/// The answer that is due to a command. The names of its formulas are added to the empty table.
-fn due_to<S: Shelf>(
+/// What is due to a command. The names of its formulas are added to the empty table.
+fn due_to<'a, S: Shelf>(
     alloc: Global,
     shelf: &mut S,
-    command: Command<'_>,
+    command: Command<'a>,
     names: &mut NameTable,
-) -> Answer
+) -> Due<'a>
     requires empty { names.old ≡ [] }
     requires said { IsSaid (said_by command) }
     ensures keeps { KeepsShelf S.Shelf shelf.old shelf.new }
-    ensures follows { let told = said_by command.entry in
-        Follows S.Shelf shelf.old shelf.new told result
-        (out_text (extras_of told) names.new result) }
+    ensures follows { let order = order_of (said_by command.entry) in
+        Follows S.Shelf shelf.old shelf.new order result.answer
+        (out_text order.extras names.new result.answer) }
+    ensures extras { result.extras ≡ (order_of (said_by command.entry)).extras }
+    ensures files { names_in result.files ≡ file_names (order_of (said_by command.entry)) }
 {
     match command {
         Command::Monitor {
@@ -89,85 +101,80 @@ fn due_to<S: Shelf>(
             traces,
             lengths,
             drop,
-        } => rvhyper::monitor(alloc, shelf, specs, traces, lengths, drop, names),
+        } => Due {
+            answer: rvhyper::monitor(alloc, shelf, specs, traces, lengths, drop, names),
+            extras: Extras {
+                kept: drop,
+                proof: false,
+            },
+            files: FileNames::two(specs, traces),
+        },
         Command::MonitorMade {
             specs,
             count,
             lengths,
             drop,
-        } => rvhyper::monitor_made(alloc, shelf, specs, count, lengths, drop, names),
-        Command::Judge { formula, lassos } => {
-            eahyper::judge(alloc, shelf, formula, lassos, names)
-        }
+        } => Due {
+            answer: rvhyper::monitor_made(alloc, shelf, specs, count, lengths, drop, names),
+            extras: Extras {
+                kept: drop,
+                proof: false,
+            },
+            files: FileNames::one(specs),
+        },
+        Command::Judge { formula, lassos } => Due {
+            answer: eahyper::judge(alloc, shelf, formula, lassos, names),
+            extras: PLAIN,
+            files: FileNames::two(formula, lassos),
+        },
         Command::Decide {
             formula,
             states,
-            ..
-        } => eahyper::decide(alloc, shelf, formula, states, names),
+            proof,
+        } => Due {
+            answer: eahyper::decide(alloc, shelf, formula, states, names),
+            extras: Extras { kept: false, proof },
+            files: FileNames::one(formula),
+        },
         Command::Imply {
             first,
             second,
             states,
-            ..
-        } => eahyper::imply(alloc, shelf, (first, second), states, names),
+            proof,
+        } => Due {
+            answer: eahyper::imply(alloc, shelf, (first, second), states, names),
+            extras: Extras { kept: false, proof },
+            files: FileNames::two(first, second),
+        },
         Command::Compare {
             first,
             second,
             states,
-            ..
-        } => eahyper::compare(alloc, shelf, (first, second), states, names),
+            proof,
+        } => Due {
+            answer: eahyper::compare(alloc, shelf, (first, second), states, names),
+            extras: Extras { kept: false, proof },
+            files: FileNames::two(first, second),
+        },
         Command::Check {
             circuit,
             formula,
             depth,
             conflicts,
             plain,
-            ..
+            proof,
         } => {
             let ask = Ask {
                 depth,
                 conflicts,
                 plain,
             };
-            mchyper::check(alloc, shelf, (circuit, formula), &ask, names)
+            Due {
+                answer: mchyper::check(alloc, shelf, (circuit, formula), &ask, names),
+                extras: Extras { kept: false, proof },
+                files: FileNames::two(circuit, formula),
+            }
         }
-    }
-}
-
-/// What the text of an answer to a command shows beside the verdict.
-fn extras_of(command: Command<'_>) -> Extras
-    ensures { result ≡ extras_of (said_by command.entry) }
-{
-    match command {
-        Command::Monitor { drop, .. } | Command::MonitorMade { drop, .. } => Extras {
-            kept: drop,
-            proof: false,
-        },
-        Command::Judge { .. } => PLAIN,
-        Command::Decide { proof, .. }
-        | Command::Imply { proof, .. }
-        | Command::Compare { proof, .. }
-        | Command::Check { proof, .. } => Extras { kept: false, proof },
-    }
-}
-
-/// The names of the files of a command, in the order in which they are read.
-fn files_of<'a>(command: Command<'a>) -> (&'a str, Option<&'a str>)
-    ensures { named result ≡ files_of (said_by command.entry) }
-{
-    match command {
-        Command::Monitor { specs, traces, .. } => (specs, Some(traces)),
-        Command::MonitorMade { specs, .. } => (specs, None),
-        Command::Judge { formula, lassos } => (formula, Some(lassos)),
-        Command::Decide { formula, .. } => (formula, None),
-        Command::Imply { first, second, .. } | Command::Compare { first, second, .. } => {
-            (first, Some(second))
-        }
-        Command::Check {
-            circuit,
-            formula,
-            ..
-        } => (circuit, Some(formula)),
     }
 }
 

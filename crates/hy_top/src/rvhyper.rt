@@ -9,7 +9,8 @@ ghost use Rattle.rv_core.specs.Built.{HasFewQuantifiers, IsNewRefusal};
 ghost use Rattle.hy_answer.specs.Outputs.{out_text};
 ghost use Rattle.hy_words.specs.Commands.{monitor, monitor_made};
 ghost use Rattle.hy_top.specs.Monitoring.{IsOutcome};
-ghost use Rattle.hy_top.specs.Runs.{Follows, extras_of};
+ghost use Rattle.hy_top.specs.Orders.{order_of};
+ghost use Rattle.hy_top.specs.Runs.{Follows};
 ghost use Rattle.hy_top.specs.Watching.{AreLeft, count_left, AreNumbered, AreGood, AreRead, IsLinesAnswer};
 
 use crate::source::Source;
@@ -40,9 +41,9 @@ pub fn monitor<S: Shelf>(
 ) -> Answer
     requires { names.old ≡ [] }
     ensures keeps { KeepsShelf S.Shelf shelf.old shelf.new }
-    ensures follows { let command = monitor specs.now traces.now lengths drop in
-        Follows S.Shelf shelf.old shelf.new command result
-        (out_text (extras_of command) names.new result) }
+    ensures follows { let order = order_of (monitor specs.now traces.now lengths drop) in
+        Follows S.Shelf shelf.old shelf.new order result
+        (out_text order.extras names.new result) }
 {
     let specs = match specs_in(alloc, shelf, specs, MOST_QUANTIFIERS, names) {
         Ok(specs) => specs,
@@ -68,9 +69,9 @@ pub fn monitor_made<S: Shelf>(
     requires empty { names.old ≡ [] }
     requires few { count < 2 ^ 31 }
     ensures keeps { KeepsShelf S.Shelf shelf.old shelf.new }
-    ensures follows { let command = monitor_made specs.now count lengths drop in
-        Follows S.Shelf shelf.old shelf.new command result
-        (out_text (extras_of command) names.new result) }
+    ensures follows { let order = order_of (monitor_made specs.now count lengths drop) in
+        Follows S.Shelf shelf.old shelf.new order result
+        (out_text order.extras names.new result) }
 {
     let formulas = match specs_in(alloc, shelf, specs, MOST_QUANTIFIERS, names) {
         Ok(formulas) => formulas,

@@ -1,4 +1,4 @@
--- Which words are a command of which tool, and which files a command names.
+-- Which words are a command of which tool. A command has the names of its files in the order in which they are read.
 use Rattle.std.specs.Prelude.{◌≡◌, ◌≤◌, ◌==◌, ℕ, Bool, not, List, [], ◌∷◌, length, codes, decimal}
 use Rattle.hy_finite.specs.declared.lengths.Lengths.{Lengths}
 use Rattle.hy_finite.specs.declared.lengths.Lengths.TheVariants.{Min, Pad}
@@ -21,16 +21,6 @@ pub data Command : Type 0 where
   compare : (first second : Text) (states : ℕ) (proof : Bool) → Command
   -- Check a formula on the executions of a circuit.
   check : (circuit formula : Text) (depth conflicts : ℕ) (plain proof : Bool) → Command
-
--- the names of its files, in the order in which they are read
-abbrev pub files_of : Command → List Text
-files_of (monitor specs traces lengths drop) = specs ∷ traces ∷ []
-files_of (monitor_made specs count lengths drop) = specs ∷ []
-files_of (judge formula lassos) = formula ∷ lassos ∷ []
-files_of (decide formula states proof) = formula ∷ []
-files_of (imply first second states proof) = first ∷ second ∷ []
-files_of (compare first second states proof) = first ∷ second ∷ []
-files_of (check circuit formula depth conflicts plain proof) = circuit ∷ formula ∷ []
 
 -- The text is this number, in digits without a sign and without a leading zero, and within the range.
 abbrev pub IsNumber : Text → ℕ → ℕ → ℕ → Type 0

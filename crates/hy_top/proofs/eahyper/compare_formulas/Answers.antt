@@ -3,24 +3,24 @@ use Rattle.hy_top.proofs.Deciding.{compare-same, compare-first, compare-second, 
 use Rattle.hy_top.proofs.eahyper.compare_formulas.Goals as goal
 
 pub returns-in-Ok-Same : goal.returns-in-Ok-Same
-returns-in-Ok-Same c name other proof =
-    compare-same name other c.args.states proof (plain_formula c.args.first.now) (plain_formula c.args.second.now) _ _
+returns-in-Ok-Same c =
+    compare-same c.args.states (plain_formula c.args.first.now) (plain_formula c.args.second.now) _ _
     c.in-Ok-Same.ensures.first c.in-Ok-Same.ensures.second (rw c.in-Ok-Same.field-0-is at c.in-Ok-Same.ensures.within)
     (rw c.in-Ok-Same.field-0-is at c.in-Ok-Same.ensures.decision)
 
 pub returns-in-Ok-First : goal.returns-in-Ok-First
-returns-in-Ok-First c name other proof =
-    compare-first name other c.args.states proof (plain_formula c.args.first.now) (plain_formula c.args.second.now) _
+returns-in-Ok-First c =
+    compare-first c.args.states (plain_formula c.args.first.now) (plain_formula c.args.second.now) _
     c.in-Ok-First.ensures.first c.in-Ok-First.ensures.second (rw c.in-Ok-First.field-0-is at c.in-Ok-First.ensures.within)
     (rw c.in-Ok-First.field-0-is at c.in-Ok-First.ensures.decision)
 
 pub returns-in-Ok-Second : goal.returns-in-Ok-Second
-returns-in-Ok-Second c name other proof =
-    compare-second name other c.args.states proof (plain_formula c.args.first.now) (plain_formula c.args.second.now) _
+returns-in-Ok-Second c =
+    compare-second c.args.states (plain_formula c.args.first.now) (plain_formula c.args.second.now) _
     c.in-Ok-Second.ensures.first c.in-Ok-Second.ensures.second (rw c.in-Ok-Second.field-0-is at c.in-Ok-Second.ensures.within)
     (rw c.in-Ok-Second.field-0-is at c.in-Ok-Second.ensures.decision)
 
 pub returns-in-Err : goal.returns-in-Err
-returns-in-Err c name other proof =
+returns-in-Err c =
     rw c.refusal_answer.ensures
-    (compare-refused name other c.args.states proof (plain_formula c.args.first.now) (plain_formula c.args.second.now) _ c.in-Err.ensures.refused)
+    (compare-refused c.args.states (plain_formula c.args.first.now) (plain_formula c.args.second.now) _ c.in-Err.ensures.refused)

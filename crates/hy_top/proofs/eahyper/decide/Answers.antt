@@ -1,15 +1,15 @@
 use Rattle.std.proofs.Common.{refl}
 use Rattle.hy_words.specs.Commands.{decide}
+use Rattle.hy_top.specs.Orders.{order_of}
 use Rattle.hy_top.proofs.Progress.{ends_first}
 use Rattle.hy_top.proofs.Deciding.{decide_follows}
 use Rattle.hy_top.proofs.eahyper.decide.Goals as goal
 
 pub returns-in-Ok-clause-follows : goal.returns-in-Ok-clause-follows
 returns-in-Ok-clause-follows g c proof =
-    decide_follows g.S.Shelf _ _ _ c.args.formula.now c.args.states proof _ (rw c.requires.empty at c.in-Ok.ensures.taken) _
-    (c.decide_formula.ensures c.args.formula.now proof)
+    decide_follows g.S.Shelf _ _ c.args.formula.now c.args.states proof _ _ (rw c.requires.empty at c.in-Ok.ensures.taken) _ c.decide_formula.ensures
 
 pub returns-in-Err-clause-follows : goal.returns-in-Err-clause-follows
 returns-in-Err-clause-follows g c proof =
-    ends_first g.S.Shelf (decide c.args.formula.now c.args.states proof) _ _ _ _ _ refl
+    ends_first g.S.Shelf (order_of (decide c.args.formula.now c.args.states proof)) _ _ _ _ _ refl
     (c.in-Err.fault, rw c.requires.empty at c.in-Err.ensures.failed, c.fault_answer.ensures)

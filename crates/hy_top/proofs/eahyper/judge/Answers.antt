@@ -1,12 +1,13 @@
 use Rattle.std.proofs.Common.{refl}
 use Rattle.hy_words.specs.Commands.{judge}
+use Rattle.hy_top.specs.Orders.{order_of}
 use Rattle.hy_top.proofs.Progress.{ends_first}
 use Rattle.hy_top.proofs.Judging.{ends_at_lassos, judgement_follows}
 use Rattle.hy_top.proofs.eahyper.judge.Goals as goal
 
 pub returns-in-Err-clause-follows : goal.returns-in-Err-clause-follows
 returns-in-Err-clause-follows g c =
-    ends_first g.S.Shelf (judge c.args.formula.now c.args.lassos.now) _ _ _ _ _ refl
+    ends_first g.S.Shelf (order_of (judge c.args.formula.now c.args.lassos.now)) _ _ _ _ _ refl
     (c.in-Err.fault, rw c.requires at c.in-Err.ensures.failed, c.fault_answer.ensures)
 
 pub returns-in-Ok-lassos_in-clause-follows : goal.returns-in-Ok-lassos_in-clause-follows

@@ -3,4 +3,4 @@ use Rattle.hy_top.proofs.OneAnswer.{first_once}
 use Rattle.hy_top.proofs.laws.one_answer.Goals as goal
 
 pub returns : goal.returns
-returns c command given a b one two = first_once command given (stages_of command) a b one two
+returns c order given a b one two = first_once order given (stages_of order) a b one two

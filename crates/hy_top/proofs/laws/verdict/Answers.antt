@@ -1,6 +1,5 @@
-use Rattle.hy_top.specs.Stages.{stages_before_work}
-use Rattle.hy_top.proofs.StageOrder.{work_answers}
+use Rattle.hy_top.proofs.Completing.{answers-work}
 use Rattle.hy_top.proofs.laws.verdict.Goals as goal
 
 pub returns : goal.returns
-returns c command given a all first = work_answers command given (stages_before_work command) a all first
+returns g c tool words command old new answer text is comes = answers-work g.S.Shelf tool words command old new answer text is comes

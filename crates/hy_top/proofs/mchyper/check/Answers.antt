@@ -4,6 +4,7 @@ use Rattle.hy_formula.specs.Formulas.{Plain}
 use Rattle.hy_words.specs.Commands.{check}
 use Rattle.hy_files.specs.Contents.{one_formula}
 use Rattle.hy_files.specs.Steps.{Takes}
+use Rattle.hy_top.specs.Orders.{order_of}
 use Rattle.hy_top.proofs.FirstSpecs.{read-few}
 use Rattle.hy_top.proofs.Progress.{ends_first}
 use Rattle.hy_top.proofs.Checking.{ends_at_formula, check_follows}
@@ -16,7 +17,7 @@ few-read g old new name names f later takes = (read-few false 4 names takes.byte
 
 pub returns-in-Err-clause-follows : goal.returns-in-Err-clause-follows
 returns-in-Err-clause-follows g c proof =
-    ends_first g.S.Shelf (check c.args.files.0.now c.args.files.1.now c.args.ask.now.depth c.args.ask.now.conflicts c.args.ask.now.plain proof) _ _ _ _ _ refl
+    ends_first g.S.Shelf (order_of (check c.args.files.0.now c.args.files.1.now c.args.ask.now.depth c.args.ask.now.conflicts c.args.ask.now.plain proof)) _ _ _ _ _ refl
     (c.in-Err.fault, c.in-Err.ensures.failed 4 [], c.fault_answer.ensures)
 
 pub check_formula-requires-clause-quantifiers : goal.check_formula-requires-clause-quantifiers

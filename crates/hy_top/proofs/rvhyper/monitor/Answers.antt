@@ -2,6 +2,7 @@ use Rattle.std.proofs.Common.{true, refl}
 use Rattle.hy_words.specs.Commands.{monitor}
 use Rattle.hy_files.specs.Contents.{events}
 use Rattle.hy_files.proofs.Failing.{unread-fails}
+use Rattle.hy_top.specs.Orders.{order_of}
 use Rattle.hy_top.proofs.FirstSpecs.{few-quantifiers, read-few}
 use Rattle.hy_top.proofs.Progress.{ends_first}
 use Rattle.hy_top.proofs.Monitoring.{ends_at_events, lines_follow}
@@ -9,7 +10,7 @@ use Rattle.hy_top.proofs.rvhyper.monitor.Goals as goal
 
 pub returns-in-Err-clause-follows : goal.returns-in-Err-clause-follows
 returns-in-Err-clause-follows g c =
-    ends_first g.S.Shelf (monitor c.args.specs.now c.args.traces.now c.args.lengths c.args.drop) _ _ _ _ _ refl
+    ends_first g.S.Shelf (order_of (monitor c.args.specs.now c.args.traces.now c.args.lengths c.args.drop)) _ _ _ _ _ refl
     (c.in-Err.fault, rw c.requires at c.in-Err.ensures.failed, c.fault_answer.ensures)
 
 pub judge_lines-requires-clause-quantifiers : goal.judge_lines-requires-clause-quantifiers

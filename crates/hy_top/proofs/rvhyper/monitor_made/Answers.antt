@@ -2,6 +2,7 @@ use Rattle.std.proofs.Common.{◌≡◌, true, refl, ap, ◌∙◌, length, arit
 use Rattle.hy_words.specs.Commands.{monitor_made}
 use Rattle.made_traces.specs.MadeTraces.{made_traces}
 use Rattle.hy_top.specs.Monitoring.{whole_traces, spent}
+use Rattle.hy_top.specs.Orders.{order_of}
 use Rattle.hy_top.proofs.FirstSpecs.{few-quantifiers, read-few}
 use Rattle.hy_top.proofs.Progress.{ends_first}
 use Rattle.hy_top.proofs.Monitoring.{made_follow, length-made, outcome-by}
@@ -9,7 +10,7 @@ use Rattle.hy_top.proofs.rvhyper.monitor_made.Goals as goal
 
 pub returns-in-Err-clause-follows : goal.returns-in-Err-clause-follows
 returns-in-Err-clause-follows g c =
-    ends_first g.S.Shelf (monitor_made c.args.specs.now c.args.count c.args.lengths c.args.drop) _ _ _ _ _ refl
+    ends_first g.S.Shelf (order_of (monitor_made c.args.specs.now c.args.count c.args.lengths c.args.drop)) _ _ _ _ _ refl
     (c.in-Err.fault, rw c.requires.empty at c.in-Err.ensures.failed, c.fault_answer.ensures)
 
 pub returns-in_default-clause-follows : goal.returns-in_default-clause-follows
