@@ -17,7 +17,7 @@ use std::process::Abort;
 use std::sync::ledger::{Blank, Ledger};
 use std::test::Fail;
 use trace_trie::Version;
-use tuple_walk::{find, find_alone, find_first};
+use tuple_walk::{CountedMonitor, find, find_alone, find_first};
 
 /// That not each of the variables, `n` of them, has the name of its own number at first.
 fn not_all(alloc: Global, n: u8) -> Result<Body, Fail>
@@ -53,7 +53,7 @@ fn tried<L: Ledger, R: AllocGlobal + Abort>(
     match find(
         alloc,
         &version,
-        monitor,
+        CountedMonitor::new(monitor),
         2,
         three.as_slice(),
         lengths,
@@ -65,7 +65,7 @@ fn tried<L: Ledger, R: AllocGlobal + Abort>(
     match find_first(
         alloc,
         &version,
-        monitor,
+        CountedMonitor::new(monitor),
         2,
         three.as_slice(),
         lengths,
@@ -132,10 +132,12 @@ fn alone<L: Ledger, R: AllocGlobal + Abort>(rt: &R, steps: &mut Steps<L>) -> Res
     let alloc = rt.alloc();
     let (a, b) = (letter_of(0), letter_of(1));
     let monitor = Monitor::build(alloc, &not_all(alloc, 1)?, 1)?;
-    let found = find_alone(alloc, &monitor, 7, &[a, b], Lengths::Min, steps).ok_or("no tuple")?;
+    let once = CountedMonitor::new(&monitor);
+    let found = find_alone(alloc, once, 7, &[a, b], Lengths::Min, steps).ok_or("no tuple")?;
     let expected: &[u32] = &[7];
     assert_eq!(rt; found.as_slice(), expected);
-    assert!(rt; find_alone(alloc, &monitor, 7, &[b, a], Lengths::Pad, steps).is_none());
+    let again = CountedMonitor::new(&monitor);
+    assert!(rt; find_alone(alloc, again, 7, &[b, a], Lengths::Pad, steps).is_none());
     Ok(())
 }
 

@@ -8,13 +8,16 @@ use Rattle.aig_net.specs.RunTexts.{runs_text}
 use Rattle.hy_lasso.specs.Printed.{printed_lassos}
 use Rattle.hy_files.specs.ErrorLines.{fault_line, class_line, limit_line, name_line, memory_line, name_of_file}
 use Rattle.hy_files.specs.declared.fault.FileFault.TheVariants as faults
+use Rattle.mc_core.specs.declared.checked.Checked.{Checked}
+use Rattle.mc_core.specs.declared.checked.Checked.TheVariants.{Holds, Violated, UnknownDepth, UnknownConflicts}
 use Rattle.rank_proofs.specs.declared.rank_proof.RankProof.{RankProof}
 use Rattle.rank_proofs.specs.ProofTexts.{proof_text}
 use Rattle.hy_answer.specs.declared.answer.Answer.{Answer}
 use Rattle.hy_answer.specs.declared.answer.Answer.TheVariants.{Sat, Unsat, Implied, NotImplied, Equivalent, NotEquivalent, OnTrue, OnFalse, NoViolation, Violation}
 use Rattle.hy_answer.specs.declared.answer.Answer.TheVariants.{Words, Syntax, Unbound, Prefix, Line, Session, OpenFault, ReadFault}
 use Rattle.hy_answer.specs.declared.answer.Answer.TheVariants.{WriteFault, Limit, States, Memory}
-use Rattle.hy_answer.specs.declared.answer.Answer.TheVariants.{Holds, Violated, UnknownDepth, UnknownConflicts, Circuit, Name, CnfLimit}
+use Rattle.hy_answer.specs.declared.answer.Answer.TheVariants.{Circuit, Name, CnfLimit}
+use Rattle.hy_answer.specs.declared.answer.Answer.TheVariants as answers
 use Rattle.hy_answer.specs.declared.answer.Extras.{Extras}
 
 -- numbers, each behind a space
@@ -47,6 +50,17 @@ evidence_text runs (Some proof) = induction.proof_text proof
 abbrev pub shown_evidence : Extras → List Run → Option InductionProof → List ℕ
 shown_evidence extras runs proof = if extras.proof then evidence_text runs proof else []
 
+-- the text of what a check comes to, where lassos are printed with these names
+abbrev pub checked_text : Extras → List (List ℕ) → Checked → List ℕ
+checked_text extras names (Holds traces runs proof) =
+    codes "holds\n" ++ printed_lassos names traces ++ shown_evidence extras runs proof
+checked_text extras names (Violated traces runs proof) =
+    codes "violated\n" ++ printed_lassos names traces ++ shown_evidence extras runs proof
+checked_text extras names (UnknownDepth depth kept path) =
+    codes "unknown depth " ++ decimal depth ++ codes "\n"
+checked_text extras names (UnknownConflicts conflicts k step kept log) =
+    codes "unknown conflicts " ++ decimal conflicts ++ codes "\n"
+
 -- what `out` receives, where lassos are printed with these names
 abbrev pub out_text : Extras → List (List ℕ) → Answer → List ℕ
 out_text extras names (Sat list) = codes "sat\n" ++ printed_lassos names list
@@ -65,14 +79,7 @@ out_text extras names (NoViolation traces kept live) =
 out_text extras names (Violation spec trace tuple) =
     codes "violation of spec " ++ decimal spec ++ codes " at trace " ++ decimal trace ++ codes " by "
     ++ join_with_byte 32 (map decimal tuple) ++ codes "\n"
-out_text extras names (Holds traces runs proof) =
-    codes "holds\n" ++ printed_lassos names traces ++ shown_evidence extras runs proof
-out_text extras names (Violated traces runs proof) =
-    codes "violated\n" ++ printed_lassos names traces ++ shown_evidence extras runs proof
-out_text extras names (UnknownDepth depth kept path) =
-    codes "unknown depth " ++ decimal depth ++ codes "\n"
-out_text extras names (UnknownConflicts conflicts k step kept log) =
-    codes "unknown conflicts " ++ decimal conflicts ++ codes "\n"
+out_text extras names (answers.Checked checked) = checked_text extras names checked
 out_text extras names Words = []
 out_text extras names (Syntax file token byte) = []
 out_text extras names (Unbound file byte) = []
@@ -116,10 +123,14 @@ error_line names OnTrue = []
 error_line names OnFalse = []
 error_line names (NoViolation traces kept live) = []
 error_line names (Violation spec trace tuple) = []
-error_line names (Holds traces runs proof) = []
-error_line names (Violated traces runs proof) = []
-error_line names (UnknownDepth depth kept path) = []
-error_line names (UnknownConflicts conflicts k step kept log) = []
+error_line names (answers.Checked checked) = []
+
+-- the exit status of what a check comes to
+abbrev pub checked_status : Checked → ℕ
+checked_status (Holds traces runs proof) = 0
+checked_status (Violated traces runs proof) = 1
+checked_status (UnknownDepth depth kept path) = 4
+checked_status (UnknownConflicts conflicts k step kept log) = 4
 
 -- the exit status
 abbrev pub status_of : Answer → ℕ
@@ -133,10 +144,7 @@ status_of OnTrue = 0
 status_of OnFalse = 1
 status_of (NoViolation traces kept live) = 0
 status_of (Violation spec trace tuple) = 1
-status_of (Holds traces runs proof) = 0
-status_of (Violated traces runs proof) = 1
-status_of (UnknownDepth depth kept path) = 4
-status_of (UnknownConflicts conflicts k step kept log) = 4
+status_of (answers.Checked checked) = checked_status checked
 status_of Words = 2
 status_of (Syntax file token byte) = 2
 status_of (Unbound file byte) = 2

@@ -1,14 +1,11 @@
 //! The answers of all tools.
 
-use aig_net::RunList;
 use aiger_body::AigKind;
-use chain_check::Log;
-use cnf_frames::InductionProof;
 use hy_base::{Kind, NumList, Text};
 use hy_formula::Class;
 use hy_lasso::LassoList;
 use invar_find::Kept;
-use live_safe::Path;
+use mc_core::Checked;
 use rank_proofs::RankProof;
 use tuple_walk::Tuple;
 
@@ -59,36 +56,8 @@ pub enum Answer {
         trace: u32,
         tuple: Tuple,
     },
-    /// The circuit satisfies the formula: an existential one by these runs and what is seen of them,
-    /// one for each quantifier, a universal one by this proof. What is not the evidence is empty.
-    Holds {
-        traces: LassoList,
-        runs: RunList,
-        proof: Option<InductionProof>,
-    },
-    /// The circuit does not satisfy the formula: a universal one by these runs and what is seen of
-    /// them, one for each quantifier, an existential one by this proof.
-    Violated {
-        traces: LassoList,
-        runs: RunList,
-        proof: Option<InductionProof>,
-    },
-    /// No path of at most `depth` steps is an answer, and induction over so many steps, with the
-    /// facts that were kept, leaves this path of states.
-    UnknownDepth {
-        depth: u32,
-        kept: Kept,
-        path: Path,
-    },
-    /// A query learned as many clauses as `conflicts`: that for a path of `k` steps, or where `step`
-    /// that for one more step from any states, with the facts that were kept.
-    UnknownConflicts {
-        conflicts: u32,
-        k: u32,
-        step: bool,
-        kept: Kept,
-        log: Log,
-    },
+    /// What checking a circuit against a formula comes to.
+    Checked(Checked),
     /// The words are no command.
     Words,
     /// A formula text is none: the number of tokens before the fault, and its byte.

@@ -3,7 +3,7 @@
 ghost use Rattle.std.specs.Prelude.{◌≡◌, ◌++◌, ◌∷◌, [], zero, IfOk, OnOk, map, decimal, codes, if◌then◌else◌};
 ghost use Rattle.std.specs.List.{join_with_byte};
 ghost use Rattle.hy_lasso.specs.Printed.{printed_lassos};
-ghost use Rattle.hy_answer.specs.Outputs.{evidence_text, out_text, spaced, kept_text, shown_evidence, shown_proof, side_text, status_of, open_text};
+ghost use Rattle.hy_answer.specs.Outputs.{checked_status, checked_text, evidence_text, out_text, spaced, kept_text, shown_evidence, shown_proof, side_text, status_of, open_text};
 
 use crate::answer::{Answer, Extras};
 use aig_net::{RunList, runs_text};
@@ -12,6 +12,7 @@ use hy_base::{M, Text};
 use hy_formula::NameTable;
 use hy_lasso::{LassoList, print_lassos};
 use itoa::Buffer;
+use mc_core::Checked;
 use rank_proofs::{RankProof, print_rank_proof};
 use std::alloc::Global;
 
@@ -185,6 +186,28 @@ fn side_line(side: u8) -> &'static [u8]
     }
 }
 
+/// The text of what a check comes to.
+fn checked_text(alloc: Global, extras: Extras, names: &NameTable, checked: &Checked) -> M<Text>
+    ensures { IfOk result (λ t. t ≡ checked_text extras names.now checked.now) }
+{
+    match checked {
+        Checked::Holds {
+            traces,
+            runs,
+            proof,
+        } => { circuit_text(alloc, extras, b"holds\n", traces, runs, proof, names) }
+        Checked::Violated {
+            traces,
+            runs,
+            proof,
+        } => { circuit_text(alloc, extras, b"violated\n", traces, runs, proof, names) }
+        Checked::UnknownDepth { depth, .. } => with_number(alloc, b"unknown depth ", *depth),
+        Checked::UnknownConflicts { conflicts, .. } => {
+            with_number(alloc, b"unknown conflicts ", *conflicts)
+        }
+    }
+}
+
 /// A text of one line.
 fn line_text(alloc: Global, line: &[u8]) -> M<Text>
     ensures { IfOk result (λ t. t ≡ line.now) }
@@ -216,20 +239,7 @@ pub fn out_text(alloc: Global, extras: Extras, names: &NameTable, answer: &Answe
         Answer::Violation { spec, trace, tuple } => {
             violation_text(alloc, *spec, *trace, tuple.as_slice())
         }
-        Answer::Holds {
-            traces,
-            runs,
-            proof,
-        } => { circuit_text(alloc, extras, b"holds\n", traces, runs, proof, names) }
-        Answer::Violated {
-            traces,
-            runs,
-            proof,
-        } => { circuit_text(alloc, extras, b"violated\n", traces, runs, proof, names) }
-        Answer::UnknownDepth { depth, .. } => with_number(alloc, b"unknown depth ", *depth),
-        Answer::UnknownConflicts { conflicts, .. } => {
-            with_number(alloc, b"unknown conflicts ", *conflicts)
-        }
+        Answer::Checked(checked) => checked_text(alloc, extras, names, checked),
         Answer::Words
         | Answer::Syntax { .. }
         | Answer::Unbound { .. }
@@ -248,6 +258,17 @@ pub fn out_text(alloc: Global, extras: Extras, names: &NameTable, answer: &Answe
     }
 }
 
+/// The exit status of what a check comes to.
+fn checked_status(checked: &Checked) -> u8
+    ensures { result ≡ checked_status checked.now }
+{
+    match checked {
+        Checked::Holds { .. } => 0,
+        Checked::Violated { .. } => 1,
+        Checked::UnknownDepth { .. } | Checked::UnknownConflicts { .. } => 4,
+    }
+}
+
 /// The exit status of an answer.
 pub fn status_of(answer: &Answer) -> u8
     ensures { result ≡ status_of answer.now }
@@ -257,14 +278,13 @@ pub fn status_of(answer: &Answer) -> u8
         | Answer::Implied { .. }
         | Answer::Equivalent { .. }
         | Answer::OnTrue
-        | Answer::NoViolation { .. }
-        | Answer::Holds { .. } => 0,
+        | Answer::NoViolation { .. } => 0,
         Answer::Unsat { .. }
         | Answer::NotImplied { .. }
         | Answer::NotEquivalent { .. }
         | Answer::OnFalse
-        | Answer::Violation { .. }
-        | Answer::Violated { .. } => 1,
+        | Answer::Violation { .. } => 1,
+        Answer::Checked(checked) => checked_status(checked),
         Answer::Words
         | Answer::Syntax { .. }
         | Answer::Unbound { .. }
@@ -274,7 +294,6 @@ pub fn status_of(answer: &Answer) -> u8
         | Answer::Circuit { .. }
         | Answer::Name { .. } => 2,
         Answer::OpenFault { .. } | Answer::ReadFault { .. } | Answer::WriteFault => 3,
-        Answer::UnknownDepth { .. } | Answer::UnknownConflicts { .. } => 4,
         Answer::Limit { .. } | Answer::CnfLimit { .. } | Answer::States { .. } => 5,
         Answer::Memory => 6,
     }

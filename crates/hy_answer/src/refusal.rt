@@ -60,10 +60,7 @@ fn write_line<E: Sink>(answer: &Answer, names: &[&str], err: &mut E) -> Result<(
         | Answer::OnFalse
         | Answer::NoViolation { .. }
         | Answer::Violation { .. }
-        | Answer::Holds { .. }
-        | Answer::Violated { .. }
-        | Answer::UnknownDepth { .. }
-        | Answer::UnknownConflicts { .. } => write_all(err, b""),
+        | Answer::Checked(_) => write_all(err, b""),
         Answer::Words => write_all(err, b"error E1: words\n"),
         Answer::Syntax { file, token, byte } => {
             let fault = FileFault::Syntax {

@@ -15,6 +15,7 @@ use Rattle.net_names.specs.Names.{AreSignals, IsOnly, name_at}
 use Rattle.formula_nets.specs.Posed.{checked_safe}
 use Rattle.formula_nets.proofs.SameSignals.{same-satisfaction}
 use Rattle.mc_core.specs.Answers.{IsAnswer, IsChecked, IsRefused as IsUnchecked}
+use Rattle.mc_core.specs.Evidence.{Denies}
 use Rattle.mc_core.specs.declared.ask.Ask.{Ask}
 use Rattle.mc_core.specs.declared.checked.Checked.{Checked}
 use Rattle.mc_core.specs.declared.checked.Checked.TheVariants as checked
@@ -32,7 +33,7 @@ use Rattle.hy_answer.specs.declared.answer.Answer.TheVariants as answers
 use Rattle.hy_answer.specs.Outputs.{out_text}
 use Rattle.hy_words.specs.Commands.{check}
 use Rattle.hy_top.specs.Orders.{Order, checking, order_of}
-use Rattle.hy_top.specs.Checking.{HasPair, ComesBy, found, facts_stop, paths_stop, checked_answer, IsCheck, untaken, large_closure, bad_name, done, spent}
+use Rattle.hy_top.specs.Checking.{HasPair, ComesBy, found, facts_stop, paths_stop, IsCheck, untaken, large_closure, bad_name, done, spent}
 use Rattle.hy_top.specs.Classes.{is_of_one_kind}
 use Rattle.hy_files.specs.Contents.{one_formula, circuit}
 use Rattle.hy_top.specs.Files.{Given, HasFormulas}
@@ -64,8 +65,8 @@ untaken-kind classes.Other other = refl
 -- ---- what the check says
 
 module _ (net : Net) (names : List (List ℕ)) (f : Plain) (ask : Ask) where
-  pub check-found : (c : Checked) → IsAnswer net names f.prefix f.body ask (Ok c) → IsCheck net names f ask (checked_answer c)
-  check-found c (signals, posed, is) = done (checked_answer c) (taken-kind (class_of f.prefix) posed.taken) signals posed (found c is)
+  pub check-found : (c : Checked) → IsAnswer net names f.prefix f.body ask (Ok c) → IsCheck net names f ask (answers.Checked c)
+  check-found c (signals, posed, is) = done (answers.Checked c) (taken-kind (class_of f.prefix) posed.taken) signals posed (found c is)
 
   pub check-prefix : (c : Class) → IsUnchecked net names f.prefix f.body ask (errors.Prefix c) → IsCheck net names f ask (answers.Prefix 1 c)
   check-prefix c (e, other) = untaken c (sym e) (ap is_of_one_kind e ∙ untaken-kind (class_of f.prefix) other)
@@ -172,14 +173,8 @@ query_limit variables literals kinds.CnfVariables past = tt
 query_limit variables literals kinds.CnfLiterals past = tt
 query_limit variables literals _ past = absurd past
 
-of_checked : (c : Checked) → IsOfCheck (checked_answer c)
-of_checked (checked.Holds traces runs proof) = tt
-of_checked (checked.Violated traces runs proof) = tt
-of_checked (checked.UnknownDepth depth kept path) = tt
-of_checked (checked.UnknownConflicts conflicts k step kept log) = tt
-
 module _ (net : Net) (names : List (List ℕ)) (f : Plain) (ask : Ask) (s t : List Signal) (one : AreSignals net names f.body s) (two : AreSignals net names f.body t) where
-  not_denied : (c d : Checked) → IsChecked net s f.prefix f.body ask c → IsChecked net t f.prefix f.body ask d → ¬ Deny (checked_answer c) (checked_answer d)
+  not_denied : (c d : Checked) → IsChecked net s f.prefix f.body ask c → IsChecked net t f.prefix f.body ask d → ¬ Denies c d
   not_denied (checked.Holds traces runs proof) (checked.Violated others walks evidence) is also deny = also.0 (same-satisfaction net names f.prefix f.body s t one two is.0)
   not_denied (checked.Violated traces runs proof) (checked.Holds others walks evidence) is also deny = is.0 (same-satisfaction net names f.prefix f.body t s two one also.0)
   not_denied (checked.Holds traces runs proof) (checked.Holds others walks evidence) is also deny = deny
@@ -191,18 +186,6 @@ module _ (net : Net) (names : List (List ℕ)) (f : Plain) (ask : Ask) (s t : Li
   not_denied (checked.UnknownDepth depth kept path) d is also deny = deny
   not_denied (checked.UnknownConflicts conflicts k step kept log) d is also deny = deny
 
-  never_limit : (c : Checked) (kind : _) (limit : ℕ) → ¬ Deny (checked_answer c) (answers.Limit kind limit)
-  never_limit (checked.Holds traces runs proof) kind limit deny = deny
-  never_limit (checked.Violated traces runs proof) kind limit deny = deny
-  never_limit (checked.UnknownDepth depth kept path) kind limit deny = deny
-  never_limit (checked.UnknownConflicts conflicts k step kept log) kind limit deny = deny
-
-  never_cnf : (c : Checked) (kind : _) (limit : ℕ) (keeps : _) → ¬ Deny (checked_answer c) (answers.CnfLimit kind limit keeps)
-  never_cnf (checked.Holds traces runs proof) kind limit keeps deny = deny
-  never_cnf (checked.Violated traces runs proof) kind limit keeps deny = deny
-  never_cnf (checked.UnknownDepth depth kept path) kind limit keeps deny = deny
-  never_cnf (checked.UnknownConflicts conflicts k step kept log) kind limit keeps deny = deny
-
   stopped_facts : (safe : SafeNet) (limit : Past) → kepts.IsStopped safe (frame.Limit limit) → IsQueryLimit limit.kind
   stopped_facts safe limit (facts, group, starting, among, past, same) = query_limit _ _ limit.kind past
 
@@ -212,15 +195,15 @@ module _ (net : Net) (names : List (List ℕ)) (f : Plain) (ask : Ask) (s t : Li
 
   -- Whether a check found something or stopped, it answers as checks do.
   of_check : (r : List Signal) (a : Answer) → ComesBy net r f ask a → IsOfCheck a
-  of_check r _ (found c is) = of_checked c
+  of_check r _ (found c is) = tt
   of_check r _ (facts_stop limit plain stopped) = stopped_facts (checked_safe net r f.prefix f.body) limit stopped
   of_check r _ (paths_stop kind limit kept keeps stopped) =
       stopped_paths (checked_safe net r f.prefix f.body) kept.inv ask.depth kind limit stopped
 
   no_denial : (a b : Answer) → ComesBy net s f ask a → ComesBy net t f ask b → ¬ Deny a b
   no_denial _ _ (found c is) (found d also) = not_denied c d is also
-  no_denial _ _ (found c is) (facts_stop limit p q) = never_limit c limit.kind limit.limit
-  no_denial _ _ (found c is) (paths_stop kind limit kept p q) = never_cnf c kind limit kept
+  no_denial _ _ (found c is) (facts_stop limit p q) = λ deny. deny
+  no_denial _ _ (found c is) (paths_stop kind limit kept p q) = λ deny. deny
   no_denial _ _ (facts_stop limit p q) other = λ deny. deny
   no_denial _ _ (paths_stop kind limit kept p q) other = λ deny. deny
 

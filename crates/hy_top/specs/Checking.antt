@@ -18,10 +18,10 @@ use Rattle.formula_nets.specs.Posed.{IsPosed, checked_safe, members}
 use Rattle.mc_core.specs.Answers.{IsChecked, IsKept}
 use Rattle.mc_core.specs.declared.ask.Ask.{Ask}
 use Rattle.mc_core.specs.declared.checked.Checked.{Checked}
-use Rattle.mc_core.specs.declared.checked.Checked.TheVariants as checked
 use Rattle.hy_files.specs.Contents.{IsCircuit}
 use Rattle.hy_answer.specs.declared.answer.Answer.{Answer}
-use Rattle.hy_answer.specs.declared.answer.Answer.TheVariants.{Holds, Violated, UnknownDepth, UnknownConflicts, Name, Prefix, Limit, CnfLimit, Memory}
+use Rattle.hy_answer.specs.declared.answer.Answer.TheVariants.{Name, Prefix, Limit, CnfLimit, Memory}
+use Rattle.hy_answer.specs.declared.answer.Answer.TheVariants as answers
 use Rattle.hy_top.specs.Classes.{is_of_one_kind}
 use Rattle.hy_top.specs.Orders.{Order}
 use Rattle.hy_top.specs.Files.{Given, Came, HasAll}
@@ -52,16 +52,9 @@ pub record RefusesName (order : Order) (given : Given) (answer : Answer) : Type 
   pub bad : IsFirstBad net names formula.body name twice
   pub answered : answer ≡ Name (name_at names name) twice
 
--- the answer for what a check comes to
-abbrev pub checked_answer : Checked → Answer
-checked_answer (checked.Holds traces runs proof) = Holds traces runs proof
-checked_answer (checked.Violated traces runs proof) = Violated traces runs proof
-checked_answer (checked.UnknownDepth depth kept path) = UnknownDepth depth kept path
-checked_answer (checked.UnknownConflicts conflicts k step kept log) = UnknownConflicts conflicts k step kept log
-
 -- What the work of a check comes to: what is found, or a query that is past a limit.
 pub data ComesBy (net : Net) (signals : List Signal) (f : Plain) (ask : Ask) : Answer → Type 0 where
-  found : (c : Checked) → IsChecked net signals f.prefix f.body ask c → ComesBy net signals f ask (checked_answer c)
+  found : (c : Checked) → IsChecked net signals f.prefix f.body ask c → ComesBy net signals f ask (answers.Checked c)
   facts_stop : (limit : Past) → ask.plain ≡ false
       → kepts.IsStopped (checked_safe net signals f.prefix f.body) (frame.Limit limit)
       → ComesBy net signals f ask (Limit limit.kind limit.limit)

@@ -9,8 +9,9 @@ use Rattle.hy_bits.specs.Letter.{Letter}
 use Rattle.hy_formula.specs.Lassos.{Lasso}
 use Rattle.rank_proofs.specs.declared.rank_proof.RankProof.{RankProof}
 use Rattle.fin_monitor.specs.Limits.{HasLargeClosure, HasManyAtoms, HasLargeTable}
+use Rattle.mc_core.specs.Evidence.{Denies}
 use Rattle.hy_answer.specs.declared.answer.Answer.{Answer}
-use Rattle.hy_answer.specs.declared.answer.Answer.TheVariants.{Holds, Violated, UnknownDepth, UnknownConflicts, CnfLimit}
+use Rattle.hy_answer.specs.declared.answer.Answer.TheVariants.{Checked, CnfLimit}
 use Rattle.hy_answer.specs.declared.answer.Answer.TheVariants.{Sat, Unsat, Implied, NotImplied, Equivalent, NotEquivalent, Violation, OpenFault, ReadFault, Limit}
 use Rattle.hy_top.specs.Orders.{Order, Task, watching, judging, deciding, checking}
 use Rattle.hy_top.specs.Files.{Given, Came, RefusesText, RefusesClass}
@@ -143,18 +144,14 @@ IsQueryLimit _ = ⊥
 
 -- What a check answers, but for what it says of the circuit.
 abbrev pub IsOfCheck : Answer → Type 0
-IsOfCheck (Holds traces runs proof) = Unit {0}
-IsOfCheck (Violated traces runs proof) = Unit {0}
-IsOfCheck (UnknownDepth depth kept path) = Unit {0}
-IsOfCheck (UnknownConflicts conflicts k step kept log) = Unit {0}
+IsOfCheck (Checked checked) = Unit {0}
 IsOfCheck (Limit kind limit) = IsQueryLimit kind
 IsOfCheck (CnfLimit kind limit kept) = IsQueryLimit kind
 IsOfCheck _ = ⊥
 
 -- One says that the formula holds, and the other that it does not.
 abbrev pub Deny : Answer → Answer → Type 0
-Deny (Holds traces runs proof) (Violated others walks evidence) = Unit {0}
-Deny (Violated traces runs proof) (Holds others walks evidence) = Unit {0}
+Deny (Checked checked) (Checked other) = Denies checked other
 Deny _ _ = ⊥
 
 -- Two answers say the same. Two violations may name different tuples of the same arrival, and two answers that give

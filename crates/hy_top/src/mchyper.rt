@@ -6,7 +6,7 @@ ghost use Rattle.hy_base.specs.declared.reading.TheConstants.{BYTES_LIMIT};
 ghost use Rattle.hy_formula.specs.Formulas.{plain_formula};
 ghost use Rattle.hy_answer.specs.Outputs.{out_text};
 ghost use Rattle.hy_words.specs.Commands.{check};
-ghost use Rattle.hy_top.specs.Checking.{IsCheck, checked_answer};
+ghost use Rattle.hy_top.specs.Checking.{IsCheck};
 ghost use Rattle.hy_top.specs.Orders.{order_of};
 ghost use Rattle.hy_top.specs.Runs.{Follows};
 
@@ -16,7 +16,7 @@ use hy_answer::{Answer, fault_answer};
 use hy_base::{M, Memory, Shelf, Text};
 use hy_files::{circuit_in, formula_in};
 use hy_formula::{Formula, NameTable};
-use mc_core::{Ask, Checked, McError};
+use mc_core::{Ask, McError};
 use std::alloc::Global;
 
 /// Most quantifiers of a formula.
@@ -66,7 +66,7 @@ fn check_formula(
     formula.prefix.len(); // what each prefix keeps
     circuits_have_room(); // and there is room for the safe net
     match mc_core::check(alloc, net, formula, names, ask) {
-        Ok(checked) => checked_answer(checked),
+        Ok(checked) => Answer::Checked(checked),
         Err(McError::Prefix(class)) => Answer::Prefix { file: 1, class },
         Err(McError::Limit(limit)) => Answer::Limit {
             kind: limit.kind,
@@ -78,46 +78,6 @@ fn check_formula(
             Err(Memory) => Answer::Memory,
         },
         Err(McError::Memory) => Answer::Memory,
-    }
-}
-
-/// The answer for what a check comes to.
-fn checked_answer(checked: Checked) -> Answer
-    ensures { result ≡ checked_answer checked }
-{
-    match checked {
-        Checked::Holds {
-            traces,
-            runs,
-            proof,
-        } => Answer::Holds {
-            traces,
-            runs,
-            proof,
-        },
-        Checked::Violated {
-            traces,
-            runs,
-            proof,
-        } => Answer::Violated {
-            traces,
-            runs,
-            proof,
-        },
-        Checked::UnknownDepth { depth, kept, path } => Answer::UnknownDepth { depth, kept, path },
-        Checked::UnknownConflicts {
-            conflicts,
-            k,
-            step,
-            kept,
-            log,
-        } => Answer::UnknownConflicts {
-            conflicts,
-            k,
-            step,
-            kept,
-            log,
-        },
     }
 }
 

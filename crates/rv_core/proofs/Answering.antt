@@ -1,5 +1,5 @@
 -- The answer to each event is right for each history that the monitor stands for.
-use Rattle.std.proofs.Common.{◌≡◌, ℕ, ◌+◌, ◌<◌, ◌≤◌, true, false, List, [], ◌∷◌, ◌++◌, length, reverse, Some, None, Ok, Err, nat_eq, refl, sym, ap, ◌∙◌, subst, arith}
+use Rattle.std.proofs.Common.{◌≡◌, ℕ, ◌+◌, ◌<◌, ◌≤◌, true, false, List, [], ◌∷◌, ◌++◌, length, reverse, Option, Some, None, Ok, Err, nat_eq, refl, sym, ap, ◌∙◌, subst, arith}
 use Rattle.std.proofs.lemmas.Bool.{eqb-true}
 use Rattle.std.proofs.lemmas.List.{reverse-append}
 use Rattle.hy_base.specs.declared.limit.Kind.TheVariants as kind
@@ -147,6 +147,11 @@ no-end m n none = record {
   specs = refl;
   right = λ h s. refused_by no_session (refused-end h n (sym (s.sessions.letters n) ∙ none)) s;
 }
+
+-- Where no letters are known there are none.
+pub none-known : (word : Option Trace) → ((t : Trace) → ¬ (word ≡ Some t)) → word ≡ None
+none-known None none = refl
+none-known (Some t) none = absurd (none t refl)
 
 -- ---- a save and a back
 

@@ -67,14 +67,6 @@ pub record Answers (old new : Held) (e : Event) (result : Result Reply RvError) 
   pub specs : specs_of new ≡ specs_of old
   pub right : (h : History) → StandsFor old h → IsAnswer old new e h result
 
--- What is seen is as before, and the monitor stands for what it stood for.
-pub record IsAsBefore (old new : Held) : Type 0 where
-  pub arrived : new.arrived ≡ old.arrived
-  pub sessions : new.sessions ≡ old.sessions
-  pub saves : new.saves ≡ old.saves
-  pub clean : new.clean ≡ old.clean
-  pub stands : (h : History) → StandsFor old h → StandsFor new h
-
 -- The answer where the trace with this number arrived, and this came of it.
 abbrev pub IsReplyTo : ℕ → Arrival → Reply → Type 0
 IsReplyTo trace arrival.Same reply = reply ≡ Arrived trace

@@ -1,9 +1,8 @@
 //! What a monitor does at an event.
 
-ghost use Rattle.std.specs.Prelude.{◌≡◌, ◌+◌, ◌<◌, ◌≤◌, ◌^◌, ℕ, List, Some, false, sum, OnErr, IsTrue, length};
+ghost use Rattle.std.specs.Prelude.{◌≡◌, ◌+◌, ◌<◌, ◌≤◌, ◌^◌, ℕ, List, Some, None, sum, OnErr, IsTrue, length};
 ghost use Rattle.hy_finite.specs.declared.event.Event.TheVariants as occurs;
 ghost use Rattle.hy_finite.specs.Traces.{Trace as Letters};
-ghost use Rattle.rv_core.specs.Histories.{arrives};
 ghost use Rattle.rv_core.specs.Opened.{letters_in};
 ghost use Rattle.rv_core.specs.StepBounds.{AreBounds, Brings};
 
@@ -21,7 +20,7 @@ use std::sync::ledger::Ledger;
 const MOST_SAVES: usize = 64;
 
 impl Rv {
-    ghost use Rattle.rv_core.specs.Replies.{Answers, IsAsBefore};
+    ghost use Rattle.rv_core.specs.Replies.{Answers};
     ghost use Rattle.rv_core.specs.Seen.{held};
 
     /// Takes the next event of a run.
@@ -36,18 +35,19 @@ impl Rv {
     ///
     /// `NoLetter` where the session that ends is not open, `NoSave` where there is nothing put
     /// aside; `Limit` where a session has 1,024 letters already, 1,024 sessions are open, or 64
-    /// saves are put aside. Where it is refused, for memory too, all is as before. A back takes no
+    /// saves are put aside. Where it is refused, for memory too, all is as before, what is
+    /// kept too. A back takes no
     /// memory. After a violation the monitor takes no more events.
     ///
-    /// Where a trace arrives the steps grow at most by a bound for each spec, and by none for a
-    /// spec that keeps an equal one; else they do not grow. The newest trace waits to be put with
-    /// those that are kept until the next trace arrives or a save comes, which pay for it. Apart from
-    /// that a whole trace that each spec keeps already takes no memory, and for each time linear in
-    /// its letters. A save takes time linear in the number of specs, and memory for them where there
-    /// is more than one: it shares what is kept and the open sessions. So the first letter or end
-    /// after it takes time and memory linear in the open sessions, the first letter of a session in
-    /// its letters too, and any other letter constant time but for growth. A back frees what no save
-    /// shares.
+    /// Where it brings a trace the steps grow at most by a bound for each spec, and by none for a
+    /// spec that keeps an equal one; else they do not grow, also where the event is refused. The
+    /// newest trace waits to be put with those that are kept until the next trace arrives or a save
+    /// comes, which pay for it. Apart from that a whole trace that each spec keeps already takes no
+    /// memory, and for each time linear in its letters. A save takes time linear in the number of
+    /// specs, and memory for them where there is more than one: it shares what is kept and the open
+    /// sessions. So the first letter or end after it takes time and memory linear in the open
+    /// sessions, the first letter of a session in its letters too, and any other letter constant time
+    /// but for growth. A back frees what no save shares.
     pub fn event<L: Ledger>(
         &mut self,
         alloc: Global,
@@ -58,11 +58,12 @@ impl Rv {
         requires few { (held self.old).arrived < 2 ^ 31 }
         ensures answers { Answers (held self.old) (held self.new) event.now result }
         ensures dropping { (held self.new).drop ≡ (held self.old).drop }
-        ensures refused { OnErr result (IsAsBefore (held self.old) (held self.new)) }
+        ensures refused { OnErr result (held self.new ≡ held self.old) }
         ensures counted { steps.old ≤ steps.new }
         ensures bounded { (t : Letters) (bounds : List ℕ) → Brings (held self.old) event.now t
             → AreBounds (held self.old) t bounds → steps.new ≤ steps.old + sum bounds }
-        ensures none { arrives event.now ≡ false → steps.new ≡ steps.old }
+        ensures none { ((t : Letters) → ¬ Brings (held self.old) event.now t)
+            → steps.new ≡ steps.old }
     {
         match event {
             Event::Whole(trace) => self.take_whole(alloc, trace, steps),
@@ -84,7 +85,7 @@ impl Rv {
         requires few { (held self.old).arrived < 2 ^ 31 }
         ensures answers { Answers (held self.old) (held self.new) (occurs.Whole trace.now) result }
         ensures dropping { (held self.new).drop ≡ (held self.old).drop }
-        ensures refused { OnErr result (IsAsBefore (held self.old) (held self.new)) }
+        ensures refused { OnErr result (held self.new ≡ held self.old) }
         ensures counted { steps.old ≤ steps.new }
         ensures bounded { (bounds : List ℕ) → AreBounds (held self.old) trace.now bounds
             → steps.new ≤ steps.old + sum bounds }
@@ -109,7 +110,7 @@ impl Rv {
         ensures answers { Answers (held self.old) (held self.new) (occurs.Letter session letter)
             result }
         ensures dropping { (held self.new).drop ≡ (held self.old).drop }
-        ensures refused { OnErr result (IsAsBefore (held self.old) (held self.new)) }
+        ensures refused { OnErr result (held self.new ≡ held self.old) }
     {
         self.sessions.extend(alloc, session, letter)?;
         Ok(Reply::Quiet)
@@ -126,11 +127,13 @@ impl Rv {
         requires few { (held self.old).arrived < 2 ^ 31 }
         ensures answers { Answers (held self.old) (held self.new) (occurs.End session) result }
         ensures dropping { (held self.new).drop ≡ (held self.old).drop }
-        ensures refused { OnErr result (IsAsBefore (held self.old) (held self.new)) }
+        ensures refused { OnErr result (held self.new ≡ held self.old) }
         ensures counted { steps.old ≤ steps.new }
         ensures bounded { (t : Letters) (bounds : List ℕ)
             → letters_in session (held self.old).sessions ≡ Some t
             → AreBounds (held self.old) t bounds → steps.new ≤ steps.old + sum bounds }
+        ensures none { letters_in session (held self.old).sessions ≡ None
+            → steps.new ≡ steps.old }
     {
         let Some(letters) = self.sessions.letters(session) else {
             return Err(RvError::NoLetter);
@@ -151,7 +154,7 @@ impl Rv {
         requires clean { IsTrue (held self.old).clean }
         ensures answers { Answers (held self.old) (held self.new) occurs.Save result }
         ensures dropping { (held self.new).drop ≡ (held self.old).drop }
-        ensures refused { OnErr result (IsAsBefore (held self.old) (held self.new)) }
+        ensures refused { OnErr result (held self.new ≡ held self.old) }
     {
         if self.saves.len() >= MOST_SAVES {
             return Err(RvError::Limit(Kind::Saves));
@@ -172,7 +175,7 @@ impl Rv {
         requires clean { IsTrue (held self.old).clean }
         ensures answers { Answers (held self.old) (held self.new) occurs.Back result }
         ensures dropping { (held self.new).drop ≡ (held self.old).drop }
-        ensures refused { OnErr result (IsAsBefore (held self.old) (held self.new)) }
+        ensures refused { OnErr result (held self.new ≡ held self.old) }
     {
         if self.saves.is_empty() {
             return Err(RvError::NoSave);

@@ -21,7 +21,7 @@ use hy_finite::{Lengths, Trace};
 use std::alloc::Global;
 use std::sync::ledger::Ledger;
 use trace_trie::Version;
-use tuple_walk::{Tuple, find, find_alone, find_first};
+use tuple_walk::{CountedMonitor, Tuple, find, find_alone, find_first};
 
 /// The monitor of a spec's body.
 #[derive(Drop)]
@@ -68,10 +68,11 @@ impl Watch {
             trace.now bound → steps.new ≤ steps.old + bound }
     {
         kept.numbers_ascend();
+        let monitor = CountedMonitor::new(&self.monitor);
         if self.symmetric {
-            find_first(alloc, kept, &self.monitor, number, trace, rule, steps)
+            find_first(alloc, kept, monitor, number, trace, rule, steps)
         } else {
-            find(alloc, kept, &self.monitor, number, trace, rule, steps)
+            find(alloc, kept, monitor, number, trace, rule, steps)
         }
     }
 
@@ -103,7 +104,8 @@ impl Watch {
         ensures bounded { (bound : ℕ) → IsBound rule (watched self.now) (trace.now ∷ []) trace.now
             bound → steps.new ≤ steps.old + bound }
     {
-        find_alone(alloc, &self.monitor, number, trace, rule, steps)
+        let monitor = CountedMonitor::new(&self.monitor);
+        find_alone(alloc, monitor, number, trace, rule, steps)
     }
 
     /// What is kept with a new trace, where dominated ones are dropped: what was kept, if one of

@@ -1,4 +1,5 @@
 pub mod Alone
+pub mod Counted
 pub mod Finds
 pub mod Four
 pub mod JointPrefixes

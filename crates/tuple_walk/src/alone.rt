@@ -19,7 +19,7 @@ use hy_bits::LetterMask;
 use hy_finite::of_two;
 use std::sync::ledger::Ledger;
 
-impl<'a> Walk<'a> {
+impl<'a, L: Ledger> Walk<'a, L> {
     /// Whether one trace alone is left at each place.
     pub(crate) fn are_alone(&self, places: &Places<'a>) -> bool
         ensures { OnTrue result (Each IsAlone (places_in self.now places.now)) }
@@ -33,12 +33,7 @@ impl<'a> Walk<'a> {
     }
 
     /// As `search`, where one trace alone is left at each place. The stack stays flat.
-    pub(crate) fn follow<L: Ledger>(
-        &self,
-        places: &Places<'a>,
-        q: u32,
-        steps: &mut Steps<L>,
-    ) -> Option<Tuple>
+    pub(crate) fn follow(&self, places: &Places<'a>, q: u32, steps: &mut Steps<L>) -> Option<Tuple>
         requires some { 1 ≤ (machine_in self.now).variables }
         requires state { q < states_of (machine_in self.now) }
         requires alone { Each IsAlone (places_in self.now places.now) }
@@ -63,7 +58,7 @@ impl<'a> Walk<'a> {
 
     /// As `search` before all letters, where the formula has one variable: the tuple is the given
     /// trace. No place is made, and the stack stays flat.
-    pub(crate) fn follow_trace<L: Ledger>(
+    pub(crate) fn follow_trace(
         &self,
         number: u32,
         trace: &[LetterMask],
@@ -85,12 +80,7 @@ impl<'a> Walk<'a> {
 
     /// Whether the tuple of these rests is rejected from state `q` on. It is stepped once for each
     /// position on which it is judged, until nothing is rejected any more.
-    fn rejects_rests<L: Ledger>(
-        &self,
-        rests: &[&[LetterMask]],
-        q: u32,
-        steps: &mut Steps<L>,
-    ) -> bool
+    fn rejects_rests(&self, rests: &[&[LetterMask]], q: u32, steps: &mut Steps<L>) -> bool
         requires some { 1 ≤ (machine_in self.now).variables }
         requires state { q < states_of (machine_in self.now) }
         requires each { length rests.now ≡ (machine_in self.now).variables }

@@ -15,8 +15,9 @@ use crate::places::Places;
 use crate::tuple::Tuple;
 use crate::walk::{MOST_PLACES, Walk};
 use hy_finite::Lengths;
+use std::sync::ledger::Ledger;
 
-impl<'a> Walk<'a> {
+impl<'a, L: Ledger> Walk<'a, L> {
     /// Whether some tuple from the places is rejected where it has no position left.
     pub(crate) fn rejects(&self, places: &Places<'a>, q: u32) -> bool
         requires some { 1 ≤ (machine_in self.now).variables }

@@ -3,7 +3,7 @@
 ghost use Rattle.std.specs.Prelude.{◌≡◌, ◌+◌, ◌-◌, ◌*◌, ◌≤◌, ◌∷◌, ◌<◌, [], ℕ, List, length, replicate, set, take, IfSome, IfNone};
 ghost use Rattle.std.specs.List.{Contains};
 ghost use Rattle.hy_formula.specs.Quantifiers.{Each};
-ghost use Rattle.fin_monitor.specs.Seen.{machine_of};
+ghost use Rattle.tuple_walk.specs.Counted.{machine_on};
 ghost use Rattle.tuple_walk.specs.Finds.{AreViolating, AllMeet, FirstMeet, IsFirst, traces_of};
 ghost use Rattle.tuple_walk.specs.Four.{four, rests};
 ghost use Rattle.tuple_walk.specs.Places.{IsOpen, starts};
@@ -11,12 +11,12 @@ ghost use Rattle.tuple_walk.specs.JointPrefixes.{Row, IsJointPrefix, IsFirstPref
 ghost use Rattle.tuple_walk.specs.Searches.{IsSearch, AreSteps};
 ghost use Rattle.tuple_walk.specs.Walks.{machine_in};
 
+use crate::counted_monitor::CountedMonitor;
 use crate::place::Place;
 use crate::places::Places;
 use crate::spot::Spot;
 use crate::tuple::Tuple;
 use crate::walk::Walk;
-use fin_monitor::Monitor;
 use hy_base::Steps;
 use hy_bits::LetterMask;
 use hy_finite::Lengths;
@@ -35,23 +35,23 @@ use trace_trie::Version;
 pub fn find<'a, L: Ledger>(
     alloc: Global,
     version: &'a Version,
-    monitor: &'a Monitor,
+    monitor: CountedMonitor<'a, L>,
     number: u32,
     trace: &'a [LetterMask],
     lengths: Lengths,
     steps: &mut Steps<L>,
 ) -> Option<Tuple>
     requires member { Contains version.now (number, trace.now) }
-    requires some { 1 ≤ (machine_of monitor.now).variables }
-    ensures found { IfSome result (AreViolating (machine_of monitor.now) lengths version.now) }
+    requires some { 1 ≤ (machine_on monitor).variables }
+    ensures found { IfSome result (AreViolating (machine_on monitor.entry) lengths version.now) }
     ensures given { IfSome result (λ numbers. Contains numbers number) }
     ensures none { IfNone result
-        (AllMeet (machine_of monitor.now) lengths (traces_of version.now) trace.now) }
+        (AllMeet (machine_on monitor.entry) lengths (traces_of version.now) trace.now) }
     ensures counted { steps.old ≤ steps.new }
     ensures bounded { (prefixes : List (List Row)) → ((rows : List Row)
         → IsJointPrefix lengths (traces_of version.now) trace.now
-        (machine_of monitor.now).variables rows → Contains prefixes rows)
-        → steps.new ≤ steps.old + (machine_of monitor.now).variables * length prefixes }
+        (machine_on monitor.entry).variables rows → Contains prefixes rows)
+        → steps.new ≤ steps.old + (machine_on monitor.entry).variables * length prefixes }
 {
     version.numbers_ascend();
     let walk = Walk {
@@ -59,7 +59,7 @@ pub fn find<'a, L: Ledger>(
         monitor,
         lengths,
     };
-    for place in 0..monitor.vars() as usize {
+    for place in 0..walk.monitor.vars() as usize {
         match walk.search_at(version, place, number, trace, steps) {
             Some(tuple) => return Some(tuple),
             None => {}
@@ -73,22 +73,22 @@ pub fn find<'a, L: Ledger>(
 pub fn find_first<'a, L: Ledger>(
     alloc: Global,
     version: &'a Version,
-    monitor: &'a Monitor,
+    monitor: CountedMonitor<'a, L>,
     number: u32,
     trace: &'a [LetterMask],
     lengths: Lengths,
     steps: &mut Steps<L>,
 ) -> Option<Tuple>
     requires member { Contains version.now (number, trace.now) }
-    requires some { 1 ≤ (machine_of monitor.now).variables }
-    ensures found { IfSome result (AreViolating (machine_of monitor.now) lengths version.now) }
+    requires some { 1 ≤ (machine_on monitor).variables }
+    ensures found { IfSome result (AreViolating (machine_on monitor.entry) lengths version.now) }
     ensures given { IfSome result (IsFirst number) }
     ensures none { IfNone result
-        (FirstMeet (machine_of monitor.now) lengths (traces_of version.now) trace.now) }
+        (FirstMeet (machine_on monitor.entry) lengths (traces_of version.now) trace.now) }
     ensures counted { steps.old ≤ steps.new }
     ensures bounded { (prefixes : List (List Row)) → ((rows : List Row)
         → IsFirstPrefix lengths (traces_of version.now) trace.now
-        (machine_of monitor.now).variables rows → Contains prefixes rows)
+        (machine_on monitor.entry).variables rows → Contains prefixes rows)
         → steps.new ≤ steps.old + length prefixes }
 {
     version.numbers_ascend();
@@ -105,7 +105,7 @@ pub fn find_first<'a, L: Ledger>(
 /// flat stack. Takes no memory.
 pub fn find_alone<L: Ledger>(
     alloc: Global,
-    monitor: &Monitor,
+    monitor: CountedMonitor<'_, L>,
     number: u32,
     trace: &[LetterMask],
     lengths: Lengths,
@@ -113,17 +113,17 @@ pub fn find_alone<L: Ledger>(
 ) -> Option<Tuple>
     requires some { 1 ≤ length trace.now }
     requires short { length trace.now ≤ 1024 }
-    requires one { (machine_of monitor.now).variables ≡ 1 }
+    requires one { (machine_on monitor).variables ≡ 1 }
     ensures found { IfSome result
-        (AreViolating (machine_of monitor.now) lengths ((number, trace.now) ∷ [])) }
+        (AreViolating (machine_on monitor.entry) lengths ((number, trace.now) ∷ [])) }
     ensures given { IfSome result (λ numbers. Contains numbers number) }
     ensures none { IfNone result
-        (AllMeet (machine_of monitor.now) lengths (trace.now ∷ []) trace.now) }
+        (AllMeet (machine_on monitor.entry) lengths (trace.now ∷ []) trace.now) }
     ensures counted { steps.old ≤ steps.new }
     ensures bounded { (prefixes : List (List Row)) → ((rows : List Row)
         → IsJointPrefix lengths (trace.now ∷ []) trace.now
-        (machine_of monitor.now).variables rows → Contains prefixes rows)
-        → steps.new ≤ steps.old + (machine_of monitor.now).variables * length prefixes }
+        (machine_on monitor.entry).variables rows → Contains prefixes rows)
+        → steps.new ≤ steps.old + (machine_on monitor.entry).variables * length prefixes }
 {
     let walk = Walk {
         alloc,
@@ -133,9 +133,9 @@ pub fn find_alone<L: Ledger>(
     walk.follow_trace(number, trace, steps)
 }
 
-impl<'a> Walk<'a> {
+impl<'a, L: Ledger> Walk<'a, L> {
     /// A rejected tuple, with the given trace at the place and traces of the version at all others.
-    fn search_at<L: Ledger>(
+    fn search_at(
         &self,
         version: &'a Version,
         place: usize,
@@ -161,7 +161,7 @@ impl<'a> Walk<'a> {
 
     /// As `search_at`, from places. These are large, so they stand in a function of their own, which
     /// is not called where none is needed.
-    fn search_from<L: Ledger>(
+    fn search_from(
         &self,
         version: &'a Version,
         place: usize,

@@ -3,6 +3,7 @@
 #![tactic(auto)]
 
 mod alone;
+mod counted_monitor;
 mod ends;
 mod finds;
 mod onward;
@@ -12,5 +13,6 @@ mod spot;
 mod tuple;
 mod walk;
 
+pub use counted_monitor::CountedMonitor;
 pub use finds::{find, find_alone, find_first};
 pub use tuple::Tuple;

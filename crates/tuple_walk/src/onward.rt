@@ -15,8 +15,9 @@ use crate::places::Places;
 use crate::spot::Spot;
 use crate::walk::Walk;
 use hy_finite::Lengths;
+use std::sync::ledger::Ledger;
 
-impl<'a> Walk<'a> {
+impl<'a, L: Ledger> Walk<'a, L> {
     /// The places behind one step, where there is one way on at each, and a letter at some.
     pub(crate) fn only(&self, places: &Places<'a>) -> Option<Places<'a>>
         ensures moved { IfSome result (λ p. Each (IsMoved self.now.lengths)

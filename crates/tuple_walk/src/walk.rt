@@ -10,9 +10,9 @@ ghost use Rattle.tuple_walk.specs.Places.{taken_of, letter_or, is_letter, IsOpen
 ghost use Rattle.tuple_walk.specs.Searches.{IsSearch, IsSearchBy, AreSteps, AreStepsBy};
 ghost use Rattle.tuple_walk.specs.Walks.{machine_in, places_in, rests_in, wholes_in};
 
+use crate::counted_monitor::CountedMonitor;
 use crate::places::Places;
 use crate::tuple::Tuple;
-use fin_monitor::Monitor;
 use hy_base::Steps;
 use hy_finite::Lengths;
 use std::alloc::Global;
@@ -22,22 +22,17 @@ use std::sync::ledger::Ledger;
 pub(crate) const MOST_PLACES: usize = 4;
 
 /// What a walk goes by.
-#[derive(Clone, Copy)]
-pub(crate) struct Walk<'a> {
+#[derive(Drop)]
+pub(crate) struct Walk<'a, L: Ledger> {
     pub(crate) alloc: Global,
-    pub(crate) monitor: &'a Monitor,
+    pub(crate) monitor: CountedMonitor<'a, L>,
     pub(crate) lengths: Lengths,
 }
 
-impl<'a> Walk<'a> {
+impl<'a, L: Ledger> Walk<'a, L> {
     /// A tuple from the places that is rejected from state `q` on.
     #[cycle(walk)]
-    pub(crate) fn search<L: Ledger>(
-        &self,
-        places: &Places<'a>,
-        q: u32,
-        steps: &mut Steps<L>,
-    ) -> Option<Tuple>
+    pub(crate) fn search(&self, places: &Places<'a>, q: u32, steps: &mut Steps<L>) -> Option<Tuple>
         requires some { 1 ≤ (machine_in self.now).variables }
         requires state { q < states_of (machine_in self.now) }
         requires open { Each IsOpen (places_in self.now places.now) }
@@ -65,13 +60,7 @@ impl<'a> Walk<'a> {
 
     /// As `search`, where what a step takes is chosen at the first `i` places; at least one step.
     #[cycle(walk)]
-    fn choose<L: Ledger>(
-        &self,
-        places: &Places<'a>,
-        i: usize,
-        q: u32,
-        steps: &mut Steps<L>,
-    ) -> Option<Tuple>
+    fn choose(&self, places: &Places<'a>, i: usize, q: u32, steps: &mut Steps<L>) -> Option<Tuple>
         requires some { 1 ≤ (machine_in self.now).variables }
         requires state { q < states_of (machine_in self.now) }
         requires within { i ≤ (machine_in self.now).variables }
@@ -104,7 +93,7 @@ impl<'a> Walk<'a> {
 
     /// As `choose`, with a letter at place `i`.
     #[cycle(walk)]
-    fn choose_letter<L: Ledger>(
+    fn choose_letter(
         &self,
         places: &Places<'a>,
         i: usize,
@@ -139,7 +128,7 @@ impl<'a> Walk<'a> {
 
     /// As `choose`, where all is chosen, and a letter somewhere.
     #[cycle(walk)]
-    fn advance<L: Ledger>(&self, places: &Places<'a>, q: u32, steps: &mut Steps<L>) -> Option<Tuple>
+    fn advance(&self, places: &Places<'a>, q: u32, steps: &mut Steps<L>) -> Option<Tuple>
         requires some { 1 ≤ (machine_in self.now).variables }
         requires state { q < states_of (machine_in self.now) }
         requires moved { Each (IsMoved self.now.lengths) (places_in self.now places.now) }

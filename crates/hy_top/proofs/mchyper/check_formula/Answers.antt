@@ -11,7 +11,7 @@ check-requires-clause-room c =
 
 pub returns-in-Ok : goal.returns-in-Ok
 returns-in-Ok c =
-    rw c.checked_answer.ensures (check-found c.args.net.now c.args.names.now (plain_formula c.args.formula.now) c.args.ask.now c.in-Ok.checked c.in-Ok.ensures)
+    check-found c.args.net.now c.args.names.now (plain_formula c.args.formula.now) c.args.ask.now c.in-Ok.checked c.in-Ok.ensures
 
 pub returns-in-Err-Prefix : goal.returns-in-Err-Prefix
 returns-in-Err-Prefix c =

@@ -80,7 +80,7 @@ pub choose-advance-requires : goal.choose-advance-requires
 choose-advance-requires g t c κs within =
     let w = c.args.self.now in
     let all : c.args.i ≡ (machine_in w).variables = omega (arith, c.vars.ensures.vars) in
-    let few : (machine_in w).variables ≤ 4 = w.monitor.now.right.few in
+    let few : (machine_in w).variables ≤ 4 = w.monitor.monitor.now.right.few in
     let letter = sym c.some_letter.ensures ∙ c.if-some_letter.true in
     let P : ℕ → Type 0 = λ k. Each (IsMoved w.lengths) (first_places k c.args.places.now) in (
       omega (arith, c.decreases, few),
@@ -105,7 +105,7 @@ choose-returns-then-i-vars-clause-searched g t c =
 pub choose-choose_letter-requires : goal.choose-choose_letter-requires
 choose-choose_letter-requires g t c κs within =
     let w = c.args.self.now in
-    let few : (machine_in w).variables ≤ 4 = w.monitor.now.right.few in (
+    let few : (machine_in w).variables ≤ 4 = w.monitor.monitor.now.right.few in (
       omega (arith, c.decreases, few),
       (
         within,
@@ -129,7 +129,7 @@ choose-choose-requires g t c κs within =
     let i = c.args.i in
     let ps = four c.args.places.now in
     let next = four c.with.result in
-    let few : n ≤ 4 = w.monitor.now.right.few in
+    let few : n ≤ 4 = w.monitor.monitor.now.right.few in
     let lt : i < n = omega (arith, c.vars.ensures.vars) in
     let fewer = next-longest n i ps next c.at.result c.in-Some-gap.place lt few c.at.ensures
     c.requires.open c.with.ensures None c.in-Some-gap.ensures.way in (
@@ -164,7 +164,7 @@ choose-returns-in-Some-gap-clause-searched g t c =
     let n = (machine_in w).variables in
     let i = c.args.i in
     let ps = four c.args.places.now in
-    let few : n ≤ 4 = w.monitor.now.right.few in
+    let few : n ≤ 4 = w.monitor.monitor.now.right.few in
     let lt : i < n = omega (arith, c.vars.ensures.vars) in
     let P : List Letter → Type 0 = λ l. AreLetters l (left_at c.at.result) in
     gap-search (machine_in w) w.lengths c.args.q n i ps (four c.with.result) c.at.result
@@ -179,7 +179,7 @@ choose-returns-in-Some-gap-clause-counted g t c =
     let n = (machine_in w).variables in
     let i = c.args.i in
     let ps = four c.args.places.now in
-    let few : n ≤ 4 = w.monitor.now.right.few in
+    let few : n ≤ 4 = w.monitor.monitor.now.right.few in
     let lt : i < n = omega (arith, c.vars.ensures.vars) in
     next-gap n i ps (four c.with.result) c.at.result c.in-Some-gap.place lt few c.at.ensures
     c.requires.open c.with.ensures None c.in-Some-gap.ensures.way w.lengths (letters_in i ps) refl
@@ -195,7 +195,7 @@ choose-returns-in-None-gap-clause-searched g t c =
     let n = (machine_in w).variables in
     let i = c.args.i in
     let ps = four c.args.places.now in
-    let few : n ≤ 4 = w.monitor.now.right.few in
+    let few : n ≤ 4 = w.monitor.monitor.now.right.few in
     let lt : i < n = omega (arith, c.vars.ensures.vars) in
     let P : List Letter → Type 0 = λ l. AreLetters l (left_at c.at.result) in
     no-gap-accepted (machine_in w) w.lengths c.args.q n i ps c.at.result lt few c.at.ensures
@@ -223,7 +223,7 @@ choose_letter-choose-requires g t c κs within =
     let i = c.args.i in
     let ps = four c.args.places.now in
     let next = four c.with-next.result in
-    let few : n ≤ 4 = w.monitor.now.right.few in
+    let few : n ≤ 4 = w.monitor.monitor.now.right.few in
     let (a, there) = at-some (letters_at c.at.result.spot) c.loop-k.k
     (omega (arith, c.len-k-end.ensures, c.loop-k-test.true)) in
     let way = c.letter.ensures.way a there in
@@ -260,7 +260,7 @@ pub choose_letter-returns-in-Some-clause-searched :
     goal.choose_letter-returns-in-Some-clause-searched
 choose_letter-returns-in-Some-clause-searched g t c =
     let w = c.args.self.now in
-    let few : (machine_in w).variables ≤ 4 = w.monitor.now.right.few in
+    let few : (machine_in w).variables ≤ 4 = w.monitor.monitor.now.right.few in
     let (a, there) = at-some (letters_at c.at.result.spot) c.loop-k.k
     (omega (arith, c.len-k-end.ensures, c.loop-k-test.true)) in
     next-rejected (machine_in w).variables c.args.i (four c.args.places.now)
@@ -277,7 +277,7 @@ pub choose_letter-returns-in-Some-clause-counted :
 choose_letter-returns-in-Some-clause-counted g t c =
     let w = c.args.self.now in
     let ps = four c.args.places.now in
-    let few : (machine_in w).variables ≤ 4 = w.monitor.now.right.few in
+    let few : (machine_in w).variables ≤ 4 = w.monitor.monitor.now.right.few in
     let (a, there) = at-some (letters_at c.at.result.spot) c.loop-k.k
     (omega (arith, c.len-k-end.ensures, c.loop-k-test.true)) in
     let letters = letters_in c.args.i ps in
@@ -302,7 +302,7 @@ pub choose_letter-loop-k-preserved : goal.choose_letter-loop-k-preserved
 choose_letter-loop-k-preserved g t c =
     let w = c.args.self.now in
     let ps = four c.args.places.now in
-    let few : (machine_in w).variables ≤ 4 = w.monitor.now.right.few in
+    let few : (machine_in w).variables ≤ 4 = w.monitor.monitor.now.right.few in
     let (a, there) = at-some (letters_at c.at.result.spot) c.loop-k.k
     (omega (arith, c.len-k-end.ensures, c.loop-k-test.true)) in
     let letters = letters_in c.args.i ps in
@@ -357,7 +357,7 @@ pub search-returns-then-is_settled-clause-searched :
     goal.search-returns-then-is_settled-clause-searched
 search-returns-then-is_settled-clause-searched g t c =
     let w = c.args.self.now in
-    settled-accepted (machine_in w) w.monitor.now.right w.lengths c.args.q
+    settled-accepted (machine_in w) w.monitor.monitor.now.right w.lengths c.args.q
     (eqb-true c.args.q (settled_state (machine_in w))
     (sym c.is_settled.ensures ∙ c.if-is_settled.true)) (rests_in w c.args.places.now)
 

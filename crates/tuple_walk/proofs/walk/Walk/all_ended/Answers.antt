@@ -10,10 +10,10 @@ use Rattle.tuple_walk.proofs.Stepping.{left_at}
 use Rattle.tuple_walk.proofs.walk.Walk.all_ended.Goals as goal
 
 pub loop-i-init : goal.loop-i-init
-loop-i-init c = λ k lt. absurd (omega arith)
+loop-i-init g c = λ k lt. absurd (omega arith)
 
 pub returns-then-is_none-clause-no : goal.returns-then-is_none-clause-no
-returns-then-is_none-clause-no c = λ all.
+returns-then-is_none-clause-no g c = λ all.
     let w = c.args.self.now in
     none-ended c.ended.result (left_at c.at.result)
     (c.is_none.ensures ∙ ap not c.if-is_none.true) c.ended.ensures.none
@@ -22,7 +22,7 @@ returns-then-is_none-clause-no c = λ all.
     (omega (arith, c.vars-i-end.ensures.vars)) c.at.ensures))
 
 pub loop-i-preserved : goal.loop-i-preserved
-loop-i-preserved c =
+loop-i-preserved g c =
     let n = (machine_in c.args.self.now).variables in
     below_more (λ k. HasEnded (get_or (rests_in c.args.self.now c.args.places.now) k [])) _
     c.loop-i.invariant
@@ -32,9 +32,9 @@ loop-i-preserved c =
     c.ended.ensures.some))
 
 pub returns-clause-yes : goal.returns-clause-yes
-returns-clause-yes c =
+returns-clause-yes g c =
     let w = c.args.self.now in
-    let few : (machine_in w).variables ≤ 4 = w.monitor.now.right.few in
+    let few : (machine_in w).variables ≤ 4 = w.monitor.monitor.now.right.few in
     let long = long-places (machine_in w).variables left_at (four c.args.places.now) few in
     each-from HasEnded (rests_in w c.args.places.now) []
     (λ k lt. c.loop-i.invariant k (omega (arith, c.vars-i-end.ensures.vars, long)))

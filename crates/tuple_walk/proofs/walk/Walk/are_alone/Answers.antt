@@ -9,10 +9,10 @@ use Rattle.tuple_walk.proofs.Lists.{each-more}
 use Rattle.tuple_walk.proofs.walk.Walk.are_alone.Goals as goal
 
 pub loop-i-init : goal.loop-i-init
-loop-i-init c = tt
+loop-i-init g c = tt
 
 pub loop-i-preserved : goal.loop-i-preserved
-loop-i-preserved c =
+loop-i-preserved g c =
     let n = (machine_in c.args.self.now).variables in
     let ps = four c.args.places.now in
     let P : ℕ → Type 0 = λ k. Each IsAlone (take k (take n ps)) in
@@ -22,10 +22,10 @@ loop-i-preserved c =
     (OnTrue_at c.if-not-is_alone.false c.is_alone.ensures) c.loop-i.invariant)
 
 pub returns : goal.returns
-returns c =
+returns g c =
     let n = (machine_in c.args.self.now).variables in
     let ps = four c.args.places.now in
-    let few : n ≤ 4 = c.args.self.now.monitor.now.right.few in
+    let few : n ≤ 4 = c.args.self.now.monitor.monitor.now.right.few in
     let long = length-take-le n ps few in
     subst (Each IsAlone) (take_all c.loop-i.i (take n ps)
     (omega (arith, c.vars-i-end.ensures.vars, long))) c.loop-i.invariant

@@ -31,7 +31,7 @@ loop-i-preserved g c =
     let n = (machine_in w).variables in
     let i = c.loop-i.i in
     let rests = rests_in w c.args.places.now in
-    let few : n ≤ 4 = w.monitor.now.right.few in
+    let few : n ≤ 4 = w.monitor.monitor.now.right.few in
     let (long, (ps, same, traces)) = c.loop-i.invariant in
     let (number, is) = c.rest.ensures in
     let x : Numbered = (number, c.rest.result.now) in
@@ -57,7 +57,7 @@ returns-then-rejects_rests-clause-searched g c =
     let w = c.args.self.now in
     let rests = rests_in w c.args.places.now in
     let lists = long-places (machine_in w).variables left_at (four c.args.places.now)
-    w.monitor.now.right.few in
+    w.monitor.monitor.now.right.few in
     let (long, (ps, same, traces)) = c.loop-i.invariant in
     let (is, lefts) = all-ones rests c.loop-i.rests ps c.loop-i.i c.vars-count.result
     (omega (arith, c.vars-count.ensures.vars, lists)) (omega arith) same traces in
@@ -71,7 +71,7 @@ returns-then-rejects_rests-clause-counted g c =
     let w = c.args.self.now in
     let rests = rests_in w c.args.places.now in
     let lists = long-places (machine_in w).variables left_at (four c.args.places.now)
-    w.monitor.now.right.few in
+    w.monitor.monitor.now.right.few in
     let (long, (ps, same, traces)) = c.loop-i.invariant in
     let (is, lefts) = all-ones rests c.loop-i.rests ps c.loop-i.i c.vars-count.result
     (omega (arith, c.vars-count.ensures.vars, lists)) (omega arith) same traces in
@@ -83,7 +83,7 @@ returns-else-rejects_rests-clause-searched g c =
     let w = c.args.self.now in
     let rests = rests_in w c.args.places.now in
     let lists = long-places (machine_in w).variables left_at (four c.args.places.now)
-    w.monitor.now.right.few in
+    w.monitor.monitor.now.right.few in
     let (long, (ps, same, traces)) = c.loop-i.invariant in
     let (is, lefts) = all-ones rests c.loop-i.rests ps c.loop-i.i c.vars-count.result
     (omega (arith, c.vars-count.ensures.vars, lists)) (omega arith) same traces in
@@ -96,7 +96,7 @@ returns-else-rejects_rests-clause-counted g c =
     let w = c.args.self.now in
     let rests = rests_in w c.args.places.now in
     let lists = long-places (machine_in w).variables left_at (four c.args.places.now)
-    w.monitor.now.right.few in
+    w.monitor.monitor.now.right.few in
     let (long, (ps, same, traces)) = c.loop-i.invariant in
     let (is, lefts) = all-ones rests c.loop-i.rests ps c.loop-i.i c.vars-count.result
     (omega (arith, c.vars-count.ensures.vars, lists)) (omega arith) same traces in

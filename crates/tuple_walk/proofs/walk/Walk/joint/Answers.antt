@@ -10,10 +10,10 @@ use Rattle.tuple_walk.proofs.Scanning.{code-more, code-none, get-map, get-unmap,
 use Rattle.tuple_walk.proofs.walk.Walk.joint.Goals as goal
 
 pub loop-i-init : goal.loop-i-init
-loop-i-init c = sym (code-none (machine_in c.args.self.now).atoms)
+loop-i-init g c = sym (code-none (machine_in c.args.self.now).atoms)
 
 pub loop-i-preserved : goal.loop-i-preserved
-loop-i-preserved c =
+loop-i-preserved g c =
     let w = c.args.self.now in
     let n = (machine_in w).variables in
     let ps = four c.args.places.now in
@@ -30,11 +30,11 @@ loop-i-preserved c =
     ∙ ap (λ k. code_of (joint_letter (take k letters)) atoms) one
 
 pub returns-clause-code : goal.returns-clause-code
-returns-clause-code c =
+returns-clause-code g c =
     let w = c.args.self.now in
     let n = (machine_in w).variables in
     let ps = four c.args.places.now in
-    let few : n ≤ 4 = w.monitor.now.right.few in
+    let few : n ≤ 4 = w.monitor.monitor.now.right.few in
     let letters : List Letter = map letter_or (map taken_of (take n ps)) in
     let long = length-map (map taken_of (take n ps)) letter_or ∙ length-map (take n ps) taken_of
     ∙ length-take-le n ps few in
@@ -43,7 +43,7 @@ returns-clause-code c =
     (take_all c.loop-i.i letters (omega (arith, c.vars-i-end.ensures.vars, long)))
 
 pub returns-clause-within : goal.returns-clause-within
-returns-clause-within c =
+returns-clause-within g c =
     let w = c.args.self.now in
     let letters : List Letter = take c.loop-i.i (map letter_or (map taken_of
     (places_in w c.args.places.now))) in

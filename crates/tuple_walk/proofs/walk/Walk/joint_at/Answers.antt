@@ -9,10 +9,10 @@ use Rattle.tuple_walk.proofs.Scanning.{code-more, code-none}
 use Rattle.tuple_walk.proofs.walk.Walk.joint_at.Goals as goal
 
 pub loop-var-init : goal.loop-var-init
-loop-var-init c = sym (code-none (machine_in c.args.self.now).atoms)
+loop-var-init g c = sym (code-none (machine_in c.args.self.now).atoms)
 
 pub loop-var-preserved : goal.loop-var-preserved
-loop-var-preserved c =
+loop-var-preserved g c =
     let m = machine_in c.args.self.now in
     let v = c.loop-var.var in
     let a = c.letter_at.result in
@@ -29,7 +29,7 @@ loop-var-preserved c =
     ∙ ap (λ k. code_of (joint_letter (take k letters)) m.atoms) one
 
 pub returns-clause-code : goal.returns-clause-code
-returns-clause-code c =
+returns-clause-code g c =
     let m = machine_in c.args.self.now in
     let ts = left_of c.args.rests.now in
     let letters = letters_at_position c.args.i ts in
@@ -44,7 +44,7 @@ returns-clause-code c =
     ∙ position-code m c.args.i ts
 
 pub returns-clause-within : goal.returns-clause-within
-returns-clause-within c =
+returns-clause-within g c =
     let m = machine_in c.args.self.now in
     let letters = take c.loop-var.var (letters_at_position c.args.i (left_of c.args.rests.now)) in
     omega (arith, c.loop-var.invariant, code-lt (joint_letter letters) m.atoms)

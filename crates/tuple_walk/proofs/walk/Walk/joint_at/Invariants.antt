@@ -6,6 +6,6 @@ use Rattle.tuple_walk.proofs.Following.{letters_at_position}
 use Rattle.tuple_walk.proofs.walk.Walk.joint_at.Given as goal
 
 abbrev pub invariant-loop-var : goal.invariant-loop-var
-invariant-loop-var l =
+invariant-loop-var g l =
     l.code ≡ code_of (joint_letter (take l.var (letters_at_position l.i (left_of l.rests))))
     (machine_in l.self).atoms

@@ -7,7 +7,7 @@ use Rattle.tuple_walk.proofs.Following.{two-code}
 use Rattle.tuple_walk.proofs.walk.Walk.joint_of_two.Goals as goal
 
 pub returns-clause-code : goal.returns-clause-code
-returns-clause-code c =
+returns-clause-code g c =
     let m = machine_in c.args.self.now in
     (λ j. bit_or (c.part.ensures.part j) (c.part-2.ensures.part j))
     ∙ (λ j. bit_or (part_of m.atoms 0 (c.letter_at.ensures j))
@@ -15,11 +15,11 @@ returns-clause-code c =
     ∙ two-code m c.args.i c.args.first.now c.args.second.now
 
 pub returns-clause-within : goal.returns-clause-within
-returns-clause-within c =
+returns-clause-within g c =
     let m = machine_in c.args.self.now in
     let ts = c.args.first.now ∷ c.args.second.now ∷ [] in
     omega (
       arith,
-      returns-clause-code c,
+      returns-clause-code g c,
       code-lt (λ name variable. trace_words ts name variable c.args.i) m.atoms,
     )

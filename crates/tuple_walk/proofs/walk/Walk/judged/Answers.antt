@@ -7,10 +7,10 @@ use Rattle.tuple_walk.proofs.Following.{left-there, judged-first, judged-more}
 use Rattle.tuple_walk.proofs.walk.Walk.judged.Goals as goal
 
 pub loop-i-init : goal.loop-i-init
-loop-i-init c = judged-first c.args.self.now.lengths c.args.rests.now _ c.requires
+loop-i-init g c = judged-first c.args.self.now.lengths c.args.rests.now _ c.requires
 
 pub loop-i-preserved : goal.loop-i-preserved
-loop-i-preserved c =
+loop-i-preserved g c =
     let lengths = c.args.self.now.lengths in
     let lefts = left_of c.args.rests.now in
     let i = c.loop-i.i in
@@ -25,7 +25,7 @@ loop-i-preserved c =
     ∙ ap (λ k. judged lengths (take k lefts)) one
 
 pub returns : goal.returns
-returns c =
+returns g c =
     let lefts = left_of c.args.rests.now in
     c.loop-i.invariant
     ∙ ap (judged c.args.self.now.lengths) (take_all c.loop-i.i lefts

@@ -6,11 +6,11 @@ use Rattle.tuple_walk.proofs.Onlys.{only-four}
 use Rattle.tuple_walk.proofs.walk.Walk.only.Goals as goal
 
 pub returns-then-some_letter-clause-only : goal.returns-then-some_letter-clause-only
-returns-then-some_letter-clause-only c =
+returns-then-some_letter-clause-only g c =
     let w = c.args.self.now in
     let n = (machine_in w).variables in
     let ps = c.args.places.now in
-    let few : n ≤ 4 = w.monitor.now.right.few in
+    let few : n ≤ 4 = w.monitor.monitor.now.right.few in
     let P : List Place → Type 0 = λ l. AreOnly w.lengths (rests_in w ps) (map whole_of (take n l)) in
     subst P (sym c.of-moved.ensures)
     (only-four w.lengths n few ps.first ps.second ps.third ps.fourth c.in-Some.first

@@ -7,7 +7,7 @@ use Rattle.tuple_walk.proofs.Onlys.{only-gap, only-letter, on-none}
 use Rattle.tuple_walk.proofs.walk.Walk.only_way.Goals as goal
 
 pub returns-in-0-clause-only : goal.returns-in-0-clause-only
-returns-in-0-clause-only c =
+returns-in-0-clause-only g c =
     let lengths = c.args.self.now.lengths in
     let rests = rests_of c.args.spot.now in
     let letters = letters_at c.args.spot.now in
@@ -17,7 +17,7 @@ returns-in-0-clause-only c =
     (λ p way. only-gap lengths letters rests (whole_of p) c.letters_differ.ensures none way)
 
 pub returns-else-is_some-clause-only : goal.returns-else-is_some-clause-only
-returns-else-is_some-clause-only c =
+returns-else-is_some-clause-only g c =
     let lengths = c.args.self.now.lengths in
     let rests = rests_of c.args.spot.now in
     let letters = letters_at c.args.spot.now in

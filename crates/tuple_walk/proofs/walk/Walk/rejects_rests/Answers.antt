@@ -36,6 +36,6 @@ returns-then-is_settled-clause-accepted g c =
     let settled : c.loop-i.state ≡ settled_state m =
     eqb-true c.loop-i.state (settled_state m)
     (sym c.is_settled.ensures ∙ c.if-is_settled.true) in
-    ap (is_accepting m) (settled-later m w.monitor.now.right c.args.q c.loop-i.i ts
+    ap (is_accepting m) (settled-later m w.monitor.monitor.now.right c.args.q c.loop-i.i ts
     (sym c.loop-i.invariant.over ∙ settled) (judged w.lengths ts)
-    (omega (arith, c.judged-i-end.ensures))) ∙ w.monitor.now.right.settled
+    (omega (arith, c.judged-i-end.ensures))) ∙ w.monitor.monitor.now.right.settled

@@ -18,4 +18,4 @@ returns-then-is_settled-clause-searched g c =
     eqb-true c.start.result (settled_state m) (sym c.is_settled.ensures ∙ c.if-is_settled.true) in
     let P : ℕ → Type 0 = λ q. AreAccepted m w.lengths q 0 lists in
     subst P c.start.ensures.start
-    (settled-accepted m w.monitor.now.right w.lengths c.start.result settled lists)
+    (settled-accepted m w.monitor.monitor.now.right w.lengths c.start.result settled lists)

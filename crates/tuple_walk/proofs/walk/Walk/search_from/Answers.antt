@@ -12,7 +12,7 @@ search-requires-clause-members g c =
     let n = (machine_in w).variables in
     let x : Numbered = (c.args.number, c.args.trace.now) in
     let same = c.start-places.ensures.rests n
-    ∙ starts-right c.args.version.now x n 4 c.args.place w.monitor.now.right.few c.requires.within in
+    ∙ starts-right c.args.version.now x n 4 c.args.place w.monitor.monitor.now.right.few c.requires.within in
     subst AreSome (sym same)
     (some-starts c.args.version.now x c.requires.member n c.args.place)
 
@@ -22,7 +22,7 @@ returns-clause-searched g c =
     let m = machine_in w in
     let x : Numbered = (c.args.number, c.args.trace.now) in
     let same = c.start-places.ensures.rests m.variables
-    ∙ starts-right c.args.version.now x m.variables 4 c.args.place w.monitor.now.right.few
+    ∙ starts-right c.args.version.now x m.variables 4 c.args.place w.monitor.monitor.now.right.few
     c.requires.within in
     let P : ℕ → Type 0 = λ q. IsSearch m w.lengths q 0 (rests_in w c.start-places.result)
     c.search.result in
@@ -35,7 +35,7 @@ returns-clause-counted g c =
     let n = (machine_in w).variables in
     let x : Numbered = (c.args.number, c.args.trace.now) in
     let same = c.start-places.ensures.rests n
-    ∙ starts-right c.args.version.now x n 4 c.args.place w.monitor.now.right.few c.requires.within in
+    ∙ starts-right c.args.version.now x n 4 c.args.place w.monitor.monitor.now.right.few c.requires.within in
     let P : List (List Numbered) → Type 0 = λ ls. AreSteps w.lengths ls
     (c.search.new.steps - c.args.steps.now) in
     subst P same c.search.ensures.counted

@@ -11,10 +11,10 @@ use Rattle.tuple_walk.proofs.Stepping.{left_at}
 use Rattle.tuple_walk.proofs.walk.Walk.some_ended.Goals as goal
 
 pub loop-i-init : goal.loop-i-init
-loop-i-init c = λ k lt. absurd (omega arith)
+loop-i-init g c = λ k lt. absurd (omega arith)
 
 pub returns-then-is_some-clause-yes : goal.returns-then-is_some-clause-yes
-returns-then-is_some-clause-yes c = (
+returns-then-is_some-clause-yes g c = (
   left_at c.at.result,
   at-member (machine_in c.args.self.now).variables c.loop-i.i (four c.args.places.now) c.at.result
       (omega (arith, c.vars-i-end.ensures.vars)) c.at.ensures,
@@ -23,7 +23,7 @@ returns-then-is_some-clause-yes c = (
 )
 
 pub loop-i-preserved : goal.loop-i-preserved
-loop-i-preserved c =
+loop-i-preserved g c =
     let n = (machine_in c.args.self.now).variables in
     let P : List Numbered → Type 0 = λ l. ¬ HasEnded l in
     below_more (λ k. ¬ HasEnded (get_or (rests_in c.args.self.now c.args.places.now) k [])) _
@@ -34,10 +34,10 @@ loop-i-preserved c =
     c.ended.ensures.none))
 
 pub returns-clause-no : goal.returns-clause-no
-returns-clause-no c = λ (l, (k, lt, e), ended).
+returns-clause-no g c = λ (l, (k, lt, e), ended).
     let w = c.args.self.now in
     let rests = rests_in w c.args.places.now in
-    let few : (machine_in w).variables ≤ 4 = w.monitor.now.right.few in
+    let few : (machine_in w).variables ≤ 4 = w.monitor.monitor.now.right.few in
     let long = long-places (machine_in w).variables left_at (four c.args.places.now) few in
     let is : get_or rests k [] ≡ l = get_or_default rests k [] l lt ∙ e in
     c.loop-i.invariant k (omega (arith, c.vars-i-end.ensures.vars, long))

@@ -4,4 +4,4 @@ use Rattle.tuple_walk.specs.Walks.{rests_in}
 use Rattle.tuple_walk.proofs.walk.Walk.some_ended.Given as goal
 
 abbrev pub invariant-loop-i : goal.invariant-loop-i
-invariant-loop-i l = (k : ℕ) → k < l.i → ¬ HasEnded (get_or (rests_in l.self l.places) k [])
+invariant-loop-i g l = (k : ℕ) → k < l.i → ¬ HasEnded (get_or (rests_in l.self l.places) k [])

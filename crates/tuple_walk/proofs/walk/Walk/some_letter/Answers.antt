@@ -8,10 +8,10 @@ use Rattle.tuple_walk.proofs.Scanning.{any-more, any-of, get-map, get-unmap}
 use Rattle.tuple_walk.proofs.walk.Walk.some_letter.Goals as goal
 
 pub loop-i-init : goal.loop-i-init
-loop-i-init c = refl
+loop-i-init g c = refl
 
 pub returns-then-has_letter : goal.returns-then-has_letter
-returns-then-has_letter c =
+returns-then-has_letter g c =
     let w = c.args.self.now in
     let n = (machine_in w).variables in
     let ps = four c.args.places.now in
@@ -21,7 +21,7 @@ returns-then-has_letter c =
     (is ∙ c.if-has_letter.true))
 
 pub loop-i-preserved : goal.loop-i-preserved
-loop-i-preserved c =
+loop-i-preserved g c =
     let w = c.args.self.now in
     let n = (machine_in w).variables in
     let ps = four c.args.places.now in
@@ -33,11 +33,11 @@ loop-i-preserved c =
     (is ∙ c.if-has_letter.false) c.loop-i.invariant
 
 pub returns : goal.returns
-returns c =
+returns g c =
     let w = c.args.self.now in
     let n = (machine_in w).variables in
     let ps = four c.args.places.now in
-    let few : n ≤ 4 = w.monitor.now.right.few in
+    let few : n ≤ 4 = w.monitor.monitor.now.right.few in
     let long = length-map (take n ps) taken_of ∙ length-take-le n ps few in
     sym (ap (list_any is_letter) (sym (take_all c.loop-i.i (map taken_of (take n ps))
     (omega (arith, c.vars-i-end.ensures.vars, long)))) ∙ c.loop-i.invariant)

@@ -14,10 +14,10 @@ use Rattle.tuple_walk.proofs.Stepping.{left_at}
 use Rattle.tuple_walk.proofs.walk.Walk.tuple_of.Goals as goal
 
 pub loop-i-init : goal.loop-i-init
-loop-i-init c = (refl, ([], tt, refl))
+loop-i-init g c = (refl, ([], tt, refl))
 
 pub returns-in_err-numbers-clause-none : goal.returns-in_err-numbers-clause-none
-returns-in_err-numbers-clause-none c =
+returns-in_err-numbers-clause-none g c =
     let w = c.args.self.now in
     let P : Option (List ℕ) → Type 0 = λ r. IfNone r (¬ AreSome (rests_in w c.args.places.now)) in
     let empty : left_at c.at.result ≡ [] = c.in_err-numbers.ensures.none in
@@ -32,12 +32,12 @@ returns-in_err-numbers-clause-none c =
     omega arith)
 
 pub loop-i-preserved : goal.loop-i-preserved
-loop-i-preserved c =
+loop-i-preserved g c =
     let w = c.args.self.now in
     let n = (machine_in w).variables in
     let i = c.loop-i.i in
     let rests = rests_in w c.args.places.now in
-    let few : n ≤ 4 = w.monitor.now.right.few in
+    let few : n ≤ 4 = w.monitor.monitor.now.right.few in
     let (long, (ps, ended, same)) = c.loop-i.invariant in
     let number = c.in_ok-numbers.field-0 in
     let (t, here, done) = c.in_ok-numbers.ensures.some in
@@ -55,10 +55,10 @@ loop-i-preserved c =
     (length-set c.loop-i.numbers i number ∙ long, (ps ++ (number, t) ∷ [], e, f))
 
 pub returns-clause-some : goal.returns-clause-some
-returns-clause-some c =
+returns-clause-some g c =
     let w = c.args.self.now in
     let rests = rests_in w c.args.places.now in
-    let few : (machine_in w).variables ≤ 4 = w.monitor.now.right.few in
+    let few : (machine_in w).variables ≤ 4 = w.monitor.monitor.now.right.few in
     let long = long-places (machine_in w).variables left_at (four c.args.places.now) few in
     let (l, (ps, ended, same)) = c.loop-i.invariant in
     let all : c.loop-i.i ≡ c.vars-count.result = omega arith in
