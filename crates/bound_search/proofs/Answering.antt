@@ -26,7 +26,8 @@ use Rattle.bound_search.proofs.RightGates.{AreRight}
 use Rattle.bound_search.proofs.Saying.{Says}
 use Rattle.bound_search.proofs.Filling.{AreOrdered, filled, filled-before, filled-right, right-same, gates-met}
 use Rattle.bound_search.proofs.Choosing.{IsMember, quantified-same}
-use Rattle.bound_search.proofs.Members.{Spells, IsWritten, met-member, spells-written, member-met}
+use Rattle.bound_search.specs.Spelling.{Spells}
+use Rattle.bound_search.proofs.Members.{IsWritten, met-member, spells-written, member-met}
 use Rattle.bound_search.proofs.Formulas.{letter-below, fits-formula, says-formula}
 
 -- a list of what there is for each number below n
@@ -80,7 +81,7 @@ module _ (bound : Bound) (ok : IsBound bound) (prefix : List Quant) (body : Tree
   ordered : AreOrdered first drawn.gates
   ordered = (fits-formula bound ok prefix body known).ordered first (omega arith)
 
-  answer-met : (a : Assignment) → AllMet a (clauses_of bound prefix body) ↔ IsAnswer a
+  pub answer-met : (a : Assignment) → AllMet a (clauses_of bound prefix body) ↔ IsAnswer a
   unfolding clauses_of
   answer-met a =
       let members = for_each (member_clauses names bound) bound.traces in

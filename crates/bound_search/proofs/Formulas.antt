@@ -36,7 +36,7 @@ use Rattle.bound_search.proofs.Fitting.{Fits, fits-plain, fits-followed, literal
 use Rattle.bound_search.proofs.RowFits.{IsRow, first-literal, fits-body}
 use Rattle.bound_search.proofs.Choosing.{IsMember, says-chosen, fits-chosen}
 use Rattle.bound_search.proofs.Naming.{IsAtomOf, own-atoms, place-within}
-use Rattle.bound_search.proofs.Members.{Spells}
+use Rattle.bound_search.specs.Spelling.{Spells}
 use Rattle.bound_search.proofs.Rounds.{common-some, common-multiple}
 
 module _ (bound : Bound) (ok : IsBound bound) (prefix : List Quant) (body : Tree)

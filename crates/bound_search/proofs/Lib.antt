@@ -21,3 +21,6 @@ pub mod Making
 pub mod MadeChoices
 pub mod MadeCycles
 pub mod MadeQuery
+pub mod ReadLassos
+pub mod FoundLists
+pub mod Outcomes

@@ -21,14 +21,9 @@ use Rattle.chain_check.proofs.FewMeanings.{further-means, same-met, guarded-met}
 use Rattle.bound_search.specs.declared.bound.Bound.{Bound}
 use Rattle.bound_search.specs.Bounds.{IsShort}
 use Rattle.bound_search.specs.Names.{name_place}
+use Rattle.bound_search.specs.Spelling.{Spells, letter_read, lasso_read}
 use Rattle.bound_search.specs.Queries.{round, places, letter_variable, cycle_variable, repeat_clauses, cycle_clauses, some_cycle, member_clauses}
 use Rattle.bound_search.proofs.Naming.{place-within, at-place}
-
--- The variables of member t say of each name and each place whether the letter there has the name.
-abbrev pub Spells : Assignment → List ℕ → Bound → ℕ → Lasso Letter → Type 0
-Spells a names bound t l =
-    (name : ℕ) → Contains names name → (i : ℕ) → i < places bound →
-    a (letter_variable names bound t (name_place name names) i) ≡ contains (letter_at l i) name
 
 -- The variables of member t were written of the lasso, its letters and how many its cycle has.
 pub record IsWritten (a : Assignment) (names : List ℕ) (bound : Bound) (t : ℕ)
@@ -37,18 +32,6 @@ pub record IsWritten (a : Assignment) (names : List ℕ) (bound : Bound) (t : �
       a (letter_variable names bound t r i) ≡ contains (letter_at l i) (get_or names r 0)
   pub cycle : (d : ℕ) → d < bound.cycle →
       a (cycle_variable names bound t d) ≡ nat_eq (suc d) (length l.cycle)
-
--- the letter that the variables of member t give to place i
-abbrev letter_read : Assignment → List ℕ → Bound → ℕ → ℕ → Letter
-letter_read a names bound t i =
-    from_list (filter (λ name. a (letter_variable names bound t (name_place name names) i)) names)
-
--- the lasso with a cycle of d + 1 letters
-abbrev lasso_read : Assignment → List ℕ → Bound → ℕ → ℕ → Lasso Letter
-lasso_read a names bound t d = record {
-  stem = listed 0 bound.stem (letter_read a names bound t);
-  cycle = listed bound.stem (suc d) (letter_read a names bound t);
-}
 
 listed-at : {A : Type 0} (n : ℕ) (f : ℕ → A) (d : A) (i : ℕ) → i < n →
     get_or (listed 0 n f) i d ≡ f i
@@ -70,6 +53,15 @@ filtered-has p xs x there =
     back : p x ≡ true → list_any (λ y. nat_eq y x) (filter p xs) ≡ true
     back h = any-of (λ y. nat_eq y x) (filter p xs) x (filter-of p xs x there h)
         ((Decides-eqb x x).1 refl)
+
+filtered-from : (p : ℕ → Bool) (xs : List ℕ) (x : ℕ) →
+    contains (from_list {R = nat_cmp} (filter p xs)) x ≡ true → Contains xs x
+filtered-from p xs x h =
+    let (y, c, e) = any-from (λ y. nat_eq y x) (filter p xs)
+    (sym (contains-from_list_nat (filter p xs) x) ∙ h) in
+    let (there, _) = filter-from p xs y c in
+    let P : ℕ → Type 0 = Contains xs in
+    subst P ((Decides-eqb y x).0 e) there
 
 module _ (a : Assignment) (names : List ℕ) (bound : Bound) (t : ℕ) where
   -- place i of the name at place r
@@ -101,14 +93,13 @@ module _ (a : Assignment) (names : List ℕ) (bound : Bound) (t : ℕ) where
       (repeat-met d r j).0 (met-each a (repeat_clauses names bound t d r) _
       (met-each a _ _ h r few) j lt) e
 
-  -- some length of the cycle, and what it says
-  met-cycle : AllMet a (member_clauses names bound t) → (d : ℕ) × (d < bound.cycle) × Repeats d
-  met-cycle h =
-      let (some, each) = (met-append a (some_cycle names bound t)
+  -- some length of the cycle
+  pub some-length : AllMet a (member_clauses names bound t) →
+      (d : ℕ) × (d < bound.cycle) × (a (cycle_variable names bound t d) ≡ true)
+  some-length h =
+      let (some, _) = (met-append a (some_cycle names bound t)
       (for_each (cycle_clauses names bound t) bound.cycle)).0 h in
-      let (d, lt, e) =
-      some-value a (λ d. further (cycle_variable names bound t d)) bound.cycle some.0 in
-      (d, lt, repeats-met d e (met-each a (cycle_clauses names bound t) bound.cycle each d lt))
+      some-value a (λ d. further (cycle_variable names bound t d)) bound.cycle some.0
 
   -- behind the stem the letters go round
   round-read : (d : ℕ) → Repeats d → (r : ℕ) → r < length names → (i : ℕ) → bound.stem ≤ i →
@@ -128,33 +119,59 @@ module _ (a : Assignment) (names : List ℕ) (bound : Bound) (t : ℕ) where
         ∙ ap (λ k. at r (bound.stem + k)) less
   ]
 
+  read-before : (d i : ℕ) → i < bound.stem →
+      letter_at (lasso_read a names bound t d) i ≡ letter_read a names bound t i
+  read-before d i before =
+      let l : Lasso Letter = lasso_read a names bound t d in
+      let letter : ℕ → Letter = letter_read a names bound t in
+      let stem : length l.stem ≡ bound.stem = length-listed 0 bound.stem letter in
+      in-stem empty l i (omega (arith, stem, before)) ∙ listed-at bound.stem letter empty i before
+
+  read-behind : (d i : ℕ) → bound.stem ≤ i → letter_at (lasso_read a names bound t d) i
+      ≡ letter_read a names bound t (bound.stem + (i - bound.stem) % suc d)
+  read-behind d i from =
+      let l : Lasso Letter = lasso_read a names bound t d in
+      let letter : ℕ → Letter = letter_read a names bound t in
+      let stem : length l.stem ≡ bound.stem = length-listed 0 bound.stem letter in
+      let cycle : length l.cycle ≡ suc d = length-listed bound.stem (suc d) letter in
+      let k : ℕ = (i - bound.stem) % suc d in
+      let few : k < suc d = mod-lt (i - bound.stem) (omega arith) in
+      in-cycle empty l i (omega (arith, stem, from))
+      ∙ ap (λ n. get_or l.cycle ((i - n) % length l.cycle) empty) stem
+      ∙ ap (λ n. get_or l.cycle ((i - bound.stem) % n) empty) cycle
+      ∙ at-listed bound.stem (suc d) letter empty k few
+
   spells-read : (d : ℕ) → Repeats d → Spells a names bound t (lasso_read a names bound t d)
   spells-read d repeats name there i lt =
       let l : Lasso Letter = lasso_read a names bound t d in
-      let letter : ℕ → Letter = letter_read a names bound t in
-      let has : (k : ℕ) → contains (letter k) name ≡ at (name_place name names) k =
+      let has : (k : ℕ) → contains (letter_read a names bound t k) name
+      ≡ at (name_place name names) k =
       λ k. filtered-has (λ x. at (name_place x names) k) names name there in
-      let stem : length l.stem ≡ bound.stem = length-listed 0 bound.stem letter in
-      let cycle : length l.cycle ≡ suc d = length-listed bound.stem (suc d) letter in
       elim (cases_lt i bound.stem) [
         | inl before ↦
-            let e : letter_at l i ≡ letter i =
-            in-stem empty l i (omega (arith, stem, before)) ∙
-            listed-at bound.stem letter empty i before in
-            sym (has i) ∙ sym (ap (λ x. contains x name) e)
+            sym (has i) ∙ sym (ap (λ x. contains x name) (read-before d i before))
         | inr from ↦
-            let k : ℕ = (i - bound.stem) % suc d in
-            let few : k < suc d = mod-lt (i - bound.stem) (omega arith) in
-            let e : letter_at l i ≡ letter (bound.stem + k) =
-            in-cycle empty l i (omega (arith, stem, from))
-            ∙ ap (λ n. get_or l.cycle ((i - n) % length l.cycle) empty) stem
-            ∙ ap (λ n. get_or l.cycle ((i - bound.stem) % n) empty) cycle
-            ∙ at-listed bound.stem (suc d) letter empty k few in
             round-read d repeats (name_place name names) (place-within name names there) i from lt
-            ∙ sym (has (bound.stem + k)) ∙ sym (ap (λ x. contains x name) e)
+            ∙ sym (has (bound.stem + (i - bound.stem) % suc d))
+            ∙ sym (ap (λ x. contains x name) (read-behind d i from))
       ]
 
-  short-read : (d : ℕ) → d < bound.cycle → IsShort bound (lasso_read a names bound t d)
+  -- The lasso has these names alone.
+  pub named-read : (d i name : ℕ) →
+      contains (letter_at (lasso_read a names bound t d) i) name ≡ true → Contains names name
+  named-read d i name h =
+      let from_letter : (k : ℕ) → contains (letter_read a names bound t k) name ≡ true →
+      Contains names name =
+      λ k e. filtered-from (λ x. at (name_place x names) k) names name e in
+      elim (cases_lt i bound.stem) [
+        | inl before ↦
+            from_letter i (sym (ap (λ x. contains x name) (read-before d i before)) ∙ h)
+        | inr from ↦
+            from_letter (bound.stem + (i - bound.stem) % suc d)
+            (sym (ap (λ x. contains x name) (read-behind d i from)) ∙ h)
+      ]
+
+  pub short-read : (d : ℕ) → d < bound.cycle → IsShort bound (lasso_read a names bound t d)
   short-read d lt =
       let letter : ℕ → Letter = letter_read a names bound t in
       let stem = length-listed 0 bound.stem letter in
@@ -165,12 +182,22 @@ module _ (a : Assignment) (names : List ℕ) (bound : Bound) (t : ℕ) where
         cycle = omega (arith, cycle, lt);
       }
 
-  -- Where the clauses of a member are met, its variables spell a lasso.
+  -- Where the clauses of a member are met, its variables spell the lasso of each length.
+  pub met-read : AllMet a (member_clauses names bound t) → (d : ℕ) → d < bound.cycle →
+      a (cycle_variable names bound t d) ≡ true →
+      Spells a names bound t (lasso_read a names bound t d)
+  met-read h d lt e =
+      let (_, each) = (met-append a (some_cycle names bound t)
+      (for_each (cycle_clauses names bound t) bound.cycle)).0 h in
+      spells-read d (repeats-met d e (met-each a (cycle_clauses names bound t) bound.cycle
+      each d lt))
+
+  -- It spells some lasso.
   pub met-member : AllMet a (member_clauses names bound t) →
       (l : Lasso Letter) × IsShort bound l × Spells a names bound t l
   met-member h =
-      let (d, lt, repeats) = met-cycle h in
-      (lasso_read a names bound t d, short-read d lt, spells-read d repeats)
+      let (d, lt, e) = some-length h in
+      (lasso_read a names bound t d, short-read d lt, met-read h d lt e)
 
   -- ---- the clauses, where the variables were written of a lasso
 

@@ -1,6 +1,6 @@
 //! The names of a body.
 
-ghost use Rattle.std.specs.Prelude.{◌≡◌, ◌≤◌, IfOk, OnOk, length, nat_eq};
+ghost use Rattle.std.specs.Prelude.{◌≡◌, ◌<◌, ◌≤◌, All, IfOk, OnOk, length, nat_eq};
 ghost use Rattle.std.specs.List.{list_any};
 ghost use Rattle.hy_formula.specs.Trees.{tree_of};
 ghost use Rattle.bound_search.specs.Names.{name_place, names_of, with_name, with_names};
@@ -12,7 +12,8 @@ use std::alloc::Global;
 /// The names of a body, each once, in the order in which they are met. In time linear in the body
 /// times the names.
 pub fn names_of(alloc: Global, body: &Body) -> M<NumList>
-    ensures { IfOk result (λ names. names ≡ names_of (tree_of body.now)) }
+    ensures names { IfOk result (λ names. names ≡ names_of (tree_of body.now)) }
+    ensures few { IfOk result (All (λ name. name < 64)) }
 {
     let mut names = List::new(alloc);
     add_names(&mut names, body)?;
@@ -28,7 +29,10 @@ fn has(names: &NumList, name: u32) -> bool
 
 /// Adds the name where it is new.
 fn add_name(names: &mut NumList, name: u32) -> M<()>
-    ensures { OnOk result (names.new ≡ with_name name names.old) }
+    requires few { All (λ x. x < 64) names.old }
+    requires own { name < 64 }
+    ensures names { OnOk result (names.new ≡ with_name name names.old) }
+    ensures few { OnOk result (All (λ x. x < 64) names.new) }
 {
     if !has(names, name) {
         names.push(name)?;
@@ -38,7 +42,9 @@ fn add_name(names: &mut NumList, name: u32) -> M<()>
 
 /// Adds the names of the body that are new.
 fn add_names(names: &mut NumList, body: &Body) -> M<()>
-    ensures { OnOk result (names.new ≡ with_names (tree_of body.now) names.old) }
+    requires { All (λ x. x < 64) names.old }
+    ensures names { OnOk result (names.new ≡ with_names (tree_of body.now) names.old) }
+    ensures few { OnOk result (All (λ x. x < 64) names.new) }
 {
     match body {
         Body::True | Body::False => Ok(()),
