@@ -12,6 +12,8 @@ pub mod Demands
 pub mod Fitting
 mod FreshNames
 mod GroupRuns
+mod NamedOutputs
+mod NamesBelow
 mod Numbering
 pub mod PartRuns
 pub mod Placing

@@ -1,18 +1,21 @@
 //! Laws of the definitions.
 
 ghost use Rattle.std.specs.Prelude.{◌≡◌, ◌↔◌, ◌+◌, ◌<◌, ◌≤◌, ◌^◌, ℕ, List, true, length};
-ghost use Rattle.hy_formula.specs.Atoms.{IndexedAtom, atoms_of};
-ghost use Rattle.hy_formula.specs.Temporal.{IsDecided, SatisfiesAt, endless};
+ghost use Rattle.hy_formula.specs.Atoms.{IndexedAtom, atoms_of, has_name};
+ghost use Rattle.hy_formula.specs.Temporal.{IsDecided, SatisfiesAt, Words, endless};
 ghost use Rattle.hy_formula.specs.Trees.{Tree, vars_below};
 ghost use Rattle.aig_net.specs.declared.run.Run.{Run};
 ghost use Rattle.aig_net.specs.declared.run.ValueLasso.{ValueLasso};
+ghost use Rattle.aig_net.specs.declared.signals.Signal.{Signal};
 ghost use Rattle.aig_net.specs.Executions.{IsExecution, IsLassoExecution, Lasso, Recurs, Word, gone};
-ghost use Rattle.aig_net.specs.Nets.{Below, IsNet, IsRight, Net, variables};
+ghost use Rattle.aig_net.specs.Nets.{Below, IsNet, IsRight, Net, literal_at, variables};
+ghost use Rattle.aig_net.specs.Signals.{visible};
 ghost use Rattle.aig_net.specs.Simulations.{IsExecutionOf, IsRunOf, valuations};
+ghost use Rattle.net_names.specs.Names.{AreSignals, IsOnly, name_at};
 ghost use Rattle.strat_compose.specs.declared.group.Group.{Group};
 ghost use Rattle.strat_compose.specs.AtomNumbers.{atom_at};
 ghost use Rattle.strat_compose.specs.Completions.{AreRight, Goes, IsCompletion, Wins, shown_words};
-ghost use Rattle.strat_compose.specs.Driving.{IsSmall, IsStrategy, driven, existential_of, name_count, parts_of, player_of, universal_of};
+ghost use Rattle.strat_compose.specs.Driving.{IsSmall, IsStrategy, driven, driven_outputs, existential_of, fresh_names, name_count, parts_of, player_of, universal_of};
 ghost use Rattle.strat_compose.specs.Formulas.{driven_body, output_words};
 ghost use Rattle.strat_compose.specs.Groups.{part};
 ghost use Rattle.strat_compose.specs.Runs.{HasCopies, universal_run};
@@ -74,6 +77,26 @@ pub fn driven_formulas_are_right()
         × SatisfiesAt endless (shown_words signal m
         (λ c. part net (universal_of net strategy m e) c word)
         (λ d. part net (existential_of net strategy m e) d word)) body 0) }
+{}
+
+/// The names of a driven formula are the numbers of the driven net's outputs, and each stands for its
+/// output alone. So by them is seen what the outputs show.
+pub fn driven_names_are_outputs()
+    ensures own { (net : Net) (e : ℕ) (body : Tree) (name : ℕ)
+        → has_name (driven_body net e body) name ≡ true → name < name_count net e (atoms_of body) }
+    ensures only { (net strategy : Net) (m e : ℕ) (signal : ℕ → ℕ) (atoms : List IndexedAtom)
+        (name : ℕ) → name < name_count net e atoms
+        → IsOnly (driven net strategy (parts_of net strategy m e) signal atoms)
+        (name_at (fresh_names (name_count net e atoms)) name)
+        (literal_at (driven_outputs net strategy (parts_of net strategy m e) signal atoms) name) }
+    ensures seen { (net strategy : Net) (m e : ℕ) (signal : ℕ → ℕ) (body : Tree)
+        (signals : List Signal) → AreSignals (driven_for net strategy m e signal body)
+        (fresh_names (name_count net e (atoms_of body))) (driven_body net e body) signals
+        → (word : Word) (words : Words)
+        → ((name i : ℕ) → words name 0 i ≡ visible signals word name i)
+        → SatisfiesAt endless words (driven_body net e body) 0
+        ↔ SatisfiesAt endless (output_words net strategy (parts_of net strategy m e) signal
+        (atoms_of body) word) (driven_body net e body) 0 }
 {}
 
 /// A strategy wins exactly where each lasso execution of the driven net fulfils the driven formula.

@@ -18,8 +18,8 @@ mod runs;
 pub use counting::{Counts, count_quantifiers};
 pub use group::Group;
 pub use laws::{
-    driven_formulas_are_right, driven_nets_are_nets, executions_are_completed, strategies_fail,
-    strategies_win, universal_runs_are_runs,
+    driven_formulas_are_right, driven_names_are_outputs, driven_nets_are_nets,
+    executions_are_completed, strategies_fail, strategies_win, universal_runs_are_runs,
 };
 pub use parts::Parts;
 pub use question::{DriveError, Driven, drive};
