@@ -1,6 +1,7 @@
 -- Which questions are refused, and what comes of the others.
 use Rattle.std.specs.Prelude.{◌≡◌, ℕ, ◌*◌, ◌<◌, ◌≤◌, List, [], ◌∷◌}
 use Rattle.hy_base.specs.declared.limit.Kind.TheVariants.{StrategyNames}
+use Rattle.hy_base.specs.declared.limit.Limit.{Limit as Past}
 use Rattle.hy_formula.specs.declared.prefix.Quant.{Quant}
 use Rattle.hy_formula.specs.declared.prefix.Quant.TheVariants.{Forall}
 use Rattle.hy_formula.specs.Classes.{class_of}
@@ -41,6 +42,9 @@ pub record IsDriven (net strategy : Net) (prefix : List Quant) (body : Tree)
   pub named : AreSignals net names body signals
   pub is : IsMade net strategy universal existential signals body made
 
+abbrev pub names_limit : Past
+names_limit = record { kind = StrategyNames; limit = 64 }
+
 -- Why nothing is made: the first cause in this order, but for memory.
 abbrev pub IsRefusal : Net → Net → List Quant → Tree → List (List ℕ) → DriveError → Type 0
 IsRefusal net strategy prefix body names (Prefix class) =
@@ -48,8 +52,9 @@ IsRefusal net strategy prefix body names (Prefix class) =
 IsRefusal net strategy prefix body names (Shape inputs outputs) =
     (m e : ℕ) × IsForallExists prefix m e × (¬ IsStrategy net strategy m e)
     × (inputs ≡ net.inputs * m) × (outputs ≡ net.inputs * e)
-IsRefusal net strategy prefix body names (Limit kind) =
-    (kind ≡ StrategyNames) × (m e : ℕ) × AreShaped net strategy prefix m e × (64 < name_count net e (atoms_of body))
+IsRefusal net strategy prefix body names (Limit limit) =
+    (limit ≡ names_limit) × (m e : ℕ) × AreShaped net strategy prefix m e
+    × (64 < name_count net e (atoms_of body))
 IsRefusal net strategy prefix body names (Name name twice) =
     (m e : ℕ) × AreShaped net strategy prefix m e
     × (name_count net e (atoms_of body) ≤ 64) × IsFirstBad net names body name twice

@@ -13,7 +13,7 @@ use crate::demanding::driven_body;
 use crate::driving::driven_net;
 use crate::fresh::fresh_table;
 use aig_net::{Net, Reset, Signals};
-use hy_base::{Kind, M, Memory};
+use hy_base::{Kind, Limit, M, Memory};
 use hy_formula::{Atom, AtomList, Body, Class, Formula, NameTable, Prefix, Quant, atoms_of, class};
 use net_names::{NameError, signals_of};
 use std::alloc::Global;
@@ -36,8 +36,8 @@ pub enum DriveError {
     /// The strategy has not so many inputs and outputs, or has a constraint, a fairness literal or
     /// an uninitialised latch.
     Shape { inputs: u32, outputs: u32 },
-    /// A count is past its limit, here that of the names of the driven formula.
-    Limit(Kind),
+    /// A count is past its limit: that of the names of the driven formula.
+    Limit(Limit),
     /// The first name of the formula, by its number, that nothing in the circuit has, or that
     /// `twice` stands for different literals.
     Name { name: u8, twice: bool },
@@ -87,7 +87,10 @@ pub fn drive(
         });
     }
     let Some(atoms) = few_atoms(alloc, net, e, &formula.body)? else {
-        return Err(DriveError::Limit(Kind::StrategyNames));
+        return Err(DriveError::Limit(Limit {
+            kind: Kind::StrategyNames,
+            limit: 64,
+        }));
     };
     match signals_of(alloc, net, &formula.body, names) {
         Err(NameError::Memory) => Err(DriveError::Memory),
