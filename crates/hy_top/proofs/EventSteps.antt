@@ -1,7 +1,6 @@
 -- Events, given to a monitor one after another.
-use Rattle.std.proofs.Common.{◌≡◌, ℕ, suc, ◌+◌, ◌≤◌, Bool, true, false, nat_lt, if◌then◌else◌, List, [], ◌∷◌, length, Option, Some, None, Ok, Err, Result, inl, inr, refl, sym, subst, ◌∙◌, arith}
+use Rattle.std.proofs.Common.{◌≡◌, ◌⊎◌, ℕ, zero, suc, ◌+◌, ◌≤◌, Bool, true, false, nat_lt, if◌then◌else◌, List, [], ◌∷◌, ◌++◌, length, Option, Some, None, Ok, Err, Result, inl, inr, refl, sym, ap, subst, ◌∙◌, arith}
 use Rattle.std.proofs.lemmas.List.{length-append}
-use Rattle.hy_base.specs.Limits.{most}
 use Rattle.hy_bits.specs.Letter.{Letter}
 use Rattle.hy_finite.specs.declared.event.Event.{Event}
 use Rattle.hy_finite.specs.declared.event.Event.TheVariants as event
@@ -12,117 +11,73 @@ use Rattle.rv_core.specs.declared.reply.Reply.{Reply}
 use Rattle.rv_core.specs.declared.reply.Reply.TheVariants.{Quiet, Arrived, Violation}
 use Rattle.rv_core.specs.declared.rv_error.RvError.{RvError}
 use Rattle.rv_core.specs.declared.rv_error.RvError.TheVariants as errors
-use Rattle.rv_core.specs.Endings.{Spec, IsClean}
+use Rattle.rv_core.specs.Endings.{Spec, Ending, clean, refusal, violation, Ends}
 use Rattle.rv_core.specs.declared.saved.Saved.{Saved}
 use Rattle.rv_core.specs.Held.{Held, AreSaves, StandsFor, specs_of}
-use Rattle.rv_core.specs.Histories.{Present, History, empty_history, Refusal, no_session, no_save, too_long, too_many_sessions, too_many_saves, Step, refused, goes, step, arrives, letters_of, letter_step, end_step, back_step, with_sessions, with_trace, extended, closed, most_sessions, most_saves}
-use Rattle.rv_core.specs.Replies.{error_of, IsFound, IsAnswer, quiet, arrived, violated, refused_by, spent, Answers}
+use Rattle.rv_core.specs.Histories.{Present, History, empty_history, Refusal, too_long, too_many_sessions, too_many_saves, refused, goes, step, letters_of, letter_step, end_step, back_step, with_sessions, with_trace, extended, closed, most_sessions, most_saves}
+use Rattle.rv_core.specs.Replies.{error_of, IsFound, IsAnswer, quiet, arrived, violated, refused_by, spent, Answers, Stop, through, error_at, violation_at, Runs, at_end, on_quiet, on_arrival, at_violation, at_error, EndsAs}
+use Rattle.rv_core.proofs.Ending.{ends-some}
 use Rattle.hy_answer.specs.declared.answer.Answer.{Answer}
 use Rattle.hy_answer.specs.declared.answer.Answer.TheVariants as answers
-use Rattle.hy_top.specs.Monitoring.{refusal_answer, IsNoViolation, Comes, ComesTo, EventsCome}
-use Rattle.hy_top.specs.Watching.{OrMemory, IsEventAnswer, GoesOn, Stops, AreLeft, count_left, AreNumbered, AreGood, AreRead, IsAhead, IsThrough}
+use Rattle.hy_top.specs.Monitoring.{event_answer, events_of, line_of, IsNoViolation, Brings, EventsCome}
+use Rattle.hy_top.specs.Watching.{OrMemory, OrFault, AreLeft, count_left, AreNumbered, AreGood, AreRead, IsAhead, IsThrough, IsWatched}
 use Rattle.hy_top.specs.declared.source.Source.{Source}
+use Rattle.hy_top.specs.declared.watching.Watched.{Watched}
 use Rattle.hy_top.proofs.Sources.{some-left}
 
 pub or-memory : {P Q : Type 0} {a : Answer} → (P → Q) → OrMemory a P → OrMemory a Q
 or-memory f (inl e) = inl e
 or-memory f (inr p) = inr (f p)
 
+pub or-fault : {P Q : Type 0} (source : Source) (a : Answer) → (P → Q) → OrFault source a P → OrFault source a Q
+or-fault source a f (inl (good, p)) = inl (good, f p)
+or-fault source a f (inr fault) = inr fault
+
 -- ---- one event
 
-module _ (lengths : Lengths) (specs : List Spec) (line : ℕ) where
-  goes-comes : (arriving : Bool) (st : Step) (next : History) (Rest : History → Type 0) (a : Answer) → st ≡ goes next
-      → (arriving ≡ true → IsClean lengths specs next.present.arrived) → Rest next → Comes lengths specs line arriving st Rest a
-  goes-comes false st next Rest a e clean rest =
-      let P : Step → Type 0 = λ s. Comes lengths specs line false s Rest a in subst P (sym e) rest
-  goes-comes true st next Rest a e clean rest =
-      let P : Step → Type 0 = λ s. Comes lengths specs line true s Rest a in subst P (sym e) (inr (clean refl, rest))
+-- The event leads from a history to one that the monitor then stands for.
+pub record GoesOn (h : History) (e : Event) (new : Held) : Type 0 where
+  pub next : History
+  pub steps : step h e ≡ goes next
+  pub stands : StandsFor new next
 
-  stops-comes : (arriving : Bool) (st : Step) (Rest : History → Type 0) (a : Answer) → Comes lengths specs line arriving st (λ next. ⊥) a
-      → Comes lengths specs line arriving st Rest a
-  stops-comes arriving (refused r) Rest a is = is
-  stops-comes false (goes h) Rest a is = absurd is
-  stops-comes true (goes h) Rest a (inl violation) = inl violation
-  stops-comes true (goes h) Rest a (inr (clean, none)) = absurd none
+module _ (old new : Held) (e : Event) (h : History) where
+  pub goes-quiet : (r : Result Reply RvError) → r ≡ Ok Quiet → IsAnswer old new e h r → GoesOn h e new
+  goes-quiet _ same (quiet next steps silent stands) = record { next = next; steps = steps; stands = stands }
+  goes-quiet _ same (arrived next steps loud stands) = absurd (cc)
+  goes-quiet _ same (violated next s trace tuple steps loud found unclean) = absurd (cc)
+  goes-quiet _ same (refused_by r steps stands) = absurd (cc)
+  goes-quiet _ same (spent takes stands) = absurd (cc)
 
--- The refusal of an event is answered as its error is.
-refusal-answered : (r : Refusal) (line : ℕ) (a : Answer) → IsEventAnswer (error_of r) line a → a ≡ refusal_answer line r
-refusal-answered no_session line a is = is
-refusal-answered no_save line a is = is
-refusal-answered too_long line a is = is
-refusal-answered too_many_sessions line a is = is
-refusal-answered too_many_saves line a is = is
+  pub goes-arrived : (r : Result Reply RvError) (trace : ℕ) → r ≡ Ok (Arrived trace) → IsAnswer old new e h r → GoesOn h e new
+  goes-arrived _ trace same (quiet next steps silent stands) = absurd (cc)
+  goes-arrived _ trace same (arrived next steps loud stands) = record { next = next; steps = steps; stands = stands }
+  goes-arrived _ trace same (violated next s t tuple steps loud found unclean) = absurd (cc)
+  goes-arrived _ trace same (refused_by r steps stands) = absurd (cc)
+  goes-arrived _ trace same (spent takes stands) = absurd (cc)
 
-module _ (old new : Held) (placed : Placed) (lengths : Lengths) (rule : old.rule ≡ lengths) (same : specs_of new ≡ specs_of old) (rules : new.rule ≡ old.rule) (h : History) where
-  pub goes-quiet : (r : Result Reply RvError) → r ≡ Ok Quiet → IsAnswer old new placed.event h r → GoesOn lengths (specs_of old) h placed new
-  goes-quiet _ e (quiet next steps silent stands) =
-      record { next = next; steps = steps; stands = stands; clean = λ loud. absurd (let both : true ≡ false = sym loud ∙ silent in cc) }
-  goes-quiet _ e (arrived next steps loud stands) = absurd (cc)
-  goes-quiet _ e (violated next s trace tuple steps loud found unclean) = absurd (cc)
-  goes-quiet _ e (refused_by r steps stands) = absurd (cc)
-  goes-quiet _ e (spent takes stands) = absurd (cc)
+-- ---- one event more
 
-  pub goes-arrived : (r : Result Reply RvError) (trace : ℕ) → r ≡ Ok (Arrived trace) → IsAnswer old new placed.event h r → GoesOn lengths (specs_of old) h placed new
-  goes-arrived _ trace e (quiet next steps silent stands) = absurd (cc)
-  goes-arrived _ trace e (arrived next steps loud stands) =
-      let P : List Spec → Type 0 = λ specs. IsClean lengths specs next.present.arrived in
-      let Q : Lengths → Type 0 = λ l. IsClean l (specs_of new) next.present.arrived in
-      record { next = next; steps = steps; stands = stands; clean = λ _. subst P same (subst Q (rules ∙ rule) stands.quiet.now) }
-  goes-arrived _ trace e (violated next s t tuple steps loud found unclean) = absurd (cc)
-  goes-arrived _ trace e (refused_by r steps stands) = absurd (cc)
-  goes-arrived _ trace e (spent takes stands) = absurd (cc)
+placed-more : (done : List Placed) (p : Placed) (more : List Placed) → (done ++ p ∷ []) ++ more ≡ done ++ p ∷ more
+placed-more [] p more = refl
+placed-more (q ∷ done) p more = ap (λ ps. q ∷ ps) (placed-more done p more)
 
-  pub violation-stops : (r : Result Reply RvError) (s trace : ℕ) (tuple : List ℕ) → r ≡ Ok (Violation s trace tuple)
-      → IsAnswer old new placed.event h r → Stops lengths (specs_of old) h placed (answers.Violation s trace tuple)
-  violation-stops _ s trace tuple e (quiet next steps silent stands) = absurd (cc)
-  violation-stops _ s trace tuple e (arrived next steps loud stands) = absurd (cc)
-  violation-stops _ s trace tuple e (violated next spec last found_tuple steps loud found unclean) =
-      let P : Step → Type 0 = λ st. Comes lengths (specs_of old) placed.line (arrives placed.event) st (λ n. ⊥) (answers.Violation s trace tuple) in
-      let Q : Bool → Type 0 = λ b. Comes lengths (specs_of old) placed.line b (goes next) (λ n. ⊥) (answers.Violation s trace tuple) in
-      let R : Lengths → Type 0 = λ l. IsFound l (specs_of old) next.present.arrived spec last found_tuple in
-      let answered : answers.Violation s trace tuple ≡ answers.Violation spec last found_tuple = cc in
-      subst P (sym steps)
-      (subst Q (sym loud) (inl (record { spec = spec; trace = last; tuple = found_tuple; found = subst R rule found; answered = answered })))
-  violation-stops _ s trace tuple e (refused_by r steps stands) = absurd (cc)
-  violation-stops _ s trace tuple e (spent takes stands) = absurd (cc)
+events-more : (done : List Placed) (p : Placed) (more : List Event) → events_of (done ++ p ∷ []) ++ more ≡ events_of done ++ p.event ∷ more
+events-more [] p more = refl
+events-more (q ∷ done) p more = ap (λ es. q.event ∷ es) (events-more done p more)
 
-  error-stops : (r : Result Reply RvError) (error : RvError) (a : Answer) → r ≡ Err error → IsEventAnswer error placed.line a
-      → IsAnswer old new placed.event h r → OrMemory a (Stops lengths (specs_of old) h placed a)
-  error-stops _ error a e is (quiet next steps silent stands) = absurd (cc)
-  error-stops _ error a e is (arrived next steps loud stands) = absurd (cc)
-  error-stops _ error a e is (violated next s trace tuple steps loud found unclean) = absurd (cc)
-  error-stops _ error a e is (refused_by r steps stands) =
-      let same_error : error ≡ error_of r = cc in
-      let P : RvError → Type 0 = λ x. IsEventAnswer x placed.line a in
-      let Q : Step → Type 0 = λ st. Comes lengths (specs_of old) placed.line (arrives placed.event) st (λ n. ⊥) a in
-      inr (subst Q (sym steps) (refusal-answered r placed.line a (subst P same_error is)))
-  error-stops _ error a e is (spent takes stands) =
-      let same_error : error ≡ errors.Memory = cc in
-      let P : RvError → Type 0 = λ x. IsEventAnswer x placed.line a in
-      inl (subst P same_error is)
+events-append : (done more : List Placed) → events_of (done ++ more) ≡ events_of done ++ events_of more
+events-append [] more = refl
+events-append (q ∷ done) more = ap (λ es. q.event ∷ es) (events-append done more)
 
--- An error is answered in one way for all histories that the monitor stood for.
-pub error-ends : (old new : Held) (placed : Placed) (lengths : Lengths) (error : RvError) (a : Answer) → Answers old new placed.event (Err error)
-    → old.rule ≡ lengths → IsEventAnswer error placed.line a → OrMemory a ((h : History) → StandsFor old h → Stops lengths (specs_of old) h placed a)
-error-ends old new placed lengths errors.Memory a said rule is = inl is
-error-ends old new placed lengths errors.NoLetter a said rule is =
-    inr (λ h stands. not-memory (error-stops old new placed lengths rule said.specs said.rule h _ errors.NoLetter a refl is (said.right h stands)))
-  where
-    not-memory : {P : Type 0} → OrMemory a P → P
-    not-memory (inl e) = absurd (let both : answers.Memory ≡ answers.Session placed.line = sym e ∙ is in cc)
-    not-memory (inr p) = p
-error-ends old new placed lengths errors.NoSave a said rule is =
-    inr (λ h stands. not-memory (error-stops old new placed lengths rule said.specs said.rule h _ errors.NoSave a refl is (said.right h stands)))
-  where
-    not-memory : {P : Type 0} → OrMemory a P → P
-    not-memory (inl e) = absurd (let both : answers.Memory ≡ answers.Session placed.line = sym e ∙ is in cc)
-    not-memory (inr p) = p
-error-ends old new placed lengths (errors.Limit kind) a said rule is =
-    inr (λ h stands. not-memory (error-stops old new placed lengths rule said.specs said.rule h _ (errors.Limit kind) a refl is (said.right h stands)))
-  where
-    not-memory : {P : Type 0} → OrMemory a P → P
-    not-memory (inl e) = absurd (let both : answers.Memory ≡ answers.Limit kind (most kind) = sym e ∙ is in cc)
-    not-memory (inr p) = p
+length-more : (done : List Placed) (p : Placed) → length (done ++ p ∷ []) ≡ suc (length done)
+length-more [] p = refl
+length-more (q ∷ done) p = ap suc (length-more done p)
+
+-- The line of the event behind these is its own.
+line-there : (done : List Placed) (p : Placed) (more : List Placed) → line_of (done ++ p ∷ more) (length done) ≡ p.line
+line-there [] p more = refl
+line-there (q ∷ done) p more = line-there done p more
 
 -- ---- how many traces there are
 
@@ -172,95 +127,207 @@ one-more m h event.Back next stands e = by-saves h.saves stands.saves e
 
 -- ---- one event after another
 
--- The events before these were given to the monitor, and none of them was refused or violated a formula.
-pub record Passed (lengths : Lengths) (drop : Bool) (specs : List Spec) (start left : Source) (m : Held) : Type 0 where
+-- The events before these were given to the monitor, and none of them was refused or violated a formula: however the
+-- calls with later ones stop, so do those with all.
+pub record Passed (start left : Source) (first m : Held) : Type 0 where
+  pub done : List Placed
   pub history : History
   pub stands : StandsFor m history
-  pub specs_are : specs_of m ≡ specs
-  pub rule : m.rule ≡ lengths
-  pub dropping : m.drop ≡ drop
+  pub specs_are : specs_of m ≡ specs_of first
+  pub rule : m.rule ≡ first.rule
+  pub dropping : m.drop ≡ first.drop
   pub few : length history.present.arrived + count_left left ≤ count_left start
   pub numbered : AreNumbered left
   pub good : AreGood start → AreGood left
   pub read : AreRead start left
-  pub back : (more : List Placed) (a : Answer) → AreLeft left more → ComesTo lengths drop specs history more a
-      → EventsCome lengths drop specs (AreLeft start) a
+  pub before : (more : List Placed) → AreLeft left more → AreLeft start (done ++ more)
+  pub runs : (more : List Event) (stop : Stop) → Runs (length done) m more stop → Runs 0 first (events_of done ++ more) stop
 
-pub passed-none : (lengths : Lengths) (drop : Bool) (start : Source) (m : Held) → StandsFor m empty_history
-    → m.rule ≡ lengths → m.drop ≡ drop → AreNumbered start → Passed lengths drop (specs_of m) start start m
-passed-none lengths drop start m stands rule dropping numbered = record {
+pub passed-none : (start : Source) (m : Held) → StandsFor m empty_history → AreNumbered start → Passed start start m m
+passed-none start m stands numbered = record {
+  done = [];
   history = empty_history;
   stands = stands;
   specs_are = refl;
-  rule = rule;
-  dropping = dropping;
+  rule = refl;
+  dropping = refl;
   few = omega arith;
   numbered = numbered;
   good = λ good. good;
   read = λ found left. left;
-  back = λ more a left comes. (more, left, comes);
+  before = λ more left. left;
+  runs = λ more stop runs. runs;
 }
 
-module _ (lengths : Lengths) (drop : Bool) (specs : List Spec) (start old : Source) (m : Held) (before : Passed lengths drop specs start old m) where
+-- ---- how calls stop
+
+-- the law of `rv_core` on calls: they stop as their events end, or memory ran out
+abbrev pub RunsEnd : Type 0
+RunsEnd =
+    (k : ℕ) (m : Held) (h : History) (events : List Event) (stop : Stop) (x : Ending) → StandsFor m h → Runs k m events stop
+    → Ends m.rule (specs_of m) k h events x → EndsAs m.rule (specs_of m) x stop ⊎ ((n : ℕ) × (stop ≡ error_at n errors.Memory))
+
+-- Calls with the events of a source stop as these end, and that brings the answer.
+stopped-comes : RunsEnd → (start : Source) (first : Held) (placed : List Placed) (stop : Stop) (a : Answer) → StandsFor first empty_history
+    → AreLeft start placed → Runs 0 first (events_of placed) stop → ((n : ℕ) → ¬ (stop ≡ error_at n errors.Memory))
+    → ((x : Ending) → EndsAs first.rule (specs_of first) x stop → Brings first.rule first.drop (specs_of first) placed x a)
+    → EventsCome first.rule first.drop (specs_of first) (AreLeft start) a
+stopped-comes law start first placed stop a stands left runs no_memory brings =
+    let (x, ends) = ends-some first.rule (specs_of first) 0 empty_history (events_of placed) in
+    (placed, left, record { ending = x; ends = ends; brings = brings x (by x (law 0 first empty_history (events_of placed) stop x stands runs ends)) })
+  where
+    by : (x : Ending) → EndsAs first.rule (specs_of first) x stop ⊎ ((n : ℕ) × (stop ≡ error_at n errors.Memory))
+        → EndsAs first.rule (specs_of first) x stop
+    by x (inl as_stop) = as_stop
+    by x (inr (n, memory)) = absurd (no_memory n memory)
+
+violation-brings : (lengths : Lengths) (drop : Bool) (specs : List Spec) (placed : List Placed) (n s trace : ℕ) (tuple : List ℕ) (x : Ending)
+    → EndsAs lengths specs x (violation_at n s trace tuple) → Brings lengths drop specs placed x (answers.Violation s trace tuple)
+violation-brings lengths drop specs placed n s trace tuple (clean h) as_stop = absurd as_stop
+violation-brings lengths drop specs placed n s trace tuple (refusal k r) as_stop = absurd as_stop
+violation-brings lengths drop specs placed n s trace tuple (violation k t h) (at, same, found) =
+    let P : ℕ → Type 0 = λ q. IsFound lengths specs h.present.arrived q trace tuple in
+    record {
+      trace = trace;
+      tuple = tuple;
+      found = subst P same found;
+      answered = ap (λ q. answers.Violation q trace tuple) same;
+    }
+
+refusal-brings : (lengths : Lengths) (drop : Bool) (specs : List Spec) (placed : List Placed) (n line : ℕ) (e : RvError) (x : Ending)
+    → line_of placed n ≡ line → EndsAs lengths specs x (error_at n e) → Brings lengths drop specs placed x (event_answer line e)
+refusal-brings lengths drop specs placed n line e (clean h) there as_stop = absurd as_stop
+refusal-brings lengths drop specs placed n line e (violation k s h) there as_stop = absurd as_stop
+refusal-brings lengths drop specs placed n line e (refusal k r) there (at, same) =
+    ap (event_answer line) same
+    ∙ ap (λ l. event_answer l (error_of r)) (sym there ∙ ap (line_of placed) at)
+
+is-memory : (e : RvError) → (e ≡ errors.Memory) ⊎ (¬ (e ≡ errors.Memory))
+is-memory errors.Memory = inl refl
+is-memory errors.NoLetter = inr (λ e. absurd (cc))
+is-memory errors.NoSave = inr (λ e. absurd (cc))
+is-memory (errors.Limit kind) = inr (λ e. absurd (cc))
+
+module _ (start old : Source) (first m : Held) (before : Passed start old first m) where
   -- what is read of the source that was left
   pub read-on : (new : Source) → AreRead old new → AreRead start new
   read-on new read found left = before.read found (read found left)
 
-  pub passed-more : (placed : Placed) (new : Source) (m' : Held) → IsAhead old new placed → AreRead old new → specs_of m' ≡ specs_of m
-      → m'.rule ≡ m.rule → m'.drop ≡ m.drop → GoesOn m.rule (specs_of m) before.history placed m'
-      → Passed lengths drop specs start new m'
-  passed-more placed new m' ahead read same rules drops goes_on =
-      let h = before.history in
-      let more_traces = one-more m h placed.event goes_on.next before.stands goes_on.steps in
-      let fewer = ahead.fewer in
-      let few = before.few in
-      let Q : List Spec → Type 0 = λ s. IsClean m.rule s goes_on.next.present.arrived in
-      let R : Lengths → Type 0 = λ l. IsClean l specs goes_on.next.present.arrived in
-      record {
-        history = goes_on.next;
-        stands = goes_on.stands;
-        specs_are = same ∙ before.specs_are;
-        rule = rules ∙ before.rule;
-        dropping = drops ∙ before.dropping;
-        few = omega (arith, more_traces, fewer, few);
-        numbered = ahead.numbered;
-        good = λ good. ahead.good (before.good good);
-        read = read-on new read;
-        back = λ more a left comes.
-            before.back (placed ∷ more) a (ahead.before more left)
-            (goes-comes lengths specs placed.line (arrives placed.event) (step h placed.event) goes_on.next
-            (λ next. ComesTo lengths drop specs next more a) a goes_on.steps
-            (λ loud. subst R before.rule (subst Q before.specs_are (goes_on.clean loud))) comes);
+  module _ (placed : Placed) (new : Source) (m' : Held) (ahead : IsAhead old new placed) where
+    -- all events, where these are behind the next one
+    all-left : (more : List Placed) → AreLeft new more → AreLeft start (before.done ++ placed ∷ more)
+    all-left more left = before.before (placed ∷ more) (ahead.before more left)
+
+    module _ (reply : Result Reply RvError) (said : Answers m m' placed.event reply) where
+      pub passed-more : AreRead old new → m'.drop ≡ m.drop → GoesOn before.history placed.event m'
+          → ((more : List Event) (stop : Stop) → Runs (suc (length before.done)) m' more stop → Runs (length before.done) m (placed.event ∷ more) stop)
+          → Passed start new first m'
+      passed-more read drops goes_on call =
+          let more_traces = one-more m before.history placed.event goes_on.next before.stands goes_on.steps in
+          let fewer = ahead.fewer in
+          let few = before.few in
+          let N : ℕ → List Event → Stop → Type 0 = λ n more stop. Runs n m' more stop in
+          record {
+            done = before.done ++ placed ∷ [];
+            history = goes_on.next;
+            stands = goes_on.stands;
+            specs_are = said.specs ∙ before.specs_are;
+            rule = said.rule ∙ before.rule;
+            dropping = drops ∙ before.dropping;
+            few = omega (arith, more_traces, fewer, few);
+            numbered = ahead.numbered;
+            good = λ good. ahead.good (before.good good);
+            read = read-on new read;
+            before = λ more left.
+                let P : List Placed → Type 0 = AreLeft start in
+                subst P (sym (placed-more before.done placed more)) (all-left more left);
+            runs = λ more stop runs.
+                let P : List Event → Type 0 = λ es. Runs 0 first es stop in
+                let Q : ℕ → Type 0 = λ n. Runs n m' more stop in
+                subst P (sym (events-more before.done placed more))
+                (before.runs (placed.event ∷ more) stop
+                (call more stop (subst Q (length-more before.done placed) runs)));
+          }
+
+    -- Calls with all events, of which these are behind the next one, stop at it.
+    all-run : (more : List Placed) (stop : Stop) → Runs (length before.done) m (placed.event ∷ events_of more) stop
+        → Runs 0 first (events_of (before.done ++ placed ∷ more)) stop
+    all-run more stop runs =
+        let P : List Event → Type 0 = λ es. Runs 0 first es stop in
+        subst P (sym (events-append before.done (placed ∷ more))) (before.runs (placed.event ∷ events_of more) stop runs)
+
+    pub violation-comes : RunsEnd → (s trace : ℕ) (tuple : List ℕ) → Answers m m' placed.event (Ok (Violation s trace tuple)) → StandsFor first empty_history → AreGood start
+        → EventsCome first.rule first.drop (specs_of first) (AreLeft start) (answers.Violation s trace tuple)
+    violation-comes law s trace tuple said stands good =
+        let (more, left) = some-left new (ahead.good (before.good good)) in
+        let n = length before.done in
+        stopped-comes law start first (before.done ++ placed ∷ more) (violation_at n s trace tuple) (answers.Violation s trace tuple) stands
+        (all-left more left) (all-run more (violation_at n s trace tuple) (at_violation n m m' placed.event (events_of more) s trace tuple said))
+        (λ k e. absurd (cc))
+        (violation-brings first.rule first.drop (specs_of first) (before.done ++ placed ∷ more) n s trace tuple)
+
+    pub error-comes : RunsEnd → (e : RvError) → Answers m m' placed.event (Err e) → StandsFor first empty_history → AreGood start
+        → (e ≡ errors.Memory) ⊎ EventsCome first.rule first.drop (specs_of first) (AreLeft start) (event_answer placed.line e)
+    error-comes law e said stands good = by (is-memory e)
+      where
+        by : (e ≡ errors.Memory) ⊎ (¬ (e ≡ errors.Memory))
+            → (e ≡ errors.Memory) ⊎ EventsCome first.rule first.drop (specs_of first) (AreLeft start) (event_answer placed.line e)
+        by (inl memory) = inl memory
+        by (inr other) =
+            let (more, left) = some-left new (ahead.good (before.good good)) in
+            let n = length before.done in
+            inr
+            (stopped-comes law start first (before.done ++ placed ∷ more) (error_at n e) (event_answer placed.line e) stands
+            (all-left more left) (all-run more (error_at n e) (at_error n m m' placed.event (events_of more) e said))
+            (λ k same. other (let memory : e ≡ errors.Memory = cc in memory))
+            (λ x. refusal-brings first.rule first.drop (specs_of first) (before.done ++ placed ∷ more) n placed.line e x
+            (line-there before.done placed more)))
+
+  pub passed-all : RunsEnd → StandsFor first empty_history → AreLeft old [] → IsThrough first.rule (specs_of first) start m
+  passed-all law stands none =
+      let all = before.done ++ [] in
+      let n = length before.done in
+      let P : List Event → Type 0 = λ es. Runs 0 first es (through m) in
+      let (x, ends) = ends-some first.rule (specs_of first) 0 empty_history (events_of all) in
+      by x ends
+      (law 0 first empty_history (events_of all) (through m) x stands
+      (subst P (sym (events-append before.done [])) (before.runs [] (through m) (at_end n m))) ends)
+    where
+      by : (x : Ending) → Ends first.rule (specs_of first) 0 empty_history (events_of (before.done ++ [])) x
+          → EndsAs first.rule (specs_of first) x (through m) ⊎ ((n : ℕ) × (through m ≡ error_at n errors.Memory))
+          → IsThrough first.rule (specs_of first) start m
+      by (clean h) ends (inl stands_then) = record {
+        placed = before.done ++ [];
+        left = before.before [] none;
+        history = h;
+        ends = ends;
+        stands = stands_then;
       }
+      by (refusal k r) ends (inl as_stop) = absurd as_stop
+      by (violation k s h) ends (inl as_stop) = absurd as_stop
+      by x ends (inr (n, memory)) = absurd (cc)
 
-  pub passed-stops : (placed : Placed) (new : Source) (a : Answer) → IsAhead old new placed → AreGood start
-      → Stops m.rule (specs_of m) before.history placed a → EventsCome lengths drop specs (AreLeft start) a
-  passed-stops placed new a ahead good stops =
-      let h = before.history in
-      let (more, left) = some-left new (ahead.good (before.good good)) in
-      let P : List Spec → Type 0 = λ s. Comes m.rule s placed.line (arrives placed.event) (step h placed.event) (λ next. ⊥) a in
-      let R : Lengths → Type 0 = λ l. Comes l specs placed.line (arrives placed.event) (step h placed.event) (λ next. ⊥) a in
-      before.back (placed ∷ more) a (ahead.before more left)
-      (stops-comes lengths specs placed.line (arrives placed.event) (step h placed.event) (λ next. ComesTo lengths drop specs next more a) a
-      (subst R before.rule (subst P before.specs_are stops)))
-
-  pub passed-all : AreLeft old [] → IsThrough lengths drop specs start m
-  passed-all none = record {
-    history = before.history;
-    stands = before.stands;
-    comes = λ a is. before.back [] a none is;
-  }
+-- ---- the answer
 
 -- Behind the last event the events come to what the monitor says for each history that it stands for.
 pub through-comes : (lengths : Lengths) (drop : Bool) (specs : List Spec) (source : Source) (m : Held) (a : Answer)
-    → IsThrough lengths drop specs source m → m.rule ≡ lengths → m.drop ≡ drop → specs_of m ≡ specs
-    → OrMemory a ((h : History) → StandsFor m h → IsNoViolation m.rule m.drop (specs_of m) h a)
-    → OrMemory a (EventsCome lengths drop specs (AreLeft source) a)
-through-comes lengths drop specs source m a through rule dropping same is =
-    let h = through.history in
-    let P : Lengths → Type 0 = λ l. IsNoViolation l m.drop (specs_of m) h a in
-    let Q : Bool → Type 0 = λ b. IsNoViolation lengths b (specs_of m) h a in
-    let R : List Spec → Type 0 = λ s. IsNoViolation lengths drop s h a in
-    or-memory
-    (λ none. through.comes a (subst R same (subst Q dropping (subst P rule (none h through.stands)))))
-    is
+    → IsThrough lengths specs source m → ((h : History) → StandsFor m h → IsNoViolation lengths drop specs h a)
+    → EventsCome lengths drop specs (AreLeft source) a
+through-comes lengths drop specs source m a is counts =
+    (is.placed, is.left, record { ending = clean is.history; ends = is.ends; brings = counts is.history is.stands })
+
+-- What was found with a monitor is answered by what it holds then, of the same formulas and rule.
+pub watched-comes : (old new : Held) (source : Source) (w : Watched) (a : Answer) → specs_of new ≡ specs_of old → new.rule ≡ old.rule
+    → new.drop ≡ old.drop → IsWatched old.rule old.drop (specs_of old) source new w
+    → (IsWatched new.rule new.drop (specs_of new) source new w → OrMemory a (EventsCome new.rule new.drop (specs_of new) (AreLeft source) a))
+    → OrMemory a (EventsCome old.rule old.drop (specs_of old) (AreLeft source) a)
+watched-comes old new source w a specs rule dropping watched answered =
+    let P : List Spec → Type 0 = λ s. IsWatched old.rule old.drop s source new w in
+    let Q : Lengths → Type 0 = λ l. IsWatched l old.drop (specs_of new) source new w in
+    let R : Bool → Type 0 = λ d. IsWatched new.rule d (specs_of new) source new w in
+    let S : List Spec → Type 0 = λ s. OrMemory a (EventsCome old.rule old.drop s (AreLeft source) a) in
+    let T : Lengths → Type 0 = λ l. OrMemory a (EventsCome l old.drop (specs_of new) (AreLeft source) a) in
+    let U : Bool → Type 0 = λ d. OrMemory a (EventsCome new.rule d (specs_of new) (AreLeft source) a) in
+    subst S specs
+    (subst T rule
+    (subst U dropping (answered (subst R (sym dropping) (subst Q (sym rule) (subst P (sym specs) watched))))))

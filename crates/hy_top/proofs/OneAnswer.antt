@@ -8,12 +8,12 @@ use Rattle.hy_finite.specs.declared.event.Placed.{Placed}
 use Rattle.hy_finite.specs.EventFiles.{SayEvents}
 use Rattle.hy_finite.specs.declared.lengths.Lengths.{Lengths}
 use Rattle.hy_finite.specs.Traces.{Trace}
-use Rattle.rv_core.specs.Endings.{Spec, IsClean, FirstViolated}
-use Rattle.rv_core.specs.Histories.{History, empty_history, Step, refused, goes, step, arrives}
+use Rattle.rv_core.specs.Endings.{Spec, Ending, clean, refusal, violation}
+use Rattle.rv_core.specs.Histories.{History, empty_history}
 use Rattle.hy_lasso.specs.Words.{Satisfies as Meant}
 use Rattle.hy_formula.specs.Formulas.{Plain}
 use Rattle.hy_finite.proofs.OneAnswer.{one-events}
-use Rattle.rv_core.proofs.Ending.{first-one}
+use Rattle.rv_core.proofs.Ending.{ends-one}
 use Rattle.ea_core.specs.Decided.{Implies, TellsApart}
 use Rattle.ea_core.specs.Undecided.{HasFewBranches, HasManyBranches}
 use Rattle.ea_core.proofs.Searching.{not-both}
@@ -32,7 +32,7 @@ use Rattle.hy_top.proofs.FoundOnce.{lassos_once, pair_once}
 use Rattle.hy_top.specs.Checking.{Checks, ComesBy}
 use Rattle.hy_top.specs.Files.{Given, RefusesText, RefusesClass}
 use Rattle.hy_top.specs.Judging.{Judges, holds, fails}
-use Rattle.hy_top.specs.Monitoring.{specs_of, IsViolation, IsNoViolation, Comes, EventsCome, AreEvents, Monitors}
+use Rattle.hy_top.specs.Monitoring.{specs_of, events_of, IsViolation, IsNoViolation, Brings, EventsCome, AreEvents, Monitors}
 use Rattle.hy_top.specs.Monitoring.{ComesTo as ComesToAnswer}
 use Rattle.hy_top.specs.Stages.{names as names_stage}
 use Rattle.hy_top.specs.Stages.{Stage, opening, reading, size, text, class, count, work, Met, First, here, later, IsMisnamed, ComesTo, Agree, same, other_tuple, other_model, other_proof, other_implied, other_proofs, other_witness, other_side}
@@ -49,43 +49,35 @@ agree {a} e = subst (Agree a) e (same a)
 
 -- ---- two verdicts on events
 
-same-clean : (lengths : Lengths) (specs : List Spec) (list : List Trace) (s : ℕ) → FirstViolated lengths specs list s → ¬ IsClean lengths specs list
-same-clean lengths specs list s first clean = clean s first.there first.violated
-
-violations-agree : (lengths : Lengths) (specs : List Spec) (list : List Trace) (a b : Answer) → IsViolation lengths specs list a → IsViolation lengths specs list b → Agree a b
-violations-agree lengths specs list a b one two =
-    let spec = first-one lengths specs list one.spec two.spec one.found.first two.found.first in
+violations-agree : (lengths : Lengths) (specs : List Spec) (list : List Trace) (s : ℕ) (a b : Answer) → IsViolation lengths specs list s a
+    → IsViolation lengths specs list s b → Agree a b
+violations-agree lengths specs list s a b one two =
     let trace : one.trace ≡ two.trace = let p = one.found.last in let q = two.found.last in omega (arith, p, q) in
     let P : Answer → Type 0 = λ x. Agree x b in
-    let Q : Answer → Type 0 = λ y. Agree (answers.Violation one.spec one.trace one.tuple) y in
-    let R : ℕ → Type 0 = λ s. Agree (answers.Violation one.spec one.trace one.tuple) (answers.Violation s one.trace two.tuple) in
-    let T : ℕ → Type 0 = λ t. Agree (answers.Violation one.spec one.trace one.tuple) (answers.Violation two.spec t two.tuple) in
-    subst P (sym one.answered) (subst Q (sym two.answered) (subst T trace (subst R spec (other_tuple one.spec one.trace one.tuple two.tuple))))
+    let Q : Answer → Type 0 = λ y. Agree (answers.Violation s one.trace one.tuple) y in
+    let T : ℕ → Type 0 = λ t. Agree (answers.Violation s one.trace one.tuple) (answers.Violation s t two.tuple) in
+    subst P (sym one.answered) (subst Q (sym two.answered) (subst T trace (other_tuple s one.trace one.tuple two.tuple)))
 
--- What comes of one event in two ways is answered in one, or both ways lead on.
-step-agrees : (lengths : Lengths) (specs : List Spec) (line : ℕ) (arriving : Bool) (st : Step)
-    (Rest Other : History → Type 0) (a b : Answer) (Alike : Type 0) → (Agree a b → Alike)
-    → ((h : History) → Rest h → Other h → Alike)
-    → Comes lengths specs line arriving st Rest a → Comes lengths specs line arriving st Other b → Alike
-step-agrees lengths specs line arriving (refused r) Rest Other a b Alike by again one two = by (agree (one ∙ sym two))
-step-agrees lengths specs line false (goes h) Rest Other a b Alike by again one two = again h one two
-step-agrees lengths specs line true (goes h) Rest Other a b Alike by again (inl one) (inl two) =
-    by (violations-agree lengths specs h.present.arrived a b one two)
-step-agrees lengths specs line true (goes h) Rest Other a b Alike by again (inl one) (inr (clean, two)) =
-    absurd (same-clean lengths specs h.present.arrived one.spec one.found.first clean)
-step-agrees lengths specs line true (goes h) Rest Other a b Alike by again (inr (clean, one)) (inl two) =
-    absurd (same-clean lengths specs h.present.arrived two.spec two.found.first clean)
-step-agrees lengths specs line true (goes h) Rest Other a b Alike by again (inr (clean, one)) (inr (also, two)) =
-    again h one two
+-- What one ending brings in two ways is the same.
+brought-agree : (lengths : Lengths) (drop : Bool) (specs : List Spec) (events : List Placed) (x : Ending) (a b : Answer)
+    → Brings lengths drop specs events x a → Brings lengths drop specs events x b → Agree a b
+brought-agree lengths drop specs events (clean h) a b one two = agree (clean-once lengths drop specs h a b one two)
+brought-agree lengths drop specs events (refusal k r) a b one two = agree (one ∙ sym two)
+brought-agree lengths drop specs events (violation k s h) a b one two =
+    violations-agree lengths specs h.present.arrived s a b one two
 
-events-agree : (lengths : Lengths) (drop : Bool) (specs : List Spec) (events : List Placed) (h : History) (a b : Answer)
-    → ComesToAnswer lengths drop specs h events a → ComesToAnswer lengths drop specs h events b → Agree a b
-events-agree lengths drop specs [] h a b one two = agree (clean-once lengths drop specs h a b one two)
-events-agree lengths drop specs (placed ∷ events) h a b one two =
-    step-agrees lengths specs placed.line (arrives placed.event) (step h placed.event)
-    (λ next. ComesToAnswer lengths drop specs next events a)
-    (λ next. ComesToAnswer lengths drop specs next events b) a b (Agree a b) (λ same. same)
-    (λ next x y. events-agree lengths drop specs events next a b x y) one two
+module _ (lengths : Lengths) (one_way other_way : Bool) (specs : List Spec) (events : List Placed) (a b : Answer)
+    (one : ComesToAnswer lengths one_way specs events a) (two : ComesToAnswer lengths other_way specs events b) where
+  -- Events end in one way, whatever is dropped.
+  ending-same : Brings lengths one_way specs events two.ending a
+  ending-same =
+      let P : Ending → Type 0 = λ x. Brings lengths one_way specs events x a in
+      subst P (ends-one lengths specs 0 empty_history (events_of events) one.ending two.ending one.ends two.ends) one.brings
+
+events-agree : (lengths : Lengths) (drop : Bool) (specs : List Spec) (events : List Placed) (a b : Answer)
+    → ComesToAnswer lengths drop specs events a → ComesToAnswer lengths drop specs events b → Agree a b
+events-agree lengths drop specs events a b one two =
+    brought-agree lengths drop specs events two.ending a b (ending-same lengths drop drop specs events a b one two) two.brings
 
 no-violations-agree : (lengths : Lengths) (one_way other_way : Bool) (specs : List Spec) (h : History) (a b : Answer)
     → IsNoViolation lengths one_way specs h a → IsNoViolation lengths other_way specs h b → AgreeUncounted a b
@@ -96,17 +88,21 @@ no-violations-agree lengths one_way other_way specs h a b one two =
     let Q : Answer → Type 0 = λ y. AgreeUncounted (answers.NoViolation traces one.kept live) y in
     subst P (sym one.answered) (subst Q (sym two.answered) (counted_otherwise traces live one.kept two.kept))
 
+brought-uncounted : (lengths : Lengths) (one_way other_way : Bool) (specs : List Spec) (events : List Placed) (x : Ending) (a b : Answer)
+    → Brings lengths one_way specs events x a → Brings lengths other_way specs events x b → AgreeUncounted a b
+brought-uncounted lengths one_way other_way specs events (clean h) a b one two =
+    no-violations-agree lengths one_way other_way specs h a b one two
+brought-uncounted lengths one_way other_way specs events (refusal k r) a b one two = counted_alike a b (agree (one ∙ sym two))
+brought-uncounted lengths one_way other_way specs events (violation k s h) a b one two =
+    counted_alike a b (violations-agree lengths specs h.present.arrived s a b one two)
+
 -- With dropping and without it events come to the same but for the counts.
 pub dropping-agrees : (lengths : Lengths) (one_way other_way : Bool) (specs : List Spec) (events : List Placed)
-    (h : History) (a b : Answer) → ComesToAnswer lengths one_way specs h events a
-    → ComesToAnswer lengths other_way specs h events b → AgreeUncounted a b
-dropping-agrees lengths one_way other_way specs [] h a b one two =
-    no-violations-agree lengths one_way other_way specs h a b one two
-dropping-agrees lengths one_way other_way specs (placed ∷ events) h a b one two =
-    step-agrees lengths specs placed.line (arrives placed.event) (step h placed.event)
-    (λ next. ComesToAnswer lengths one_way specs next events a)
-    (λ next. ComesToAnswer lengths other_way specs next events b) a b (AgreeUncounted a b) (counted_alike a b)
-    (λ next x y. dropping-agrees lengths one_way other_way specs events next a b x y) one two
+    (a b : Answer) → ComesToAnswer lengths one_way specs events a
+    → ComesToAnswer lengths other_way specs events b → AgreeUncounted a b
+dropping-agrees lengths one_way other_way specs events a b one two =
+    brought-uncounted lengths one_way other_way specs events two.ending a b
+    (ending-same lengths one_way other_way specs events a b one two) two.brings
 
 -- There is one list of events.
 one-list : (origin : Origin) (given : Given) (names : List (List ℕ)) (events others : List Placed) → AreEvents origin given names events
@@ -120,8 +116,8 @@ verdicts-agree : (origin : Origin) (given : Given) (lengths : Lengths) (drop : B
     (names : List (List ℕ)) (a b : Answer) → EventsCome lengths drop (specs_of formulas) (AreEvents origin given names) a
     → EventsCome lengths drop (specs_of formulas) (AreEvents origin given names) b → Agree a b
 verdicts-agree origin given lengths drop formulas names a b (events, said, one) (others, also, two) =
-    let P : List Placed → Type 0 = λ es. ComesToAnswer lengths drop (specs_of formulas) empty_history es a in
-    events-agree lengths drop (specs_of formulas) others empty_history a b
+    let P : List Placed → Type 0 = λ es. ComesToAnswer lengths drop (specs_of formulas) es a in
+    events-agree lengths drop (specs_of formulas) others a b
     (subst P (one-list origin given names events others said also) one) two
 
 -- ---- two decisions

@@ -1,5 +1,5 @@
 -- What a source of events has left, and what comes next of it.
-use Rattle.std.proofs.Common.{◌≡◌, ℕ, suc, ◌+◌, ◌<◌, ◌≤◌, ◌^◌, List, [], ◌∷◌, length, Option, Some, None, Ok, Err, refl, sym, ap, ◌∙◌, arith}
+use Rattle.std.proofs.Common.{◌≡◌, ℕ, suc, ◌+◌, ◌<◌, ◌≤◌, ◌^◌, List, [], ◌∷◌, length, Option, Some, None, Result, Ok, Err, refl, sym, ap, ◌∙◌, arith}
 use Rattle.std.proofs.lemmas.List.Splits.{length-slice_split}
 use Rattle.std.proofs.lemmas.List.Sums.{count_by-le-length}
 use Rattle.hy_base.specs.declared.reading.TheConstants.{BYTES_LIMIT}
@@ -66,3 +66,7 @@ next-of-traces first traces rest t e few =
 
 pub no-traces : (first : ℕ) (traces : Bor (List Trace)) → traces.now ≡ [] → AreLeft (Made first traces) []
 no-traces first traces e = ap (whole_traces first) (sym e)
+
+-- A line that is taken is not at fault.
+pub fault-untaken : (found : Result (Unit {0}) LineError) (fault : LineError) → found ≡ Err fault → found ≡ Ok tt → ⊥
+fault-untaken found fault e f = cc

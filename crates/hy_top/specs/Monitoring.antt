@@ -1,13 +1,14 @@
 -- What `rvhyper` answers: how the formulas are counted, and what comes of the events, one after another: those of a
 -- file, or made traces.
-use Rattle.std.specs.Prelude.{◌≡◌, ◌⊎◌, ℕ, suc, Bool, true, false, List, [], ◌∷◌, length, map, Ok}
+use Rattle.std.specs.Prelude.{◌≡◌, ℕ, zero, suc, Bool, true, List, [], ◌∷◌, length, map, Ok}
 use Rattle.std.specs.List.{Contains, AllZip}
 use Rattle.hy_base.specs.Limits.{most}
-use Rattle.hy_base.specs.declared.limit.Kind.TheVariants.{Closure, Atoms, Table, Length, Sessions, Saves}
+use Rattle.hy_base.specs.declared.limit.Kind.TheVariants.{Closure, Atoms, Table}
 use Rattle.hy_formula.specs.Classes.{class_of}
 use Rattle.hy_formula.specs.declared.classes.Class.{Class}
 use Rattle.hy_formula.specs.Quantifiers.{Each}
 use Rattle.hy_formula.specs.Trees.{Tree}
+use Rattle.hy_finite.specs.declared.event.Event.{Event}
 use Rattle.hy_finite.specs.declared.event.Event.TheVariants.{Whole}
 use Rattle.hy_finite.specs.declared.event.Placed.{Placed}
 use Rattle.hy_finite.specs.declared.lengths.Lengths.{Lengths}
@@ -16,10 +17,12 @@ use Rattle.hy_finite.specs.Traces.{Trace}
 use Rattle.made_traces.specs.MadeTraces.{made_traces}
 use Rattle.hy_formula.specs.Formulas.{Plain}
 use Rattle.fin_monitor.specs.Limits.{HasLargeClosure, HasSmallClosure, HasManyAtoms, HasFewAtoms, HasLargeTable, IsTaken}
-use Rattle.rv_core.specs.Endings.{Spec, IsClean}
-use Rattle.rv_core.specs.Histories.{History, empty_history, Refusal, no_session, no_save, too_long, too_many_sessions, too_many_saves, Step, refused, goes, step, arrives}
+use Rattle.rv_core.specs.Endings.{Spec, Ending, clean, refusal, violation, Ends}
+use Rattle.rv_core.specs.Histories.{History, empty_history}
 use Rattle.rv_core.specs.Keeping.{IsKeptCount}
-use Rattle.rv_core.specs.Replies.{IsFound}
+use Rattle.rv_core.specs.Replies.{IsFound, error_of}
+use Rattle.rv_core.specs.declared.rv_error.RvError.{RvError}
+use Rattle.rv_core.specs.declared.rv_error.RvError.TheVariants as errors
 use Rattle.hy_answer.specs.declared.answer.Answer.{Answer}
 use Rattle.hy_answer.specs.declared.answer.Answer.TheVariants.{NoViolation, Violation, Prefix, Session, Limit, Memory}
 use Rattle.hy_top.specs.Classes.{is_universal, FirstUntaken}
@@ -54,17 +57,17 @@ specs_of formulas = map spec_of formulas
 
 -- ---- the events
 
--- the answer for the refused event of a line
-abbrev pub refusal_answer : ℕ → Refusal → Answer
-refusal_answer line no_session = Session line
-refusal_answer line no_save = Session line
-refusal_answer line too_long = Limit Length (most Length)
-refusal_answer line too_many_sessions = Limit Sessions (most Sessions)
-refusal_answer line too_many_saves = Limit Saves (most Saves)
+-- the answer for the event of a line that is answered by this error
+abbrev pub event_answer : ℕ → RvError → Answer
+event_answer line errors.NoLetter = Session line
+event_answer line errors.NoSave = Session line
+event_answer line (errors.Limit kind) = Limit kind (most kind)
+event_answer line errors.Memory = Memory
 
--- The traces that arrived violate a formula, and so is answered: by the first such one, the last trace, and a tuple.
-pub record IsViolation (lengths : Lengths) (specs : List Spec) (arrived : List Trace) (answer : Answer) : Type 0 where
-  pub spec : ℕ
+-- The traces that arrived violate a formula, the first such one by this number, and so is answered: by that formula, the
+-- last trace, and a tuple.
+pub record IsViolation (lengths : Lengths) (specs : List Spec) (arrived : List Trace) (spec : ℕ)
+    (answer : Answer) : Type 0 where
   pub trace : ℕ
   pub tuple : List ℕ
   pub found : IsFound lengths specs arrived spec trace tuple
@@ -83,25 +86,36 @@ pub record IsNoViolation (lengths : Lengths) (drop : Bool) (specs : List Spec) (
   pub counts : AreKeptCounts lengths drop specs h.present.arrived kept
   pub answered : answer ≡ NoViolation (length h.present.arrived) kept (length h.present.sessions)
 
--- What comes of the event of a line, where `Rest` says what comes behind it.
-abbrev pub Comes : Lengths → List Spec → ℕ → Bool → Step → (History → Type 0) → Answer → Type 0
-Comes lengths specs line arriving (refused r) Rest answer = answer ≡ refusal_answer line r
-Comes lengths specs line false (goes h) Rest answer = Rest h
-Comes lengths specs line true (goes h) Rest answer =
-    IsViolation lengths specs h.present.arrived answer ⊎ (IsClean lengths specs h.present.arrived × Rest h)
+-- the events, each of a line
+abbrev pub events_of : List Placed → List Event
+events_of placed = map (λ (p : Placed). p.event) placed
 
--- The events from a history on, one after another, come to this answer: the first that is refused or brings a violation
--- gives it. Of dropping dominated traces only the counts behind the last event speak.
-abbrev pub ComesTo : Lengths → Bool → List Spec → History → List Placed → Answer → Type 0
-ComesTo lengths drop specs h [] answer = IsNoViolation lengths drop specs h answer
-ComesTo lengths drop specs h (placed ∷ events) answer =
-    Comes lengths specs placed.line (arrives placed.event) (step h placed.event)
-    (λ next. ComesTo lengths drop specs next events answer) answer
+-- the line of an event, by the number of the event, counted from 0
+abbrev pub line_of : List Placed → ℕ → ℕ
+line_of [] k = 0
+line_of (p ∷ placed) zero = p.line
+line_of (p ∷ placed) (suc k) = line_of placed k
+
+-- The answer that an ending of the events brings. Of dropping dominated traces only the counts behind the last event
+-- speak.
+abbrev pub Brings : Lengths → Bool → List Spec → List Placed → Ending → Answer → Type 0
+Brings lengths drop specs placed (clean h) answer = IsNoViolation lengths drop specs h answer
+Brings lengths drop specs placed (refusal k r) answer =
+    answer ≡ event_answer (line_of placed k) (error_of r)
+Brings lengths drop specs placed (violation k s h) answer =
+    IsViolation lengths specs h.present.arrived s answer
+
+-- The events, one after another, come to this answer: they end so, and that brings it.
+pub record ComesTo (lengths : Lengths) (drop : Bool) (specs : List Spec) (placed : List Placed)
+    (answer : Answer) : Type 0 where
+  pub ending : Ending
+  pub ends : Ends lengths specs 0 empty_history (events_of placed) ending
+  pub brings : Brings lengths drop specs placed ending answer
 
 -- Events that are so come to this answer.
 abbrev pub EventsCome : Lengths → Bool → List Spec → (List Placed → Type 0) → Answer → Type 0
 EventsCome lengths drop specs AreSo answer =
-    (events : List Placed) × AreSo events × ComesTo lengths drop specs empty_history events answer
+    (events : List Placed) × AreSo events × ComesTo lengths drop specs events answer
 
 -- traces as events in their order, the first of them in place k
 abbrev pub whole_traces : ℕ → List Trace → List Placed

@@ -1,48 +1,29 @@
--- What comes of one event after another, given to a monitor.
-use Rattle.std.specs.Prelude.{◌≡◌, ◌⊎◌, ◌+◌, ◌<◌, ◌^◌, ℕ, Bool, true, List, [], ◌∷◌, length, Option, Some, None, Result, Ok}
-use Rattle.hy_base.specs.Limits.{most}
+-- What comes of the events of a source, given to a monitor one after another.
+use Rattle.std.specs.Prelude.{◌≡◌, ◌⊎◌, ◌+◌, ◌<◌, ◌^◌, ℕ, Bool, List, [], ◌∷◌, length, Option, Some, None, Result, Ok, Err}
 use Rattle.hy_finite.specs.declared.event.Placed.{Placed}
 use Rattle.hy_finite.specs.declared.lengths.Lengths.{Lengths}
 use Rattle.hy_text.specs.declared.line_error.LineError.{LineError}
 use Rattle.hy_finite.specs.EventAnswers.{AreChecked, IsCheckAnswer, IsRefusal}
 use Rattle.hy_finite.specs.EventFiles.{SayEvents, IsEventFile}
 use Rattle.hy_finite.specs.Remaining.{remaining}
-use Rattle.rv_core.specs.Endings.{Spec, IsClean}
+use Rattle.rv_core.specs.Endings.{Spec, clean, Ends}
 use Rattle.rv_core.specs.Held.{Held, StandsFor}
-use Rattle.rv_core.specs.Histories.{History, goes, step, arrives}
-use Rattle.rv_core.specs.declared.rv_error.RvError.{RvError}
+use Rattle.rv_core.specs.Histories.{History, empty_history}
 use Rattle.rv_core.specs.declared.rv_error.RvError.TheVariants as errors
 use Rattle.hy_files.specs.Faults.{line_fault}
 use Rattle.hy_answer.specs.declared.answer.Answer.{Answer}
-use Rattle.hy_answer.specs.declared.answer.Answer.TheVariants.{Session, Limit, Memory}
+use Rattle.hy_answer.specs.declared.answer.Answer.TheVariants.{Violation, Memory}
 use Rattle.hy_answer.specs.Refusals.{fault_answer}
 use Rattle.hy_formula.specs.Formulas.{Plain}
-use Rattle.hy_top.specs.Monitoring.{Comes, EventsCome, IsNoViolation, IsOutcome, whole_traces}
+use Rattle.hy_top.specs.Monitoring.{EventsCome, IsOutcome, event_answer, events_of, whole_traces}
 use Rattle.hy_top.specs.declared.source.Source.{Source}
 use Rattle.hy_top.specs.declared.source.Source.TheVariants.{Lines, Made}
+use Rattle.hy_top.specs.declared.watching.Watched.{Watched}
+use Rattle.hy_top.specs.declared.watching.Watched.TheVariants.{Through, Refused, Violated, Unread}
 
 -- Memory ran out, or the fact holds.
 abbrev pub OrMemory : Answer → Type 0 → Type 0
 OrMemory answer P = (answer ≡ Memory) ⊎ P
-
--- The answer for a line whose event was answered by this error.
-abbrev pub IsEventAnswer : RvError → ℕ → Answer → Type 0
-IsEventAnswer errors.NoLetter line answer = answer ≡ Session line
-IsEventAnswer errors.NoSave line answer = answer ≡ Session line
-IsEventAnswer (errors.Limit kind) line answer = answer ≡ Limit kind (most kind)
-IsEventAnswer errors.Memory line answer = answer ≡ Memory
-
--- The event of a line leads from a history to one that the monitor then stands for, and no formula is violated.
-pub record GoesOn (lengths : Lengths) (specs : List Spec) (h : History) (placed : Placed) (new : Held) : Type 0 where
-  pub next : History
-  pub steps : step h placed.event ≡ goes next
-  pub stands : StandsFor new next
-  pub clean : arrives placed.event ≡ true → IsClean lengths specs next.present.arrived
-
--- The event of a line is refused, or violates a formula, and so is answered.
-abbrev pub Stops : Lengths → List Spec → History → Placed → Answer → Type 0
-Stops lengths specs h placed answer =
-    Comes lengths specs placed.line (arrives placed.event) (step h placed.event) (λ next. ⊥) answer
 
 -- The events that a source has left are these.
 abbrev pub AreLeft : Source → List Placed → Type 0
@@ -84,13 +65,28 @@ abbrev pub IsNext : Source → Source → Option Placed → Type 0
 IsNext old new None = AreLeft old []
 IsNext old new (Some placed) = IsAhead old new placed
 
--- No event was refused or violated a formula: the monitor stands for the history behind the last one, so that the
--- events come to its answers.
-pub record IsThrough (lengths : Lengths) (drop : Bool) (specs : List Spec) (source : Source) (new : Held) : Type 0 where
+-- The events of a source end behind the last one, and the monitor stands for what came of them.
+pub record IsThrough (lengths : Lengths) (specs : List Spec) (source : Source) (new : Held) : Type 0 where
+  pub placed : List Placed
+  pub left : AreLeft source placed
   pub history : History
+  pub ends : Ends lengths specs 0 empty_history (events_of placed) (clean history)
   pub stands : StandsFor new history
-  pub comes : (answer : Answer) → IsNoViolation lengths drop specs history answer
-      → EventsCome lengths drop specs (AreLeft source) answer
+
+-- What giving the events of a source to a monitor came to, which holds this then.
+abbrev pub IsWatched : Lengths → Bool → List Spec → Source → Held → Watched → Type 0
+IsWatched lengths drop specs source new Through = IsThrough lengths specs source new
+IsWatched lengths drop specs source new (Refused error line) =
+    (error ≡ errors.Memory) ⊎ EventsCome lengths drop specs (AreLeft source) (event_answer line error)
+IsWatched lengths drop specs source new (Violated spec trace tuple) =
+    EventsCome lengths drop specs (AreLeft source) (Violation spec trace tuple)
+IsWatched lengths drop specs source new Unread = Unit {0}
+
+-- Each line of a source is taken, and the fact holds; or the first that is not is answered.
+abbrev pub OrFault : Source → Answer → Type 0 → Type 0
+OrFault source answer P =
+    (AreGood source × P)
+    ⊎ ((fault : LineError) × IsLeftAnswer source (Err fault) × (answer ≡ fault_answer 1 (line_fault fault)))
 
 -- What formulas come to on the events of a file, where each of its lines is taken; else why they are refused.
 abbrev pub IsLinesAnswer : Lengths → Bool → List Plain → List (List ℕ) → List ℕ → Answer → Type 0

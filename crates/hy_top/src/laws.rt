@@ -5,7 +5,6 @@ ghost use Rattle.std.specs.Prelude.{◌≡◌, ◌⊎◌, ℕ, Bool, List};
 ghost use Rattle.hy_finite.specs.declared.event.Placed.{Placed};
 ghost use Rattle.hy_finite.specs.declared.lengths.Lengths.{Lengths};
 ghost use Rattle.rv_core.specs.Endings.{Spec};
-ghost use Rattle.rv_core.specs.Histories.{empty_history};
 ghost use Rattle.hy_words.specs.Commands.{Command, IsCommand};
 ghost use Rattle.hy_words.specs.declared.tool.Tool.{Tool};
 ghost use Rattle.hy_top.specs.Dropping.{AgreeUncounted};
@@ -48,6 +47,6 @@ pub fn verdict<S: Shelf>()
 /// the same answers but for how many traces are kept.
 pub fn dropping()
     ensures { (rule : Lengths) (drop other : Bool) (specs : List Spec) (events : List Placed)
-        (a b : Answer) → EventsComeTo rule drop specs empty_history events a
-        → EventsComeTo rule other specs empty_history events b → AgreeUncounted a b }
+        (a b : Answer) → EventsComeTo rule drop specs events a
+        → EventsComeTo rule other specs events b → AgreeUncounted a b }
 {}

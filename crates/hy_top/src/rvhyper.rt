@@ -11,7 +11,7 @@ ghost use Rattle.hy_words.specs.Commands.{monitor, monitor_made};
 ghost use Rattle.hy_top.specs.Monitoring.{IsOutcome};
 ghost use Rattle.hy_top.specs.Orders.{order_of};
 ghost use Rattle.hy_top.specs.Runs.{Follows};
-ghost use Rattle.hy_top.specs.Watching.{AreLeft, count_left, AreNumbered, AreGood, AreRead, IsLinesAnswer};
+ghost use Rattle.hy_top.specs.Watching.{AreLeft, count_left, AreNumbered, OrFault, IsLinesAnswer};
 
 use crate::source::Source;
 use crate::watching::watch;
@@ -80,12 +80,11 @@ pub fn monitor_made<S: Shelf>(
     let Ok(traces) = make_traces(alloc, count, names) else {
         return Answer::Memory;
     };
-    let mut source = Source::of_traces(traces.as_slice());
-    judge(alloc, &formulas, lengths, drop, &mut source)
+    let source = Source::of_traces(traces.as_slice());
+    judge(alloc, &formulas, lengths, drop, &source)
 }
 
-/// What formulas come to on the events of lines, or the answer for lines that are refused. Each line
-/// is read once: those behind the last event that is given are checked alone.
+/// What formulas come to on the events of lines, or the answer for lines that are refused.
 fn judge_lines(
     alloc: Global,
     specs: &SpecList,
@@ -99,34 +98,35 @@ fn judge_lines(
     requires few { length bytes.now ≤ BYTES_LIMIT }
     ensures { IsLinesAnswer lengths drop (plain_formulas specs.now) names.now bytes.now result }
 {
-    let mut source = Source::of_lines(bytes, names);
-    let answer = judge(alloc, specs, lengths, drop, &mut source);
-    match source.check(alloc) {
-        Ok(()) => answer,
-        Err(fault) => fault_answer(1, FileFault::from(fault)),
-    }
+    let source = Source::of_lines(bytes, names);
+    judge(alloc, specs, lengths, drop, &source)
 }
 
-/// What formulas come to on the events of a source, where all its lines are taken. The source has
-/// left what is not read.
-fn judge(
-    alloc: Global,
-    specs: &SpecList,
-    lengths: Lengths,
-    drop: bool,
-    source: &mut Source,
-) -> Answer
+/// The first line of a source at fault; or where there is none, what formulas come to on its events.
+fn judge(alloc: Global, specs: &SpecList, lengths: Lengths, drop: bool, source: &Source) -> Answer
     requires quantifiers { All HasFewQuantifiers specs.now }
     requires countable { length specs.now < 2 ^ 32 }
-    requires few { count_left source.old < 2 ^ 31 }
-    requires numbered { AreNumbered source.old }
-    ensures outcome { AreGood source.old → IsOutcome lengths drop (plain_formulas specs.now)
-        (AreLeft source.old) result }
-    ensures read { AreRead source.old source.new }
+    requires few { count_left source.now < 2 ^ 31 }
+    requires numbered { AreNumbered source.now }
+    ensures { OrFault source.now result
+        (IsOutcome lengths drop (plain_formulas specs.now) (AreLeft source.now) result) }
 {
     match Rv::new(alloc, specs.as_slice(), lengths, drop) {
         Ok(mut rv) => watch(alloc, &mut rv, specs.len() as u32, source),
-        Err(error) => new_answer(error),
+        Err(error) => unwatched(alloc, error, source),
+    }
+}
+
+/// The first line of a source at fault; or where there is none, the answer for formulas that are not
+/// monitored.
+fn unwatched(alloc: Global, error: RvNewError, source: &Source) -> Answer
+    ensures { (lengths : Lengths) (drop : Bool) (formulas : List Formula)
+        → IsNewRefusal formulas error → OrFault source.now result
+        (IsOutcome lengths drop (plain_formulas formulas) (AreLeft source.now) result) }
+{
+    match source.check(alloc) {
+        Ok(()) => new_answer(error),
+        Err(fault) => fault_answer(1, FileFault::from(fault)),
     }
 }
 

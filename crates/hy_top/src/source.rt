@@ -55,7 +55,8 @@ impl<'a> Source<'a> {
             → events ≡ whole_traces 0 traces.now }
         ensures few { count_left result < 2 ^ 31 }
         ensures numbered { AreNumbered result }
-        ensures good { AreGood result }
+        ensures taken { (found : Result (Unit {0}) Fault) → IsLeftAnswer result found
+            → found ≡ Ok tt }
     {
         Source::Made { first: 0, traces }
     }

@@ -1,47 +1,59 @@
 //! Events, given to a monitor one after another.
 
-ghost use Rattle.std.specs.Prelude.{◌≡◌, ◌<◌, ◌^◌, IfOk, IfErr, OnOk, length};
+ghost use Rattle.std.specs.Prelude.{◌≡◌, ◌<◌, ◌^◌, IfOk, length};
 ghost use Rattle.rv_core.specs.Held.{StandsFor, specs_of};
 ghost use Rattle.rv_core.specs.Seen.{held};
 ghost use Rattle.rv_core.specs.Histories.{History, empty_history};
-ghost use Rattle.hy_top.specs.Monitoring.{EventsCome, AreKeptCounts, IsNoViolation};
-ghost use Rattle.hy_top.specs.Watching.{OrMemory, IsEventAnswer, AreLeft, count_left, AreNumbered, AreGood, AreRead, IsThrough};
+ghost use Rattle.hy_top.specs.Monitoring.{EventsCome, AreKeptCounts, IsNoViolation, event_answer};
+ghost use Rattle.hy_top.specs.Watching.{OrMemory, OrFault, AreLeft, count_left, AreNumbered, AreGood, AreRead, IsWatched};
 
 use crate::source::Source;
 use hy_answer::{Answer, fault_answer};
 use hy_base::{M, Memory, NumList, Steps};
 use hy_bits::Letters;
 use hy_files::FileFault;
-use rv_core::laws::keeping;
+use rv_core::laws::{keeping, runs};
 use rv_core::{Reply, Rv, RvError};
 use std::alloc::Global;
 use std::marker::Brand;
 use std::sync::ledger::{Blank, Ledger};
+use tuple_walk::Tuple;
+
+/// What giving events to a monitor came to. It is no answer: a line that is not read yet may be at
+/// fault.
+#[derive(Drop)]
+pub enum Watched {
+    /// No event was refused or violated a formula.
+    Through,
+    /// The event of a line was refused.
+    Refused { error: RvError, line: u32 },
+    /// The traces up to this one violate a formula: the first such one, by these of them.
+    Violated { spec: u32, trace: u32, tuple: Tuple },
+    /// The next line was not read: it is at fault, or memory ran out.
+    Unread,
+}
 
 /// What the events of a source come to with a monitor of `specs` formulas to which nothing has come
-/// yet, where all its lines are taken. The source has left what is not read.
-pub fn watch(alloc: Global, rv: &mut Rv, specs: u32, source: &mut Source) -> Answer
+/// yet; or the first line at fault. Each line is read once: those behind the last event that is given
+/// are checked alone.
+pub fn watch(alloc: Global, rv: &mut Rv, specs: u32, source: &Source) -> Answer
     requires stands { StandsFor (held rv.old) empty_history }
     requires specs { specs ≡ length (specs_of (held rv.old)) }
-    requires few { count_left source.old < 2 ^ 31 }
-    requires numbered { AreNumbered source.old }
-    ensures come { AreGood source.old → OrMemory result (EventsCome (held rv.old).rule
-        (held rv.old).drop (specs_of (held rv.old)) (AreLeft source.old) result) }
-    ensures read { AreRead source.old source.new }
+    requires few { count_left source.now < 2 ^ 31 }
+    requires numbered { AreNumbered source.now }
+    ensures { OrFault source.now result (OrMemory result (EventsCome (held rv.old).rule
+        (held rv.old).drop (specs_of (held rv.old)) (AreLeft source.now) result)) }
 {
-    match watch_on::<Brand>(alloc, rv, source, Blank::new(1)) {
-        Ok(()) => clean_answer(alloc, rv, specs),
-        Err(answer) => answer,
+    let mut left = *source;
+    let watched = watch_on::<Brand>(alloc, rv, &mut left, Blank::new(1));
+    match left.check(alloc) {
+        Ok(()) => watched_answer(alloc, rv, specs, watched),
+        Err(fault) => fault_answer(1, FileFault::from(fault)),
     }
 }
 
 /// Gives the monitor the events of a source, on a ledger of its own, on which the steps are counted.
-fn watch_on<L: Ledger>(
-    alloc: Global,
-    rv: &mut Rv,
-    source: &mut Source,
-    blank: Blank,
-) -> Result<(), Answer>
+fn watch_on<L: Ledger>(alloc: Global, rv: &mut Rv, source: &mut Source, blank: Blank) -> Watched
     requires stands { StandsFor (held rv.old) empty_history }
     requires few { count_left source.old < 2 ^ 31 }
     requires numbered { AreNumbered source.old }
@@ -51,64 +63,77 @@ fn watch_on<L: Ledger>(
     ensures specs { specs_of (held rv.new) ≡ specs_of (held rv.old) }
     ensures rule { (held rv.new).rule ≡ (held rv.old).rule }
     ensures dropping { (held rv.new).drop ≡ (held rv.old).drop }
-    ensures through { OnOk result (IsThrough (held rv.old).rule (held rv.old).drop
-        (specs_of (held rv.old)) source.old (held rv.new)) }
-    ensures ended { IfErr result (λ answer. AreGood source.old → OrMemory answer (EventsCome
-        (held rv.old).rule (held rv.old).drop (specs_of (held rv.old)) (AreLeft source.old)
-        answer)) }
+    ensures watched { AreGood source.old → IsWatched (held rv.old).rule (held rv.old).drop
+        (specs_of (held rv.old)) source.old (held rv.new) result }
     ensures read { AreRead source.old source.new }
 {
     let mut steps = Steps::<L>::new(blank);
     watch_events(alloc, rv, source, &mut steps)
 }
 
-/// Gives the monitor the events of a source, up to the first that is refused or violates a formula,
-/// and then says what is answered.
+/// Gives the monitor the events of a source, up to the first that is refused or violates a formula.
 fn watch_events<L: Ledger>(
     alloc: Global,
     rv: &mut Rv,
     source: &mut Source,
     steps: &mut Steps<L>,
-) -> Result<(), Answer>
+) -> Watched
     requires stands { StandsFor (held rv.old) empty_history }
     requires few { count_left source.old < 2 ^ 31 }
     requires numbered { AreNumbered source.old }
     ensures specs { specs_of (held rv.new) ≡ specs_of (held rv.old) }
     ensures rule { (held rv.new).rule ≡ (held rv.old).rule }
     ensures dropping { (held rv.new).drop ≡ (held rv.old).drop }
-    ensures through { OnOk result (IsThrough (held rv.old).rule (held rv.old).drop
-        (specs_of (held rv.old)) source.old (held rv.new)) }
-    ensures ended { IfErr result (λ answer. AreGood source.old → OrMemory answer (EventsCome
-        (held rv.old).rule (held rv.old).drop (specs_of (held rv.old)) (AreLeft source.old)
-        answer)) }
+    ensures watched { AreGood source.old → IsWatched (held rv.old).rule (held rv.old).drop
+        (specs_of (held rv.old)) source.old (held rv.new) result }
     ensures read { AreRead source.old source.new }
 {
+    runs(); // how calls of `event` stop
     let mut letters = Letters::new(alloc);
-    // An answer is large, so none is made before the end.
     loop {
         let placed = match source.next(alloc, &mut letters) {
             Ok(Some(placed)) => placed,
-            Ok(None) => return Ok(()),
-            Err(fault) => return Err(fault_answer(1, FileFault::from(fault))),
+            Ok(None) => return Watched::Through,
+            Err(_) => return Watched::Unread,
         };
         let reply = match rv.event(alloc, &placed.event, steps) {
             Ok(reply) => reply,
-            Err(error) => return Err(event_answer(error, placed.line)),
+            Err(error) => {
+                return Watched::Refused {
+                    error,
+                    line: placed.line,
+                };
+            }
         };
         match reply {
             Reply::Quiet => {}
             Reply::Arrived { .. } => {}
             Reply::Violation { spec, trace, tuple } => {
-                return Err(Answer::Violation { spec, trace, tuple });
+                return Watched::Violated { spec, trace, tuple };
             }
         }
         placed.event.return_letters(&mut letters);
     }
 }
 
+/// The answer where all lines are taken.
+fn watched_answer(alloc: Global, rv: &Rv, specs: u32, watched: Watched) -> Answer
+    requires { specs ≡ length (specs_of (held rv.now)) }
+    ensures { (source : Source) → IsWatched (held rv.now).rule (held rv.now).drop
+        (specs_of (held rv.now)) source (held rv.now) watched → OrMemory result (EventsCome
+        (held rv.now).rule (held rv.now).drop (specs_of (held rv.now)) (AreLeft source) result) }
+{
+    match watched {
+        Watched::Through => clean_answer(alloc, rv, specs),
+        Watched::Refused { error, line } => event_answer(error, line),
+        Watched::Violated { spec, trace, tuple } => Answer::Violation { spec, trace, tuple },
+        Watched::Unread => Answer::Memory,
+    }
+}
+
 /// The answer for a line whose event is refused.
 fn event_answer(error: RvError, line: u32) -> Answer
-    ensures { IsEventAnswer error line result }
+    ensures { result ≡ event_answer line error }
 {
     match error {
         RvError::NoLetter | RvError::NoSave => Answer::Session { line },

@@ -1,7 +1,6 @@
-use Rattle.rv_core.specs.Histories.{empty_history}
 use Rattle.hy_top.proofs.OneAnswer.{dropping-agrees}
 use Rattle.hy_top.proofs.laws.dropping.Goals as goal
 
 pub returns : goal.returns
 returns c rule drop other specs events a b one two =
-    dropping-agrees rule drop other specs events empty_history a b one two
+    dropping-agrees rule drop other specs events a b one two

@@ -1,8 +1,12 @@
-use Rattle.hy_top.specs.Watching.{AreLeft}
+use Rattle.hy_top.specs.Watching.{AreLeft, OrMemory}
+use Rattle.hy_top.specs.Monitoring.{EventsCome}
+use Rattle.hy_top.proofs.EventSteps.{or-fault}
 use Rattle.hy_top.proofs.FirstSpecs.{monitored-outcome}
 use Rattle.hy_top.proofs.rvhyper.judge.Goals as goal
 
-pub returns-in-Ok-clause-outcome : goal.returns-in-Ok-clause-outcome
-returns-in-Ok-clause-outcome c good =
-    monitored-outcome c.args.lengths c.args.drop c.args.specs.now c.as_slice.result.now (AreLeft c.args.source.now) _ _ c.as_slice.ensures c.in-Ok.ensures.universal
-    c.in-Ok.ensures.taken c.in-Ok.ensures.specs (rw (c.in-Ok.ensures.rule, c.in-Ok.ensures.drop) at c.watch.ensures.come good)
+pub returns-in-Ok : goal.returns-in-Ok
+returns-in-Ok c =
+    or-fault c.args.source.now c.watch.result
+    (λ come. monitored-outcome c.args.lengths c.args.drop c.args.specs.now c.as_slice.result.now (AreLeft c.args.source.now) _ _ c.as_slice.ensures
+    c.in-Ok.ensures.universal c.in-Ok.ensures.taken c.in-Ok.ensures.specs come)
+    (rw (c.in-Ok.ensures.rule, c.in-Ok.ensures.drop) at c.watch.ensures)

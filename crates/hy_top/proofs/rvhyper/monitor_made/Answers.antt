@@ -1,4 +1,4 @@
-use Rattle.std.proofs.Common.{◌≡◌, true, refl, ap, ◌∙◌, length, arith}
+use Rattle.std.proofs.Common.{◌≡◌, true, Err, inl, inr, refl, ap, ◌∙◌, length, arith}
 use Rattle.hy_words.specs.Commands.{monitor_made}
 use Rattle.made_traces.specs.MadeTraces.{made_traces}
 use Rattle.hy_top.specs.Monitoring.{whole_traces, spent}
@@ -6,6 +6,7 @@ use Rattle.hy_top.specs.Orders.{order_of}
 use Rattle.hy_top.proofs.FirstSpecs.{few-quantifiers, read-few}
 use Rattle.hy_top.proofs.Progress.{ends_first}
 use Rattle.hy_top.proofs.Monitoring.{made_follow, length-made, outcome-by}
+use Rattle.hy_top.proofs.Sources.{fault-untaken}
 use Rattle.hy_top.proofs.rvhyper.monitor_made.Goals as goal
 
 pub returns-in-Err-clause-follows : goal.returns-in-Err-clause-follows
@@ -30,5 +31,8 @@ pub returns-clause-follows : goal.returns-clause-follows
 returns-clause-follows g c =
     let same : c.as_slice.result.now ≡ made_traces c.specs_in.new.names c.args.count = c.as_slice.ensures ∙ c.in-Ok-make_traces.ensures in
     made_follow g.S.Shelf _ _ c.args.specs.now c.args.count c.args.lengths c.args.drop _ _ (rw c.requires.empty at c.in-Ok.ensures.taken) _
-    (outcome-by c.args.lengths c.args.drop _ _ (λ es left. c.of_traces-source.ensures.left es left ∙ ap (whole_traces 0) same)
-    (c.judge.ensures.outcome c.of_traces-source.ensures.good))
+    (elim c.judge.ensures [
+      | inl (good, outcome) ↦
+          outcome-by c.args.lengths c.args.drop _ _ (λ es left. c.of_traces-source.ensures.left es left ∙ ap (whole_traces 0) same) outcome
+      | inr (fault, found, answered) ↦ absurd (fault-untaken (Err fault) fault refl (c.of_traces-source.ensures.taken (Err fault) found))
+    ])

@@ -1,11 +1,21 @@
+use Rattle.std.proofs.Common.{Ok, Err, inl, inr, ap, ◌∙◌}
 use Rattle.rv_core.specs.Held.{specs_of}
 use Rattle.rv_core.specs.Seen.{held}
-use Rattle.hy_top.proofs.EventSteps.{through-comes}
+use Rattle.hy_answer.specs.Refusals.{fault_answer}
+use Rattle.hy_top.proofs.EventSteps.{watched-comes}
 use Rattle.hy_top.proofs.watching.watch.Goals as goal
 
-pub returns-in-Ok-clause-come : goal.returns-in-Ok-clause-come
-returns-in-Ok-clause-come c good =
-    let old = held c.args.rv.now in
-    through-comes old.rule old.drop (specs_of old) c.args.source.now (held c.watch_on.new.rv) c.clean_answer.result
-    c.in-Ok.ensures.through c.watch_on.ensures.rule c.watch_on.ensures.dropping c.watch_on.ensures.specs
-    c.clean_answer.ensures
+pub returns-in-Ok : goal.returns-in-Ok
+returns-in-Ok c =
+    let good = c.watch_on-watched.ensures.read (Ok tt) c.in-Ok.ensures in
+    inl (
+      good,
+      watched-comes (held c.args.rv.now) (held c.watch_on-watched.new.rv) c.args.source.now c.watch_on-watched.result c.watched_answer.result
+          c.watch_on-watched.ensures.specs c.watch_on-watched.ensures.rule c.watch_on-watched.ensures.dropping (c.watch_on-watched.ensures.watched good)
+          (c.watched_answer.ensures c.args.source.now),
+    )
+
+pub returns-in-Err : goal.returns-in-Err
+returns-in-Err c =
+    let fault = c.in-Err.fault in
+    inr (fault, c.watch_on-watched.ensures.read (Err fault) c.in-Err.ensures, c.fault_answer.ensures ∙ ap (fault_answer 1) c.from.ensures)

@@ -1,11 +1,10 @@
-use Rattle.rv_core.specs.Held.{specs_of}
 use Rattle.rv_core.specs.Seen.{held}
 use Rattle.hy_top.specs.Watching.{count_left}
 use Rattle.hy_top.proofs.EventSteps.{Passed}
 use Rattle.hy_top.proofs.watching.watch_events.Given as goal
 
 abbrev pub invariant-loop-placed : goal.invariant-loop-placed
-invariant-loop-placed g l = Passed (held l.fn.rv).rule (held l.fn.rv).drop (specs_of (held l.fn.rv)) l.fn.source l.source (held l.rv)
+invariant-loop-placed g l = Passed l.fn.source l.source (held l.fn.rv) (held l.rv)
 
 abbrev pub decreases-loop-placed : goal.decreases-loop-placed
 decreases-loop-placed g l = count_left l.source

@@ -1,0 +1,32 @@
+use Rattle.std.proofs.Common.{◌≡◌, ◌∙◌, inl, inr, sym, ap, subst}
+use Rattle.rv_core.specs.Held.{specs_of}
+use Rattle.rv_core.specs.Seen.{held}
+use Rattle.rv_core.specs.declared.rv_error.RvError.TheVariants as errors
+use Rattle.hy_answer.specs.declared.answer.Answer.{Answer}
+use Rattle.hy_top.specs.Monitoring.{EventsCome, event_answer}
+use Rattle.hy_top.specs.Watching.{AreLeft, IsWatched}
+use Rattle.hy_top.specs.declared.watching.Watched.{Watched}
+use Rattle.hy_top.proofs.EventSteps.{or-memory, through-comes}
+use Rattle.hy_top.proofs.watching.watched_answer.Goals as goal
+
+pub returns-in-Through : goal.returns-in-Through
+returns-in-Through c source is =
+    let m = held c.args.rv.now in
+    let P : Watched → Type 0 = IsWatched m.rule m.drop (specs_of m) source m in
+    or-memory (through-comes m.rule m.drop (specs_of m) source m c.clean_answer.result (subst P c.in-Through.is is)) c.clean_answer.ensures
+
+pub returns-in-Refused : goal.returns-in-Refused
+returns-in-Refused c source is =
+    let m = held c.args.rv.now in
+    let P : Watched → Type 0 = IsWatched m.rule m.drop (specs_of m) source m in
+    let Q : Answer → Type 0 = EventsCome m.rule m.drop (specs_of m) (AreLeft source) in
+    elim (subst P c.in-Refused.is is) [
+      | inl memory ↦ inl (c.event_answer.ensures ∙ ap (event_answer c.in-Refused.line) memory)
+      | inr come ↦ inr (subst Q (sym c.event_answer.ensures) come)
+    ]
+
+pub returns-in-Violated : goal.returns-in-Violated
+returns-in-Violated c source is =
+    let m = held c.args.rv.now in
+    let P : Watched → Type 0 = IsWatched m.rule m.drop (specs_of m) source m in
+    inr (subst P c.in-Violated.is is)
