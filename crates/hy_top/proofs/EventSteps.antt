@@ -16,7 +16,6 @@ use Rattle.rv_core.specs.declared.saved.Saved.{Saved}
 use Rattle.rv_core.specs.Held.{Held, AreSaves, StandsFor, specs_of}
 use Rattle.rv_core.specs.Histories.{Present, History, empty_history, Refusal, too_long, too_many_sessions, too_many_saves, refused, goes, step, letters_of, letter_step, end_step, back_step, with_sessions, with_trace, extended, closed, most_sessions, most_saves}
 use Rattle.rv_core.specs.Replies.{error_of, IsFound, IsAnswer, quiet, arrived, violated, refused_by, spent, Answers, Stop, through, error_at, violation_at, Runs, at_end, on_quiet, on_arrival, at_violation, at_error, EndsAs}
-use Rattle.rv_core.proofs.Calling.{runs-end}
 use Rattle.rv_core.proofs.Ending.{ends-some}
 use Rattle.hy_answer.specs.declared.answer.Answer.{Answer}
 use Rattle.hy_answer.specs.declared.answer.Answer.TheVariants as answers
@@ -30,9 +29,9 @@ pub or-memory : {P Q : Type 0} {a : Answer} → (P → Q) → OrMemory a P → O
 or-memory f (inl e) = inl e
 or-memory f (inr p) = inr (f p)
 
-pub or-fault : {P Q : Type 0} {source : Source} {a : Answer} → (P → Q) → OrFault source a P → OrFault source a Q
-or-fault f (inl (good, p)) = inl (good, f p)
-or-fault f (inr fault) = inr fault
+pub or-fault : {P Q : Type 0} (source : Source) (a : Answer) → (P → Q) → OrFault source a P → OrFault source a Q
+or-fault source a f (inl (good, p)) = inl (good, f p)
+or-fault source a f (inr fault) = inr fault
 
 -- ---- one event
 
@@ -162,14 +161,20 @@ passed-none start m stands numbered = record {
 
 -- ---- how calls stop
 
+-- the law of `rv_core` on calls: they stop as their events end, or memory ran out
+abbrev pub RunsEnd : Type 0
+RunsEnd =
+    (k : ℕ) (m : Held) (h : History) (events : List Event) (stop : Stop) (x : Ending) → StandsFor m h → Runs k m events stop
+    → Ends m.rule (specs_of m) k h events x → EndsAs m.rule (specs_of m) x stop ⊎ ((n : ℕ) × (stop ≡ error_at n errors.Memory))
+
 -- Calls with the events of a source stop as these end, and that brings the answer.
-stopped-comes : (start : Source) (first : Held) (placed : List Placed) (stop : Stop) (a : Answer) → StandsFor first empty_history
+stopped-comes : RunsEnd → (start : Source) (first : Held) (placed : List Placed) (stop : Stop) (a : Answer) → StandsFor first empty_history
     → AreLeft start placed → Runs 0 first (events_of placed) stop → ((n : ℕ) → ¬ (stop ≡ error_at n errors.Memory))
     → ((x : Ending) → EndsAs first.rule (specs_of first) x stop → Brings first.rule first.drop (specs_of first) placed x a)
     → EventsCome first.rule first.drop (specs_of first) (AreLeft start) a
-stopped-comes start first placed stop a stands left runs no_memory brings =
+stopped-comes law start first placed stop a stands left runs no_memory brings =
     let (x, ends) = ends-some first.rule (specs_of first) 0 empty_history (events_of placed) in
-    (placed, left, record { ending = x; ends = ends; brings = brings x (by x (runs-end 0 first empty_history (events_of placed) stop x stands runs ends)) })
+    (placed, left, record { ending = x; ends = ends; brings = brings x (by x (law 0 first empty_history (events_of placed) stop x stands runs ends)) })
   where
     by : (x : Ending) → EndsAs first.rule (specs_of first) x stop ⊎ ((n : ℕ) × (stop ≡ error_at n errors.Memory))
         → EndsAs first.rule (specs_of first) x stop
@@ -251,19 +256,19 @@ module _ (start old : Source) (first m : Held) (before : Passed start old first 
         let P : List Event → Type 0 = λ es. Runs 0 first es stop in
         subst P (sym (events-append before.done (placed ∷ more))) (before.runs (placed.event ∷ events_of more) stop runs)
 
-    pub violation-comes : (s trace : ℕ) (tuple : List ℕ) → Answers m m' placed.event (Ok (Violation s trace tuple)) → StandsFor first empty_history → AreGood start
+    pub violation-comes : RunsEnd → (s trace : ℕ) (tuple : List ℕ) → Answers m m' placed.event (Ok (Violation s trace tuple)) → StandsFor first empty_history → AreGood start
         → EventsCome first.rule first.drop (specs_of first) (AreLeft start) (answers.Violation s trace tuple)
-    violation-comes s trace tuple said stands good =
+    violation-comes law s trace tuple said stands good =
         let (more, left) = some-left new (ahead.good (before.good good)) in
         let n = length before.done in
-        stopped-comes start first (before.done ++ placed ∷ more) (violation_at n s trace tuple) (answers.Violation s trace tuple) stands
+        stopped-comes law start first (before.done ++ placed ∷ more) (violation_at n s trace tuple) (answers.Violation s trace tuple) stands
         (all-left more left) (all-run more (violation_at n s trace tuple) (at_violation n m m' placed.event (events_of more) s trace tuple said))
         (λ k e. absurd (cc))
         (violation-brings first.rule first.drop (specs_of first) (before.done ++ placed ∷ more) n s trace tuple)
 
-    pub error-comes : (e : RvError) → Answers m m' placed.event (Err e) → StandsFor first empty_history → AreGood start
+    pub error-comes : RunsEnd → (e : RvError) → Answers m m' placed.event (Err e) → StandsFor first empty_history → AreGood start
         → (e ≡ errors.Memory) ⊎ EventsCome first.rule first.drop (specs_of first) (AreLeft start) (event_answer placed.line e)
-    error-comes e said stands good = by (is-memory e)
+    error-comes law e said stands good = by (is-memory e)
       where
         by : (e ≡ errors.Memory) ⊎ (¬ (e ≡ errors.Memory))
             → (e ≡ errors.Memory) ⊎ EventsCome first.rule first.drop (specs_of first) (AreLeft start) (event_answer placed.line e)
@@ -272,20 +277,20 @@ module _ (start old : Source) (first m : Held) (before : Passed start old first 
             let (more, left) = some-left new (ahead.good (before.good good)) in
             let n = length before.done in
             inr
-            (stopped-comes start first (before.done ++ placed ∷ more) (error_at n e) (event_answer placed.line e) stands
+            (stopped-comes law start first (before.done ++ placed ∷ more) (error_at n e) (event_answer placed.line e) stands
             (all-left more left) (all-run more (error_at n e) (at_error n m m' placed.event (events_of more) e said))
             (λ k same. other (let memory : e ≡ errors.Memory = cc in memory))
             (λ x. refusal-brings first.rule first.drop (specs_of first) (before.done ++ placed ∷ more) n placed.line e x
             (line-there before.done placed more)))
 
-  pub passed-all : StandsFor first empty_history → AreLeft old [] → IsThrough first.rule (specs_of first) start m
-  passed-all stands none =
+  pub passed-all : RunsEnd → StandsFor first empty_history → AreLeft old [] → IsThrough first.rule (specs_of first) start m
+  passed-all law stands none =
       let all = before.done ++ [] in
       let n = length before.done in
       let P : List Event → Type 0 = λ es. Runs 0 first es (through m) in
       let (x, ends) = ends-some first.rule (specs_of first) 0 empty_history (events_of all) in
       by x ends
-      (runs-end 0 first empty_history (events_of all) (through m) x stands
+      (law 0 first empty_history (events_of all) (through m) x stands
       (subst P (sym (events-append before.done [])) (before.runs [] (through m) (at_end n m))) ends)
     where
       by : (x : Ending) → Ends first.rule (specs_of first) 0 empty_history (events_of (before.done ++ [])) x

@@ -12,7 +12,7 @@ use hy_answer::{Answer, fault_answer};
 use hy_base::{M, Memory, NumList, Steps};
 use hy_bits::Letters;
 use hy_files::FileFault;
-use rv_core::laws::keeping;
+use rv_core::laws::{keeping, runs};
 use rv_core::{Reply, Rv, RvError};
 use std::alloc::Global;
 use std::marker::Brand;
@@ -88,6 +88,7 @@ fn watch_events<L: Ledger>(
         (specs_of (held rv.old)) source.old (held rv.new) result }
     ensures read { AreRead source.old source.new }
 {
+    runs(); // how calls of `event` stop
     let mut letters = Letters::new(alloc);
     loop {
         let placed = match source.next(alloc, &mut letters) {

@@ -6,9 +6,12 @@ use Rattle.rv_core.specs.declared.rv_error.RvError.{RvError}
 use Rattle.rv_core.specs.Replies.{Answers, Stop, Runs, on_quiet, on_arrival}
 use Rattle.rv_core.specs.Seen.{held}
 use Rattle.hy_top.specs.Watching.{IsNext}
-use Rattle.hy_top.proofs.EventSteps.{Passed, goes-quiet, goes-arrived, passed-more, passed-all, violation-comes, error-comes}
+use Rattle.hy_top.proofs.EventSteps.{Passed, goes-quiet, goes-arrived, passed-none, passed-more, passed-all, violation-comes, error-comes}
 use Rattle.hy_top.proofs.watching.watch_events.Goals as goal
 use Rattle.hy_top.proofs.watching.watch_events.Goals.{in-Quiet, in-Arrived}
+
+pub loop-placed-init : goal.loop-placed-init
+loop-placed-init g c = passed-none c.args.source.now (held c.args.rv.now) c.requires.stands c.requires.numbered
 
 pub loop-placed-preserved : goal.loop-placed-preserved
 loop-placed-preserved g c =
@@ -41,7 +44,7 @@ loop-placed-preserved g c =
 pub returns-in-Ok-None-clause-watched : goal.returns-in-Ok-None-clause-watched
 returns-in-Ok-None-clause-watched g c good =
     let P : Option Placed → Type 0 = IsNext c.loop-placed.source c.next.new.self in
-    passed-all c.args.source.now c.loop-placed.source (held c.args.rv.now) (held c.loop-placed.rv) c.loop-placed.invariant c.requires.stands
+    passed-all c.args.source.now c.loop-placed.source (held c.args.rv.now) (held c.loop-placed.rv) c.loop-placed.invariant c.runs.ensures c.requires.stands
     (subst P c.in-Ok-None.field-0-is c.in-Ok-None.ensures.next)
 
 pub returns-in-Violation-clause-watched : goal.returns-in-Violation-clause-watched
@@ -52,7 +55,7 @@ returns-in-Violation-clause-watched g c good =
     let P : Option Placed → Type 0 = IsNext c.loop-placed.source c.next.new.self in
     let A : Result Reply RvError → Type 0 = Answers old new placed.event in
     violation-comes c.args.source.now c.loop-placed.source (held c.args.rv.now) old c.loop-placed.invariant placed c.next.new.self new
-    (subst P c.in-Ok-Some.field-0-is c.in-Ok-Some.ensures.next) _ _ _
+    (subst P c.in-Ok-Some.field-0-is c.in-Ok-Some.ensures.next) c.runs.ensures _ _ _
     (subst A (c.in-Ok.is ∙ ap Ok c.in-Violation.is) c.event.ensures.answers) c.requires.stands good
 
 pub returns-in-Err-event-clause-watched : goal.returns-in-Err-event-clause-watched
@@ -63,5 +66,5 @@ returns-in-Err-event-clause-watched g c good =
     let P : Option Placed → Type 0 = IsNext c.loop-placed.source c.next.new.self in
     let A : Result Reply RvError → Type 0 = Answers old new placed.event in
     error-comes c.args.source.now c.loop-placed.source (held c.args.rv.now) old c.loop-placed.invariant placed c.next.new.self new
-    (subst P c.in-Ok-Some.field-0-is c.in-Ok-Some.ensures.next) c.in-Err-event.error
+    (subst P c.in-Ok-Some.field-0-is c.in-Ok-Some.ensures.next) c.runs.ensures c.in-Err-event.error
     (subst A c.in-Err-event.is c.event.ensures.answers) c.requires.stands good
