@@ -1,0 +1,6 @@
+pub mod Claims
+pub mod Errors
+pub mod Good
+pub mod Inductions
+pub mod Truths
+pub mod Verdicts
