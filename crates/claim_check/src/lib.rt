@@ -4,6 +4,7 @@
 
 mod claim;
 mod error;
+pub mod laws;
 
 pub use claim::Claim;
 pub use error::CertError;
