@@ -1,0 +1,4 @@
+pub mod OneVerdict
+pub mod SameNets
+pub mod TrueCircuits
+pub mod TrueFormulas

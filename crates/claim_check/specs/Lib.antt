@@ -1,0 +1,5 @@
+pub mod Claims
+pub mod Errors
+pub mod Good
+pub mod Truths
+pub mod Verdicts
