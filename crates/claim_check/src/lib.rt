@@ -1,5 +1,5 @@
-//! Whether a certificate is good for a claim: lassos, rank proofs, proofs by induction and runs, as
-//! the tools print them, judged without a search.
+//! What a certificate is about, when it is good, what is to be answered to its bytes, and what a good
+//! one shows.
 #![tactic(auto)]
 
 mod claim;
