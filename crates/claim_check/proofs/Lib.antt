@@ -1,4 +1,10 @@
+pub mod Answered
+pub mod Counted
 pub mod OneVerdict
+pub mod Parts
+pub mod Refuted
 pub mod SameNets
 pub mod TrueCircuits
 pub mod TrueFormulas
+pub mod WeighedCircuits
+pub mod WeighedFormulas

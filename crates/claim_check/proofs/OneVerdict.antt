@@ -1,5 +1,5 @@
 -- Bytes have one answer, but for those that are free.
-use Rattle.std.proofs.Common.{◌≡◌, ℕ, ◌<◌, ◌≤◌, ◌⊎◌, ◌↔◌, Bool, true, false, IsTrue, cond, ◌&&◌, nat_eq, List, [], ◌∷◌, length, Result, Ok, Err, inl, inr, refl, sym, ap, ◌∙◌, subst, arith, true≢false, eqb-true}
+use Rattle.std.proofs.Common.{◌≡◌, ℕ, ◌≤◌, ◌⊎◌, Bool, true, false, IsTrue, cond, ◌&&◌, nat_eq, List, [], ◌∷◌, length, Result, Ok, Err, inl, inr, refl, sym, ap, ◌∙◌, subst, arith, true≢false, eqb-true}
 use Rattle.std.specs.Prelude.{Some, is_some}
 use Rattle.std.specs.List.{Contains}
 use Rattle.std.proofs.lemmas.Bool.{cases_lt}
@@ -8,11 +8,9 @@ use Rattle.hy_base.proofs.Truths.{same-truth}
 use Rattle.hy_base.specs.declared.limit.Kind.{Kind}
 use Rattle.hy_base.specs.declared.limit.Kind.TheVariants.{CnfVariables, CnfLiterals}
 use Rattle.hy_base.specs.declared.limit.Limit.{Limit as Past}
-use Rattle.hy_formula.specs.Formulas.{Plain}
 use Rattle.hy_formula.specs.Quantifiers.{Each}
 use Rattle.hy_formula.specs.declared.classes.Class.{Class}
 use Rattle.hy_formula.specs.declared.prefix.Quant.{Quant}
-use Rattle.ltl_closure.specs.Nodes.{Node}
 use Rattle.ea_reduce.specs.Fulfilled.{IsOfOneKind}
 use Rattle.ea_reduce.specs.Plans.{PlainJob, PlainPlan}
 use Rattle.ea_reduce.specs.Refused as plans
@@ -20,9 +18,8 @@ use Rattle.ea_reduce.specs.Refused.{HasFewMaps, HasManyMaps, most_maps}
 use Rattle.aig_net.specs.declared.signals.Signal.{Signal}
 use Rattle.aig_net.specs.Nets.{Net}
 use Rattle.aig_net.specs.Signals.{has_signal, literal_of}
-use Rattle.net_names.specs.Names.{AreSignals, IsBadName, IsFirstBad, IsOnly, name_at}
+use Rattle.net_names.specs.Names.{IsBadName, IsOnly, name_at}
 use Rattle.cnf_frames.specs.Queries.{IsPastBy}
-use Rattle.cert_text.specs.declared.question.Question.{Question}
 use Rattle.cert_text.specs.Certificates.{Certificate, model, ranks, both, induction, runs}
 use Rattle.cert_text.specs.Texts.{IsFaultAt, IsText}
 use Rattle.claim_check.specs.declared.error.CertError.{CertError}

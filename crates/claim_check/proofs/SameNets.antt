@@ -1,7 +1,7 @@
 -- Signals of the names of one body: the safe net is the same, and so is what runs show.
 use mathlib.Core.Path.{fun_ext}
 use Rattle.std.proofs.Common.{◌≡◌, ◌≢◌, refl, sym, ap, ◌∙◌, subst, true≢false, eqb-true, arith, inl, inr}
-use Rattle.std.specs.Prelude.{ℕ, zero, suc, ◌+◌, ◌<◌, ◌≤◌, Bool, true, false, ◌&&◌, cond, nat_eq, List, [], ◌∷◌, ◌++◌, length, IsTrue, All}
+use Rattle.std.specs.Prelude.{ℕ, zero, suc, ◌+◌, ◌≤◌, Bool, true, false, ◌&&◌, cond, nat_eq, List, [], ◌∷◌, ◌++◌, length, IsTrue}
 use Rattle.std.specs.Prelude.{Option, Some, None, is_some, unwrap_or}
 use Rattle.std.specs.Option.{option_map}
 use Rattle.std.specs.List.{Contains}
@@ -27,8 +27,7 @@ use Rattle.sym_tableau.specs.Oracles.{attach, signal_in}
 use Rattle.ltl_closure.specs.Bodies.{body_nodes, body_root}
 use Rattle.self_compose.specs.Copies.{compose}
 use Rattle.live_safe.specs.Safe.{to_safe}
-use Rattle.live_safe.specs.declared.safe_net.SafeNet.{SafeNet}
-use Rattle.wit_lasso.specs.FormulaNets.{copy_signal, copy_signals, formula_safe}
+use Rattle.wit_lasso.specs.FormulaNets.{copy_signal, copy_signals}
 use Rattle.wit_lasso.specs.Seeing.{IsTraceOf}
 use Rattle.wit_lasso.proofs.CopySignals.{literal-copied}
 use Rattle.formula_nets.specs.Posed.{is_existential}

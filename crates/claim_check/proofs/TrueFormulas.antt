@@ -1,5 +1,5 @@
 -- What good certificates say of formulas is so.
-use Rattle.std.proofs.Common.{ℕ, ◌⊎◌, ◌↔◌, ◌<◌, List, length, inl, inr}
+use Rattle.std.proofs.Common.{ℕ, ◌↔◌, List, inl, inr}
 use Rattle.hy_bits.specs.Letter.{Letter}
 use Rattle.hy_formula.specs.Formulas.{Plain}
 use Rattle.hy_formula.specs.Lassos.{Lasso}
@@ -10,7 +10,7 @@ use Rattle.ea_reduce.specs.Plans.{PlainPlan}
 use Rattle.rank_proofs.specs.declared.rank_proof.RankProof.{RankProof}
 use Rattle.cert_text.specs.Certificates.{Certificate, first, second, model, ranks, both, induction, runs}
 use Rattle.claim_check.specs.Claims.{formula, implication, equivalence}
-use Rattle.claim_check.specs.Good.{IsGood, Refutes, Separates, lassos_over, plan_against, reduction}
+use Rattle.claim_check.specs.Good.{IsGood, Refutes, lassos_over, plan_against, reduction}
 use Rattle.claim_check.specs.Truths.{AreApart, Implies, IsSaid, IsSatisfiable}
 
 -- Nothing fulfils a plan that a proof refutes.

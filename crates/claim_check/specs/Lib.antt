@@ -1,5 +1,7 @@
 pub mod Claims
+pub mod Counting
 pub mod Errors
 pub mod Good
+pub mod Reading
 pub mod Truths
 pub mod Verdicts

@@ -27,7 +27,7 @@ use Rattle.cnf_frames.specs.declared.queries.FrameError.{FrameError}
 use Rattle.cnf_frames.specs.declared.queries.FrameError.TheVariants as frame
 use Rattle.formula_nets.specs.Posed as posed
 use Rattle.formula_nets.specs.Posed.{is_existential}
-use Rattle.cert_text.specs.Certificates.{Certificate, model, ranks, both, induction, runs}
+use Rattle.cert_text.specs.Certificates.{Certificate, model, induction, runs}
 use Rattle.cert_text.specs.Texts.{IsText, IsFaultAt}
 use Rattle.claim_check.specs.declared.error.CertError.{CertError}
 use Rattle.claim_check.specs.declared.error.CertError.TheVariants.{Prefix, Limit, Name, Text, Memory}

@@ -1,7 +1,8 @@
 //! Why a certificate was not judged.
 
 ghost use Rattle.std.specs.Prelude.{◌≡◌};
-ghost use Rattle.claim_check.specs.declared.error.CertError.TheVariants.{Memory as OutOfMemory};
+ghost use Rattle.claim_check.specs.declared.error.CertError.TheVariants.{Limit as OfLimit, Memory as OutOfMemory};
+ghost use Rattle.hy_lasso.specs.Limits.{joint_limit};
 ghost use Rattle.claim_check.specs.Errors.{of_closure, of_frames, of_names, of_plan};
 
 use cnf_frames::FrameError;
@@ -27,6 +28,18 @@ pub enum CertError {
     /// The bytes are no certificate text: they go wrong at this line, from 1.
     Text { line: u32 },
     Memory,
+}
+
+impl CertError {
+    /// The joint period has more than 4,194,304 positions.
+    pub(crate) fn joint() -> CertError
+        ensures { result ≡ OfLimit joint_limit }
+    {
+        CertError::Limit(Limit {
+            kind: Kind::Joint,
+            limit: Kind::Joint.most(),
+        })
+    }
 }
 
 impl fmt::Display for CertError {

@@ -1,6 +1,6 @@
 //! The entries of a rank proof, from the lines of its branches.
 
-ghost use Rattle.std.specs.Prelude.{◌≡◌, ◌≢◌, ◌≤◌, ◌*◌, List as Sequence, [], length, IfOk};
+ghost use Rattle.std.specs.Prelude.{◌≡◌, ◌≢◌, ◌≤◌, ◌*◌, List as Sequence, [], length, IfOk, IfSome};
 ghost use Rattle.rank_proofs.specs.declared.rank_proof.ProofBranch.{ProofBranch};
 ghost use Rattle.rank_proofs.specs.Readings.{IsEntryRead};
 ghost use Rattle.cert_text.specs.Lines.{Line};
@@ -34,6 +34,8 @@ pub fn read_entries<'a, const W: usize>(
         → length branches ≡ count → rest ≢ [] → AreFirst SaysBranch text.now branches rest
         → AreEntriesRead c.now.nodes ranks branches rest proof.new.entries left) }
     ensures reasons { proof.new.reasons ≡ proof.old.reasons }
+    ensures shorter { IfOk result
+        (λ left. IfSome left (λ left. length left.now ≤ length text.now)) }
 {
     let mut now = List::new(alloc);
     let mut next = List::new(alloc);

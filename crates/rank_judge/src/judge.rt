@@ -1,6 +1,6 @@
 //! The judge of rank proofs.
 
-ghost use Rattle.std.specs.Prelude.{◌≡◌, ◌≢◌, ◌≤◌, ◌*◌, List, [], ◌∷◌, ◌++◌, length, IfOk};
+ghost use Rattle.std.specs.Prelude.{◌≡◌, ◌≢◌, ◌≤◌, ◌*◌, List, [], ◌∷◌, ◌++◌, length, IfOk, IfSome};
 ghost use Rattle.hy_base.specs.declared.reading.TheConstants.{BYTES_LIMIT};
 ghost use Rattle.hy_text.specs.Lines.{lines_of};
 ghost use Rattle.ltl_closure.specs.Jobs.{closure_of};
@@ -36,9 +36,11 @@ pub fn judge_ranks<'a>(
 ) -> M<Option<&'a [u8]>>
     requires closure { closure.now ≡ closure_of (plan_tasks (plain_plan plan.now)) }
     requires short { length text.now ≤ BYTES_LIMIT }
-    ensures { IfOk result (λ left. (proof : RankProof) (front : List Line) (line : Line)
+    ensures judged { IfOk result (λ left. (proof : RankProof) (front : List Line) (line : Line)
         (more : List Line) → lines_of text.now ≡ front ++ line ∷ more → SayRankProof front proof
         → IsJudged (plain_plan plan.now) proof (line ∷ more) left) }
+    ensures shorter { IfOk result
+        (λ left. IfSome left (λ left. length left.now ≤ length text.now)) }
 {
     judge(alloc, closure, text)
 }
@@ -46,9 +48,11 @@ pub fn judge_ranks<'a>(
 /// The same for the roots of the closure.
 fn judge<'a>(alloc: Global, c: &Closure, text: &'a [u8]) -> M<Option<&'a [u8]>>
     requires { length text.now ≤ BYTES_LIMIT }
-    ensures { IfOk result (λ left. (proof : RankProof) (rest : List Line) → rest ≢ []
+    ensures judged { IfOk result (λ left. (proof : RankProof) (rest : List Line) → rest ≢ []
         → IsFirst text.now proof rest
         → IsJudgedAt c.now.nodes (set_of c.now.roots) proof rest left) }
+    ensures shorter { IfOk result
+        (λ left. IfSome left (λ left. length left.now ≤ length text.now)) }
 {
     each_width!(c.len(), judge_wide(alloc, c, text))
 }
@@ -58,9 +62,11 @@ fn judge_wide<'a, const W: usize>(alloc: Global, c: &Closure, text: &'a [u8]) ->
     requires width { W ≤ 16 }
     requires members { length c.now.nodes ≤ 64 * W }
     requires short { length text.now ≤ BYTES_LIMIT }
-    ensures { IfOk result (λ left. (proof : RankProof) (rest : List Line) → rest ≢ []
+    ensures judged { IfOk result (λ left. (proof : RankProof) (rest : List Line) → rest ≢ []
         → IsFirst text.now proof rest
         → IsJudgedAt c.now.nodes (set_of c.now.roots) proof rest left) }
+    ensures shorter { IfOk result
+        (λ left. IfSome left (λ left. length left.now ≤ length text.now)) }
 {
     let mut proof = RowProof::<W>::new(alloc);
     judge_read(alloc, c, text, &mut proof)
@@ -78,9 +84,11 @@ fn judge_read<'a, const W: usize>(
     requires short { length text.now ≤ BYTES_LIMIT }
     requires entries { proof.old.entries ≡ [] }
     requires reasons { proof.old.reasons ≡ [] }
-    ensures { IfOk result (λ left. (said : RankProof) (rest : List Line) → rest ≢ []
+    ensures judged { IfOk result (λ left. (said : RankProof) (rest : List Line) → rest ≢ []
         → IsFirst text.now said rest
         → IsJudgedAt c.now.nodes (set_of c.now.roots) said rest left) }
+    ensures shorter { IfOk result
+        (λ left. IfSome left (λ left. length left.now ≤ length text.now)) }
 {
     let Some(left) = read_proof(alloc, c, text, proof)? else {
         return Ok(None);

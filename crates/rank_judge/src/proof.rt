@@ -1,6 +1,6 @@
 //! A rank proof, from its lines.
 
-ghost use Rattle.std.specs.Prelude.{◌≡◌, ◌≢◌, ◌≤◌, ◌*◌, List, [], length, IfOk};
+ghost use Rattle.std.specs.Prelude.{◌≡◌, ◌≢◌, ◌≤◌, ◌*◌, List, [], length, IfOk, IfSome};
 ghost use Rattle.hy_base.specs.declared.reading.TheConstants.{BYTES_LIMIT};
 ghost use Rattle.rank_proofs.specs.declared.rank_proof.RankProof.{RankProof};
 ghost use Rattle.cert_text.specs.Lines.{Line};
@@ -29,8 +29,10 @@ pub fn read_proof<'a, const W: usize>(
     requires short { length text.now ≤ BYTES_LIMIT }
     requires entries { proof.old.entries ≡ [] }
     requires reasons { proof.old.reasons ≡ [] }
-    ensures { IfOk result (λ left. (said : RankProof) (rest : List Line) → rest ≢ []
+    ensures read { IfOk result (λ left. (said : RankProof) (rest : List Line) → rest ≢ []
         → IsFirst text.now said rest → IsProofRead c.now.nodes said rest proof.new left) }
+    ensures shorter { IfOk result
+        (λ left. IfSome left (λ left. length left.now ≤ length text.now)) }
 {
     let Some((branches, ranks, behind)) = read_head(text) else {
         return Ok(None);

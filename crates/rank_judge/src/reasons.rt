@@ -1,6 +1,6 @@
 //! The reasons of a rank proof, from the lines of its ranks.
 
-ghost use Rattle.std.specs.Prelude.{◌≡◌, ◌≢◌, ℕ, List, [], length, Option, IfOk};
+ghost use Rattle.std.specs.Prelude.{◌≡◌, ◌≢◌, ◌≤◌, ℕ, List, [], length, Option, IfOk, IfSome};
 ghost use Rattle.cert_text.specs.Lines.{Line};
 ghost use Rattle.cert_text.specs.RankLines.{SaysReason};
 ghost use Rattle.rank_judge.specs.Fronts.{AreFirst};
@@ -25,6 +25,8 @@ pub fn read_reasons<'a, const W: usize>(
         → length reasons ≡ count → rest ≢ [] → AreFirst SaysReason text.now reasons rest
         → AreReasonsRead c.now.nodes reasons rest proof.new.reasons left) }
     ensures entries { proof.new.entries ≡ proof.old.entries }
+    ensures shorter { IfOk result
+        (λ left. IfSome left (λ left. length left.now ≤ length text.now)) }
 {
     let mut left = text;
     for _rank in 0..count {

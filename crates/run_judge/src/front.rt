@@ -25,6 +25,7 @@ pub fn lassos_in<'a>(alloc: Global, text: &'a [u8], names: &NameTable) -> M<Fron
     ensures lassos { IfOk result
         (λ front. AreFrontLassos names.now text.now front.list front.left.now) }
     ensures countable { IfOk result (λ front. length front.list < 2 ^ 32) }
+    ensures short { IfOk result (λ front. length front.left.now ≤ length text.now) }
 {
     let mut list = List::new(alloc);
     let mut left = text;

@@ -1,4 +1,4 @@
-use Rattle.std.proofs.Common.{ℕ, List, length}
+use Rattle.std.proofs.Common.{length}
 use Rattle.formula_nets.specs.Posed.{is_existential}
 use Rattle.formula_nets.proofs.MadeSafe.{formula-safe-is}
 use Rattle.claim_check.specs.Good.{safe_net}

@@ -1,6 +1,6 @@
 use Rattle.rank_proofs.specs.Proofs.{plain_proof}
 use Rattle.claim_check.specs.Good.{plan_against, reduction}
-use Rattle.claim_check.proofs.TrueFormulas.{IsDeciding, IsRefuting, equivalence-true, formula-true, implication-true}
+use Rattle.claim_check.proofs.TrueFormulas.{equivalence-true, formula-true, implication-true}
 use Rattle.claim_check.proofs.laws.truth_of_formulas.Goals as goal
 
 pub returns-clause-formula : goal.returns-clause-formula

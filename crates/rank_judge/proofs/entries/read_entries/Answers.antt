@@ -1,6 +1,6 @@
 use Rattle.std.proofs.Common.{◌<◌, ◌∷◌, ◌∙◌, Some, None, length, refl, ap, subst, arith}
 use Rattle.std.specs.Option.{option_copied}
-use Rattle.hy_text.specs.Lines.{left_lines}
+use Rattle.hy_text.specs.Lines.{left_lines, left_len}
 use Rattle.rank_proofs.specs.Proofs.{ranked_of}
 use Rattle.rank_proofs.specs.Readings.{MayBeEntry, IsEntryRead}
 use Rattle.cert_text.specs.RankLines.{SaysBranch}
@@ -15,6 +15,7 @@ loop-branch-init g c = record {
       walk_begins SaysBranch (λ front. AreOf front c.args.proof.now.entries) c.args.text.now
       branches rest first (no_entries c.args.proof.now.entries c.requires.empty);
   reasons = refl;
+  shorter = omega arith;
 }
 
 pub returns-in_default-clause-entries : goal.returns-in_default-clause-entries
@@ -62,6 +63,9 @@ loop-branch-preserved g c = record {
       (c.in_ok-entry.ensures next.value next.says)))
       c.in_ok-add.ensures.entries);
   reasons = c.in_ok-add.ensures.reasons ∙ c.loop-branch.invariant.reasons;
+  shorter =
+      let shorter = ap (λ o. left_len (option_copied o)) c.in-Some.is in
+      omega (arith, shorter, c.split_line.ensures.fewer, c.loop-branch.invariant.shorter);
 }
 
 pub returns-clause-entries : goal.returns-clause-entries

@@ -1,4 +1,4 @@
-use Rattle.std.proofs.Common.{◌≡◌, ◌≢◌, List, [], length}
+use Rattle.std.proofs.Common.{◌≡◌, ◌≢◌, ◌≤◌, List, [], length}
 use Rattle.rank_proofs.specs.declared.rank_proof.ProofBranch.{ProofBranch}
 use Rattle.cert_text.specs.Lines.{Line}
 use Rattle.cert_text.specs.RankLines.{SaysBranch}
@@ -13,4 +13,5 @@ invariant-loop-branch g l = record {
       → AreFirst SaysBranch l.text branches rest
       → IsWalked SaysBranch (λ front. AreOf front l.proof.entries) branches rest l._branch l.left;
   reasons : l.proof.reasons ≡ l.fn.proof.reasons;
+  shorter : length l.left ≤ length l.text;
 }

@@ -7,13 +7,13 @@ use Rattle.rank_judge.proofs.Keeping.{no_proof_entries, proof_read}
 use Rattle.rank_judge.proofs.Walking.{no_append}
 use Rattle.rank_judge.proofs.proof.read_proof.Goals as goal
 
-pub returns-in_default : goal.returns-in_default
-returns-in_default g c said rest some first =
-    absurd (c.in_default.ensures said rest some first)
+pub returns-in_default-clause-read : goal.returns-in_default-clause-read
+returns-in_default-clause-read g c said rest some first =
+    absurd (c.in_default.ensures.head said rest some first)
 
-pub returns-in_default-2 : goal.returns-in_default-2
-returns-in_default-2 g c said rest some first =
-    let head = c.in-Some.ensures said rest some first in
+pub returns-in_default-2-clause-read : goal.returns-in_default-2-clause-read
+returns-in_default-2-clause-read g c said rest some first =
+    let head = c.in-Some.ensures.head said rest some first in
     let more : head.reasons ++ rest ≢ [] = λ e. some (no_append head.reasons rest e) in
     let P : Option (Bor (List ℕ)) → Type 0 =
     AreEntriesRead c.args.c.now.nodes c.in-Some.ranks said.branches (head.reasons ++ rest)
@@ -23,10 +23,10 @@ returns-in_default-2 g c said rest some first =
     (c.in_ok-left.ensures.entries said.branches (head.reasons ++ rest) head.branches_many more
     head.entries))
 
-pub returns : goal.returns
-returns g c =
+pub returns-clause-read : goal.returns-clause-read
+returns-clause-read g c =
     IfOk-weaker c.read_reasons.result _ _ (λ left read said rest some first.
-    let head = c.in-Some.ensures said rest some first in
+    let head = c.in-Some.ensures.head said rest some first in
     let more : head.reasons ++ rest ≢ [] = λ e. some (no_append head.reasons rest e) in
     let P : Option (Bor (List ℕ)) → Type 0 =
     AreEntriesRead c.args.c.now.nodes c.in-Some.ranks said.branches (head.reasons ++ rest)

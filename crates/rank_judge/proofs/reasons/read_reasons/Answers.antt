@@ -1,6 +1,6 @@
 use Rattle.std.proofs.Common.{◌≡◌, ◌<◌, ◌∷◌, ◌++◌, ◌∙◌, [], Some, None, length, refl, ap, arith}
 use Rattle.std.specs.Option.{ForSome, option_copied}
-use Rattle.hy_text.specs.Lines.{left_lines}
+use Rattle.hy_text.specs.Lines.{left_lines, left_len}
 use Rattle.ltl_tableau.specs.Ranks.{IsUntilNode}
 use Rattle.cert_text.specs.RankLines.{SaysReason}
 use Rattle.rank_judge.proofs.Keeping.{not_each}
@@ -13,6 +13,7 @@ loop-rank-init g c = record {
       walk_begins SaysReason (λ front. c.args.proof.now.reasons ≡ front) c.args.text.now
       reasons rest first c.requires;
   entries = refl;
+  shorter = omega arith;
 }
 
 pub returns-in_default-clause-reasons : goal.returns-in_default-clause-reasons
@@ -55,6 +56,9 @@ loop-rank-preserved g c = record {
       (c.in_ok-add_reason.ensures.reasons ∙ ap (λ l. l ++ c.in-Some-reason_of.reason ∷ []) next.done
       ∙ ap (λ r. next.front ++ r ∷ []) same);
   entries = c.in_ok-add_reason.ensures.entries ∙ c.loop-rank.invariant.entries;
+  shorter =
+      let shorter = ap (λ o. left_len (option_copied o)) c.in-Some.is in
+      omega (arith, shorter, c.split_line.ensures.fewer, c.loop-rank.invariant.shorter);
 }
 
 pub returns-clause-reasons : goal.returns-clause-reasons

@@ -1,4 +1,4 @@
-use Rattle.std.proofs.Common.{◌≡◌, ◌≢◌, ℕ, List, [], length, Option}
+use Rattle.std.proofs.Common.{◌≡◌, ◌≢◌, ◌≤◌, ℕ, List, [], length, Option}
 use Rattle.cert_text.specs.Lines.{Line}
 use Rattle.cert_text.specs.RankLines.{SaysReason}
 use Rattle.rank_judge.specs.Fronts.{AreFirst}
@@ -11,4 +11,5 @@ invariant-loop-rank g l = record {
       → AreFirst SaysReason l.text reasons rest
       → IsWalked SaysReason (λ front. l.proof.reasons ≡ front) reasons rest l._rank l.left;
   entries : l.proof.entries ≡ l.fn.proof.entries;
+  shorter : length l.left ≤ length l.text;
 }

@@ -1,0 +1,70 @@
+use Rattle.std.proofs.Common.{inl, inr, subst}
+use Rattle.std.proofs.lemmas.Result.{err_from_is_err_and}
+use Rattle.hy_formula.specs.Formulas.{plain_formula}
+use Rattle.ea_reduce.specs.Plans.{PlainPlan, plain_plan}
+use Rattle.rank_proofs.specs.Counts.{HasFewMembers, HasManyMembers}
+use Rattle.claim_check.specs.Claims.{equivalence}
+use Rattle.claim_check.proofs.Counted.{back_stops, joint_stops, planned_stops, there_stops}
+use Rattle.claim_check.proofs.counting.plan_equivalence.Goals as goal
+
+pub returns-in_err-plan-clause-stopped : goal.returns-in_err-plan-clause-stopped
+returns-in_err-plan-clause-stopped c =
+    let p = err_from_is_err_and c.from_residual.result c.from_residual.ensures.1 in
+    rw (p.1, p.2) (λ names.
+    there_stops names (plain_formula c.args.f.now) (plain_formula c.args.g.now) c.args.list.now c.in_err-plan.field-0.0
+    c.in_err-plan.ensures.refused)
+
+pub returns-in_err-converse-clause-stopped : goal.returns-in_err-converse-clause-stopped
+returns-in_err-converse-clause-stopped c =
+    let p = err_from_is_err_and c.from_residual-in_err-converse.result
+    c.from_residual-in_err-converse.ensures.1 in
+    rw (p.1, p.2) (λ names.
+    back_stops names (plain_formula c.args.f.now) (plain_formula c.args.g.now) c.args.list.now c.in_err-converse.field-0.0
+    c.in_ok-plan.ensures.first c.in_ok-plan.ensures.second c.in_err-converse.ensures.refused)
+
+pub returns-in_err-closure-clause-stopped : goal.returns-in_err-closure-clause-stopped
+returns-in_err-closure-clause-stopped c =
+    let p = err_from_is_err_and c.from_residual-in_err-closure.result
+    c.from_residual-in_err-closure.ensures.1 in
+    let Many : PlainPlan → Type 0 = HasManyMembers in
+    rw (p.1, p.2) (λ names.
+    planned_stops names (equivalence (plain_formula c.args.f.now) (plain_formula c.args.g.now)) c.args.list.now (plain_plan c.in_ok-plan.plan) c.in_err-closure.field-0.0
+    (c.in_ok-plan.ensures.first, c.in_ok-plan.ensures.second)
+    (c.in_ok-plan.ensures.few, (c.in_ok-converse.ensures.few, tt)) (λ many. inl (subst Many c.in_ok-plan.ensures.plan many))
+    c.in_err-closure.ensures.refused)
+
+pub returns-in_err-other-clause-stopped : goal.returns-in_err-other-clause-stopped
+returns-in_err-other-clause-stopped c =
+    let p = err_from_is_err_and c.from_residual-in_err-other.result
+    c.from_residual-in_err-other.ensures.1 in
+    let Many : PlainPlan → Type 0 = HasManyMembers in
+    rw (p.1, p.2) (λ names.
+    planned_stops names (equivalence (plain_formula c.args.f.now) (plain_formula c.args.g.now)) c.args.list.now (plain_plan c.in_ok-converse.converse) c.in_err-other.field-0.0
+    (c.in_ok-plan.ensures.first, c.in_ok-plan.ensures.second)
+    (c.in_ok-plan.ensures.few, (c.in_ok-converse.ensures.few, tt)) (λ many. inr (inl (subst Many c.in_ok-converse.ensures.plan many)))
+    c.in_err-other.ensures.refused)
+
+pub returns-then-not-are_judged-clause-stopped : goal.returns-then-not-are_judged-clause-stopped
+returns-then-not-are_judged-clause-stopped c =
+    let Small : PlainPlan → Type 0 = HasFewMembers in
+    rw c.joint.ensures (λ names.
+    joint_stops names (equivalence (plain_formula c.args.f.now) (plain_formula c.args.g.now)) c.args.list.now c.are_judged.result
+    (c.in_ok-plan.ensures.first, c.in_ok-plan.ensures.second)
+    (c.in_ok-plan.ensures.few, (c.in_ok-converse.ensures.few, tt)) (
+      subst Small c.in_ok-plan.ensures.plan c.in_ok-closure.ensures.few,
+      (subst Small c.in_ok-converse.ensures.plan c.in_ok-other.ensures.few, tt),
+    )
+    c.are_judged.ensures c.if-not-are_judged.true)
+
+pub returns-clause-within : goal.returns-clause-within
+returns-clause-within c =
+    let Small : PlainPlan → Type 0 = HasFewMembers in
+    record {
+      taken = (c.in_ok-plan.ensures.first, c.in_ok-plan.ensures.second);
+      instances = (c.in_ok-plan.ensures.few, (c.in_ok-converse.ensures.few, tt));
+      members = (
+        subst Small c.in_ok-plan.ensures.plan c.in_ok-closure.ensures.few,
+        (subst Small c.in_ok-converse.ensures.plan c.in_ok-other.ensures.few, tt),
+      );
+      positions = c.are_judged.ensures.0 c.if-not-are_judged.false;
+    }
