@@ -1,17 +1,19 @@
-//! Tries the cases of the files that its arguments name: commands of the three tools over files and
-//! streams in memory, and circuits. It prints a line for each file, and before it what differs in each
-//! case whose answer is another than the expected one. `case_tools` says how a case is written.
+//! Tries the cases of the files that its arguments name: commands of the three tools and of the checker
+//! over files and streams in memory, and circuits. It prints a line for each file, and before it what
+//! differs in each case whose answer is another than the expected one. `case_tools` says how a case is
+//! written.
 #![tactic(auto)]
 
 use anyhow::Result;
 use case_tools::{Tools, run_files};
 use hy_base::{MemShelf, MemSink};
+use hy_check::run_check;
 use hy_top::run;
 use hy_words::Tool;
 use std::alloc::Global;
 
-/// The three tools. Nothing is promised of them here: what a run promises is proved, and the cases say
-/// what is expected.
+/// The tools and the checker. Nothing is promised of them here: what a run promises is proved, and the
+/// cases say what is expected.
 struct Proved;
 
 impl Tools for Proved {
@@ -23,6 +25,9 @@ impl Tools for Proved {
         out: &mut MemSink,
         err: &mut MemSink,
     ) -> Option<u8> {
+        if name == "hycheck" {
+            return Some(run_check(alloc, words, shelf, out, err).status);
+        }
         let tool = tool_of(name)?;
         Some(run(alloc, tool, words, shelf, out, err).status)
     }

@@ -35,7 +35,7 @@ two-taken : (p q : List Quant) (which : Bool) (found : Class) → IsOfOneKind p 
 two-taken p q false found one two (is, none) = none one
 two-taken p q true found one two (also, is, none) = none two
 
-class-taken : (claim : Claim) (which : Bool) (found : Class) → AreTaken claim
+pub class-taken : (claim : Claim) (which : Bool) (found : Class) → AreTaken claim
     → ¬ RefusesClass claim which found
 class-taken (formula f) which found taken (first, other, is) = taken is
 class-taken (implication f g) which found (one, two) refused =
@@ -169,7 +169,7 @@ signal-there (s ∷ signals) name there =
     by false b e known behind =
         let (r, more, same) = behind known in (r, contains-later s r signals more, same)
 
-name-named : (names : List (List ℕ)) (claim : Claim) (name : ℕ) (twice : Bool)
+pub name-named : (names : List (List ℕ)) (claim : Claim) (name : ℕ) (twice : Bool)
     → RefusesName names claim name twice → ¬ AreNamed names claim
 name-named names (circuit net f) name twice bad (signals, are) =
     let (s, there, same) = signal-there signals name (are.every name bad.there) in

@@ -1,0 +1,11 @@
+mod Answering
+mod Claims
+mod Given
+mod Fronts
+mod Shelves
+mod Judged
+mod Named
+mod Showing
+mod Steps
+mod Verdicts
+mod Worded
