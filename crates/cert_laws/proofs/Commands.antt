@@ -8,7 +8,7 @@ use Rattle.formula_nets.specs.Posed.{IsPosed}
 use Rattle.mc_core.specs.declared.ask.Ask.{Ask}
 use Rattle.mc_core.specs.declared.checked.Checked.TheVariants.{Holds, Violated, UnknownDepth, UnknownConflicts}
 use Rattle.hy_answer.specs.declared.answer.Answer.{Answer}
-use Rattle.hy_words.specs.Commands.{Command, IsDepth, monitor, monitor_made, judge, decide, imply, compare, check}
+use Rattle.hy_words.specs.Commands.{Command, IsDepth, decide, imply, compare, check}
 use Rattle.hy_words.specs.declared.tool.Tool.TheVariants.{EaHyper, McHyper, RvHyper}
 use Rattle.hy_words.specs.Words.{Text, given_in}
 use Rattle.hy_top.specs.Checking.{Checks, ComesBy, HasPair, facts_stop, found, paths_stop}
@@ -136,9 +136,7 @@ module _ (given : Given) (names : List (List ℕ)) (a : Answer) where
       let order = order_of (decide file states proof) in
       one-shown names f states a (texts-over order given (length order.files) (f ∷ []) names has)
       (determined questions.satisfiability states order given (f ∷ []) names a has comes)
-  of-decision file states proof (implication f g) said has comes = absurd has
-  of-decision file states proof (equivalence f g) said has comes = absurd has
-  of-decision file states proof (circuit net f) said has comes = absurd has
+  of-decision file states proof _ said has comes = absurd has
 
   of-implication : (one two : Text) (states : ℕ) (proof : Bool) (claim : Claim)
       → IsShown (imply one two states proof) claim
@@ -147,9 +145,7 @@ module _ (given : Given) (names : List (List ℕ)) (a : Answer) where
       two-shown names f g states
       (texts-over order given (length order.files) (f ∷ g ∷ []) names has) a
       (determined questions.implication states order given (f ∷ g ∷ []) names a has comes)
-  of-implication one two states proof (formula f) said has comes = absurd has
-  of-implication one two states proof (equivalence f g) said has comes = absurd has
-  of-implication one two states proof (circuit net f) said has comes = absurd has
+  of-implication one two states proof _ said has comes = absurd has
 
   of-comparison : (one two : Text) (states : ℕ) (proof : Bool) (claim : Claim)
       → IsShown (compare one two states proof) claim
@@ -158,9 +154,7 @@ module _ (given : Given) (names : List (List ℕ)) (a : Answer) where
       both-shown names f g states
       (texts-over order given (length order.files) (f ∷ g ∷ []) names has) a
       (determined questions.equivalence states order given (f ∷ g ∷ []) names a has comes)
-  of-comparison one two states proof (formula f) said has comes = absurd has
-  of-comparison one two states proof (implication f g) said has comes = absurd has
-  of-comparison one two states proof (circuit net f) said has comes = absurd has
+  of-comparison one two states proof _ said has comes = absurd has
 
   of-check : (file text : Text) (depth conflicts : ℕ) (plain proof : Bool) (claim : Claim)
       → IsShown (check file text depth conflicts plain proof) claim
@@ -168,14 +162,9 @@ module _ (given : Given) (names : List (List ℕ)) (a : Answer) where
       let ask : Ask = record { depth = depth; conflicts = conflicts; plain = plain } in
       check-shown ask (order_of (check file text depth conflicts plain proof)) given names net f a
       (said-depth file text depth conflicts plain proof said) pair comes
-  of-check file text depth conflicts plain proof (formula f) said has comes = absurd has
-  of-check file text depth conflicts plain proof (implication f g) said has comes = absurd has
-  of-check file text depth conflicts plain proof (equivalence f g) said has comes = absurd has
+  of-check file text depth conflicts plain proof _ said has comes = absurd has
 
   pub command-shown : (command : Command) (claim : Claim) → IsShown command claim
-  command-shown (monitor specs traces lengths drop) claim said asks comes = absurd asks
-  command-shown (monitor_made specs count lengths drop) claim said asks comes = absurd asks
-  command-shown (judge file list) claim said asks comes = absurd asks
   command-shown (decide file states proof) claim said asks comes =
       of-decision file states proof claim said asks comes
   command-shown (imply one two states proof) claim said asks comes =
@@ -184,3 +173,4 @@ module _ (given : Given) (names : List (List ℕ)) (a : Answer) where
       of-comparison one two states proof claim said asks comes
   command-shown (check file text depth conflicts plain proof) claim said asks comes =
       of-check file text depth conflicts plain proof claim said asks comes
+  command-shown _ claim said asks comes = absurd asks

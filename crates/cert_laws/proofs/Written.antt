@@ -8,12 +8,12 @@ use Rattle.hy_answer.specs.declared.answer.Answer.{Answer}
 use Rattle.hy_answer.specs.declared.answer.Answer.TheVariants as answers
 use Rattle.hy_answer.specs.declared.answer.Extras.{Extras}
 use Rattle.hy_answer.specs.Outputs.{out_text}
-use Rattle.hy_words.specs.Commands.{Command, IsCommand, monitor, monitor_made, judge, decide, imply, compare, check}
+use Rattle.hy_words.specs.Commands.{Command, IsCommand, decide, imply, compare, check}
 use Rattle.hy_words.specs.declared.tool.Tool.{Tool}
 use Rattle.hy_top.specs.Checking.{Checks, HasPair}
 use Rattle.hy_top.specs.Deciding.{DecidesBy, Determines}
 use Rattle.hy_top.specs.Files.{Given, HasAll}
-use Rattle.hy_top.specs.Orders.{Order, Question, Task, checking, deciding, equivalence, implication, judging, order_of, satisfiability, watching}
+use Rattle.hy_top.specs.Orders.{Order, Question, Task, checking, deciding, equivalence, implication, order_of, satisfiability}
 use Rattle.hy_top.specs.Runs.{Comes, Follows, IsSaid, IsTextDue, Reads, decided, short, unread, unworded, worded}
 use Rattle.hy_top.specs.Stages as stage
 use Rattle.hy_top.specs.Stages.{ComesTo, First, IsMisnamed, IsRight, Met, Stage, here, later, stages_of}
@@ -59,9 +59,7 @@ silent-none a silent verdict =
 misnamed-none : (task : Task) (order : Order) (given : Given) (a : Answer)
     → IsMisnamed task order given a → ¬ IsVerdict a
 misnamed-none (checking ask) order given a bad verdict = subst IsVerdict bad.answered verdict
-misnamed-none (watching origin lengths drop) order given a bad verdict = bad
-misnamed-none judging order given a bad verdict = bad
-misnamed-none (deciding question states) order given a bad verdict = bad
+misnamed-none _ order given a bad verdict = bad
 
 module _ (order : Order) (given : Given) where
   met-work : (at : Stage) (a : Answer) → IsVerdict a → Met order given at a
@@ -88,11 +86,6 @@ module _ (order : Order) (given : Given) where
 shown-printed : (command : Command) → (order_of command).extras.proof ≡ true
     → (names : List (List ℕ)) (a : Answer)
     → out_text (order_of command).extras names a ≡ printed names a
-shown-printed (monitor specs traces lengths drop) shows names a =
-    absurd (true≢false (sym shows))
-shown-printed (monitor_made specs count lengths drop) shows names a =
-    absurd (true≢false (sym shows))
-shown-printed (judge formula list) shows names a = absurd (true≢false (sym shows))
 shown-printed (decide formula states proof) shows names a =
     ap (λ b. out_text (record { kept = false; proof = b }) names a) shows
 shown-printed (imply first second states proof) shows names a =
@@ -101,6 +94,7 @@ shown-printed (compare first second states proof) shows names a =
     ap (λ b. out_text (record { kept = false; proof = b }) names a) shows
 shown-printed (check net formula depth conflicts plain proof) shows names a =
     ap (λ b. out_text (record { kept = false; proof = b }) names a) shows
+shown-printed _ shows names a = absurd (true≢false (sym shows))
 
 -- ---- the claim of a command
 
@@ -120,16 +114,9 @@ module _ (order : Order) (given : Given) (known : List (List ℕ)) (formulas : L
       → HasAll order given fs known → DecidesBy question states fs a
       → IsAbout (deciding question states)
   question-about satisfiability states (f ∷ []) all decides = (claims.formula f, all)
-  question-about satisfiability states [] all decides = absurd decides
-  question-about satisfiability states (f ∷ g ∷ more) all decides = absurd decides
   question-about implication states (f ∷ g ∷ []) all decides = (claims.implication f g, all)
-  question-about implication states [] all decides = absurd decides
-  question-about implication states (f ∷ []) all decides = absurd decides
-  question-about implication states (f ∷ g ∷ h ∷ more) all decides = absurd decides
   question-about equivalence states (f ∷ g ∷ []) all decides = (claims.equivalence f g, all)
-  question-about equivalence states [] all decides = absurd decides
-  question-about equivalence states (f ∷ []) all decides = absurd decides
-  question-about equivalence states (f ∷ g ∷ h ∷ more) all decides = absurd decides
+  question-about _ states _ all decides = absurd decides
 
   determined-about : (question : Question) (states : ℕ) → Determines question states order given a
       → IsAbout (deciding question states)
@@ -148,19 +135,16 @@ module _ (order : Order) (given : Given) (known : List (List ℕ)) (formulas : L
   task-about : (task : Task) → AsksClaim task → ComesTo task order given a → IsAbout task
   task-about (deciding question states) asks comes = determined-about question states comes
   task-about (checking ask) asks comes = check-about ask comes
-  task-about judging asks comes = absurd asks
-  task-about (watching origin lengths drop) asks comes = absurd asks
+  task-about _ asks comes = absurd asks
 
 -- A command that shows proofs is about a claim.
 shown-asks : (command : Command) → (order_of command).extras.proof ≡ true
     → AsksClaim (order_of command).task
-shown-asks (monitor specs traces lengths drop) shows = absurd (true≢false (sym shows))
-shown-asks (monitor_made specs count lengths drop) shows = absurd (true≢false (sym shows))
-shown-asks (judge formula list) shows = absurd (true≢false (sym shows))
 shown-asks (decide formula states proof) shows = tt
 shown-asks (imply first second states proof) shows = tt
 shown-asks (compare first second states proof) shows = tt
 shown-asks (check net formula depth conflicts plain proof) shows = tt
+shown-asks _ shows = absurd (true≢false (sym shows))
 
 -- ---- runs
 
