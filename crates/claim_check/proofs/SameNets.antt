@@ -76,7 +76,7 @@ copies-past n name c past (s ∷ signals) =
 
 module _ (net : Net) (names : List (List ℕ)) (body : Tree) where
   -- A name with a literal is one of the body, and stands for this literal alone.
-  name-known : (signals : List Signal) → AreSignals net names body signals → (name l : ℕ)
+  pub name-known : (signals : List Signal) → AreSignals net names body signals → (name l : ℕ)
       → literal_of signals name 0 ≡ Some l
       → IsTrue (has_name body name) × IsOnly net (name_at names name) l
   name-known signals are name l e =

@@ -1,0 +1,146 @@
+-- What is printed of decisions on formulas is good evidence.
+use Rattle.std.proofs.Common.{ℕ, ◌<◌, ◌≤◌, ◌++◌, List, length, map, inl, inr, sym, subst, arith, length-append}
+use Rattle.std.specs.Prelude.{codes}
+use Rattle.std.specs.List.{All}
+use Rattle.hy_base.specs.declared.reading.TheConstants.{BYTES_LIMIT}
+use Rattle.hy_bits.specs.Letter.{Letter}
+use Rattle.hy_formula.specs.Formulas.{Plain}
+use Rattle.hy_formula.specs.Lassos.{Lasso}
+use Rattle.hy_lasso.specs.Printed.{IsLassoOver, spelled_of}
+use Rattle.ea_reduce.specs.Plans.{PlainPlan}
+use Rattle.rank_proofs.specs.Counts.{HasFewMembers}
+use Rattle.rank_proofs.specs.Proofs.{plan_nodes, plan_roots}
+use Rattle.rank_proofs.specs.ProofTexts.{proof_text}
+use Rattle.rank_proofs.specs.declared.rank_proof.RankProof.{RankProof}
+use Rattle.ea_core.specs.Decided.{Decides, DecidesEquivalence, DecidesImplication, IsShort as IsShortList, TellsApart}
+use Rattle.ea_core.specs.Proofs.{IsProofOf}
+use Rattle.ea_core.specs.declared.decision.Both.TheVariants as both_ways
+use Rattle.ea_core.specs.declared.decision.Decision.TheVariants as decisions
+use Rattle.hy_answer.specs.declared.answer.Answer.TheVariants as answers
+use Rattle.cert_text.specs.Certificates.{first, second, model, ranks, both}
+use Rattle.cert_text.specs.Printed.{IsPrintable}
+use Rattle.cert_text.proofs.Printable.{printable_ranks}
+use Rattle.cert_text.proofs.PrintedRanks.{printed_equivalent, printed_implied, printed_unsat}
+use Rattle.cert_text.proofs.PrintedRuns.{printed_not_equivalent, printed_not_implied, printed_sat}
+use Rattle.claim_check.specs.Claims.{equivalence, formula, implication}
+use Rattle.claim_check.specs.Good.{IsModel, Separates, lassos_over, plan_against, reduction}
+use Rattle.cert_laws.specs.GoodTexts.{IsFormulaOver, IsGoodText, IsShort, IsTable, printed}
+use Rattle.cert_laws.proofs.Lassos.{lassos-back, lassos-over}
+use Rattle.cert_laws.proofs.Named.{mentioned-below}
+
+-- ---- rank proofs
+
+printable : (plan : PlainPlan) (proof : RankProof) → HasFewMembers plan → IsProofOf plan proof
+    → length (proof_text proof) ≤ BYTES_LIMIT → IsPrintable proof
+printable plan proof few is short =
+    printable_ranks (plan_nodes plan) (plan_roots plan) proof is.right is.ascending few short
+
+module _ (names : List (List ℕ)) where
+  pub unsat-good : (f : Plain) (proof : RankProof) → HasFewMembers (reduction f)
+      → Decides f.prefix f.body (decisions.Unsat proof) → IsShort (printed names (answers.Unsat proof))
+      → IsGoodText names (formula f) (printed names (answers.Unsat proof))
+  unsat-good f proof few (none, is) short =
+      let long = length-append (codes "unsat\n") (proof_text proof) in
+      record {
+        certificate = ranks proof;
+        spelled =
+            printed_unsat proof
+            (printable (reduction f) proof few is (omega (arith, short, long)));
+        good = is.right;
+      }
+
+  pub implied-good : (f g : Plain) (proof : RankProof) → HasFewMembers (plan_against f g)
+      → DecidesImplication f.prefix f.body g.prefix g.body (decisions.Unsat proof)
+      → IsShort (printed names (answers.Implied proof))
+      → IsGoodText names (implication f g) (printed names (answers.Implied proof))
+  implied-good f g proof few (implies, is) short =
+      let long = length-append (codes "implied\n") (proof_text proof) in
+      record {
+        certificate = ranks proof;
+        spelled =
+            printed_implied proof
+            (printable (plan_against f g) proof few is (omega (arith, short, long)));
+        good = is.right;
+      }
+
+  pub equivalent-good : (f g : Plain) (one two : RankProof) → HasFewMembers (plan_against f g)
+      → HasFewMembers (plan_against g f)
+      → DecidesEquivalence f.prefix f.body g.prefix g.body (both_ways.Same one two)
+      → IsShort (printed names (answers.Equivalent one two))
+      → IsGoodText names (equivalence f g) (printed names (answers.Equivalent one two))
+  equivalent-good f g one two few small ((there, is), (back, are)) short =
+      let front = codes "equivalent\n" ++ proof_text one in
+      let long = length-append front (proof_text two) in
+      let begun = length-append (codes "equivalent\n") (proof_text one) in
+      record {
+        certificate = both one two;
+        spelled =
+            printed_equivalent one two
+            (printable (plan_against f g) one few is (omega (arith, short, long, begun)))
+            (printable (plan_against g f) two small are (omega (arith, short, long)));
+        good = (is.right, are.right);
+      }
+
+-- ---- lassos
+
+module _ (names : List (List ℕ)) (table : IsTable names) where
+  -- The lassos have no names but those of bodies that are over the table.
+  short-over : (Named : ℕ → Type 0) → ((name : ℕ) → Named name → name < length names)
+      → (list : List (Lasso Letter)) → IsShortList Named list → All (IsLassoOver names) list
+  short-over Named below list short =
+      lassos-over names list (λ v lt i name has. below name (short.names name v i has))
+
+  module _ (f g : Plain) (over : IsFormulaOver names f) (also : IsFormulaOver names g)
+      (list : List (Lasso Letter)) where
+    -- What tells the formulas apart does so when it is read again.
+    apart-back : TellsApart f.prefix f.body g.prefix g.body list
+        → Separates f g (lassos_over names (map (spelled_of names) list))
+    apart-back apart =
+        let fits = short-over _ (λ name m. elim m [
+          | inl one ↦ mentioned-below (length names) f.body over.named name one
+          | inr two ↦ mentioned-below (length names) g.body also.named name two
+        ]) list apart.short in
+        subst (Separates f g) (sym (lassos-back names table.distinct list fits)) apart.separates
+
+    pub not-implied-good : DecidesImplication f.prefix f.body g.prefix g.body (decisions.Sat list)
+        → IsGoodText names (implication f g) (printed names (answers.NotImplied list))
+    not-implied-good apart = record {
+      certificate = model first (map (spelled_of names) list);
+      spelled =
+          printed_not_implied names list table.are apart.separates.model.some
+          apart.separates.model.lassos;
+      good = apart-back apart;
+    }
+
+    pub first-alone-good : DecidesEquivalence f.prefix f.body g.prefix g.body (both_ways.First list)
+        → IsGoodText names (equivalence f g) (printed names (answers.NotEquivalent 0 list))
+    first-alone-good apart = record {
+      certificate = model first (map (spelled_of names) list);
+      spelled =
+          printed_not_equivalent names first list table.are apart.separates.model.some
+          apart.separates.model.lassos;
+      good = apart-back apart;
+    }
+
+  pub second-alone-good : (f g : Plain) → IsFormulaOver names f → IsFormulaOver names g
+      → (list : List (Lasso Letter))
+      → DecidesEquivalence f.prefix f.body g.prefix g.body (both_ways.Second list)
+      → IsGoodText names (equivalence f g) (printed names (answers.NotEquivalent 1 list))
+  second-alone-good f g over also list (implies, apart) = record {
+    certificate = model second (map (spelled_of names) list);
+    spelled =
+        printed_not_equivalent names second list table.are apart.separates.model.some
+        apart.separates.model.lassos;
+    good = apart-back g f also over list apart;
+  }
+
+  pub sat-good : (f : Plain) → IsFormulaOver names f → (list : List (Lasso Letter))
+      → Decides f.prefix f.body (decisions.Sat list)
+      → IsGoodText names (formula f) (printed names (answers.Sat list))
+  sat-good f over list (is, count, short) =
+      let fits = short-over _ (mentioned-below (length names) f.body over.named) list short in
+      record {
+        certificate = model first (map (spelled_of names) list);
+        spelled = printed_sat names list table.are is.some is.lassos;
+        good = subst (IsModel f) (sym (lassos-back names table.distinct list fits)) is;
+      }

@@ -1,0 +1,4 @@
+//! All evidence that the tools print is a good certificate.
+#![tactic(auto)]
+
+pub mod laws;
