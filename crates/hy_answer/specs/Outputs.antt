@@ -13,7 +13,7 @@ use Rattle.mc_core.specs.declared.checked.Checked.TheVariants.{Holds, Violated, 
 use Rattle.rank_proofs.specs.declared.rank_proof.RankProof.{RankProof}
 use Rattle.rank_proofs.specs.ProofTexts.{proof_text}
 use Rattle.hy_answer.specs.declared.answer.Answer.{Answer}
-use Rattle.hy_answer.specs.declared.answer.Answer.TheVariants.{Sat, Unsat, Implied, NotImplied, Equivalent, NotEquivalent, OnTrue, OnFalse, NoViolation, Violation}
+use Rattle.hy_answer.specs.declared.answer.Answer.TheVariants.{Sat, Unsat, NoneWithin, Implied, NotImplied, Equivalent, NotEquivalent, OnTrue, OnFalse, NoViolation, Violation}
 use Rattle.hy_answer.specs.declared.answer.Answer.TheVariants.{Words, Syntax, Unbound, Prefix, Line, Session, OpenFault, ReadFault}
 use Rattle.hy_answer.specs.declared.answer.Answer.TheVariants.{WriteFault, Limit, States, Memory}
 use Rattle.hy_answer.specs.declared.answer.Answer.TheVariants.{Circuit, Name, CnfLimit}
@@ -65,6 +65,7 @@ checked_text extras names (UnknownConflicts conflicts k step kept log) =
 abbrev pub out_text : Extras → List (List ℕ) → Answer → List ℕ
 out_text extras names (Sat list) = codes "sat\n" ++ printed_lassos names list
 out_text extras names (Unsat proof) = codes "unsat\n" ++ shown_proof extras proof
+out_text extras names (NoneWithin log) = codes "none within the bound\n"
 out_text extras names (Implied proof) = codes "implied\n" ++ shown_proof extras proof
 out_text extras names (NotImplied list) = codes "not implied\n" ++ printed_lassos names list
 out_text extras names (Equivalent first second) =
@@ -115,6 +116,7 @@ error_line names (States n) = codes "error E13: states " ++ decimal n ++ codes "
 error_line names Memory = memory_line
 error_line names (Sat list) = []
 error_line names (Unsat proof) = []
+error_line names (NoneWithin log) = []
 error_line names (Implied proof) = []
 error_line names (NotImplied list) = []
 error_line names (Equivalent first second) = []
@@ -136,6 +138,7 @@ checked_status (UnknownConflicts conflicts k step kept log) = 4
 abbrev pub status_of : Answer → ℕ
 status_of (Sat list) = 0
 status_of (Unsat proof) = 1
+status_of (NoneWithin log) = 1
 status_of (Implied proof) = 0
 status_of (NotImplied list) = 1
 status_of (Equivalent first second) = 0

@@ -1,6 +1,7 @@
 //! The answers of all tools.
 
 use aiger_body::AigKind;
+use chain_check::Log;
 use hy_base::{Kind, NumList, Text};
 use hy_formula::Class;
 use hy_lasso::LassoList;
@@ -19,6 +20,10 @@ pub enum Answer {
     /// No list of lassos satisfies the formula.
     Unsat {
         proof: RankProof,
+    },
+    /// No list of lassos within the bound satisfies the formula. The log's last clause is empty.
+    NoneWithin {
+        log: Log,
     },
     /// The first formula implies the second: no list satisfies the first and not the second.
     Implied {
@@ -56,7 +61,8 @@ pub enum Answer {
         trace: u32,
         tuple: Tuple,
     },
-    /// What checking a circuit against a formula comes to.
+    /// What checking a circuit against a formula comes to. Where a search within a bound learned as
+    /// many clauses as it may, this is `UnknownConflicts` with its log, for 0 steps and no facts.
     Checked(Checked),
     /// The words are no command.
     Words,

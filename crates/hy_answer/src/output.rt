@@ -225,6 +225,7 @@ pub fn out_text(alloc: Global, extras: Extras, names: &NameTable, answer: &Answe
     match answer {
         Answer::Sat { list } => with_lassos(alloc, b"sat\n", list, names),
         Answer::Unsat { proof } => with_proof(alloc, extras, b"unsat\n", proof),
+        Answer::NoneWithin { .. } => line_text(alloc, b"none within the bound\n"),
         Answer::Implied { proof } => with_proof(alloc, extras, b"implied\n", proof),
         Answer::NotImplied { list } => with_lassos(alloc, b"not implied\n", list, names),
         Answer::Equivalent { first, second } => { equivalent_text(alloc, extras, first, second) }
@@ -280,6 +281,7 @@ pub fn status_of(answer: &Answer) -> u8
         | Answer::OnTrue
         | Answer::NoViolation { .. } => 0,
         Answer::Unsat { .. }
+        | Answer::NoneWithin { .. }
         | Answer::NotImplied { .. }
         | Answer::NotEquivalent { .. }
         | Answer::OnFalse

@@ -52,6 +52,7 @@ fn write_line<E: Sink>(answer: &Answer, names: &[&str], err: &mut E) -> Result<(
     match answer {
         Answer::Sat { .. }
         | Answer::Unsat { .. }
+        | Answer::NoneWithin { .. }
         | Answer::Implied { .. }
         | Answer::NotImplied { .. }
         | Answer::Equivalent { .. }

@@ -4,6 +4,7 @@ pub mod Completing
 pub mod Counting
 pub mod Deciding
 pub mod EventSteps
+pub mod Finding
 pub mod FirstSpecs
 pub mod FoundOnce
 pub mod Formulas

@@ -19,7 +19,7 @@ use Rattle.ea_core.specs.Undecided.{HasFewBranches, HasManyBranches}
 use Rattle.ea_core.proofs.Searching.{not-both}
 use Rattle.hy_answer.specs.declared.answer.Answer.{Answer}
 use Rattle.hy_answer.specs.declared.answer.Answer.TheVariants as answers
-use Rattle.hy_top.specs.Orders.{Order, Origin, of_file, of_number, Question, satisfiability, implication, equivalence, Task, watching, judging, deciding, checking, content_of, file_of}
+use Rattle.hy_top.specs.Orders.{Order, Origin, of_file, of_number, Question, satisfiability, implication, equivalence, Task, watching, judging, deciding, finding, checking, content_of, file_of}
 use Rattle.hy_top.specs.Classes.{FirstUntaken}
 use Rattle.hy_top.specs.Dropping.{AgreeUncounted, counted_alike, counted_otherwise}
 use Rattle.hy_top.specs.Deciding.{plan_of, plan_against, Determines, DecidesBy, DecidesOne, DecidesTwo, ComparesTwo, sat, unsat, implied, not_implied, beyond, equivalent, first_alone, second_alone, many_branches}
@@ -28,6 +28,7 @@ use Rattle.aig_net.specs.Nets.{Net}
 use Rattle.net_names.specs.Names.{AreSignals, IsFirstBad, IsBadName, name_at}
 use Rattle.hy_top.proofs.Checking.{comes_agree}
 use Rattle.hy_top.proofs.Completing.{only-not-bad}
+use Rattle.hy_top.proofs.Finding.{finds_agree}
 use Rattle.hy_top.proofs.FoundOnce.{lassos_once, pair_once}
 use Rattle.hy_top.specs.Checking.{Checks, ComesBy}
 use Rattle.hy_top.specs.Files.{Given, RefusesText, RefusesClass}
@@ -287,6 +288,7 @@ works_agree : (task : Task) (order : Order) (given : Given) (a b : Answer) → C
 works_agree (watching origin lengths drop) order given a b one two = monitors_agree order given origin lengths drop a b one two
 works_agree judging order given a b one two = judgements_agree order given a b one two
 works_agree (deciding question states) order given a b one two = determined_agree question states order given a b one two
+works_agree (finding bound conflicts) order given a b one two = finds_agree bound conflicts order given a b one two
 works_agree (checking ask) order given a b one two = checks_agree ask order given a b one two
 
 one_stage : (order : Order) (given : Given) (stage : Stage) (a b : Answer) → Met order given stage a → Met order given stage b → Agree a b

@@ -3,6 +3,7 @@ pub mod Classes
 pub mod Deciding
 pub mod Dropping
 pub mod Files
+pub mod Finding
 pub mod Judging
 pub mod Monitoring
 pub mod Orders

@@ -3,10 +3,11 @@
 use Rattle.std.specs.Prelude.{ℕ, zero, suc, Bool, false, List, [], ◌∷◌, map}
 use Rattle.hy_formula.specs.declared.classes.Class.{Class}
 use Rattle.hy_finite.specs.declared.lengths.Lengths.{Lengths}
+use Rattle.bound_search.specs.declared.bound.Bound.{Bound}
 use Rattle.mc_core.specs.declared.ask.Ask.{Ask}
 use Rattle.hy_files.specs.Contents.{Content, specifications, one_formula, events, lassos, circuit}
 use Rattle.hy_answer.specs.declared.answer.Extras.{Extras}
-use Rattle.hy_words.specs.Commands.{Command, monitor, monitor_made, judge, decide, imply, compare, check}
+use Rattle.hy_words.specs.Commands.{Command, monitor, monitor_made, judge, decide, imply, compare, find, check}
 use Rattle.hy_top.specs.Classes.{is_any, is_universal, is_of_one_kind, is_decided}
 
 -- ---- tasks
@@ -35,6 +36,8 @@ pub data Task : Type 0 where
   judging : Task
   -- Answer a question about the formulas of the files, by at most so many branches.
   deciding : (question : Question) (states : ℕ) → Task
+  -- Find a list of lassos within the bound that satisfies the formula, learning at most so many clauses.
+  finding : (bound : Bound) (conflicts : ℕ) → Task
   -- Say whether the circuit of the first file satisfies the formula of the second.
   checking : (ask : Ask) → Task
 
@@ -101,6 +104,13 @@ order_of (compare first second states proof) = record {
   takes = is_of_one_kind;
   extras = record { kept = false; proof = proof };
   task = deciding equivalence states;
+}
+order_of (find formula bound conflicts) = record {
+  files = file formula one_formula ∷ [];
+  quantifiers = 8;
+  takes = is_any;
+  extras = record { kept = false; proof = false };
+  task = finding bound conflicts;
 }
 order_of (check net formula depth conflicts plain proof) = record {
   files = file net circuit ∷ file formula one_formula ∷ [];

@@ -16,7 +16,7 @@ use Rattle.aig_net.specs.Nets.{Net}
 use Rattle.net_names.specs.Names.{IsOnly, name_at}
 use Rattle.formula_nets.specs.Posed.{members}
 use Rattle.hy_top.specs.Classes.{AreTaken}
-use Rattle.hy_top.specs.Orders.{Order, Task, watching, judging, deciding, checking}
+use Rattle.hy_top.specs.Orders.{Order, Task, watching, judging, deciding, finding, checking}
 use Rattle.hy_top.specs.Files.{Given, HasAll}
 use Rattle.hy_top.specs.Checking.{HasPair}
 use Rattle.hy_top.specs.Deciding.{plans_of}
@@ -29,6 +29,7 @@ AreCounted (watching origin lengths drop) order given formulas = EachPlain IsTak
 AreCounted judging order given formulas =
     (formula : Plain) × (list : List (Lasso Letter)) × HasLassos order given formula list × IsJudged list
 AreCounted (deciding question states) order given formulas = Each IsCounted (plans_of question formulas)
+AreCounted (finding bound conflicts) order given formulas = Unit {0}
 AreCounted (checking ask) order given formulas = Each (λ (f : Plain). members f.prefix f.body ≤ most Closure) formulas
 
 -- Each name of the body stands for one literal of the circuit.
@@ -40,6 +41,7 @@ abbrev pub AreFound : Task → Order → Given → Type 0
 AreFound (watching origin lengths drop) order given = Unit {0}
 AreFound judging order given = Unit {0}
 AreFound (deciding question states) order given = Unit {0}
+AreFound (finding bound conflicts) order given = Unit {0}
 AreFound (checking ask) order given =
     (net : Net) × (formula : Plain) × (names : List (List ℕ)) × HasPair order given net formula names
     × StandForOne net names formula.body

@@ -10,14 +10,16 @@ use Rattle.hy_formula.specs.Lassos.{Lasso}
 use Rattle.rank_proofs.specs.declared.rank_proof.RankProof.{RankProof}
 use Rattle.fin_monitor.specs.Limits.{HasLargeClosure, HasManyAtoms, HasLargeTable}
 use Rattle.mc_core.specs.Evidence.{Denies}
+use Rattle.mc_core.specs.declared.checked.Checked.TheVariants.{UnknownConflicts}
 use Rattle.hy_answer.specs.declared.answer.Answer.{Answer}
 use Rattle.hy_answer.specs.declared.answer.Answer.TheVariants.{Checked, CnfLimit}
-use Rattle.hy_answer.specs.declared.answer.Answer.TheVariants.{Sat, Unsat, Implied, NotImplied, Equivalent, NotEquivalent, Violation, OpenFault, ReadFault, Limit}
-use Rattle.hy_top.specs.Orders.{Order, Task, watching, judging, deciding, checking}
+use Rattle.hy_answer.specs.declared.answer.Answer.TheVariants.{Sat, Unsat, NoneWithin, Implied, NotImplied, Equivalent, NotEquivalent, Violation, OpenFault, ReadFault, Limit}
+use Rattle.hy_top.specs.Orders.{Order, Task, watching, judging, deciding, finding, checking}
 use Rattle.hy_top.specs.Files.{Given, Came, RefusesText, RefusesClass}
 use Rattle.hy_top.specs.Checking.{HasManyMembers, RefusesName, Checks}
 use Rattle.hy_top.specs.Deciding as decisions
 use Rattle.hy_top.specs.Deciding.{HasManyInstances, Determines}
+use Rattle.hy_top.specs.Finding.{Finds}
 use Rattle.hy_top.specs.Judging.{IsTooJoint, Judges}
 use Rattle.hy_top.specs.Monitoring.{SomeBody, Monitors}
 
@@ -100,6 +102,7 @@ abbrev pub ComesTo : Task → Order → Given → Answer → Type 0
 ComesTo (watching origin lengths drop) order given answer = Monitors origin lengths drop order given answer
 ComesTo judging order given answer = Judges order given answer
 ComesTo (deciding question states) order given answer = Determines question states order given answer
+ComesTo (finding bound conflicts) order given answer = Finds bound conflicts order given answer
 ComesTo (checking ask) order given answer = Checks ask order given answer
 
 -- The stage is met, and this answers it.
@@ -149,14 +152,23 @@ IsOfCheck (Limit kind limit) = IsQueryLimit kind
 IsOfCheck (CnfLimit kind limit kept) = IsQueryLimit kind
 IsOfCheck _ = ⊥
 
--- One says that the formula holds, and the other that it does not.
+-- What a search within a bound answers where its question is not too large.
+abbrev pub IsOfSearch : Answer → Type 0
+IsOfSearch (Sat list) = Unit {0}
+IsOfSearch (NoneWithin log) = Unit {0}
+IsOfSearch (Checked (UnknownConflicts conflicts k step kept log)) = Unit {0}
+IsOfSearch _ = ⊥
+
+-- One says that the formula holds, or is satisfied within the bound, and the other that it does not, or is not.
 abbrev pub Deny : Answer → Answer → Type 0
 Deny (Checked checked) (Checked other) = Denies checked other
+Deny (Sat list) (NoneWithin log) = Unit {0}
+Deny (NoneWithin log) (Sat list) = Unit {0}
 Deny _ _ = ⊥
 
 -- Two answers say the same. Two violations may name different tuples of the same arrival, and two answers that give
--- lassos or proofs as evidence may give different ones. A check may give up where another goes on, but no two deny each
--- other.
+-- lassos or proofs as evidence may give different ones. A check or a search may give up where another goes on, but no two
+-- deny each other.
 pub data Agree : Answer → Answer → Type 0 where
   same : (answer : Answer) → Agree answer answer
   other_tuple : (spec trace : ℕ) (tuple other : List ℕ) → Agree (Violation spec trace tuple) (Violation spec trace other)
@@ -166,4 +178,5 @@ pub data Agree : Answer → Answer → Type 0 where
   other_proofs : (first second third fourth : RankProof) → Agree (Equivalent first second) (Equivalent third fourth)
   other_witness : (list other : List (Lasso Letter)) → Agree (NotImplied list) (NotImplied other)
   other_check : (a b : Answer) → IsOfCheck a → IsOfCheck b → ¬ Deny a b → Agree a b
+  other_search : (a b : Answer) → IsOfSearch a → IsOfSearch b → ¬ Deny a b → Agree a b
   other_side : (side : ℕ) (list other : List (Lasso Letter)) → Agree (NotEquivalent side list) (NotEquivalent side other)

@@ -4,20 +4,27 @@ ghost use Rattle.std.specs.Prelude.{◌≡◌, ◌<◌, ◌-◌, ◌^◌, ◌∷
 ghost use Rattle.hy_base.specs.Shelf.{KeepsShelf};
 ghost use Rattle.hy_formula.specs.Trees.{tree_of};
 ghost use Rattle.hy_formula.specs.Formulas.{plain_formula};
+ghost use Rattle.bound_search.specs.Bounds.{IsBound};
 ghost use Rattle.hy_answer.specs.Outputs.{out_text};
-ghost use Rattle.hy_words.specs.Commands.{judge, decide, imply, compare};
+ghost use Rattle.hy_words.specs.Commands.{judge, decide, imply, compare, find};
 ghost use Rattle.hy_top.specs.Classes.{is_decided, is_of_one_kind};
 ghost use Rattle.hy_top.specs.Deciding.{Outcome, refusal_answer};
+ghost use Rattle.hy_top.specs.Finding.{IsSearch, given_up, search_refusal};
 ghost use Rattle.hy_top.specs.Judging.{IsJudgement};
 ghost use Rattle.hy_top.specs.Orders.{order_of, satisfiability, implication, equivalence};
 ghost use Rattle.hy_top.specs.Runs.{Follows};
 
+use bound_search::{Bound, BoundAnswer, BoundError, search_bound};
+use chain_check::Log;
+use cnf_frames::{Inv, LogList};
 use ea_core::{Both, Decision, EaError};
 use hy_answer::{Answer, fault_answer};
 use hy_base::Shelf;
 use hy_files::{formula_in, lassos_in};
 use hy_formula::{Formula, NameTable};
 use hy_lasso::{HoldsError, LassoList, holds};
+use invar_find::{Kept, SpentList};
+use mc_core::Checked;
 use std::alloc::Global;
 
 /// Most quantifiers of a formula.
@@ -195,4 +202,73 @@ fn refusal_answer(error: EaError, states: u32) -> Answer
         EaError::States => Answer::States { n: states },
         EaError::Memory => Answer::Memory,
     }
+}
+
+/// Finds a list of lassos within a bound that satisfies a formula, by a query of at most `conflicts`
+/// conflicts. Its names are added to the empty table.
+pub fn find<S: Shelf>(
+    alloc: Global,
+    shelf: &mut S,
+    formula: &str,
+    bound: &Bound,
+    conflicts: u32,
+    names: &mut NameTable,
+) -> Answer
+    requires empty { names.old ≡ [] }
+    requires bound { IsBound bound.now }
+    requires few { conflicts < 2 ^ 31 }
+    ensures keeps { KeepsShelf S.Shelf shelf.old shelf.new }
+    ensures follows { let order = order_of (find formula.now bound.now conflicts) in
+        Follows S.Shelf shelf.old shelf.new order result
+        (out_text order.extras names.new result) }
+{
+    match formula_in(alloc, shelf, formula, MOST_QUANTIFIERS, names) {
+        Ok(formula) => find_list(alloc, &formula, bound, conflicts),
+        Err(fault) => fault_answer(0, fault),
+    }
+}
+
+/// What the search for a list within the bound comes to.
+fn find_list(alloc: Global, formula: &Formula, bound: &Bound, conflicts: u32) -> Answer
+    requires bound { IsBound bound.now }
+    requires few { conflicts < 2 ^ 31 }
+    ensures { IsSearch bound.now conflicts (plain_formula formula.now) result }
+{
+    match search_bound(alloc, formula, bound, conflicts) {
+        Ok(BoundAnswer::Found(list)) => Answer::Sat { list },
+        Ok(BoundAnswer::NoneWithin(log)) => Answer::NoneWithin { log },
+        Ok(BoundAnswer::Spent(log)) => given_up(alloc, conflicts, log),
+        Err(error) => search_refusal(error),
+    }
+}
+
+/// The answer for an error of a search within a bound.
+fn search_refusal(error: BoundError) -> Answer
+    ensures { result ≡ search_refusal error }
+{
+    match error {
+        BoundError::Limit(limit) => Answer::Limit {
+            kind: limit.kind,
+            limit: limit.limit,
+        },
+        BoundError::Memory => Answer::Memory,
+    }
+}
+
+/// The answer of a search that learned as many clauses as it may: these.
+fn given_up(alloc: Global, conflicts: u32, log: Log) -> Answer
+    ensures { result ≡ given_up conflicts log }
+{
+    let kept = Kept {
+        inv: Inv::new(alloc),
+        logs: LogList::new(alloc),
+        spent: SpentList::new(alloc),
+    };
+    Answer::Checked(Checked::UnknownConflicts {
+        conflicts,
+        k: 0,
+        step: false,
+        kept,
+        log,
+    })
 }

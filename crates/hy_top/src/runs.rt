@@ -156,6 +156,15 @@ fn due_to<'a, S: Shelf>(
             extras: Extras { kept: false, proof },
             files: FileNames::two(first, second),
         },
+        Command::Find {
+            formula,
+            bound,
+            conflicts,
+        } => Due {
+            answer: eahyper::find(alloc, shelf, formula, &bound, conflicts, names),
+            extras: PLAIN,
+            files: FileNames::one(formula),
+        },
         Command::Check {
             circuit,
             formula,

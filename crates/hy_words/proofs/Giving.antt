@@ -1,5 +1,5 @@
 -- What the getters of matches give, and the commands that this makes.
-use Rattle.std.proofs.Common.{◌≡◌, ℕ, ◌<◌, ◌≤◌, ◌^◌, ◌==◌, Bool, true, false, not, if◌then◌else◌, List, [], ◌∷◌, map, length, codes, Option, Some, None, Bor, slice_index_or, decimal, refl, sym, ap, subst, ◌∙◌, arith, eqb-true, ne_eqb}
+use Rattle.std.proofs.Common.{◌≡◌, ℕ, ◌<◌, ◌≤◌, ◌^◌, ◌==◌, Bool, true, false, true≢false, not, if◌then◌else◌, List, [], ◌∷◌, map, length, codes, Option, Some, None, Bor, slice_index_or, decimal, refl, sym, ap, subst, ◌∙◌, arith, eqb-true, ne_eqb}
 use Rattle.std.specs.Bool.{IsTrue}
 use Rattle.std.specs.List.{list_all}
 use Rattle.std.specs.Option.{option_map}
@@ -9,7 +9,10 @@ use Rattle.std.proofs.lemmas.Fmt.{decimal_is_IsNumeral, decimal_nonempty}
 use Rattle.hy_finite.specs.declared.lengths.Lengths.{Lengths}
 use Rattle.hy_finite.specs.declared.lengths.Lengths.TheVariants.{Min, Pad}
 use Rattle.hy_words.specs.Words.{Text, Item, is_value, is_filled, given_in}
-use Rattle.hy_words.specs.Commands.{IsNumberOr, IsRule, Asks}
+use Rattle.hy_words.proofs.BoundTexts.{bound-value}
+use Rattle.bound_search.specs.declared.bound.Bound.{Bound}
+use Rattle.bound_search.specs.Bounds.{IsBound}
+use Rattle.hy_words.specs.Commands.{IsNumberOr, IsRule, Asks, Finds, is_given, bound_text}
 use Rattle.hy_words.specs.Found.{listed, listed_slice, found_value, found_files, Tells, IsFit, AreFilled}
 use Rattle.clap.specs.Matches.{found_of, first_value}
 use Rattle.clap.specs.declared.parser.matches.ArgMatches.{ArgMatches}
@@ -62,30 +65,69 @@ rule_values None rule is = refl
 rule_values (Some v) Min is = rw is refl
 rule_values (Some v) Pad is = rw is refl
 
+not-given : (given : List Text) → is_given given ≡ false → given ≡ []
+not-given [] e = refl
+not-given (v ∷ vs) e = absurd (true≢false (sym (ap not (ne_eqb (length (v ∷ vs)) 0 (λ z. omega (arith, z)))) ∙ e))
+
 -- What matches give asks a question.
-module _ (items : List Item) (m : ArgMatches) (tells : Tells EaHyper items m) (filled : AreFilled items) (files : List (Bor Text)) (d : Bor Text)
-    (same : map (λ n. n.now) files ≡ found_files m) (some : 1 ≤ length files) (few : length files < 2) where
-  pub asks_of : (on implies equivalent states : Option (Bor Text)) → (found_value m (codes "on") ≡ listed_slice on) × IsTrue (list_all is_value (listed_slice on))
+module _ (items : List Item) (m : ArgMatches) (tells : Tells EaHyper items m) (filled : AreFilled items) (formula : Text)
+    (file : found_files m ≡ formula ∷ []) where
+  pub asks_of : (on implies equivalent states conflicts : Option (Bor Text)) → (found_value m (codes "on") ≡ listed_slice on) × IsTrue (list_all is_value (listed_slice on))
       → (found_value m (codes "implies") ≡ listed_slice implies) × IsTrue (list_all is_value (listed_slice implies))
       → (found_value m (codes "equivalent") ≡ listed_slice equivalent) × IsTrue (list_all is_value (listed_slice equivalent))
       → option_map (λ s. s.now) states ≡ first_value (found_of m) (codes "states") → (n : ℕ) → IsNumberOr 100000 (listed_slice states) 1 4194304 n
       → (proof : Bool) → (first_value (found_of m) (codes "proof") ≡ Some (codes "true") → proof ≡ true) → (first_value (found_of m) (codes "proof") ≡ Some (codes "false") → proof ≡ false)
-      → IsFit EaHyper items × Asks items (slice_index_or files 0 d).now (listed_slice on) (listed_slice implies) (listed_slice equivalent) n proof
-  asks_of on implies equivalent states (a, av) (b, bv) (c, cv) e n number proof at_true at_false =
-      let one = tells.options.0 ∙ a in
-      let two = tells.options.1.0 ∙ b in
-      let three = tells.options.1.1.0 ∙ c in
-      let four = seen (given_in (codes "states") items) states _ tells.options.1.1.1.0 e in
+      → found_value m (codes "bound") ≡ [] → option_map (λ s. s.now) conflicts ≡ first_value (found_of m) (codes "conflicts") → conflicts ≡ None
+      → IsFit EaHyper items × Asks items formula (listed_slice on) (listed_slice implies) (listed_slice equivalent) n proof
+  asks_of on implies equivalent states conflicts (a, av) (b, bv) (c, cv) e n number proof at_true at_false unbounded f none =
+      let (at_on, (at_implies, (at_equivalent, (at_states, (at_bound, (at_conflicts, nil)))))) = tells.options in
+      let one = at_on ∙ a in
+      let two = at_implies ∙ b in
+      let three = at_equivalent ∙ c in
+      let four = seen (given_in (codes "states") items) states _ at_states e in
+      let five = at_bound ∙ unbounded in
+      let six = seen (given_in (codes "conflicts") items) conflicts _ at_conflicts f ∙ ap listed_slice none in
       let number_is = number_values 100000 states 1 4194304 n (omega arith) number in
       let P : List Text → Type 0 = λ vs. IsNumberOr 100000 vs 1 4194304 n in (
-        (filled, rw (one, two, three, four, av, bv, cv, number_is) refl),
+        (filled, rw (one, two, three, four, five, six, av, bv, cv, number_is) refl),
         record {
-          files = tells.files ∙ sym same ∙ one_file files d some few;
+          files = tells.files ∙ file;
           on = one;
           implies = two;
           equivalent = three;
           budget = subst P (sym four) number;
           proves = flag_read _ _ proof tells.flags.0 at_true at_false;
+          unbounded = (five, (six, tt));
+        },
+      )
+
+  -- What matches give asks for a list within a bound.
+  pub finds_of : (bound : Bound) → found_value m (codes "bound") ≡ bound_text bound ∷ [] → IsBound bound → (on implies equivalent states conflicts : Option (Bor Text))
+      → option_map (λ s. s.now) on ≡ first_value (found_of m) (codes "on") → on ≡ None
+      → option_map (λ s. s.now) implies ≡ first_value (found_of m) (codes "implies") → implies ≡ None
+      → option_map (λ s. s.now) equivalent ≡ first_value (found_of m) (codes "equivalent") → equivalent ≡ None
+      → option_map (λ s. s.now) states ≡ first_value (found_of m) (codes "states") → states ≡ None
+      → option_map (λ s. s.now) conflicts ≡ first_value (found_of m) (codes "conflicts") → (n : ℕ) → IsNumberOr 100000 (listed_slice conflicts) 0 1000000000 n
+      → (first_value (found_of m) (codes "proof") ≡ Some (codes "true") → false ≡ true) → (first_value (found_of m) (codes "proof") ≡ Some (codes "false") → false ≡ false)
+      → IsFit EaHyper items × Finds items formula bound n
+  finds_of bound bounded range on implies equivalent states conflicts a no_on b no_implies c no_equivalent d no_states e n number at_true at_false =
+      let (at_on, (at_implies, (at_equivalent, (at_states, (at_bound, (at_conflicts, nil)))))) = tells.options in
+      let one = seen (given_in (codes "on") items) on _ at_on a ∙ ap listed_slice no_on in
+      let two = seen (given_in (codes "implies") items) implies _ at_implies b ∙ ap listed_slice no_implies in
+      let three = seen (given_in (codes "equivalent") items) equivalent _ at_equivalent c ∙ ap listed_slice no_equivalent in
+      let four = seen (given_in (codes "states") items) states _ at_states d ∙ ap listed_slice no_states in
+      let five = at_bound ∙ bounded in
+      let six = seen (given_in (codes "conflicts") items) conflicts _ at_conflicts e in
+      let bound_is = bound-value bound range in
+      let number_is = number_values 100000 conflicts 0 1000000000 n (omega arith) number in
+      let P : List Text → Type 0 = λ vs. IsNumberOr 100000 vs 0 1000000000 n in (
+        (filled, rw (one, two, three, four, five, six, bound_is, number_is) refl),
+        record {
+          files = tells.files ∙ file;
+          bounded = five;
+          range = range;
+          budget = subst P (sym six) number;
+          alone = (one, (two, (three, (four, (not-given (given_in (codes "proof") items) (sym (flag_read _ _ false tells.flags.0 at_true at_false)), tt)))));
         },
       )
 
@@ -97,4 +139,5 @@ asks_as items formula a b c x y z n p e f g asks = record {
   equivalent = asks.equivalent ∙ g;
   budget = asks.budget;
   proves = asks.proves;
+  unbounded = asks.unbounded;
 }

@@ -1,3 +1,4 @@
+pub mod BoundTexts
 pub mod Commanding
 pub mod Giving
 pub mod Holding

@@ -4,10 +4,12 @@ use Rattle.std.specs.Str.{bytes_eq}
 use Rattle.std.proofs.lemmas.Fmt.{decimal_injective}
 use Rattle.hy_finite.specs.declared.lengths.Lengths.{Lengths}
 use Rattle.hy_finite.specs.declared.lengths.Lengths.TheVariants.{Min, Pad}
+use Rattle.bound_search.specs.declared.bound.Bound.{Bound}
 use Rattle.hy_words.specs.declared.tool.Tool.{Tool}
 use Rattle.hy_words.specs.declared.tool.Tool.TheVariants.{EaHyper, RvHyper, McHyper}
 use Rattle.hy_words.specs.Words.{Text, Item, given_in}
-use Rattle.hy_words.specs.Commands.{Command, monitor, monitor_made, judge, decide, imply, compare, check, IsNumber, IsNumberOr, IsRule, Asks, Monitors, Checks, Orders, IsCommand}
+use Rattle.hy_words.specs.Commands.{Command, monitor, monitor_made, judge, decide, imply, compare, find, check, IsNumber, IsNumberOr, IsRule, bound_text, Asks, Finds, Monitors, Checks, Orders, IsCommand}
+use Rattle.hy_words.proofs.BoundTexts.{same-bound}
 use Rattle.hy_words.proofs.Telling.{Same, same_items}
 
 some-nothing : {A : Type 0} {x : A} {xs : List A} → x ∷ xs ≡ [] → ⊥
@@ -36,31 +38,78 @@ asked formula [] (second ∷ _) _ states proof = imply formula second states pro
 asked formula [] [] (second ∷ _) states proof = compare formula second states proof
 asked formula [] [] [] states proof = decide formula states proof
 
-question_of : (items : List Item) (command : Command) → Orders EaHyper items command
-    → (f : Text) × (on : List Text) × (implied : List Text) × (equal : List Text) × (n : ℕ) × (b : Bool)
-    × Asks items f on implied equal n b × (command ≡ asked f on implied equal n b)
-question_of items (judge f l) (n, b, asks) = (f, l ∷ [], [], [], n, b, asks, refl)
-question_of items (decide f n b) asks = (f, [], [], [], n, b, asks, refl)
-question_of items (imply f g n b) asks = (f, [], g ∷ [], [], n, b, asks, refl)
-question_of items (compare f g n b) asks = (f, [], [], g ∷ [], n, b, asks, refl)
-question_of items (monitor s t l d) e = absurd e
-question_of items (monitor_made s n l d) e = absurd e
-question_of items (check c f d n p q) e = absurd e
+-- The command is a question about a formula.
+record IsQuestion (items : List Item) (command : Command) : Type 0 where
+  formula : Text
+  on : List Text
+  implied : List Text
+  equal : List Text
+  states : ℕ
+  proof : Bool
+  asks : Asks items formula on implied equal states proof
+  is : command ≡ asked formula on implied equal states proof
+
+-- The command finds a list within a bound.
+record IsFinding (items : List Item) (command : Command) : Type 0 where
+  formula : Text
+  bound : Bound
+  conflicts : ℕ
+  finds : Finds items formula bound conflicts
+  is : command ≡ find formula bound conflicts
+
+decision_of : (items : List Item) (command : Command) → Orders EaHyper items command
+    → IsQuestion items command ⊎ IsFinding items command
+decision_of items (judge f l) (n, b, asks) =
+    inl (record { formula = f; on = l ∷ []; implied = []; equal = []; states = n; proof = b; asks = asks; is = refl })
+decision_of items (decide f n b) asks =
+    inl (record { formula = f; on = []; implied = []; equal = []; states = n; proof = b; asks = asks; is = refl })
+decision_of items (imply f g n b) asks =
+    inl (record { formula = f; on = []; implied = g ∷ []; equal = []; states = n; proof = b; asks = asks; is = refl })
+decision_of items (compare f g n b) asks =
+    inl (record { formula = f; on = []; implied = []; equal = g ∷ []; states = n; proof = b; asks = asks; is = refl })
+decision_of items (find f b n) finds = inr (record { formula = f; bound = b; conflicts = n; finds = finds; is = refl })
+decision_of items (monitor s t l d) e = absurd e
+decision_of items (monitor_made s n l d) e = absurd e
+decision_of items (check c f d n p q) e = absurd e
+
+module _ (items others : List Item) (same : Same EaHyper items others) where
+  one_question : (a b : Command) → IsQuestion items a → IsQuestion others b → a ≡ b
+  one_question a b x y =
+      let (on, (implies, (equivalent, (states, nil)))) = same.options in
+      let formulas : x.formula ∷ [] ≡ y.formula ∷ [] = sym x.asks.files ∙ same.files ∙ y.asks.files in
+      let formula : x.formula ≡ y.formula = cc in
+      let ons : x.on ≡ y.on = sym x.asks.on ∙ on ∙ y.asks.on in
+      let implied : x.implied ≡ y.implied = sym x.asks.implies ∙ implies ∙ y.asks.implies in
+      let equals : x.equal ≡ y.equal = sym x.asks.equivalent ∙ equivalent ∙ y.asks.equivalent in
+      let P : List Text → Type 0 = λ vs. IsNumberOr 100000 vs 1 4194304 x.states in
+      let budgets : x.states ≡ y.states = same-number-or 100000 (given_in (codes "states") others) 1 4194304 x.states y.states (omega arith)
+      (subst P states x.asks.budget) y.asks.budget in
+      let proofs : x.proof ≡ y.proof = x.asks.proves ∙ same.flags.0 ∙ sym y.asks.proves in
+      x.is ∙ (λ t. asked (formula t) (ons t) (implied t) (equals t) (budgets t) (proofs t)) ∙ sym y.is
+
+  bounds_are : given_in (codes "bound") items ≡ given_in (codes "bound") others
+  bounds_are = same.options.1.1.1.1.0
+
+  one_finding : (a b : Command) → IsFinding items a → IsFinding others b → a ≡ b
+  one_finding a b x y =
+      let formulas : x.formula ∷ [] ≡ y.formula ∷ [] = sym x.finds.files ∙ same.files ∙ y.finds.files in
+      let formula : x.formula ≡ y.formula = cc in
+      let given : bound_text x.bound ∷ [] ≡ bound_text y.bound ∷ [] = sym x.finds.bounded ∙ bounds_are ∙ y.finds.bounded in
+      let texts : bound_text x.bound ≡ bound_text y.bound = cc in
+      let bounds : x.bound ≡ y.bound = same-bound x.bound y.bound x.finds.range y.finds.range texts in
+      let P : List Text → Type 0 = λ vs. IsNumberOr 100000 vs 0 1000000000 x.conflicts in
+      let budgets : x.conflicts ≡ y.conflicts = same-number-or 100000 (given_in (codes "conflicts") others) 0 1000000000 x.conflicts y.conflicts (omega arith)
+      (subst P same.options.1.1.1.1.1.0 x.finds.budget) y.finds.budget in
+      x.is ∙ (λ t. find (formula t) (bounds t) (budgets t)) ∙ sym y.is
+
+  one_kind : (a b : Command) → IsQuestion items a ⊎ IsFinding items a → IsQuestion others b ⊎ IsFinding others b → a ≡ b
+  one_kind a b (inl x) (inl y) = one_question a b x y
+  one_kind a b (inl x) (inr y) = absurd (some-nothing (sym y.finds.bounded ∙ sym bounds_are ∙ x.asks.unbounded.0))
+  one_kind a b (inr x) (inl y) = absurd (some-nothing (sym x.finds.bounded ∙ bounds_are ∙ y.asks.unbounded.0))
+  one_kind a b (inr x) (inr y) = one_finding a b x y
 
 one_decision : (items others : List Item) → Same EaHyper items others → (a b : Command) → Orders EaHyper items a → Orders EaHyper others b → a ≡ b
-one_decision items others same a b one two =
-    let (f, o, i, e, n, p, asks, is_a) = question_of items a one in
-    let (g, l, j, d, m, q, also, is_b) = question_of others b two in
-    let (on, (implies, (equivalent, (states, nil)))) = same.options in
-    let formulas : f ∷ [] ≡ g ∷ [] = sym asks.files ∙ same.files ∙ also.files in
-    let formula : f ≡ g = cc in
-    let ons : o ≡ l = sym asks.on ∙ on ∙ also.on in
-    let implied : i ≡ j = sym asks.implies ∙ implies ∙ also.implies in
-    let equals : e ≡ d = sym asks.equivalent ∙ equivalent ∙ also.equivalent in
-    let P : List Text → Type 0 = λ vs. IsNumberOr 100000 vs 1 4194304 n in
-    let budgets : n ≡ m = same-number-or 100000 (given_in (codes "states") others) 1 4194304 n m (omega arith) (subst P states asks.budget) also.budget in
-    let proofs : p ≡ q = asks.proves ∙ same.flags.0 ∙ sym also.proves in
-    is_a ∙ (λ t. asked (formula t) (ons t) (implied t) (equals t) (budgets t) (proofs t)) ∙ sym is_b
+one_decision items others same a b one two = one_kind items others same a b (decision_of items a one) (decision_of others b two)
 
 -- ---- rvhyper
 
@@ -94,6 +143,7 @@ monitoring_of items (judge f l) e = absurd e
 monitoring_of items (decide f n b) e = absurd e
 monitoring_of items (imply f g n b) e = absurd e
 monitoring_of items (compare f g n b) e = absurd e
+monitoring_of items (find f b n) e = absurd e
 monitoring_of items (check c f d n p q) e = absurd e
 
 module _ (items others : List Item) (same : Same RvHyper items others) where
@@ -140,6 +190,7 @@ checking_of items (judge f l) e = absurd e
 checking_of items (decide f n b) e = absurd e
 checking_of items (imply f g n b) e = absurd e
 checking_of items (compare f g n b) e = absurd e
+checking_of items (find f b n) e = absurd e
 checking_of items (monitor s t l r) e = absurd e
 checking_of items (monitor_made s n l r) e = absurd e
 

@@ -41,12 +41,12 @@ one_of (n ∷ names) name there P (first, all) = by (bytes_eq n name) refl (λ t
 
 pub fine : (tool : Tool) → IsFine tool
 fine EaHyper = record {
-  apart = λ name there. one_of (options_of EaHyper) name there (λ n. has (flags_of EaHyper) n ≡ false) (refl, (refl, (refl, (refl, tt))));
+  apart = λ name there. one_of (options_of EaHyper) name there (λ n. has (flags_of EaHyper) n ≡ false) (refl, (refl, (refl, (refl, (refl, (refl, tt))))));
   free = refl;
   clear = refl;
   flag_alone = λ name there. one_of (flags_of EaHyper) name there (λ n. Rattle.clap.specs.Lexer.long_of (dashed n) ≡ Some (n, None)) (refl, tt);
-  option_alone = λ name there. one_of (options_of EaHyper) name there (λ n. Rattle.clap.specs.Lexer.long_of (dashed n) ≡ Some (n, None)) (refl, (refl, (refl, (refl, tt))));
-  option_joined = λ name v there. one_of (options_of EaHyper) name there (λ n. Rattle.clap.specs.Lexer.long_of (dashed (n ++ 61 ∷ v)) ≡ Some (n, Some v)) (refl, (refl, (refl, (refl, tt))));
+  option_alone = λ name there. one_of (options_of EaHyper) name there (λ n. Rattle.clap.specs.Lexer.long_of (dashed n) ≡ Some (n, None)) (refl, (refl, (refl, (refl, (refl, (refl, tt))))));
+  option_joined = λ name v there. one_of (options_of EaHyper) name there (λ n. Rattle.clap.specs.Lexer.long_of (dashed (n ++ 61 ∷ v)) ≡ Some (n, Some v)) (refl, (refl, (refl, (refl, (refl, (refl, tt))))));
 }
 fine RvHyper = record {
   apart = λ name there. one_of (options_of RvHyper) name there (λ n. has (flags_of RvHyper) n ≡ false) (refl, (refl, tt));

@@ -1,7 +1,10 @@
 -- Which words are a command of which tool. A command has the names of its files in the order in which they are read.
-use Rattle.std.specs.Prelude.{◌≡◌, ◌≤◌, ◌==◌, ℕ, Bool, not, List, [], ◌∷◌, length, codes, decimal}
+use Rattle.std.specs.Prelude.{◌≡◌, ◌≤◌, ◌==◌, ℕ, Bool, not, List, [], ◌∷◌, ◌++◌, length, codes, decimal}
+use Rattle.hy_formula.specs.Quantifiers.{Each}
 use Rattle.hy_finite.specs.declared.lengths.Lengths.{Lengths}
 use Rattle.hy_finite.specs.declared.lengths.Lengths.TheVariants.{Min, Pad}
+use Rattle.bound_search.specs.declared.bound.Bound.{Bound}
+use Rattle.bound_search.specs.Bounds.{IsBound}
 use Rattle.hy_words.specs.declared.tool.Tool.{Tool}
 use Rattle.hy_words.specs.declared.tool.Tool.TheVariants.{EaHyper, RvHyper, McHyper}
 use Rattle.hy_words.specs.Words.{Text, Item, Says, IsProper, files_in, given_in}
@@ -19,6 +22,8 @@ pub data Command : Type 0 where
   imply : (first second : Text) (states : ℕ) (proof : Bool) → Command
   -- Decide whether two formulas are equivalent.
   compare : (first second : Text) (states : ℕ) (proof : Bool) → Command
+  -- Find a list of lassos within a bound that satisfies a formula.
+  find : (formula : Text) (bound : Bound) (conflicts : ℕ) → Command
   -- Check a formula on the executions of a circuit.
   check : (circuit formula : Text) (depth conflicts : ℕ) (plain proof : Bool) → Command
 
@@ -49,12 +54,20 @@ IsRule [] rule = rule ≡ Min
 IsRule (value ∷ _) Min = value ≡ codes "min"
 IsRule (value ∷ _) Pad = value ≡ codes "pad"
 
+-- a bound as it is given: the most lassos, letters of a stem and letters of a cycle, joined by commas
+abbrev pub bound_text : Bound → Text
+bound_text bound = decimal bound.traces ++ codes "," ++ decimal bound.stem ++ codes "," ++ decimal bound.cycle
+
 -- whether a flag is given
 abbrev pub is_given : List Text → Bool
 is_given given = not (length given == 0)
 
+-- None of these flags and options is given.
+abbrev pub AreMissing : List Text → List Item → Type 0
+AreMissing names items = Each (λ name. given_in name items ≡ []) names
+
 -- The items ask a question about one formula, with these values of the options that choose the question, and this
--- budget and flag.
+-- budget and flag; no bound is given, and nothing that goes with one.
 pub record Asks (items : List Item) (formula : Text) (lassos implied equal : List Text) (states : ℕ) (proof : Bool) : Type 0 where
   pub files : files_in items ≡ formula ∷ []
   pub on : given_in (codes "on") items ≡ lassos
@@ -62,6 +75,16 @@ pub record Asks (items : List Item) (formula : Text) (lassos implied equal : Lis
   pub equivalent : given_in (codes "equivalent") items ≡ equal
   pub budget : AreStates (given_in (codes "states") items) states
   pub proves : proof ≡ is_given (given_in (codes "proof") items)
+  pub unbounded : AreMissing (codes "bound" ∷ codes "conflicts" ∷ []) items
+
+-- The items ask for a list of lassos within this bound, with this budget, and for nothing else: neither another
+-- question, nor its budget, nor a proof.
+pub record Finds (items : List Item) (formula : Text) (bound : Bound) (conflicts : ℕ) : Type 0 where
+  pub files : files_in items ≡ formula ∷ []
+  pub bounded : given_in (codes "bound") items ≡ bound_text bound ∷ []
+  pub range : IsBound bound
+  pub budget : AreConflicts (given_in (codes "conflicts") items) conflicts
+  pub alone : AreMissing (codes "on" ∷ codes "implies" ∷ codes "equivalent" ∷ codes "states" ∷ codes "proof" ∷ []) items
 
 -- The items ask for traces to be monitored: these are the files, the count of made traces, if any, the rule, and
 -- whether dominated traces are dropped.
@@ -89,6 +112,7 @@ Orders EaHyper items (judge formula lassos) =
 Orders EaHyper items (decide formula states proof) = Asks items formula [] [] [] states proof
 Orders EaHyper items (imply first second states proof) = Asks items first [] (second ∷ []) [] states proof
 Orders EaHyper items (compare first second states proof) = Asks items first [] [] (second ∷ []) states proof
+Orders EaHyper items (find formula bound conflicts) = Finds items formula bound conflicts
 Orders McHyper items (check circuit formula depth conflicts plain proof) =
     Checks items circuit formula depth conflicts plain proof
 Orders _ _ _ = ⊥

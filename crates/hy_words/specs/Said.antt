@@ -1,7 +1,7 @@
 -- The command of the logic that a command of the code stands for.
 use Rattle.hy_words.specs.declared.command.Command.{Command as Told}
-use Rattle.hy_words.specs.declared.command.Command.TheVariants.{Monitor, MonitorMade, Judge, Decide, Imply, Compare, Check}
-use Rattle.hy_words.specs.Commands.{Command, monitor, monitor_made, judge, decide, imply, compare, check}
+use Rattle.hy_words.specs.declared.command.Command.TheVariants.{Monitor, MonitorMade, Judge, Decide, Imply, Compare, Find, Check}
+use Rattle.hy_words.specs.Commands.{Command, monitor, monitor_made, judge, decide, imply, compare, find, check}
 
 abbrev pub said_by : Told → Command
 said_by (Monitor specs traces lengths drop) = monitor specs.now traces.now lengths drop
@@ -10,5 +10,6 @@ said_by (Judge formula lassos) = judge formula.now lassos.now
 said_by (Decide formula states proof) = decide formula.now states proof
 said_by (Imply first second states proof) = imply first.now second.now states proof
 said_by (Compare first second states proof) = compare first.now second.now states proof
+said_by (Find formula bound conflicts) = find formula.now bound conflicts
 said_by (Check circuit formula depth conflicts plain proof) =
     check circuit.now formula.now depth conflicts plain proof

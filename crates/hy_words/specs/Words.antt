@@ -1,6 +1,7 @@
 -- What words say, from the first to the last: names of files, flags, and options with their values.
 --
 --     eahyper    [--on FILE | --implies FILE | --equivalent FILE] [--proof] [--states N] FORMULA
+--     eahyper    --bound T,S,L [--conflicts N] FORMULA
 --     rvhyper    [--drop] [--lengths min|pad] SPECS TRACES
 --     rvhyper    [--drop] [--lengths min|pad] --make N SPECS
 --     mchyper    [--depth K] [--conflicts N] [--plain] [--proof] CIRCUIT FORMULA
@@ -29,7 +30,8 @@ flags_of McHyper = codes "plain" ∷ codes "proof" ∷ []
 
 -- the options of a tool that have a value, without their dashes
 abbrev pub options_of : Tool → List Text
-options_of EaHyper = codes "on" ∷ codes "implies" ∷ codes "equivalent" ∷ codes "states" ∷ []
+options_of EaHyper =
+    codes "on" ∷ codes "implies" ∷ codes "equivalent" ∷ codes "states" ∷ codes "bound" ∷ codes "conflicts" ∷ []
 options_of RvHyper = codes "lengths" ∷ codes "make" ∷ []
 options_of McHyper = codes "depth" ∷ codes "conflicts" ∷ []
 

@@ -9,6 +9,7 @@ ghost use Rattle.hy_words.specs.Words.{texts};
 use crate::orders::ordered;
 use crate::parser::parser_of;
 use crate::tool::Tool;
+use bound_search::Bound;
 use clap::error::ErrorKind;
 use hy_base::{M, Memory};
 use hy_finite::Lengths;
@@ -60,6 +61,13 @@ pub enum Command<'a> {
         states: u32,
         proof: bool,
     },
+    /// Finds a list of lassos within a bound that satisfies a formula, by a query of at most
+    /// `conflicts` conflicts, up to 1,000,000,000.
+    Find {
+        formula: &'a str,
+        bound: Bound,
+        conflicts: u32,
+    },
     /// Checks a formula on the executions of a circuit, by paths of at most `depth` steps, up to
     /// 100,000, and queries of at most `conflicts` conflicts, up to 1,000,000,000; without facts
     /// where `plain`.
@@ -77,6 +85,7 @@ pub enum Command<'a> {
 ///
 /// ```text
 /// eahyper    [--on FILE | --implies FILE | --equivalent FILE] [--proof] [--states N] FORMULA
+/// eahyper    --bound T,S,L [--conflicts N] FORMULA
 /// rvhyper    [--drop] [--lengths min|pad] SPECS TRACES
 /// rvhyper    [--drop] [--lengths min|pad] --make N SPECS
 /// mchyper    [--depth K] [--conflicts N] [--plain] [--proof] CIRCUIT FORMULA
@@ -86,7 +95,9 @@ pub enum Command<'a> {
 /// or stands behind an equals sign in the same word; it is not empty, and begins with a dash only
 /// where it is one. The numbers of states, of made traces, of steps and of conflicts are in the
 /// ranges that `Command` gives, and 100,000, none, 64 and 100,000 where they are not given; beside
-/// `--on` neither `--states` nor `--proof` changes anything.
+/// `--on` neither `--states` nor `--proof` changes anything. A bound is the most lassos, from 1 to 4,
+/// letters of a stem, from 0 to 8, and letters of a cycle, from 1 to 4; beside `--bound` stands
+/// nothing but `--conflicts`, and that only there.
 ///
 /// `Memory` where memory ran out.
 pub fn command_of<'a>(alloc: Global, tool: Tool, words: &'a [String]) -> M<Option<Command<'a>>>

@@ -1,9 +1,10 @@
 //! The command that the matches of a parse are.
 
-ghost use Rattle.std.specs.Prelude.{◌≡◌, List, Some, true, false, IsTrue, IfSome, IfNone, map, codes};
+ghost use Rattle.std.specs.Prelude.{◌≡◌, ◌∷◌, [], List, Some, true, false, IsTrue, IfSome, IfNone, map, codes};
 ghost use Rattle.std.specs.List.{list_all};
 ghost use Rattle.clap.specs.Matches.{found_of, first_value};
-ghost use Rattle.hy_words.specs.Commands.{Command as Meant, Orders};
+ghost use Rattle.bound_search.specs.Bounds.{IsBound};
+ghost use Rattle.hy_words.specs.Commands.{Command as Meant, Orders, bound_text};
 ghost use Rattle.hy_words.specs.Found.{Tells, IsFit, AreFilled, found_files, found_value, listed_slice};
 ghost use Rattle.hy_words.specs.Said.{said_by};
 ghost use Rattle.hy_words.specs.Words.{Item, is_value};
@@ -12,7 +13,8 @@ ghost use Rattle.hy_words.specs.declared.tool.Tool.TheVariants.{EaHyper, RvHyper
 use crate::command::Command;
 use crate::parser::FILES;
 use crate::tool::Tool;
-use crate::value::{are_filled, is_value_or_none, number_in, number_or, rule_of};
+use crate::value::{are_filled, bound_in, is_value_or_none, number_in, number_or, rule_of};
+use bound_search::Bound;
 use clap::ArgMatches;
 
 /// The command of a tool that the matches of its parser are, if any.
@@ -65,29 +67,69 @@ fn decision<'a>(files: &[&'a str], matches: &ArgMatches<'a>) -> Option<Command<'
     let &[formula] = files else {
         return None;
     };
+    match value_in(matches, "bound")? {
+        None => question(formula, matches),
+        Some(bound) => finding(formula, bound_in(bound)?, matches),
+    }
+}
+
+/// The question about a formula that the words ask, where they give no bound.
+fn question<'a>(formula: &'a str, matches: &ArgMatches<'a>) -> Option<Command<'a>>
+    requires file { found_files matches.now ≡ formula.now ∷ [] }
+    requires unbounded { found_value matches.now (codes "bound") ≡ [] }
+    ensures some { IfSome result (λ c. (items : List Item) → Tells EaHyper items matches.now
+        → AreFilled items → IsFit EaHyper items × Orders EaHyper items (said_by c)) }
+    ensures none { IfNone result ((items : List Item) (command : Meant) → Tells EaHyper items matches.now
+        → IsFit EaHyper items → ¬ Orders EaHyper items command) }
+{
     let on = value_in(matches, "on")?;
     let implies = value_in(matches, "implies")?;
     let equivalent = value_in(matches, "equivalent")?;
     let states = number_or(100_000, matches.get_str("states"), 1, 4_194_304)?;
     let proof = has_flag(matches, "proof");
-    match (on, implies, equivalent) {
-        (None, None, None) => Some(Command::Decide {
+    match (on, implies, equivalent, matches.get_str("conflicts")) {
+        (None, None, None, None) => Some(Command::Decide {
             formula,
             states,
             proof,
         }),
-        (Some(lassos), None, None) => Some(Command::Judge { formula, lassos }),
-        (None, Some(second), None) => Some(Command::Imply {
+        (Some(lassos), None, None, None) => Some(Command::Judge { formula, lassos }),
+        (None, Some(second), None, None) => Some(Command::Imply {
             first: formula,
             second,
             states,
             proof,
         }),
-        (None, None, Some(second)) => Some(Command::Compare {
+        (None, None, Some(second), None) => Some(Command::Compare {
             first: formula,
             second,
             states,
             proof,
+        }),
+        _ => None,
+    }
+}
+
+/// The search for lassos within the bound that the words ask for.
+fn finding<'a>(formula: &'a str, bound: Bound, matches: &ArgMatches<'a>) -> Option<Command<'a>>
+    requires file { found_files matches.now ≡ formula.now ∷ [] }
+    requires bounded { found_value matches.now (codes "bound") ≡ bound_text bound ∷ [] }
+    requires range { IsBound bound }
+    ensures some { IfSome result (λ c. (items : List Item) → Tells EaHyper items matches.now
+        → AreFilled items → IsFit EaHyper items × Orders EaHyper items (said_by c)) }
+    ensures none { IfNone result ((items : List Item) (command : Meant) → Tells EaHyper items matches.now
+        → IsFit EaHyper items → ¬ Orders EaHyper items command) }
+{
+    let conflicts = number_or(100_000, matches.get_str("conflicts"), 0, 1_000_000_000)?;
+    let on = matches.get_str("on");
+    let implies = matches.get_str("implies");
+    let equivalent = matches.get_str("equivalent");
+    let states = matches.get_str("states");
+    match (on, implies, equivalent, states, has_flag(matches, "proof")) {
+        (None, None, None, None, false) => Some(Command::Find {
+            formula,
+            bound,
+            conflicts,
         }),
         _ => None,
     }

@@ -6,7 +6,7 @@ ghost use Rattle.hy_words.specs.Words.{flags_of, options_of};
 /// The tools.
 #[derive(Clone, Copy, Debug, PartialEq, Eq)]
 pub enum Tool {
-    /// Decides formulas, and checks them on given lassos.
+    /// Decides formulas, finds lassos for them, and checks them on given lassos.
     EaHyper,
     /// Monitors the traces of a file.
     RvHyper,
@@ -30,7 +30,14 @@ pub fn options_of<'a>(tool: Tool) -> &'a [&'a str]
     ensures { map (λ name. name.now) result.now ≡ options_of tool }
 {
     match tool {
-        Tool::EaHyper => &["on", "implies", "equivalent", "states"],
+        Tool::EaHyper => &[
+            "on",
+            "implies",
+            "equivalent",
+            "states",
+            "bound",
+            "conflicts",
+        ],
         Tool::RvHyper => &["lengths", "make"],
         Tool::McHyper => &["depth", "conflicts"],
     }
