@@ -1,5 +1,6 @@
 //! What a command gave, beside what was expected of it.
 
+use crate::checking::{accepts, check_of};
 use crate::commands::{CommandCase, Wanted};
 use crate::escape::escaped;
 use crate::lassos::are_wanted;
@@ -12,8 +13,26 @@ use std::alloc::Global;
 /// Runs a case, and prints what differs: each part that is not as expected, and then as it is. Says
 /// whether nothing does.
 pub(crate) fn report<T: Tools>(rt: &HostRuntime, case: &mut CommandCase) -> Result<bool> {
+    if case.wanted.check.is_empty() {
+        let given = case.trial.run::<T>(rt.alloc())?;
+        return compare::<T>(rt, case, &given);
+    }
+    report_checked::<T>(rt, case)
+}
+
+/// The same for a case whose output is given to the checker, too.
+fn report_checked<T: Tools>(rt: &HostRuntime, case: &mut CommandCase) -> Result<bool> {
+    let words = case.wanted.check.as_slice();
+    let mut check = check_of(rt.alloc(), words, case.trial.files.as_slice())?;
     let given = case.trial.run::<T>(rt.alloc())?;
-    compare::<T>(rt, case, &given)
+    if !compare::<T>(rt, case, &given)? {
+        return Ok(false);
+    }
+    if accepts::<T>(rt.alloc(), &mut check, given.out.as_slice())? {
+        return Ok(true);
+    }
+    println!(rt; "{}: the checker does not accept it", case.name)?;
+    Ok(false)
 }
 
 fn compare<T: Tools>(rt: &HostRuntime, case: &CommandCase, given: &Given) -> Result<bool> {
@@ -39,8 +58,11 @@ fn is_wanted<T: Tools>(alloc: Global, wanted: &Wanted, given: &Given) -> Result<
     }
 }
 
-/// Whether this is a text that the output may be.
+/// Whether this is a text that the output may be. What the checker judges need only begin like it.
 fn is_text(wanted: &Wanted, out: &[u8]) -> bool {
+    if !wanted.check.is_empty() {
+        return out.starts_with(wanted.out.as_slice());
+    }
     wanted.out.as_slice() == out || wanted.others.iter().any(|it| it.as_slice() == out)
 }
 

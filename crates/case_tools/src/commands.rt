@@ -26,6 +26,8 @@ pub(crate) struct Wanted {
     pub others: Vec<Text>,
     /// What is expected of the lassos behind the text of `out`, where some are.
     pub lassos: Option<Lassos>,
+    /// The words to which the checker is to accept the output; none where it isn't asked.
+    pub check: Vec<String>,
     pub err: Text,
 }
 
@@ -52,7 +54,7 @@ impl CommandCase {
     /// Takes one more line of the case: its first word, and what stands behind the space.
     pub(crate) fn take(&mut self, alloc: Global, directive: &str, text: &str) -> Result<()> {
         match directive {
-            "status" | "out" | "or" | "lassos" | "satisfy" | "violate" | "err" => {
+            "status" | "out" | "or" | "lassos" | "satisfy" | "violate" | "check" | "err" => {
                 self.wanted.take(alloc, directive, text)
             }
             "fail-shelf" => add_numbers(&mut self.trial.fail_shelf, text),
@@ -71,6 +73,7 @@ impl Wanted {
             out: Text::new(alloc),
             others: Vec::new(alloc),
             lassos: None,
+            check: Vec::new(alloc),
             err: Text::new(alloc),
         }
     }
@@ -83,6 +86,7 @@ impl Wanted {
             "or" => self.add_other(text_of(alloc, text)?),
             "err" => set_text(alloc, &mut self.err, text),
             "lassos" => self.count_lassos(text),
+            "check" => self.add_check(alloc, text),
             _ => self.expected()?.take(alloc, directive, text),
         }
     }
@@ -90,6 +94,14 @@ impl Wanted {
     /// Adds a text that the output may be, too.
     fn add_other(&mut self, text: Text) -> Result<()> {
         self.others.push(text)?;
+        Ok(())
+    }
+
+    /// Adds words of the checker, which stand one space apart.
+    fn add_check(&mut self, alloc: Global, text: &str) -> Result<()> {
+        for word in text.split(' ') {
+            self.check.push(String::from_str(alloc, word)?)?;
+        }
         Ok(())
     }
 

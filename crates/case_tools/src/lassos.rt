@@ -44,16 +44,10 @@ fn is_judged<T: Tools>(
         Some(formula) => {
             let mut trial = Trial::new(alloc);
             set_trial(alloc, &mut trial, formula.as_slice(), list)?;
-            prints::<T>(alloc, &mut trial, verdict)
+            trial.prints::<T>(alloc, verdict)
         }
         None => Ok(true),
     }
-}
-
-/// Whether a command prints this text.
-fn prints<T: Tools>(alloc: Global, trial: &mut Trial, text: &[u8]) -> Result<bool> {
-    let given = trial.run::<T>(alloc)?;
-    Ok(given.out.as_slice() == text)
 }
 
 /// Makes a command of the judge, over the formula and the lassos.

@@ -22,6 +22,8 @@
 //! lassos N            behind that text the output is to have N lassos
 //! satisfy TEXT        a formula that these lassos satisfy
 //! violate TEXT        a formula that these lassos do not satisfy
+//! check WORD WORD ..  words to which the checker accepts the output, which it finds as the file `out`
+//!                     beside the files of the case; then that begins with the text of `out`
 //! err TEXT            what the error stream is to receive; nothing where no line says it
 //! ```
 //!
@@ -50,6 +52,7 @@
 #![tactic(auto)]
 
 mod case;
+mod checking;
 mod circuit_report;
 mod circuits;
 mod command_report;

@@ -84,6 +84,12 @@ impl Trial {
         self.run_on::<T>(alloc, &mut stage)
     }
 
+    /// Whether the command, whose files go out of the trial, prints this text.
+    pub(crate) fn prints<T: Tools>(&mut self, alloc: Global, text: &[u8]) -> Result<bool> {
+        let given = self.run::<T>(alloc)?;
+        Ok(given.out.as_slice() == text)
+    }
+
     /// What the command finds, which goes out of the trial.
     fn stage(&mut self, alloc: Global) -> M<Stage> {
         let out = MemSink::new(

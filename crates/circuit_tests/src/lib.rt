@@ -1,18 +1,11 @@
-//! Tests of single layers: clauses, the solver and induction. Each case was worked out by hand. They
-//! stand in a crate of their own, since a crate with tests is proved twice.
+//! Tests of single layers of circuits: the clauses of queries, worked out by hand, and public calls that
+//! no tool makes. What commands come to is shown by the cases of `cases`. They stand in a crate of their
+//! own, since a crate with tests is proved twice.
 #![tactic(auto)]
 
-#[cfg(test)]
-mod facts;
-#[cfg(test)]
-mod inductions;
 #[cfg(test)]
 mod logs;
 #[cfg(test)]
 mod queries;
 #[cfg(test)]
-mod shifts;
-#[cfg(test)]
 mod signals;
-#[cfg(test)]
-mod solving;

@@ -7,7 +7,7 @@ ghost use Rattle.cnf_frames.specs.Facts.{IsSafe};
 
 use aig_net::{And, AndList, NameList, Net, NetParts, Reset, ResetList};
 use cnf_frames::{Fact, FrameError, Inv, Query, base_query, keep_query, step_query};
-use hy_base::{Kind, Limit, NumList, Text};
+use hy_base::{NumList, Text};
 use live_safe::SafeNet;
 use std::alloc::Global;
 
@@ -108,21 +108,5 @@ fn keep_query_of_one_group(rt: HostRuntime) -> Result<(), FrameError> {
         0,
     ];
     assert!(rt; has(&query, &clauses));
-    Ok(())
-}
-
-#[test]
-fn queries_have_limits(rt: HostRuntime) -> Result<(), FrameError> {
-    let alloc = rt.alloc();
-    let safe = example(alloc)?;
-    let facts = Inv::new(alloc);
-    let variables = FrameError::Limit(Limit {
-        kind: Kind::CnfVariables,
-        limit: 16_777_216,
-    });
-    let base = base_query(alloc, &safe, 4_194_304);
-    assert!(rt; matches!(base, Err(e) if e == variables));
-    let step = step_query(alloc, &safe, &facts, 100_000);
-    assert!(rt; matches!(step, Err(e) if e == variables));
     Ok(())
 }

@@ -1,43 +1,38 @@
-//! What no clause says: that memory can suffice, and the branches of a worked example.
+//! All branches of a set, which no program asks for.
 
-use crate::worked::worked_closure;
-use ltl_closure::Obl;
-use ltl_tableau::{Tableau, branches, postpones};
+ghost use Rattle.std.specs.Prelude.{◌≤◌, length};
+
+use ea_reduce::reduce;
+use hy_formula::NameTable;
+use hy_read::read_formula;
+use ltl_closure::Closure;
+use ltl_tableau::{branches, root_set};
+use rank_proofs::plan_closure;
+use std::alloc::Global;
 use std::test::Fail;
 
-#[test]
-fn branches_of_the_roots(rt: HostRuntime) -> Result<(), Fail> {
-    let alloc = rt.alloc();
-    let c = worked_closure(alloc)?;
-    assert_eq!(rt; c.len(), 7);
-    let later = Obl::<1>::empty().with(2).with(5);
-    let now = later.with(0).with(4);
-    let list = branches(alloc, &c, &Obl::<1>::empty().with(6))?;
-    assert_eq!(rt; list.len(), 1);
-    let branch = list.at(0);
-    assert!(rt; branch.now == now.with(6));
-    assert!(rt; branch.next == later);
-    assert!(rt; postpones(&c, branch, 2));
-    assert!(rt; !postpones(&c, branch, 5));
-    let list = branches(alloc, &c, &later)?;
-    assert_eq!(rt; list.len(), 1);
-    let branch = list.at(0);
-    assert!(rt; branch.now == now);
-    assert!(rt; branch.next == later);
-    assert!(rt; postpones(&c, branch, 2));
-    Ok(())
+/// The closure of the plan of a formula.
+fn closure_of(alloc: Global, text: &[u8]) -> Result<Closure, Fail>
+    requires { length text.now ≤ 100 }
+{
+    let formula = read_formula(alloc, text, 8, &mut NameTable::new(alloc)?)?;
+    Ok(plan_closure(alloc, &reduce(alloc, &formula)?)?)
+}
+
+/// How many branches the roots of that closure have.
+fn root_branches(alloc: Global, text: &[u8]) -> Result<usize, Fail>
+    requires { length text.now ≤ 100 }
+{
+    let closure = closure_of(alloc, text)?;
+    if closure.len() > 64 {
+        return Err("too many members")?;
+    }
+    Ok(branches(alloc, &closure, &root_set::<1>(&closure))?.len())
 }
 
 #[test]
-fn builds_the_tableau(rt: HostRuntime) -> Result<(), Fail> {
-    let alloc = rt.alloc();
-    let c = worked_closure(alloc)?;
-    assert_eq!(rt; c.len(), 7);
-    assert!(rt; Tableau::<1>::build(alloc, &c, 1).is_err());
-    let tableau = Tableau::<1>::build(alloc, &c, 2)?;
-    assert_eq!(rt; tableau.count(), 2);
-    assert!(rt; tableau.branch(0).now.has(6));
-    assert!(rt; !tableau.branch(1).now.has(6));
-    assert_eq!(rt; tableau.graph().nodes(), 2);
+fn branches_of_the_roots(rt: HostRuntime) -> Result<(), Fail> {
+    let text = b"exists p. (a_p U b_p) & G !b_p";
+    assert!(rt; root_branches(rt.alloc(), text)? == 1);
     Ok(())
 }

@@ -1,9 +1,8 @@
-//! What no clause says: which width `each_width!` takes, and that letters are remade.
+//! Which width `each_width!` takes: no clause says that it is the least.
 
 ghost use Rattle.std.specs.Prelude.{◌<◌, ◌≤◌};
 
-use hy_base::Remake;
-use hy_bits::{BitRow, LetterMask, each_width};
+use hy_bits::{BitRow, each_width};
 
 /// The width, by way of the greatest number for which its rows have room.
 fn room<const W: usize>(count: usize) -> usize
@@ -33,10 +32,4 @@ fn takes_the_least_width(rt: HostRuntime) {
     ] {
         assert_eq!(rt; each_width!(count, room(count)), wanted);
     }
-}
-
-#[test]
-fn is_remade(rt: HostRuntime) {
-    let letter = LetterMask::empty().with(3);
-    assert_eq!(rt; letter.remake(rt.alloc()), Ok(letter));
 }
