@@ -25,6 +25,3 @@ pub use learned_lines::read_learned;
 pub use question::Question;
 pub use rank_lines::{rank_head, read_branch, read_reason};
 pub use run_lines::read_run;
-
-#[cfg(test)]
-mod tests;

@@ -8,6 +8,3 @@ mod logs;
 mod queries;
 
 pub use judge::judge_induction;
-
-#[cfg(test)]
-mod tests;

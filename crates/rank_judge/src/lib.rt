@@ -9,6 +9,3 @@ mod proof;
 mod reasons;
 
 pub use judge::judge_ranks;
-
-#[cfg(test)]
-mod tests;
