@@ -10,7 +10,7 @@ use crate::formulas::{closure_of, formula_of};
 use crate::signals::signals_of;
 use aig_net::{Net, Signals};
 use anyhow::{Result, bail, ensure};
-use hy_formula::{Class, NameTable, class};
+use hy_formula::{Class, Formula, NameTable, class};
 use live_safe::{SafeNet, safe_nets_are_small, to_safe};
 use ltl_closure::Closure;
 use self_compose::{compose, copies_are_as_large};
@@ -36,16 +36,25 @@ pub fn composed(alloc: Global, net: &Net, n: u8) -> Result<Net>
 pub fn formula_net(alloc: Global, net: &Net, text: &str) -> Result<Net> {
     let mut names = NameTable::new(alloc)?;
     let formula = formula_of(alloc, text, &mut names)?;
-    let n = formula.prefix.len() as u8;
-    let positive = match class(&formula) {
-        Class::Exists => true,
-        Class::Forall => false,
-        Class::ExistsForall | Class::Other => bail!("the quantifiers alternate"),
-    };
+    let positive = is_existential(&formula)?;
     let closure = closure_of(alloc, &formula, positive)?;
+    posed_net(alloc, net, formula.prefix.len() as u8, &names, &closure)
+}
+
+/// Whether the formula is existential, and not universal.
+fn is_existential(formula: &Formula) -> Result<bool> {
+    match class(formula) {
+        Class::Exists => Ok(true),
+        Class::Forall => Ok(false),
+        Class::ExistsForall | Class::Other => bail!("the quantifiers alternate"),
+    }
+}
+
+/// `n` copies of the net with the oracles of a closure, whose names are those of the net.
+fn posed_net(alloc: Global, net: &Net, n: u8, names: &NameTable, closure: &Closure) -> Result<Net> {
     let copies = composed(alloc, net, n)?;
-    let signals = signals_of(alloc, net, &copies, n, &names, &closure)?;
-    with_oracles(alloc, &copies, &closure, &signals)
+    let signals = signals_of(alloc, net, &copies, n, names, closure)?;
+    with_oracles(alloc, &copies, closure, &signals)
 }
 
 /// The net with the oracles of a closure.
