@@ -1,0 +1,4 @@
+-- Definitions by subject.
+pub mod Answers
+pub mod Questions
+pub mod Refusing
