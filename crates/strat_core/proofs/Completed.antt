@@ -67,13 +67,13 @@ settled-set Zero e = cc
 settled-set One e = cc
 settled-set Free e = cc
 
-settled-starts : (net : Net) → AreSet (settled_net net).resets
+pub settled-starts : (net : Net) → AreSet (settled_net net).resets
 settled-starts net j row free =
     let many = length-map net.resets settled in
     let here = at-map settled Zero Zero net.resets j (omega (arith, row, many)) in
     settled-set (reset_at net.resets j) (sym here ∙ free)
 
-settled-good : (net : Net) → IsNet net → IsNet (settled_net net)
+pub settled-good : (net : Net) → IsNet net → IsNet (settled_net net)
 settled-good net good = record {
   latches = good.latches;
   resets = length-map net.resets settled ∙ good.resets;

@@ -253,7 +253,7 @@ module _ (net strategy : Net) (prefix : List Quant) (body : Tree) (names : List 
 
   pub refused-so : (ask : Ask) (e : McError) → CanCome e → Refused ask e → Answered ask (of_check e)
   refused-so ask (checks.Prefix class) can refused = absurd can
-  refused-so ask (checks.Limit limit) can (inl (_, large, kind-is, limit-is)) =
+  refused-so ask (checks.Limit limit) can (inl (_, (large, kind-is, limit-is))) =
       let whole : limit ≡ closure_limit =
       ap₂ (λ (k : Kind) (n : ℕ). record { kind = k; limit = n }) kind-is limit-is in
       let P : Kind → Type 0 = λ k. Answered ask (of_limit k limit) in

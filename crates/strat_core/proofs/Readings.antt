@@ -1,5 +1,5 @@
 -- A question is read in one way: the shape of a prefix, and the literals of names.
-use Rattle.std.proofs.Common.{◌≡◌, ◌≢◌, ℕ, Bool, true, false, cond, Option, Some, None, is_some, unwrap_or, IsTrue, List, [], ◌∷◌, sym, ap, ◌∙◌, subst, true≢false}
+use Rattle.std.proofs.Common.{◌≡◌, ◌≢◌, ℕ, Bool, true, false, cond, Option, Some, None, is_some, unwrap_or, IsTrue, List, [], ◌∷◌, refl, sym, ap, ◌∙◌, subst, true≢false}
 use Rattle.std.specs.List.{Contains}
 use Rattle.std.proofs.Math.Path.{fun_ext}
 use Rattle.std.proofs.lemmas.Bool.{and_parts, eqb-true}
@@ -10,7 +10,7 @@ use Rattle.hy_formula.specs.declared.prefix.Quant.{Quant}
 use Rattle.aig_net.specs.declared.signals.Signal.{Signal}
 use Rattle.aig_net.specs.Nets.{Net}
 use Rattle.aig_net.specs.Signals.{is_for, literal_of}
-use Rattle.net_names.specs.Names.{AreSignals, IsOnly, name_at}
+use Rattle.net_names.specs.Names.{AreSignals, IsBadName, IsFirstBad, IsOnly, name_at}
 use Rattle.strat_compose.specs.Driving.{signal_of}
 use Rattle.strat_compose.specs.Prefixes.{IsForallExists}
 use Rattle.strat_compose.proofs.Prefixes.{counts-are}
@@ -68,3 +68,18 @@ module _ (net : Net) (names : List (List ℕ)) (body : Tree) where
       by name (Some l) (Some m) e d =
           let same : l ≡ m = (known b two name m d).1.only l (known a one name l e).1.has in
           ap (λ o. unwrap_or o 0) e ∙ same ∙ sym (ap (λ o. unwrap_or o 0) d)
+
+  -- Where all names have signals, none is bad.
+  pub no-bad : (signals : List Signal) → AreSignals net names body signals → (name : ℕ)
+      (twice : Bool) → ¬ IsFirstBad net names body name twice
+  no-bad signals are name twice bad = at (literal_of signals name 0) refl
+    where
+      of : (l : ℕ) → IsOnly net (name_at names name) l → (twice : Bool) →
+          ¬ IsBadName net (name_at names name) twice
+      of l only false none = none l only.has
+      of l only true (x, y, has-x, has-y, apart) =
+          apart (only.only x has-x ∙ sym (only.only y has-y))
+
+      at : (o : Option ℕ) → literal_of signals name 0 ≡ o → ⊥
+      at None e = there signals are name bad.there e
+      at (Some l) e = of l (known signals are name l e).1 twice bad.bad
