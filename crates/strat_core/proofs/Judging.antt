@@ -1,5 +1,5 @@
 -- What the check of a driven net says of the strategy.
-use Rattle.std.proofs.Common.{◌≡◌, ℕ, ◌+◌, ◌<◌, ◌≤◌, ◌↔◌, Bool, true, false, List, [], ◌∷◌, length, Result, Ok, Err, get_or, inl, inr, refl, sym, ap, ap₂, ◌∙◌, subst, arith}
+use Rattle.std.proofs.Common.{◌≡◌, ℕ, ◌+◌, ◌<◌, ◌≤◌, ◌↔◌, Bool, true, false, List, [], ◌∷◌, length, Option, Result, Ok, Err, get_or, inl, inr, refl, sym, ap, ap₂, ◌∙◌, subst, arith}
 use Rattle.hy_base.specs.Limits.{most}
 use Rattle.hy_base.specs.Rows.{listed}
 use Rattle.hy_base.specs.declared.limit.Kind.{Kind}
@@ -38,11 +38,13 @@ use Rattle.strat_compose.proofs.Winning.{fails as failed, part-recurs}
 use Rattle.live_safe.specs.declared.safe_net.SafeNet.{SafeNet}
 use Rattle.cnf_frames.specs.declared.queries.Asked.{Asked}
 use Rattle.cnf_frames.specs.declared.queries.Asked.TheVariants.{Keep}
+use Rattle.cnf_frames.specs.declared.inductions.InductionProof.{InductionProof}
 use Rattle.cnf_frames.specs.Queries.{IsPast}
 use Rattle.formula_nets.specs.Posed.{members}
 use Rattle.formula_nets.specs.Witnesses.{AreTraces, AreWitnesses}
 use Rattle.mc_core.specs.declared.ask.Ask.{Ask}
 use Rattle.mc_core.specs.declared.checked.Checked.{Checked}
+use Rattle.mc_core.specs.declared.checked.Checked.TheVariants.{Holds, Violated}
 use Rattle.mc_core.specs.declared.mc_error.McError.{McError}
 use Rattle.mc_core.specs.declared.mc_error.McError.TheVariants as checks
 use Rattle.mc_core.specs.Answers.{IsAnswer, IsRefused}
@@ -191,23 +193,63 @@ module _ (net strategy : Net) (prefix : List Quant) (body : Tree) (names : List 
   pub asked-so : IsAsked net strategy prefix body names many more signals
   asked-so = record { shaped = is.shaped; few = is.few; named = named }
 
-  -- what is said of the net and the formula that were made
-  pub of-made : (P : Net → List (List ℕ) → List Quant → Tree → Type 0) →
-      P made.net made.names made.formula.prefix (tree_of made.formula.body) →
-      P (driven_by net strategy many more signals body) (driven_names net more body) one_forall
+  net-is : made.net ≡ driven_by net strategy many more signals body
+  net-is = is.is.net_is ∙ ap (λ (signal : ℕ → ℕ). driven_for net strategy many more signal body)
+      (one-signal net names body is.signals signals is.named named)
+
+  -- what is said of the net and the formula that were made, and of their definitions
+  module _ (P : Net → List (List ℕ) → List Quant → Tree → Type 0) where
+    abbrev OfNet : Net → Type 0
+    OfNet n = P n made.names made.formula.prefix (tree_of made.formula.body)
+
+    abbrev OfNames : List (List ℕ) → Type 0
+    OfNames n = P (driven_by net strategy many more signals body) n made.formula.prefix
+        (tree_of made.formula.body)
+
+    abbrev OfPrefix : List Quant → Type 0
+    OfPrefix q = P (driven_by net strategy many more signals body) (driven_names net more body) q
+        (tree_of made.formula.body)
+
+    abbrev OfBody : Tree → Type 0
+    OfBody f = P (driven_by net strategy many more signals body) (driven_names net more body)
+        one_forall f
+
+    pub of-made : OfNet made.net → OfBody (driven_body net more body)
+    of-made told = subst OfBody is.is.body_is (subst OfPrefix is.is.prefix_is
+        (subst OfNames is.is.names_are (subst OfNet net-is told)))
+
+    pub to-made : OfBody (driven_body net more body) → OfNet made.net
+    to-made told = subst OfNet (sym net-is) (subst OfNames (sym is.is.names_are)
+        (subst OfPrefix (sym is.is.prefix_is) (subst OfBody (sym is.is.body_is) told)))
+
+  -- ---- its verdicts
+
+  abbrev Put : List Signal → Type 0
+  Put own = IsPut net strategy many more signals body own
+
+  pub held : (ask : Ask) (traces : List (letters.Lasso Letter)) (runs : List Run)
+      (proof : Option InductionProof) →
+      IsAnswer made.net made.names made.formula.prefix (tree_of made.formula.body) ask
+      (Ok (Holds traces runs proof)) →
+      (own : List Signal) × Put own
+      × Satisfies (driven_by net strategy many more signals body) own one_forall
       (driven_body net more body)
-  of-made P told =
-      let same = one-signal net names body is.signals signals is.named named in
-      let net-is : made.net ≡ driven_by net strategy many more signals body =
-      is.is.net_is ∙ ap (λ (signal : ℕ → ℕ). driven_for net strategy many more signal body) same in
-      let A : Net → Type 0 = λ n. P n made.names made.formula.prefix (tree_of made.formula.body) in
-      let B : List (List ℕ) → Type 0 = λ n. P (driven_by net strategy many more signals body) n
-      made.formula.prefix (tree_of made.formula.body) in
-      let C : List Quant → Type 0 = λ q. P (driven_by net strategy many more signals body)
-      (driven_names net more body) q (tree_of made.formula.body) in
-      let D : Tree → Type 0 = P (driven_by net strategy many more signals body)
-      (driven_names net more body) one_forall in
-      subst D is.is.body_is (subst C is.is.prefix_is (subst B is.is.names_are (subst A net-is told)))
+  held ask traces runs proof told =
+      let (own, put, (holds, _)) =
+      of-made (λ n k p b. IsAnswer n k p b ask (Ok (Holds traces runs proof))) told in
+      (own, put, holds)
+
+  pub violated : (ask : Ask) (traces : List (letters.Lasso Letter)) (runs : List Run)
+      (proof : Option InductionProof) →
+      IsAnswer made.net made.names made.formula.prefix (tree_of made.formula.body) ask
+      (Ok (Violated traces runs proof)) →
+      (own : List Signal) × Put own
+      × AreWitnesses (driven_by net strategy many more signals body) own 1
+      (driven_body net more body) false traces runs
+  violated ask traces runs proof told =
+      let (own, put, (_, (shown, _))) =
+      of-made (λ n k p b. IsAnswer n k p b ask (Ok (Violated traces runs proof))) told in
+      (own, put, shown)
 
   -- ---- its refusals
 
@@ -251,18 +293,20 @@ module _ (net strategy : Net) (prefix : List Quant) (body : Tree) (names : List 
   of-query ask limit safe query kinds.CnfLiterals past found = found
   of-query ask limit safe query _ past found = absurd past
 
-  pub refused-so : (ask : Ask) (e : McError) → CanCome e → Refused ask e → Answered ask (of_check e)
-  refused-so ask (checks.Prefix class) can refused = absurd can
-  refused-so ask (checks.Limit limit) can (inl (_, (large, kind-is, limit-is))) =
+  pub refused-so : AreNamed → (ask : Ask) (e : McError) → Refused ask e → Answered ask (of_check e)
+  refused-so own ask (checks.Prefix class) refused =
+      absurd (can-come own ask (checks.Prefix class) refused)
+  refused-so own-names ask (checks.Limit limit) (inl (_, (large, kind-is, limit-is))) =
       let whole : limit ≡ closure_limit =
       ap₂ (λ (k : Kind) (n : ℕ). record { kind = k; limit = n }) kind-is limit-is in
       let P : Kind → Type 0 = λ k. Answered ask (of_limit k limit) in
       subst P (sym kind-is) (whole, many, more, signals, asked-so, large)
-  refused-so ask (checks.Limit limit) can (inr (own, put, plain, stopped)) =
+  refused-so own-names ask (checks.Limit limit) (inr (own, put, (plain, stopped))) =
       let (facts, group, _, _, past, _) = stopped in
       of-query ask limit (driven_safe net strategy many more signals body own) (Keep facts group)
-      limit.kind past (many, more, signals, own, asked-so, put, plain, stopped)
-  refused-so ask (checks.CnfLimit kind limit kept) can (own, put, work) =
+      limit.kind past (many, more, signals, own, asked-so, put, (plain, stopped))
+  refused-so own-names ask (checks.CnfLimit kind limit kept) (own, put, work) =
       (many, more, signals, own, asked-so, put, work)
-  refused-so ask (checks.Name name twice) can refused = absurd can
-  refused-so ask checks.Memory can refused = tt
+  refused-so own ask (checks.Name name twice) refused =
+      absurd (can-come own ask (checks.Name name twice) refused)
+  refused-so own ask checks.Memory refused = tt

@@ -10,11 +10,11 @@ use crate::checked::StrategyChecked;
 use crate::failing::{own_signals, universal_count, universal_witnesses};
 use crate::laws::driven_nets_have_room;
 use crate::refusal::{StrategyError, refused};
-use aig_net::Net;
+use aig_net::{Net, runs_are_executions};
 use hy_formula::{Formula, NameTable};
 use mc_core::{Ask, Checked, check};
 use std::alloc::Global;
-use strat_compose::{Driven, drive};
+use strat_compose::{Driven, drive, driven_names_are_outputs, strategies_win};
 
 /// Checks a circuit against a formula with universal and then existential quantifiers, where the
 /// strategy chooses the existential executions: the driven net against the driven formula, as `drive`
@@ -61,7 +61,12 @@ fn check_driven(
     ensures { IsStrategyAnswer net.now strategy.now formula.now.prefix
         (tree_of formula.now.body) names.now ask.now result }
 {
+    net.variables(); // what each net keeps
+    strategy.variables();
     driven_nets_have_room(); // for the safe net
+    driven_names_are_outputs(); // what the names of the driven formula show
+    strategies_win(); // where that holds
+    runs_are_executions(); // and what the universal runs are
     match check(alloc, &driven.net, &driven.formula, &driven.names, ask) {
         Ok(Checked::Holds { .. }) => Ok(StrategyChecked::Holds),
         Ok(Checked::Violated { runs, .. }) => {
