@@ -1,18 +1,18 @@
 -- Executions that recur have a completion, which recurs.
-use Rattle.std.proofs.Common.{◌≡◌, ℕ, suc, ◌+◌, ◌*◌, ◌/◌, ◌%◌, ◌<◌, ◌≤◌, Bool, true, false, length, sym, ap, ◌∙◌, subst, arith}
+use Rattle.std.proofs.Common.{◌≡◌, ℕ, suc, ◌+◌, ◌*◌, ◌/◌, ◌%◌, ◌<◌, ◌≤◌, Bool, true, false, sym, ap, ◌∙◌, subst, arith}
 use Rattle.std.proofs.Math.Nat.{mod-lt}
 use Rattle.std.proofs.lemmas.List.{length-map}
 use Rattle.std.proofs.lemmas.Nat.{div-mul-add, mod-mul-add, mul-add-lt}
 use Rattle.hy_base.proofs.Listed.{at-map}
 use Rattle.aig_net.specs.declared.parts.Reset.{Reset}
 use Rattle.aig_net.specs.declared.parts.Reset.TheVariants.{Zero, One, Free}
-use Rattle.aig_net.specs.Nets.{IsNet, IsRight, IsStart, Net, ResetTo, latch_variable, literal_at, literal_value, reset_at}
+use Rattle.aig_net.specs.Nets.{IsNet, Net, ResetTo, latch_variable, literal_at, literal_value, reset_at}
 use Rattle.aig_net.specs.Executions.{IsExecution, Recurs, Word}
 use Rattle.aig_net.specs.Running.{IsRunOn}
 use Rattle.aig_net.proofs.Literals.{value-same}
 use Rattle.aig_net.proofs.Periods.{Repeats, common}
 use Rattle.aig_net.proofs.Running.{some-run}
-use Rattle.strat_compose.specs.Completions.{AreRight, Goes, IsCompletion, input_variable}
+use Rattle.strat_compose.specs.Completions.{AreRight, Goes, IsCompletion}
 use Rattle.strat_compose.specs.Driving.{AreSet, IsStrategy, settled, settled_net}
 
 -- `one_run` of aig_net

@@ -1,13 +1,12 @@
 -- What the check of a driven net says of the strategy.
-use Rattle.std.proofs.Common.{◌≡◌, ℕ, ◌+◌, ◌<◌, ◌≤◌, ◌↔◌, Bool, true, false, List, [], ◌∷◌, length, Option, Result, Ok, Err, get_or, inl, inr, refl, sym, ap, ap₂, ◌∙◌, subst, arith}
-use Rattle.hy_base.specs.Limits.{most}
+use Rattle.std.proofs.Common.{◌≡◌, ℕ, ◌+◌, ◌<◌, ◌↔◌, Bool, true, false, List, [], ◌∷◌, length, Option, Ok, get_or, inl, inr, refl, sym, ap, ap₂, ◌∙◌, subst, arith}
 use Rattle.hy_base.specs.Rows.{listed}
 use Rattle.hy_base.specs.declared.limit.Kind.{Kind}
 use Rattle.hy_base.specs.declared.limit.Kind.TheVariants as kinds
 use Rattle.hy_base.specs.declared.limit.Limit.{Limit as Past}
 use Rattle.hy_base.proofs.Listed.{at-listed, length-listed}
 use Rattle.hy_bits.specs.Letter.{Letter}
-use Rattle.hy_formula.specs.Atoms.{IndexedAtom, atoms_of, has_name}
+use Rattle.hy_formula.specs.Atoms.{atoms_of, has_name}
 use Rattle.hy_formula.specs.Lassos as letters
 use Rattle.hy_formula.specs.Temporal.{SatisfiesAt, Words, endless}
 use Rattle.hy_formula.specs.Trees.{Tree, tree_of}
@@ -18,7 +17,7 @@ use Rattle.aig_net.specs.declared.run.Run.{Run}
 use Rattle.aig_net.specs.declared.run.ValueLasso.{ValueLasso}
 use Rattle.aig_net.specs.declared.signals.Signal.{Signal}
 use Rattle.aig_net.specs.Executions.{IsLassoExecution, Lasso, Word, gone, lasso_of}
-use Rattle.aig_net.specs.Nets.{IsNet, Net, literal_at}
+use Rattle.aig_net.specs.Nets.{IsNet, Net}
 use Rattle.aig_net.specs.Signals.{visible}
 use Rattle.aig_net.specs.Simulations.{IsExecutionOf, IsRunOf, valuations}
 use Rattle.aig_net.proofs.Rounds.{recurring}
@@ -28,7 +27,7 @@ use Rattle.wit_lasso.specs.Seeing.{IsTraceOf}
 use Rattle.wit_lasso.specs.Unfoldings.{run_at, no_run}
 use Rattle.strat_compose.specs.declared.question.Driven.{Driven}
 use Rattle.strat_compose.specs.Completions.{IsCompletion, Wins}
-use Rattle.strat_compose.specs.Driving.{IsStrategy, driven_outputs, name_count, parts_of, signal_of}
+use Rattle.strat_compose.specs.Driving.{IsStrategy, parts_of, signal_of}
 use Rattle.strat_compose.specs.Formulas.{driven_body, output_words}
 use Rattle.strat_compose.specs.Refusals.{IsDriven}
 use Rattle.strat_compose.specs.Runs.{HasCopies, universal_run}
@@ -40,10 +39,8 @@ use Rattle.cnf_frames.specs.declared.queries.Asked.{Asked}
 use Rattle.cnf_frames.specs.declared.queries.Asked.TheVariants.{Keep}
 use Rattle.cnf_frames.specs.declared.inductions.InductionProof.{InductionProof}
 use Rattle.cnf_frames.specs.Queries.{IsPast}
-use Rattle.formula_nets.specs.Posed.{members}
 use Rattle.formula_nets.specs.Witnesses.{AreTraces, AreWitnesses}
 use Rattle.mc_core.specs.declared.ask.Ask.{Ask}
-use Rattle.mc_core.specs.declared.checked.Checked.{Checked}
 use Rattle.mc_core.specs.declared.checked.Checked.TheVariants.{Holds, Violated}
 use Rattle.mc_core.specs.declared.mc_error.McError.{McError}
 use Rattle.mc_core.specs.declared.mc_error.McError.TheVariants as checks

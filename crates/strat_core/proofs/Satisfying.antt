@@ -1,18 +1,18 @@
 -- Where a strategy wins, the circuit satisfies the formula.
-use Rattle.std.proofs.Common.{◌≡◌, ℕ, zero, suc, ◌+◌, ◌-◌, ◌<◌, ◌≤◌, Bool, true, cond, nat_lt, IsTrue, List, [], ◌∷◌, ◌++◌, length, length-append, get_or, inl, inr, refl, sym, ap, ◌∙◌, subst, arith}
+use Rattle.std.proofs.Common.{◌≡◌, ℕ, zero, suc, ◌+◌, ◌-◌, ◌<◌, Bool, true, IsTrue, List, [], ◌∷◌, ◌++◌, length, get_or, inl, inr, refl, sym, ap, ◌∙◌, subst, arith}
 use Rattle.std.proofs.lemmas.Bool.{cases_lt}
 use Rattle.std.proofs.lemmas.List.{get_or_append_left, get_or-append_right}
 use Rattle.hy_base.proofs.Listed.{at-listed, length-listed}
 use Rattle.hy_base.proofs.Truths.{cond-above, cond-below}
 use Rattle.hy_base.specs.Rows.{listed}
 use Rattle.hy_formula.specs.Quantifiers.{Each, IsTuple, Quantified, repeated}
-use Rattle.hy_formula.specs.Temporal.{SatisfiesAt, Words, endless}
+use Rattle.hy_formula.specs.Temporal.{SatisfiesAt, endless}
 use Rattle.hy_formula.specs.Trees.{Tree, vars_below}
 use Rattle.hy_formula.specs.declared.prefix.Quant.{Quant}
 use Rattle.hy_formula.specs.declared.prefix.Quant.TheVariants.{Exists, Forall}
 use Rattle.hy_formula.proofs.Tuples.{some-tuple}
 use Rattle.aig_net.specs.declared.signals.Signal.{Signal}
-use Rattle.aig_net.specs.Executions.{IsExecution, IsLassoExecution, Lasso, Recurs, Word, gone, lasso_of, no_lasso}
+use Rattle.aig_net.specs.Executions.{IsLassoExecution, Lasso, Word, gone, lasso_of, no_lasso}
 use Rattle.aig_net.specs.Nets.{IsNet, Net, literal_value}
 use Rattle.aig_net.specs.Signals.{visible}
 use Rattle.aig_net.proofs.Closings.{recurring-execution}

@@ -1,15 +1,12 @@
 -- Why `check_driven` keeps its contract.
-use Rattle.std.proofs.Common.{◌≡◌, ℕ, ◌+◌, ◌<◌, ◌≤◌, true, List, length, Option, Ok, Err, get_or, sym, ap, ◌∙◌, subst, arith}
+use Rattle.std.proofs.Common.{◌≡◌, ℕ, ◌<◌, true, Ok, sym, ap, ◌∙◌, subst, arith}
 use Rattle.std.proofs.lemmas.Option.{get_or_from_slice_get}
 use Rattle.hy_base.specs.Rows.{listed}
 use Rattle.hy_formula.specs.Atoms.{atoms_of}
-use Rattle.hy_formula.specs.Lassos as letters
-use Rattle.hy_formula.specs.Trees.{Tree, tree_of, vars_below}
-use Rattle.hy_formula.specs.declared.prefix.Quant.{Quant}
+use Rattle.hy_formula.specs.Trees.{tree_of, vars_below}
 use Rattle.aig_net.specs.declared.run.Run.{Run}
 use Rattle.aig_net.specs.declared.run.ValueLasso.{ValueLasso}
-use Rattle.aig_net.specs.declared.signals.Signal.{Signal}
-use Rattle.aig_net.specs.Nets.{Net, literal_at}
+use Rattle.aig_net.specs.Nets.{literal_at}
 use Rattle.aig_net.specs.Simulations.{IsExecutionOf}
 use Rattle.wit_lasso.specs.Unfoldings.{no_run, run_at}
 use Rattle.strat_compose.specs.Driving.{driven_outputs, parts_of, signal_of}
@@ -17,12 +14,10 @@ use Rattle.strat_compose.specs.Runs.{HasCopies, universal_run}
 use Rattle.strat_compose.proofs.Prefixes.{shape-length}
 use Rattle.strat_compose.proofs.SignalBounds.{own_signal, own_signals}
 use Rattle.formula_nets.specs.Posed.{HasRoom}
-use Rattle.mc_core.specs.declared.ask.Ask.{Ask}
 use Rattle.mc_core.specs.declared.checked.Checked.{Checked}
-use Rattle.mc_core.specs.declared.mc_error.McError.{McError}
 use Rattle.mc_core.specs.Answers.{IsAnswer, IsRefused}
 use Rattle.strat_core.specs.declared.refusal.StrategyError.{StrategyError}
-use Rattle.strat_core.specs.Answers.{AreFailing, IsStrategyRefused}
+use Rattle.strat_core.specs.Answers.{IsStrategyRefused}
 use Rattle.strat_core.proofs.Judging.{asked-so, can-come, copies, failing, fulfils, held, of-made, refused-so, to-made, universal-execution, violated}
 use Rattle.strat_core.proofs.Readings.{one-shape}
 use Rattle.strat_core.proofs.checking.check_driven.Goals as goal
