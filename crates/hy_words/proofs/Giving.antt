@@ -12,11 +12,11 @@ use Rattle.hy_words.specs.Words.{Text, Item, is_value, is_filled, given_in}
 use Rattle.hy_words.proofs.BoundTexts.{bound-value}
 use Rattle.bound_search.specs.declared.bound.Bound.{Bound}
 use Rattle.bound_search.specs.Bounds.{IsBound}
-use Rattle.hy_words.specs.Commands.{IsNumberOr, IsRule, Asks, Finds, is_given, bound_text}
+use Rattle.hy_words.specs.Commands.{IsNumberOr, IsRule, Asks, Finds, Checks, is_given, bound_text}
 use Rattle.hy_words.specs.Found.{listed, listed_slice, found_value, found_files, Tells, IsFit, AreFilled}
 use Rattle.clap.specs.Matches.{found_of, first_value}
 use Rattle.clap.specs.declared.parser.matches.ArgMatches.{ArgMatches}
-use Rattle.hy_words.specs.declared.tool.Tool.TheVariants.{EaHyper}
+use Rattle.hy_words.specs.declared.tool.Tool.TheVariants.{EaHyper, McHyper}
 
 pub seen : (given : List Text) (o : Option (Bor Text)) (v : Option Text) → given ≡ listed v → option_map (λ s. s.now) o ≡ v → given ≡ listed_slice o
 seen given None v e f = e ∙ ap listed (sym f)
@@ -141,3 +141,33 @@ asks_as items formula a b c x y z n p e f g asks = record {
   proves = asks.proves;
   unbounded = asks.unbounded;
 }
+
+-- What matches give asks for a check of a circuit.
+pub checks_of : (items : List Item) (m : ArgMatches) → Tells McHyper items m → AreFilled items → (circuit formula : Text)
+    → found_files m ≡ circuit ∷ formula ∷ [] → (depth conflicts strategy : Option (Bor Text))
+    → option_map (λ s. s.now) depth ≡ first_value (found_of m) (codes "depth") → (d : ℕ) → IsNumberOr 64 (listed_slice depth) 0 100000 d
+    → option_map (λ s. s.now) conflicts ≡ first_value (found_of m) (codes "conflicts") → (n : ℕ) → IsNumberOr 100000 (listed_slice conflicts) 0 1000000000 n
+    → (found_value m (codes "strategy") ≡ listed_slice strategy) × IsTrue (list_all is_value (listed_slice strategy))
+    → (by : List Text) → listed_slice strategy ≡ by
+    → (plain : Bool) → (first_value (found_of m) (codes "plain") ≡ Some (codes "true") → plain ≡ true) → (first_value (found_of m) (codes "plain") ≡ Some (codes "false") → plain ≡ false)
+    → (flag : Bool) → (first_value (found_of m) (codes "proof") ≡ Some (codes "true") → flag ≡ true) → (first_value (found_of m) (codes "proof") ≡ Some (codes "false") → flag ≡ false)
+    → (proof : Bool) → flag ≡ proof → IsFit McHyper items × Checks items circuit formula by d n plain proof
+checks_of items m tells filled circuit formula file depth conflicts strategy at_d d deep at_n n budget (at_s, is) by given plain plain_true plain_false flag flag_true flag_false proof shown =
+    let (at_depth, (at_conflicts, (at_strategy, nil))) = tells.options in
+    let one = seen (given_in (codes "depth") items) depth _ at_depth at_d in
+    let two = seen (given_in (codes "conflicts") items) conflicts _ at_conflicts at_n in
+    let three = at_strategy ∙ at_s in
+    let depth_is = number_values 64 depth 0 100000 d (omega arith) deep in
+    let number_is = number_values 100000 conflicts 0 1000000000 n (omega arith) budget in
+    let P : List Text → Type 0 = λ vs. IsNumberOr 64 vs 0 100000 d in
+    let Q : List Text → Type 0 = λ vs. IsNumberOr 100000 vs 0 1000000000 n in (
+      (filled, rw (one, two, three, depth_is, number_is, is) refl),
+      record {
+        files = tells.files ∙ file;
+        by = three ∙ given;
+        deep = subst P (sym one) deep;
+        budget = subst Q (sym two) budget;
+        bare = flag_read _ _ plain tells.flags.0 plain_true plain_false;
+        proves = sym shown ∙ flag_read _ _ flag tells.flags.1.0 flag_true flag_false;
+      },
+    )

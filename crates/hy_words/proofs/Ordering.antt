@@ -1,5 +1,5 @@
 -- Items that give the same order the same command.
-use Rattle.std.proofs.Common.{◌≡◌, ℕ, ◌<◌, ◌^◌, ◌⊎◌, inl, inr, codes, true≢false, Bool, List, [], ◌∷◌, refl, sym, ap, subst, ◌∙◌, arith}
+use Rattle.std.proofs.Common.{◌≡◌, ℕ, ◌<◌, ◌^◌, ◌⊎◌, inl, inr, codes, true≢false, false, Bool, List, [], ◌∷◌, refl, sym, ap, subst, ◌∙◌, arith}
 use Rattle.std.specs.Str.{bytes_eq}
 use Rattle.std.proofs.lemmas.Fmt.{decimal_injective}
 use Rattle.hy_finite.specs.declared.lengths.Lengths.{Lengths}
@@ -8,7 +8,7 @@ use Rattle.bound_search.specs.declared.bound.Bound.{Bound}
 use Rattle.hy_words.specs.declared.tool.Tool.{Tool}
 use Rattle.hy_words.specs.declared.tool.Tool.TheVariants.{EaHyper, RvHyper, McHyper}
 use Rattle.hy_words.specs.Words.{Text, Item, given_in}
-use Rattle.hy_words.specs.Commands.{Command, monitor, monitor_made, judge, decide, imply, compare, find, check, IsNumber, IsNumberOr, IsRule, bound_text, Asks, Finds, Monitors, Checks, Orders, IsCommand}
+use Rattle.hy_words.specs.Commands.{Command, monitor, monitor_made, judge, decide, imply, compare, find, check, check_by_strategy, IsNumber, IsNumberOr, IsRule, bound_text, Asks, Finds, Monitors, Checks, Orders, IsCommand}
 use Rattle.hy_words.proofs.BoundTexts.{same-bound}
 use Rattle.hy_words.proofs.Telling.{Same, same_items}
 
@@ -71,6 +71,7 @@ decision_of items (find f b n) finds = inr (record { formula = f; bound = b; con
 decision_of items (monitor s t l d) e = absurd e
 decision_of items (monitor_made s n l d) e = absurd e
 decision_of items (check c f d n p q) e = absurd e
+decision_of items (check_by_strategy c f s d n p) e = absurd e
 
 module _ (items others : List Item) (same : Same EaHyper items others) where
   one_question : (a b : Command) → IsQuestion items a → IsQuestion others b → a ≡ b
@@ -145,6 +146,7 @@ monitoring_of items (imply f g n b) e = absurd e
 monitoring_of items (compare f g n b) e = absurd e
 monitoring_of items (find f b n) e = absurd e
 monitoring_of items (check c f d n p q) e = absurd e
+monitoring_of items (check_by_strategy c f s d n p) e = absurd e
 
 module _ (items others : List Item) (same : Same RvHyper items others) where
   lengths_are : given_in (codes "lengths") items ≡ given_in (codes "lengths") others
@@ -183,9 +185,29 @@ one_monitoring items others same a b one two =
 
 -- ---- mchyper
 
-checking_of : (items : List Item) (command : Command) → Orders McHyper items command
-    → (c : Text) × (f : Text) × (d : ℕ) × (n : ℕ) × (p : Bool) × (q : Bool) × Checks items c f d n p q × (command ≡ check c f d n p q)
-checking_of items (check c f d n p q) checks = (c, f, d, n, p, q, checks, refl)
+-- the command that a check is, by the strategy, if any
+abbrev checked : Text → Text → List Text → ℕ → ℕ → Bool → Bool → Command
+checked circuit formula [] depth conflicts plain proof = check circuit formula depth conflicts plain proof
+checked circuit formula (strategy ∷ _) depth conflicts plain proof =
+    check_by_strategy circuit formula strategy depth conflicts plain
+
+-- The command checks a circuit.
+record IsCheck (items : List Item) (command : Command) : Type 0 where
+  circuit : Text
+  formula : Text
+  strategy : List Text
+  depth : ℕ
+  conflicts : ℕ
+  plain : Bool
+  proof : Bool
+  checks : Checks items circuit formula strategy depth conflicts plain proof
+  is : command ≡ checked circuit formula strategy depth conflicts plain proof
+
+checking_of : (items : List Item) (command : Command) → Orders McHyper items command → IsCheck items command
+checking_of items (check c f d n p q) checks =
+    record { circuit = c; formula = f; strategy = []; depth = d; conflicts = n; plain = p; proof = q; checks = checks; is = refl }
+checking_of items (check_by_strategy c f s d n p) checks =
+    record { circuit = c; formula = f; strategy = s ∷ []; depth = d; conflicts = n; plain = p; proof = false; checks = checks; is = refl }
 checking_of items (judge f l) e = absurd e
 checking_of items (decide f n b) e = absurd e
 checking_of items (imply f g n b) e = absurd e
@@ -196,20 +218,21 @@ checking_of items (monitor_made s n l r) e = absurd e
 
 one_checking : (items others : List Item) → Same McHyper items others → (a b : Command) → Orders McHyper items a → Orders McHyper others b → a ≡ b
 one_checking items others same a b one two =
-    let (c, f, d, n, p, q, checks, is_a) = checking_of items a one in
-    let (e, g, k, m, r, s, also, is_b) = checking_of others b two in
-    let (depths, (budgets, nil)) = same.options in
-    let (plains, (proofs, nil)) = same.flags in
-    let files : c ∷ f ∷ [] ≡ e ∷ g ∷ [] = sym checks.files ∙ same.files ∙ also.files in
-    let circuit : c ≡ e = cc in
-    let formula : f ≡ g = cc in
-    let depth : d ≡ k = same-number-or 64 (given_in (codes "depth") others) 0 100000 d k (omega arith)
-    (subst (λ vs. IsNumberOr 64 vs 0 100000 d) depths checks.deep) also.deep in
-    let conflicts : n ≡ m = same-number-or 100000 (given_in (codes "conflicts") others) 0 1000000000 n m (omega arith)
-    (subst (λ vs. IsNumberOr 100000 vs 0 1000000000 n) budgets checks.budget) also.budget in
-    let plain : p ≡ r = checks.bare ∙ plains ∙ sym also.bare in
-    let proof : q ≡ s = checks.proves ∙ proofs ∙ sym also.proves in
-    is_a ∙ (λ i. check (circuit i) (formula i) (depth i) (conflicts i) (plain i) (proof i)) ∙ sym is_b
+    let x = checking_of items a one in
+    let y = checking_of others b two in
+    let (depths, (budgets, (strategies, nil))) = same.options in
+    let (plains, (proofs, none)) = same.flags in
+    let files : x.circuit ∷ x.formula ∷ [] ≡ y.circuit ∷ y.formula ∷ [] = sym x.checks.files ∙ same.files ∙ y.checks.files in
+    let circuit : x.circuit ≡ y.circuit = cc in
+    let formula : x.formula ≡ y.formula = cc in
+    let strategy : x.strategy ≡ y.strategy = sym x.checks.by ∙ strategies ∙ y.checks.by in
+    let depth : x.depth ≡ y.depth = same-number-or 64 (given_in (codes "depth") others) 0 100000 x.depth y.depth (omega arith)
+    (subst (λ vs. IsNumberOr 64 vs 0 100000 x.depth) depths x.checks.deep) y.checks.deep in
+    let conflicts : x.conflicts ≡ y.conflicts = same-number-or 100000 (given_in (codes "conflicts") others) 0 1000000000 x.conflicts y.conflicts (omega arith)
+    (subst (λ vs. IsNumberOr 100000 vs 0 1000000000 x.conflicts) budgets x.checks.budget) y.checks.budget in
+    let plain : x.plain ≡ y.plain = x.checks.bare ∙ plains ∙ sym y.checks.bare in
+    let proof : x.proof ≡ y.proof = x.checks.proves ∙ proofs ∙ sym y.checks.proves in
+    x.is ∙ (λ i. checked (circuit i) (formula i) (strategy i) (depth i) (conflicts i) (plain i) (proof i)) ∙ sym y.is
 
 one_order : (tool : Tool) (items others : List Item) → Same tool items others → (a b : Command) → Orders tool items a → Orders tool others b → a ≡ b
 one_order EaHyper = one_decision

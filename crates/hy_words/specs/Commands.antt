@@ -1,5 +1,5 @@
 -- Which words are a command of which tool. A command has the names of its files in the order in which they are read.
-use Rattle.std.specs.Prelude.{◌≡◌, ◌≤◌, ◌==◌, ℕ, Bool, not, List, [], ◌∷◌, ◌++◌, length, codes, decimal}
+use Rattle.std.specs.Prelude.{◌≡◌, ◌≤◌, ◌==◌, ℕ, Bool, false, not, List, [], ◌∷◌, ◌++◌, length, codes, decimal}
 use Rattle.hy_formula.specs.Quantifiers.{Each}
 use Rattle.hy_finite.specs.declared.lengths.Lengths.{Lengths}
 use Rattle.hy_finite.specs.declared.lengths.Lengths.TheVariants.{Min, Pad}
@@ -26,6 +26,8 @@ pub data Command : Type 0 where
   find : (formula : Text) (bound : Bound) (conflicts : ℕ) → Command
   -- Check a formula on the executions of a circuit.
   check : (circuit formula : Text) (depth conflicts : ℕ) (plain proof : Bool) → Command
+  -- Check a formula on the executions of a circuit by a strategy, which is a circuit, too.
+  check_by_strategy : (circuit formula strategy : Text) (depth conflicts : ℕ) (plain : Bool) → Command
 
 -- The text is this number, in digits without a sign and without a leading zero, and within the range.
 abbrev pub IsNumber : Text → ℕ → ℕ → ℕ → Type 0
@@ -94,9 +96,10 @@ pub record Monitors (items : List Item) (names made : List Text) (lengths : Leng
   pub rule : IsRule (given_in (codes "lengths") items) lengths
   pub drops : drop ≡ is_given (given_in (codes "drop") items)
 
--- The items ask for a check of a circuit.
-pub record Checks (items : List Item) (circuit formula : Text) (depth conflicts : ℕ) (plain proof : Bool) : Type 0 where
+-- The items ask for a check of a circuit: these are the files, and the strategy, if any.
+pub record Checks (items : List Item) (circuit formula : Text) (strategy : List Text) (depth conflicts : ℕ) (plain proof : Bool) : Type 0 where
   pub files : files_in items ≡ circuit ∷ formula ∷ []
+  pub by : given_in (codes "strategy") items ≡ strategy
   pub deep : IsDepth (given_in (codes "depth") items) depth
   pub budget : AreConflicts (given_in (codes "conflicts") items) conflicts
   pub bare : plain ≡ is_given (given_in (codes "plain") items)
@@ -114,7 +117,9 @@ Orders EaHyper items (imply first second states proof) = Asks items first [] (se
 Orders EaHyper items (compare first second states proof) = Asks items first [] [] (second ∷ []) states proof
 Orders EaHyper items (find formula bound conflicts) = Finds items formula bound conflicts
 Orders McHyper items (check circuit formula depth conflicts plain proof) =
-    Checks items circuit formula depth conflicts plain proof
+    Checks items circuit formula [] depth conflicts plain proof
+Orders McHyper items (check_by_strategy circuit formula strategy depth conflicts plain) =
+    Checks items circuit formula (strategy ∷ []) depth conflicts plain false
 Orders _ _ _ = ⊥
 
 -- The words stand for this command of the tool.

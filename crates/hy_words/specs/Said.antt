@@ -1,7 +1,7 @@
 -- The command of the logic that a command of the code stands for.
 use Rattle.hy_words.specs.declared.command.Command.{Command as Told}
-use Rattle.hy_words.specs.declared.command.Command.TheVariants.{Monitor, MonitorMade, Judge, Decide, Imply, Compare, Find, Check}
-use Rattle.hy_words.specs.Commands.{Command, monitor, monitor_made, judge, decide, imply, compare, find, check}
+use Rattle.hy_words.specs.declared.command.Command.TheVariants.{Monitor, MonitorMade, Judge, Decide, Imply, Compare, Find, Check, CheckByStrategy}
+use Rattle.hy_words.specs.Commands.{Command, monitor, monitor_made, judge, decide, imply, compare, find, check, check_by_strategy}
 
 abbrev pub said_by : Told → Command
 said_by (Monitor specs traces lengths drop) = monitor specs.now traces.now lengths drop
@@ -13,3 +13,5 @@ said_by (Compare first second states proof) = compare first.now second.now state
 said_by (Find formula bound conflicts) = find formula.now bound conflicts
 said_by (Check circuit formula depth conflicts plain proof) =
     check circuit.now formula.now depth conflicts plain proof
+said_by (CheckByStrategy circuit formula strategy depth conflicts plain) =
+    check_by_strategy circuit.now formula.now strategy.now depth conflicts plain

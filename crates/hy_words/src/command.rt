@@ -79,6 +79,16 @@ pub enum Command<'a> {
         plain: bool,
         proof: bool,
     },
+    /// Checks a formula on the executions of a circuit by a strategy, which is a circuit, too; by as
+    /// long paths and as large queries as `Check`.
+    CheckByStrategy {
+        circuit: &'a str,
+        formula: &'a str,
+        strategy: &'a str,
+        depth: u32,
+        conflicts: u32,
+        plain: bool,
+    },
 }
 
 /// The command of the tool that the words stand for, if any. In time linear in the words.
@@ -89,6 +99,7 @@ pub enum Command<'a> {
 /// rvhyper    [--drop] [--lengths min|pad] SPECS TRACES
 /// rvhyper    [--drop] [--lengths min|pad] --make N SPECS
 /// mchyper    [--depth K] [--conflicts N] [--plain] [--proof] CIRCUIT FORMULA
+/// mchyper    [--depth K] [--conflicts N] [--plain] --strategy FILE CIRCUIT FORMULA
 /// ```
 /// Flags and options stand anywhere among the names of files, each at most once, and not behind a
 /// word `--`, behind which every word is the name of a file. A value is the word behind its option,
@@ -97,7 +108,7 @@ pub enum Command<'a> {
 /// ranges that `Command` gives, and 100,000, none, 64 and 100,000 where they are not given; beside
 /// `--on` neither `--states` nor `--proof` changes anything. A bound is the most lassos, from 1 to 4,
 /// letters of a stem, from 0 to 8, and letters of a cycle, from 1 to 4; beside `--bound` stands
-/// nothing but `--conflicts`, and that only there.
+/// nothing but `--conflicts`, and that only there. Beside `--strategy` there is no `--proof`.
 ///
 /// `Memory` where memory ran out.
 pub fn command_of<'a>(alloc: Global, tool: Tool, words: &'a [String]) -> M<Option<Command<'a>>>

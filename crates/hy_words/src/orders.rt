@@ -178,12 +178,26 @@ fn checking<'a>(files: &[&'a str], matches: &ArgMatches<'a>) -> Option<Command<'
     };
     let depth = number_or(64, matches.get_str("depth"), 0, 100_000)?;
     let conflicts = number_or(100_000, matches.get_str("conflicts"), 0, 1_000_000_000)?;
-    Some(Command::Check {
-        circuit,
-        formula,
-        depth,
-        conflicts,
-        plain: has_flag(matches, "plain"),
-        proof: has_flag(matches, "proof"),
-    })
+    let strategy = value_in(matches, "strategy")?;
+    let plain = has_flag(matches, "plain");
+    let proof = has_flag(matches, "proof");
+    match (strategy, proof) {
+        (None, _) => Some(Command::Check {
+            circuit,
+            formula,
+            depth,
+            conflicts,
+            plain,
+            proof,
+        }),
+        (Some(strategy), false) => Some(Command::CheckByStrategy {
+            circuit,
+            formula,
+            strategy,
+            depth,
+            conflicts,
+            plain,
+        }),
+        (Some(_), true) => None,
+    }
 }
