@@ -16,7 +16,7 @@ use Rattle.hy_answer.specs.declared.answer.Answer.{Answer}
 use Rattle.hy_answer.specs.declared.answer.Answer.TheVariants.{Sat, Unsat, NoneWithin, Implied, NotImplied, Equivalent, NotEquivalent, OnTrue, OnFalse, NoViolation, Violation}
 use Rattle.hy_answer.specs.declared.answer.Answer.TheVariants.{Words, Syntax, Unbound, Prefix, Line, Session, OpenFault, ReadFault}
 use Rattle.hy_answer.specs.declared.answer.Answer.TheVariants.{WriteFault, Limit, States, Memory}
-use Rattle.hy_answer.specs.declared.answer.Answer.TheVariants.{Circuit, Name, CnfLimit}
+use Rattle.hy_answer.specs.declared.answer.Answer.TheVariants.{Circuit, Name, CnfLimit, StrategyHolds, StrategyFails, Strategy}
 use Rattle.hy_answer.specs.declared.answer.Answer.TheVariants as answers
 use Rattle.hy_answer.specs.declared.answer.Extras.{Extras}
 
@@ -81,6 +81,8 @@ out_text extras names (Violation spec trace tuple) =
     codes "violation of spec " ++ decimal spec ++ codes " at trace " ++ decimal trace ++ codes " by "
     ++ join_with_byte 32 (map decimal tuple) ++ codes "\n"
 out_text extras names (answers.Checked checked) = checked_text extras names checked
+out_text extras names StrategyHolds = codes "holds with strategy\n"
+out_text extras names (StrategyFails traces runs) = codes "strategy fails\n" ++ printed_lassos names traces
 out_text extras names Words = []
 out_text extras names (Syntax file token byte) = []
 out_text extras names (Unbound file byte) = []
@@ -88,6 +90,7 @@ out_text extras names (Prefix file class) = []
 out_text extras names (Line file line) = []
 out_text extras names (Session line) = []
 out_text extras names (Circuit file kind byte) = []
+out_text extras names (Strategy inputs outputs) = []
 out_text extras names (Name name twice) = []
 out_text extras names (OpenFault file) = []
 out_text extras names (ReadFault file) = []
@@ -96,6 +99,11 @@ out_text extras names (Limit kind limit) = []
 out_text extras names (CnfLimit kind limit kept) = []
 out_text extras names (States n) = []
 out_text extras names Memory = []
+
+-- the line of a strategy, in the file of this name, that has not so many inputs and outputs, or has what none may have
+abbrev pub shape_line : List ℕ → ℕ → ℕ → List ℕ
+shape_line name inputs outputs =
+    codes "error E15 " ++ name ++ codes ": inputs " ++ decimal inputs ++ codes " outputs " ++ decimal outputs ++ codes "\n"
 
 -- what `err` receives, where the command has files of these names
 abbrev pub error_line : List (List ℕ) → Answer → List ℕ
@@ -106,6 +114,7 @@ error_line names (Prefix file class) = class_line (name_of_file names file) clas
 error_line names (Line file line) = fault_line (name_of_file names file) (faults.Line line)
 error_line names (Session line) = codes "error E10: line " ++ decimal line ++ codes "\n"
 error_line names (Circuit file kind byte) = fault_line (name_of_file names file) (faults.Circuit kind byte)
+error_line names (Strategy inputs outputs) = shape_line (name_of_file names 2) inputs outputs
 error_line names (Name name twice) = name_line name twice
 error_line names (OpenFault file) = fault_line (name_of_file names file) faults.Open
 error_line names (ReadFault file) = fault_line (name_of_file names file) faults.Read
@@ -126,6 +135,8 @@ error_line names OnFalse = []
 error_line names (NoViolation traces kept live) = []
 error_line names (Violation spec trace tuple) = []
 error_line names (answers.Checked checked) = []
+error_line names StrategyHolds = []
+error_line names (StrategyFails traces runs) = []
 
 -- the exit status of what a check comes to
 abbrev pub checked_status : Checked → ℕ
@@ -148,6 +159,8 @@ status_of OnFalse = 1
 status_of (NoViolation traces kept live) = 0
 status_of (Violation spec trace tuple) = 1
 status_of (answers.Checked checked) = checked_status checked
+status_of StrategyHolds = 0
+status_of (StrategyFails traces runs) = 1
 status_of Words = 2
 status_of (Syntax file token byte) = 2
 status_of (Unbound file byte) = 2
@@ -155,6 +168,7 @@ status_of (Prefix file class) = 2
 status_of (Line file line) = 2
 status_of (Session line) = 2
 status_of (Circuit file kind byte) = 2
+status_of (Strategy inputs outputs) = 2
 status_of (Name name twice) = 2
 status_of (OpenFault file) = 3
 status_of (ReadFault file) = 3

@@ -1,5 +1,6 @@
 //! The answers of all tools.
 
+use aig_net::RunList;
 use aiger_body::AigKind;
 use chain_check::Log;
 use hy_base::{Kind, NumList, Text};
@@ -10,7 +11,8 @@ use mc_core::Checked;
 use rank_proofs::RankProof;
 use tuple_walk::Tuple;
 
-/// What a run answers. `file` is 0 for the first file of the command, and 1 for the second.
+/// What a run answers. `file` is 0 for the first file of the command, 1 for the second, and 2 for the
+/// third.
 #[derive(Drop)]
 pub enum Answer {
     /// The formula is satisfiable: these lassos satisfy it.
@@ -64,6 +66,16 @@ pub enum Answer {
     /// What checking a circuit against a formula comes to. Where a search within a bound learned as
     /// many clauses as it may, this is `UnknownConflicts` with its log, for 0 steps and no facts.
     Checked(Checked),
+    /// Whatever executions of the circuit stand for the universal quantifiers, the strategy makes
+    /// executions for the existential ones with which they satisfy the formula.
+    StrategyHolds,
+    /// With these runs of the circuit, one for each universal quantifier, the strategy does not: what
+    /// it makes breaks a constraint, is not fair, or fails the formula. `traces` are what is visible
+    /// of them. Nothing is said of other strategies.
+    StrategyFails {
+        traces: LassoList,
+        runs: RunList,
+    },
     /// The words are no command.
     Words,
     /// A formula text is none: the number of tokens before the fault, and its byte.
@@ -96,6 +108,12 @@ pub enum Answer {
         file: u8,
         kind: AigKind,
         byte: u32,
+    },
+    /// A strategy has not so many inputs and outputs, or has a constraint, a fairness literal or an
+    /// uninitialised latch.
+    Strategy {
+        inputs: u32,
+        outputs: u32,
     },
     /// A name of the formula stands for nothing in the circuit, or `twice` for different literals.
     Name {

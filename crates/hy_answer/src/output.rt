@@ -241,6 +241,10 @@ pub fn out_text(alloc: Global, extras: Extras, names: &NameTable, answer: &Answe
             violation_text(alloc, *spec, *trace, tuple.as_slice())
         }
         Answer::Checked(checked) => checked_text(alloc, extras, names, checked),
+        Answer::StrategyHolds => line_text(alloc, b"holds with strategy\n"),
+        Answer::StrategyFails { traces, .. } => {
+            with_lassos(alloc, b"strategy fails\n", traces, names)
+        }
         Answer::Words
         | Answer::Syntax { .. }
         | Answer::Unbound { .. }
@@ -248,6 +252,7 @@ pub fn out_text(alloc: Global, extras: Extras, names: &NameTable, answer: &Answe
         | Answer::Line { .. }
         | Answer::Session { .. }
         | Answer::Circuit { .. }
+        | Answer::Strategy { .. }
         | Answer::Name { .. }
         | Answer::OpenFault { .. }
         | Answer::ReadFault { .. }
@@ -279,13 +284,15 @@ pub fn status_of(answer: &Answer) -> u8
         | Answer::Implied { .. }
         | Answer::Equivalent { .. }
         | Answer::OnTrue
-        | Answer::NoViolation { .. } => 0,
+        | Answer::NoViolation { .. }
+        | Answer::StrategyHolds => 0,
         Answer::Unsat { .. }
         | Answer::NoneWithin { .. }
         | Answer::NotImplied { .. }
         | Answer::NotEquivalent { .. }
         | Answer::OnFalse
-        | Answer::Violation { .. } => 1,
+        | Answer::Violation { .. }
+        | Answer::StrategyFails { .. } => 1,
         Answer::Checked(checked) => checked_status(checked),
         Answer::Words
         | Answer::Syntax { .. }
@@ -294,6 +301,7 @@ pub fn status_of(answer: &Answer) -> u8
         | Answer::Line { .. }
         | Answer::Session { .. }
         | Answer::Circuit { .. }
+        | Answer::Strategy { .. }
         | Answer::Name { .. } => 2,
         Answer::OpenFault { .. } | Answer::ReadFault { .. } | Answer::WriteFault => 3,
         Answer::Limit { .. } | Answer::CnfLimit { .. } | Answer::States { .. } => 5,

@@ -4,7 +4,7 @@ ghost use Rattle.std.specs.Prelude.{◌≡◌, ◌++◌, OnOk, OnErr, codes, dec
 ghost use Rattle.hy_base.specs.Sink.{KeepsSink, GivesWhole, FailsToGive};
 ghost use Rattle.hy_files.specs.ErrorLines.{Received, plain};
 ghost use Rattle.hy_answer.specs.Refusals.{fault_answer};
-ghost use Rattle.hy_answer.specs.Outputs.{error_line};
+ghost use Rattle.hy_answer.specs.Outputs.{error_line, shape_line};
 
 use crate::answer::Answer;
 use hy_base::{BYTES_LIMIT, Kind, Sink, SinkFailed, write_all, write_pieces};
@@ -43,6 +43,35 @@ fn write_number<E: Sink>(err: &mut E, front: &[u8], number: u32) -> Result<(), S
     write_pieces(err, &[front, buffer.format(number).as_bytes(), b"\n"])
 }
 
+/// Writes the line of a strategy that has not so many inputs and outputs, or has what none may have.
+fn write_shape<E: Sink>(
+    err: &mut E,
+    name: &str,
+    inputs: u32,
+    outputs: u32,
+) -> Result<(), SinkFailed>
+    ensures keeps { KeepsSink E.Sink err.old err.new }
+    ensures given { OnOk result (GivesWhole E.Sink err.old err.new
+        (shape_line name.now inputs outputs)) }
+    ensures refused { OnErr result (FailsToGive E.Sink err.old err.new
+        (shape_line name.now inputs outputs)) }
+{
+    let mut wanted = Buffer::new();
+    let mut driven = Buffer::new();
+    write_pieces(
+        err,
+        &[
+            b"error E15 ",
+            name.as_bytes(),
+            b": inputs ",
+            wanted.format(inputs).as_bytes(),
+            b" outputs ",
+            driven.format(outputs).as_bytes(),
+            b"\n",
+        ],
+    )
+}
+
 /// Writes the error line of an answer; nothing for a verdict.
 fn write_line<E: Sink>(answer: &Answer, names: &[&str], err: &mut E) -> Result<(), SinkFailed>
     ensures keeps { KeepsSink E.Sink err.old err.new }
@@ -61,7 +90,9 @@ fn write_line<E: Sink>(answer: &Answer, names: &[&str], err: &mut E) -> Result<(
         | Answer::OnFalse
         | Answer::NoViolation { .. }
         | Answer::Violation { .. }
-        | Answer::Checked(_) => write_all(err, b""),
+        | Answer::Checked(_)
+        | Answer::StrategyHolds
+        | Answer::StrategyFails { .. } => write_all(err, b""),
         Answer::Words => write_all(err, b"error E1: words\n"),
         Answer::Syntax { file, token, byte } => {
             let fault = FileFault::Syntax {
@@ -88,6 +119,9 @@ fn write_line<E: Sink>(answer: &Answer, names: &[&str], err: &mut E) -> Result<(
                 byte: *byte,
             };
             write_fault(err, name_of_file(names, *file), fault)
+        }
+        Answer::Strategy { inputs, outputs } => {
+            write_shape(err, name_of_file(names, 2), *inputs, *outputs)
         }
         Answer::Name { name, twice } => write_name(err, name.as_slice(), *twice),
         Answer::OpenFault { file } => {
