@@ -1,5 +1,5 @@
 -- What checking a formula on a circuit comes to is the answer of the run.
-use Rattle.std.proofs.Common.{◌≡◌, ◌⊎◌, ℕ, Bool, true, false, List, [], ◌∷◌, Ok, inl, inr, refl, sym, ap, subst, ◌∙◌, cond, ◌&&◌, nat_eq, Some, is_some, true≢false, eqb-true}
+use Rattle.std.proofs.Common.{◌≡◌, ◌≤◌, ◌⊎◌, ℕ, Bool, true, false, List, [], ◌∷◌, length, Ok, inl, inr, refl, sym, ap, subst, ◌∙◌, cond, ◌&&◌, nat_eq, Some, is_some, true≢false, eqb-true}
 use Rattle.hy_base.specs.declared.limit.Kind.{Kind}
 use Rattle.hy_base.specs.declared.limit.Kind.TheVariants as kinds
 use Rattle.hy_base.specs.declared.limit.Limit.{Limit as Past}
@@ -47,6 +47,7 @@ use Rattle.std.specs.List.{Contains}
 use Rattle.hy_base.proofs.Members.{contains-here, contains-later}
 use Rattle.aig_net.specs.Signals.{has_signal, literal_of}
 use Rattle.hy_top.proofs.Completing.{within, work_follows}
+use Rattle.hy_top.proofs.FirstSpecs.{read-few}
 use Rattle.hy_top.proofs.Formulas.{class_passed}
 use Rattle.hy_top.proofs.Progress.{Progress, Ends, begun, goes_on, ends_here, answers_behind, runs_short}
 
@@ -92,6 +93,11 @@ module _ (net : Net) (names : List (List ℕ)) (f : Plain) (ask : Ask) where
 
 -- ---- the run
 
+-- A formula that was read by a command of at most four quantifiers has no more.
+pub few-read : {S : Type 0} (g : Ghosts S) (old new : S) (name : List ℕ) (names : List (List ℕ)) (f : Plain)
+    (known : List (List ℕ)) → Takes g old new name 4 names one_formula (f ∷ []) known → length f.prefix ≤ 4
+few-read g old new name names f known takes = (read-few false 4 names takes.bytes (f ∷ []) known takes.is).1.0
+
 signal-there : (signals : List Signal) (name : ℕ) → IsTrue (has_signal signals name 0) → (s : Signal) × Contains signals s × (s.name ≡ name)
 signal-there [] name there = absurd (true≢false (sym there))
 signal-there (s ∷ signals) name there = by (nat_eq s.name name) (nat_eq s.var 0) refl there (signal-there signals name)
@@ -103,7 +109,7 @@ signal-there (s ∷ signals) name there = by (nat_eq s.name name) (nat_eq s.var 
     by false b e known behind = let (r, more, same) = behind known in (r, contains-later s r signals more, same)
 
 -- Where signals stand for the names of a body, each of these stands for one literal.
-stand-for-one : (net : Net) (names : List (List ℕ)) (body : Tree) (signals : List Signal) → AreSignals net names body signals
+pub stand-for-one : (net : Net) (names : List (List ℕ)) (body : Tree) (signals : List Signal) → AreSignals net names body signals
     → StandForOne net names body
 stand-for-one net names body signals are name there =
     let (s, among, same) = signal-there signals name (are.every name there) in
@@ -138,19 +144,23 @@ module _ {S : Type 0} (g : Ghosts S) (old mid new : S) (file formula : List ℕ)
     has : HasFormulas order given (f ∷ [])
     has = (names, read_all.texts)
 
-    -- Behind the class, and the instances, which are not counted, the closure comes.
+    -- Behind the class, and what is not asked, of a strategy and of instances, the closure comes.
     behind_class : (a : Answer) → is_of_one_kind (class_of f.prefix) ≡ true
         → First order given (count closure ∷ count joint ∷ count atoms ∷ count table ∷ names_stage ∷ work ∷ []) a
         → Follows g old new order a (out_text order.extras names a)
     behind_class a taken rest =
         answers_behind g order old new given (f ∷ []) names a read_all refl
-        (later (class_passed order given (f ∷ []) has (taken, tt)) (later (λ b met. met.0) rest))
+        (later (class_passed order given (f ∷ []) has (taken, tt))
+        (later (λ b met. met)
+        (later (λ b met. met.0)
+        (later (λ b met. met)
+        (later (λ b met. met.0) rest)))))
 
     -- The run follows what the check comes to.
     pub check_follows : (a : Answer) → IsCheck net names f ask a → Follows g old new order a (out_text order.extras names a)
     check_follows _ (untaken class is other) =
         answers_behind g order old new given (f ∷ []) names _ read_all refl
-        (here (record { formulas = f ∷ []; has = has; place = 0; class = class; first = (is, other); answered = refl }))
+        (here (record { formulas = f ∷ []; has = has; place = 0; class = class; first = (is, ap is_of_one_kind is ∙ other); answered = refl }))
     check_follows _ (large_closure taken many) =
         behind_class _ taken (here (record { net = net; formula = f; names = names; pair = pair; many = many }, refl))
     check_follows _ (bad_name taken few name twice bad) =
@@ -173,6 +183,13 @@ query_limit variables literals kinds.CnfVariables past = tt
 query_limit variables literals kinds.CnfLiterals past = tt
 query_limit variables literals _ past = absurd past
 
+pub stopped_facts : (safe : SafeNet) (limit : Past) → kepts.IsStopped safe (frame.Limit limit) → IsQueryLimit limit.kind
+stopped_facts safe limit (facts, group, starting, among, past, same) = query_limit _ _ limit.kind past
+
+pub stopped_paths : (safe : SafeNet) (facts : List Fact) (depth : ℕ) (kind : Kind) (limit : ℕ)
+    → IsStopped safe facts depth (frame.Limit (record { kind = kind; limit = limit })) → IsQueryLimit kind
+stopped_paths safe facts depth kind limit (k, step, asked, met, past, same) = query_limit _ _ kind past
+
 module _ (net : Net) (names : List (List ℕ)) (f : Plain) (ask : Ask) (s t : List Signal) (one : AreSignals net names f.body s) (two : AreSignals net names f.body t) where
   not_denied : (c d : Checked) → IsChecked net s f.prefix f.body ask c → IsChecked net t f.prefix f.body ask d → ¬ Denies c d
   not_denied (checked.Holds traces runs proof) (checked.Violated others walks evidence) is also deny = also.0 (same-satisfaction net names f.prefix f.body s t one two is.0)
@@ -185,13 +202,6 @@ module _ (net : Net) (names : List (List ℕ)) (f : Plain) (ask : Ask) (s t : Li
   not_denied (checked.Violated traces runs proof) (checked.UnknownConflicts conflicts k step kept log) is also deny = deny
   not_denied (checked.UnknownDepth depth kept path) d is also deny = deny
   not_denied (checked.UnknownConflicts conflicts k step kept log) d is also deny = deny
-
-  stopped_facts : (safe : SafeNet) (limit : Past) → kepts.IsStopped safe (frame.Limit limit) → IsQueryLimit limit.kind
-  stopped_facts safe limit (facts, group, starting, among, past, same) = query_limit _ _ limit.kind past
-
-  stopped_paths : (safe : SafeNet) (facts : List Fact) (depth : ℕ) (kind : Kind) (limit : ℕ)
-      → IsStopped safe facts depth (frame.Limit (record { kind = kind; limit = limit })) → IsQueryLimit kind
-  stopped_paths safe facts depth kind limit (k, step, asked, met, past, same) = query_limit _ _ kind past
 
   -- Whether a check found something or stopped, it answers as checks do.
   of_check : (r : List Signal) (a : Answer) → ComesBy net r f ask a → IsOfCheck a

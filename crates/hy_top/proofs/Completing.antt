@@ -22,19 +22,21 @@ use Rattle.hy_answer.specs.Outputs.{out_text}
 use Rattle.hy_words.specs.declared.tool.Tool.{Tool}
 use Rattle.hy_words.specs.Commands.{Command, IsCommand}
 use Rattle.hy_words.proofs.Ordering.{one_command}
-use Rattle.hy_top.specs.Orders.{Order, order_of, Task, watching, judging, deciding, checking}
+use Rattle.hy_top.specs.Orders.{Order, order_of, Task, watching, judging, deciding, checking, driving}
 use Rattle.hy_top.specs.Classes.{AreTaken}
+use Rattle.hy_top.specs.Checking.{RefusesName}
 use Rattle.hy_top.specs.Deciding.{plans_of}
 use Rattle.hy_top.specs.Files.{Given, HasTexts, HasFormulas}
 use Rattle.hy_top.specs.Monitoring.{EachPlain}
-use Rattle.hy_top.specs.Ready.{AreCounted, StandForOne, AreFound, IsReady}
+use Rattle.hy_top.specs.Ready.{AreCounted, AreNamed, StandForOne, AreFound, IsReady}
 use Rattle.hy_top.specs.Runs.{Reads, Follows, decided, short, Comes, unworded, unread, worded}
-use Rattle.hy_top.specs.Stages.{Quantity, instances, closure, joint, atoms, table, work, here, IsPast, IsMisnamed, ComesTo, AllPassed, stages_of_files, stages_of_formulas, stages_before_work}
+use Rattle.hy_top.specs.Stages.{Quantity, strategy_names, instances, closure, joint, atoms, table, work, here, IsPast, IsMisshapen, IsMiscopied, IsMisnamed, ComesTo, AllPassed, stages_of_files, stages_of_formulas, stages_before_work}
 use Rattle.hy_top.proofs.Bodies.{small-closures, few-atoms, small-tables}
 use Rattle.hy_top.proofs.Formulas.{of_formulas, class_passed, few-maps, few-members}
 use Rattle.hy_top.proofs.FoundOnce.{lassos_once, pair_once}
 use Rattle.hy_top.proofs.Progress.{Progress, all_append, files_passed, answers_behind}
 use Rattle.hy_top.proofs.StageOrder.{pass, work_answers}
+use Rattle.hy_top.proofs.StrategyOnce.{not-misshapen, few-strategy-names, few-driven}
 
 -- ---- counts
 
@@ -60,7 +62,17 @@ module _ (order : Order) (given : Given) (formulas : List Plain) (has : HasFormu
       let P : List Plain → Type 0 = Each (λ (f : Plain). members f.prefix f.body ≤ most Closure) in
       let one = subst P (sym (of_formulas order given formulas has (past.formula ∷ []) (past.names, past.pair.has))) few in
       omega (arith, one.0, past.many)
+  within (driving ask) is strategy_names past =
+      few-strategy-names order given is.net is.strategy is.formula is.names is.has is.m is.e is.shaped is.few_names past
+  within (driving ask) is closure past =
+      few-driven order given is.net is.strategy is.formula is.names is.has is.m is.e is.shaped is.few_members past
   within _ counted _ past = past
+
+  -- A strategy that is as it must be is not refused.
+  shapely : (task : Task) → AreCounted task order given formulas → (a : Answer) → ¬ IsMisshapen task order given a
+  shapely (driving ask) is a refuses =
+      not-misshapen order given is.net is.strategy is.formula is.names is.has is.m is.e is.shaped a refuses
+  shapely _ counted a refuses = refuses
 
 -- ---- names
 
@@ -75,14 +87,21 @@ none-bad net names body name twice stand bad =
     let (l, only) = stand name bad.there in only-not-bad net (name_at names name) l twice only bad.bad
 
 -- Names that are found are not refused.
-named : (order : Order) (given : Given) (task : Task) → AreFound task order given → (a : Answer) → ¬ IsMisnamed task order given a
-named order given (checking ask) (net, f, names, pair, stand) a refuses =
+pub not-misnamed : (order : Order) (given : Given) → AreNamed order given → (a : Answer) → ¬ RefusesName order given a
+not-misnamed order given (net, f, names, pair, stand) a refuses =
     let (nets, formulas, tables) = pair_once order given refuses.net net refuses.formula f refuses.names names refuses.pair pair in
     let P : Net → Type 0 = λ n. IsFirstBad n refuses.names refuses.formula.body refuses.name refuses.twice in
     let Q : Plain → Type 0 = λ h. IsFirstBad net refuses.names h.body refuses.name refuses.twice in
     let R : List (List ℕ) → Type 0 = λ t. IsFirstBad net t f.body refuses.name refuses.twice in
     none-bad net names f.body refuses.name refuses.twice stand (subst R tables (subst Q formulas (subst P nets refuses.bad)))
+
+named : (order : Order) (given : Given) (task : Task) → AreFound task order given → (a : Answer) → ¬ IsMisnamed task order given a
+named order given (checking ask) found a refuses = not-misnamed order given found a refuses
 named order given _ found a refuses = refuses
+
+copied : (order : Order) (given : Given) (task : Task) → AreFound task order given → (a : Answer) → ¬ IsMiscopied task order given a
+copied order given (driving ask) found a refuses = not-misnamed order given found a refuses
+copied order given _ found a refuses = refuses
 
 -- ---- stages
 
@@ -98,10 +117,19 @@ module _ (order : Order) (given : Given) (ready : IsReady order given) where
   formulas_passed = (
     class_passed order given ready.formulas has ready.taken,
     (
-      λ a met. kept instances met.0,
+      shapely order given ready.formulas has order.task ready.counted,
       (
-        λ a met. kept closure met.0,
-        (λ a met. kept joint met.0, (λ a met. kept atoms met.0, (λ a met. kept table met.0, (named order given order.task ready.found, tt)))),
+        λ a met. kept strategy_names met.0,
+        (
+          copied order given order.task ready.found,
+          (
+            λ a met. kept instances met.0,
+            (
+              λ a met. kept closure met.0,
+              (λ a met. kept joint met.0, (λ a met. kept atoms met.0, (λ a met. kept table met.0, (named order given order.task ready.found, tt)))),
+            ),
+          ),
+        ),
       ),
     ),
   )

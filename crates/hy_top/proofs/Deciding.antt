@@ -27,24 +27,24 @@ use Rattle.hy_answer.specs.declared.answer.Extras.{Extras}
 use Rattle.hy_words.specs.Commands.{decide}
 use Rattle.hy_files.specs.Contents.{one_formula}
 use Rattle.hy_files.specs.Steps.{Takes}
-use Rattle.hy_top.specs.Classes.{FirstUntaken, AreTaken, is_decided, is_of_one_kind}
+use Rattle.hy_top.specs.Classes.{FirstUntaken, AreTaken, by_class, is_decided, is_of_one_kind}
 use Rattle.hy_top.specs.Orders.{File, Order, Question, satisfiability, implication, equivalence, deciding, file, order_of, place_of, file_of}
 use Rattle.hy_top.specs.Deciding.{plan_of, plan_against, sat, unsat, implied, not_implied, beyond, equivalent, first_alone, second_alone, many_branches}
 use Rattle.hy_top.specs.Deciding.{Outcome, untaken, many_instances, large_closure, done, spent, refusal_answer}
 use Rattle.hy_top.specs.Files.{Given, HasTexts, HasFormulas}
 use Rattle.hy_top.specs.Runs.{Follows}
-use Rattle.hy_top.specs.Stages.{work, First, here, later, stages_of_formulas}
+use Rattle.hy_top.specs.Stages.{work, First, here, later, stages_of_counts, stages_of_formulas}
 use Rattle.hy_top.proofs.Completing.{work_follows}
 use Rattle.hy_top.proofs.Formulas.{class_passed, few-maps}
 use Rattle.hy_top.proofs.Progress.{Progress, Ends, begun, goes_on, ends_here, answers_behind, runs_short}
 
 -- The first formula is that of the first file, and the second that of the second.
-blamed-one : (takes : Class → Bool) (f : Plain) (place : ℕ) (found : Class) → FirstUntaken takes (f ∷ []) place found
+blamed-one : (takes : List Quant → Bool) (f : Plain) (place : ℕ) (found : Class) → FirstUntaken takes (f ∷ []) place found
     → place_of (one_formula ∷ []) place ≡ place
 blamed-one takes f zero found first = refl
 blamed-one takes f (suc place) found (fits, first) = absurd first
 
-blamed-two : (takes : Class → Bool) (f h : Plain) (place : ℕ) (found : Class) → FirstUntaken takes (f ∷ h ∷ []) place found
+blamed-two : (takes : List Quant → Bool) (f h : Plain) (place : ℕ) (found : Class) → FirstUntaken takes (f ∷ h ∷ []) place found
     → place_of (one_formula ∷ one_formula ∷ []) place ≡ place
 blamed-two takes f h zero found first = refl
 blamed-two takes f h (suc zero) found first = refl
@@ -53,15 +53,25 @@ blamed-two takes f h (suc (suc place)) found (fits, (also, first)) = absurd firs
 module _ {S : Type 0} (g : Ghosts S) (old new : S) (files : List File) (takes : Class → Bool) (extras : Extras) (question : Question) (states : ℕ)
     (given : Given) (formulas : List Plain) (names : List (List ℕ)) where
   abbrev order : Order
-  order = record { files = files; quantifiers = 8; takes = takes; extras = extras; task = deciding question states }
+  order = record { files = files; quantifiers = 8; takes = by_class takes; extras = extras; task = deciding question states }
 
   module _ (progress : Progress g order old new given formulas names) (whole : length given ≡ length files)
-      (blamed : (place : ℕ) (found : Class) → FirstUntaken takes formulas place found → file_of order place ≡ place) where
+      (blamed : (place : ℕ) (found : Class) → FirstUntaken (by_class takes) formulas place found → file_of order place ≡ place) where
     has : HasFormulas order given formulas
     has = (names, let P : ℕ → Type 0 = λ n. HasTexts order given n formulas names in subst P whole progress.texts)
 
     behind : (a : Answer) → First order given (stages_of_formulas ++ work ∷ []) a → Follows g old new order a (out_text extras names a)
     behind a first = answers_behind g order old new given formulas names a progress whole first
+
+    -- Behind the classes, and what is not asked of a strategy, the counts come.
+    behind_classes : (a : Answer) → AreTaken (by_class takes) formulas → First order given (stages_of_counts ++ work ∷ []) a
+        → Follows g old new order a (out_text extras names a)
+    behind_classes a taken rest =
+        behind a
+        (later (class_passed order given formulas has taken)
+        (later (λ b met. met)
+        (later (λ b met. met.0)
+        (later (λ b met. met) rest))))
 
     -- The outcome is what comes of the first stage behind the files that is met.
     pub outcome_follows : (a : Answer) → Outcome takes question states formulas a → Follows g old new order a (out_text extras names a)
@@ -76,14 +86,11 @@ module _ {S : Type 0} (g : Ghosts S) (old new : S) (files : List File) (takes : 
           answered = ap (λ p. answers.Prefix p found) (sym (blamed place found first));
         }))
     outcome_follows _ (many_instances taken plan there many) =
-        behind _
-        (later (class_passed order given formulas has taken)
-        (here (record { formulas = formulas; has = has; plan = plan; of = there; many = many }, refl)))
+        behind_classes _ taken (here (record { formulas = formulas; has = has; plan = plan; of = there; many = many }, refl))
     outcome_follows _ (large_closure taken few plan there many) =
-        behind _
-        (later (class_passed order given formulas has taken)
+        behind_classes _ taken
         (later (λ b met. few-maps order given formulas has question few met.0)
-        (here (record { formulas = formulas; has = has; plan = plan; of = there; many = many }, refl))))
+        (here (record { formulas = formulas; has = has; plan = plan; of = there; many = many }, refl)))
     outcome_follows a (done _ taken counted decides) =
         work_follows g order old new given formulas names progress whole a taken counted tt
         (record { formulas = formulas; has = has; decides = decides })
@@ -114,7 +121,7 @@ one_kind-untaken prefix classes.Other e other = refl
 -- ---- a formula
 
 module _ (states : ℕ) (f : Plain) where
-  decide-taken : class_of f.prefix ≢ classes.Other → AreTaken is_decided (f ∷ [])
+  decide-taken : class_of f.prefix ≢ classes.Other → AreTaken (by_class is_decided) (f ∷ [])
   decide-taken known = (decided-taken (class_of f.prefix) known, tt)
 
   pub decide-sat : (list : List (Lasso Letter)) → class_of f.prefix ≢ classes.Other → IsWithin (plan_of f) states
@@ -127,7 +134,7 @@ module _ (states : ℕ) (f : Plain) where
 
   decide-class : (found : Class) → found ≡ classes.Other → class_of f.prefix ≡ classes.Other
       → Outcome is_decided satisfiability states (f ∷ []) (answers.Prefix 0 found)
-  decide-class found is other = untaken 0 found (other ∙ sym is, ap is_decided is)
+  decide-class found is other = untaken 0 found (other ∙ sym is, ap is_decided other)
 
   pub decide-refused : (error : EaError) → Undecided f.prefix f.body states error
       → Outcome is_decided satisfiability states (f ∷ []) (refusal_answer states error)
@@ -151,9 +158,9 @@ both-taken f g one two = (one_kind-taken f.prefix (class_of f.prefix) refl one, 
 
 -- The first formula whose quantifiers are of both kinds.
 unlike : (f g : Plain) (second : Bool) (found : Class) → Unlike f.prefix g.prefix second found
-    → FirstUntaken is_of_one_kind (f ∷ g ∷ []) (cond second 1 0) found
-unlike f g false found (is, other) = (is, one_kind-untaken f.prefix found is other)
-unlike f g true found (one, is, other) = (one_kind-taken f.prefix (class_of f.prefix) refl one, (is, one_kind-untaken g.prefix found is other))
+    → FirstUntaken (by_class is_of_one_kind) (f ∷ g ∷ []) (cond second 1 0) found
+unlike f g false found (is, other) = (is, one_kind-untaken f.prefix (class_of f.prefix) refl other)
+unlike f g true found (one, is, other) = (one_kind-taken f.prefix (class_of f.prefix) refl one, (is, one_kind-untaken g.prefix (class_of g.prefix) refl other))
 
 module _ (states : ℕ) (f g : Plain) where
   pub imply-not : (list : List (Lasso Letter)) → IsOfOneKind f.prefix → IsOfOneKind g.prefix → IsWithin (plan_against f g) states
@@ -234,7 +241,7 @@ module _ {S : Type 0} (g : Ghosts S) (old new : S) (formula : List ℕ) (states 
   decide_follows first a outcome =
       outcome_follows g old new one_file.files is_decided one_file.extras satisfiability states (Ok first.bytes ∷ []) (f ∷ []) names
       (goes_on g one_file old old new [] [] (f ∷ []) [] names formula (begun g one_file old) refl first)
-      refl (blamed-one is_decided f) a outcome
+      refl (blamed-one (by_class is_decided) f) a outcome
 
 -- Two formulas of a file each, about which there is a question.
 module _ {S : Type 0} (g : Ghosts S) (old mid new : S) (first second : List ℕ) (question : Question) (states : ℕ) (proof : Bool) (f : Plain) (names : List (List ℕ))
@@ -243,7 +250,7 @@ module _ {S : Type 0} (g : Ghosts S) (old mid new : S) (first second : List ℕ)
   two_files = record {
     files = file first one_formula ∷ file second one_formula ∷ [];
     quantifiers = 8;
-    takes = is_of_one_kind;
+    takes = by_class is_of_one_kind;
     extras = record { kept = false; proof = proof };
     task = deciding question states;
   }
@@ -262,4 +269,4 @@ module _ {S : Type 0} (g : Ghosts S) (old mid new : S) (first second : List ℕ)
   both_follow h known next a outcome =
       outcome_follows g old new two_files.files is_of_one_kind two_files.extras question states (Ok takes.bytes ∷ Ok next.bytes ∷ []) (f ∷ h ∷ []) known
       (goes_on g two_files old mid new (Ok takes.bytes ∷ []) (f ∷ []) (h ∷ []) names known second read_first refl next)
-      refl (blamed-two is_of_one_kind f h) a outcome
+      refl (blamed-two (by_class is_of_one_kind) f h) a outcome

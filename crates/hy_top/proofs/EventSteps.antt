@@ -1,5 +1,5 @@
 -- Events, given to a monitor one after another.
-use Rattle.std.proofs.Common.{◌≡◌, ◌⊎◌, ℕ, zero, suc, ◌+◌, ◌≤◌, Bool, true, false, nat_lt, if◌then◌else◌, List, [], ◌∷◌, ◌++◌, length, Option, Some, None, Ok, Err, Result, inl, inr, refl, sym, ap, subst, ◌∙◌, arith}
+use Rattle.std.proofs.Common.{◌≡◌, ◌⊎◌, ℕ, suc, ◌+◌, ◌≤◌, Bool, true, false, nat_lt, if◌then◌else◌, List, [], ◌∷◌, ◌++◌, length, Option, Some, None, Ok, Err, Result, inl, inr, refl, sym, ap, subst, ◌∙◌, arith}
 use Rattle.std.proofs.lemmas.List.{length-append}
 use Rattle.hy_bits.specs.Letter.{Letter}
 use Rattle.hy_finite.specs.declared.event.Event.{Event}
@@ -15,7 +15,7 @@ use Rattle.rv_core.specs.Endings.{Spec, Ending, clean, refusal, violation, Ends}
 use Rattle.rv_core.specs.declared.saved.Saved.{Saved}
 use Rattle.rv_core.specs.Held.{Held, AreSaves, StandsFor, specs_of}
 use Rattle.rv_core.specs.Histories.{Present, History, empty_history, Refusal, too_long, too_many_sessions, too_many_saves, refused, goes, step, letters_of, letter_step, end_step, back_step, with_sessions, with_trace, extended, closed, most_sessions, most_saves}
-use Rattle.rv_core.specs.Replies.{error_of, IsFound, IsAnswer, quiet, arrived, violated, refused_by, spent, Answers, Stop, through, error_at, violation_at, Runs, at_end, on_quiet, on_arrival, at_violation, at_error, EndsAs}
+use Rattle.rv_core.specs.Replies.{error_of, IsFound, IsAnswer, quiet, arrived, violated, refused_by, spent, Answers, Stop, through, error_at, violation_at, Runs, at_end, at_violation, at_error, EndsAs}
 use Rattle.rv_core.proofs.Ending.{ends-some}
 use Rattle.hy_answer.specs.declared.answer.Answer.{Answer}
 use Rattle.hy_answer.specs.declared.answer.Answer.TheVariants as answers

@@ -1,5 +1,5 @@
 -- Formulas that were read keep to their limits, and what is said of them as formulas is said of what they mean.
-use Rattle.std.proofs.Common.{◌≡◌, ℕ, zero, suc, ◌≤◌, Bool, true, false, List, [], ◌∷◌, length, map, Some, None, nat_lt, if◌then◌else◌, All, inl, inr, refl, ap, sym, ◌∙◌, subst, arith}
+use Rattle.std.proofs.Common.{◌≡◌, ℕ, zero, suc, ◌≤◌, Bool, true, false, List, [], ◌∷◌, length, map, Some, None, nat_lt, if◌then◌else◌, All, inl, inr, refl, ap, sym, subst, arith}
 use Rattle.std.proofs.lemmas.Bool.Decides.{nat_tests}
 use Rattle.std.proofs.lemmas.List.{length-map}
 use Rattle.hy_base.specs.Limits.{most as most_of}
@@ -27,7 +27,7 @@ use Rattle.rv_core.specs.Built.{AreUniversal as AllUniversal}
 use Rattle.rv_core.specs.Endings.{Spec}
 use Rattle.hy_answer.specs.declared.answer.Answer.{Answer}
 use Rattle.hy_answer.specs.declared.answer.Answer.TheVariants as answers
-use Rattle.hy_top.specs.Classes.{is_universal, FirstUntaken}
+use Rattle.hy_top.specs.Classes.{by_class, is_universal, FirstUntaken}
 use Rattle.hy_top.specs.Monitoring.{AreUniversal, SomePlain, EachPlain, EventsCome, IsOutcome, untaken, large_closure, many_atoms, large_table, done, spent, specs_of}
 use Rattle.hy_top.specs.Watching.{OrMemory}
 
@@ -97,14 +97,14 @@ are-universal (f ∷ formulas) all = (ap is_universal (all 0 f refl), are-univer
 
 -- The first formula that is not universal is the first whose class is not taken.
 pub first-untaken : (formulas : List Formula) (k : ℕ) (c : Class) → FirstOther formulas k c
-    → FirstUntaken is_universal (plain_formulas formulas) k c
+    → FirstUntaken (by_class is_universal) (plain_formulas formulas) k c
 first-untaken [] k c first = absurd (let none : None ≡ Some first.formula = first.there in cc)
 first-untaken (f ∷ formulas) zero c first =
     let same : f ≡ first.formula = cc in
     let P : Formula → Type 0 = λ g. class_of g.prefix ≡ c in
     let Q : Formula → Type 0 = λ g. ¬ IsUniversal g in
     let is = subst P (sym same) first.class in
-    (is, other-class c (λ e. subst Q (sym same) first.other (is ∙ e)))
+    (is, other-class (class_of f.prefix) (subst Q (sym same) first.other))
 first-untaken (f ∷ formulas) (suc k) c first = (
   ap is_universal (first.before 0 f (omega arith) refl),
   first-untaken formulas k c (record {

@@ -1,4 +1,5 @@
--- What the files of a command have is one thing, however it is found: lassos of a formula, a circuit with a formula.
+-- What the files of a command have is one thing, however it is found: lassos of a formula, a circuit with a formula, and
+-- with a strategy.
 use Rattle.std.proofs.Common.{◌≡◌, ℕ, List, [], ◌∷◌, Ok, sym, subst, ◌∙◌}
 use Rattle.hy_bits.specs.Letter.{Letter}
 use Rattle.hy_formula.specs.Formulas.{Plain}
@@ -11,6 +12,7 @@ use Rattle.hy_files.specs.Contents.{IsCircuit}
 use Rattle.hy_top.specs.Orders.{Order}
 use Rattle.hy_top.specs.Files.{Given}
 use Rattle.hy_top.specs.Checking.{HasPair}
+use Rattle.hy_top.specs.Driving.{HasStrategy}
 use Rattle.hy_top.specs.Judging.{HasLassos}
 use Rattle.hy_top.proofs.Progress.{texts_once}
 use Rattle.hy_top.proofs.Reading.{bytes_once}
@@ -37,3 +39,13 @@ module _ (order : Order) (given : Given) where
       let nets : outcomes.read net ≡ outcomes.read other = sym (subst P bytes one.circuit) ∙ two.circuit in
       let formulas = texts.0 in
       (cc, cc, texts.1)
+
+  -- So is the strategy with them.
+  pub strategy_once : (net other strategy more : Net) (f g : Plain) (names later : List (List ℕ)) → HasStrategy order given net strategy f names
+      → HasStrategy order given other more g later → (net ≡ other) × (strategy ≡ more) × (f ≡ g) × (names ≡ later)
+  strategy_once net other strategy more f g names later one two =
+      let (nets, formulas, tables) = pair_once net other f g names later one.pair two.pair in
+      let bytes = bytes_once given 2 one.bytes two.bytes one.came two.came in
+      let P : List ℕ → Type 0 = λ b. IsCircuit b strategy in
+      let same : outcomes.read strategy ≡ outcomes.read more = sym (subst P bytes one.circuit) ∙ two.circuit in
+      (nets, cc, formulas, tables)

@@ -69,8 +69,11 @@ module _ {S : Type 0} (g : Ghosts S) (old mid new : S) (formula file : List ℕ)
     judgement_follows _ (too_joint long) =
         answers_behind g order old new given (f ∷ []) names _ read_all refl
         (later (class_passed order given (f ∷ []) formulas (refl, tt))
+        (later (λ b met. met)
         (later (λ b met. met.0)
-        (later (λ b met. met.0) (here (record { formula = f; list = list; lassos = has; long = long }, refl)))))
+        (later (λ b met. met)
+        (later (λ b met. met.0)
+        (later (λ b met. met.0) (here (record { formula = f; list = list; lassos = has; long = long }, refl))))))))
     judgement_follows _ spent = runs_short g order old new given (f ∷ []) names read_all
 
 -- An error of a judgement is what it says.

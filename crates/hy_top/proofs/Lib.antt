@@ -3,6 +3,7 @@ pub mod Checking
 pub mod Completing
 pub mod Counting
 pub mod Deciding
+pub mod Driving
 pub mod EventSteps
 pub mod Finding
 pub mod FirstSpecs
@@ -16,4 +17,5 @@ pub mod Reading
 pub mod Silence
 pub mod Sources
 pub mod StageOrder
+pub mod StrategyOnce
 pub mod Worded

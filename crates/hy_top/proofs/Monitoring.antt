@@ -18,7 +18,7 @@ use Rattle.hy_files.specs.Contents.{specifications, events}
 use Rattle.hy_files.specs.Faults.{line_fault}
 use Rattle.hy_files.specs.Steps.{Takes, TakesEvents}
 use Rattle.hy_files.specs.Steps as steps
-use Rattle.hy_top.specs.Classes.{is_universal}
+use Rattle.hy_top.specs.Classes.{by_class, is_universal}
 use Rattle.hy_top.specs.Orders.{File, Order, Origin, of_file, of_number, watching, file, order_of}
 use Rattle.hy_top.specs.Files.{Given, HasTexts, HasFormulas}
 use Rattle.hy_top.specs.Monitoring.{AreUniversal, SomePlain, EachPlain, SomeBody, AreEvents, whole_traces, IsOutcome, untaken, large_closure, many_atoms, large_table, done, spent}
@@ -48,7 +48,7 @@ module _ {S : Type 0} (g : Ghosts S) (old new : S) (specs : List ℕ) (others : 
   order = record {
     files = file specs specifications ∷ others;
     quantifiers = 4;
-    takes = is_universal;
+    takes = by_class is_universal;
     extras = extras;
     task = watching origin lengths drop;
   }
@@ -64,11 +64,17 @@ module _ {S : Type 0} (g : Ghosts S) (old new : S) (specs : List ℕ) (others : 
     some_body : (Q : Tree → Type 0) → SomePlain Q formulas → SomeBody Q order given
     some_body Q some = record { formulas = formulas; has = has; some = some }
 
-    -- Behind the classes, and the instances, which are not counted, the closures come.
+    -- Behind the classes, and what is not asked, of a strategy and of instances, the closures come.
     behind_class : (a : Answer) → AreUniversal formulas
         → First order given (count closure ∷ count joint ∷ count atoms ∷ count table ∷ names_stage ∷ work ∷ []) a
         → Follows g old new order a (out_text extras names a)
-    behind_class a universal rest = behind a (later (class_passed order given formulas has universal) (later (λ b met. met.0) rest))
+    behind_class a universal rest =
+        behind a
+        (later (class_passed order given formulas has universal)
+        (later (λ b met. met)
+        (later (λ b met. met.0)
+        (later (λ b met. met)
+        (later (λ b met. met.0) rest)))))
 
     behind_closures : (a : Answer) → AreUniversal formulas → EachPlain HasSmallClosure formulas
         → First order given (count atoms ∷ count table ∷ names_stage ∷ work ∷ []) a

@@ -19,7 +19,7 @@ use Rattle.ea_core.specs.Undecided.{HasFewBranches, HasManyBranches}
 use Rattle.ea_core.proofs.Searching.{not-both}
 use Rattle.hy_answer.specs.declared.answer.Answer.{Answer}
 use Rattle.hy_answer.specs.declared.answer.Answer.TheVariants as answers
-use Rattle.hy_top.specs.Orders.{Order, Origin, of_file, of_number, Question, satisfiability, implication, equivalence, Task, watching, judging, deciding, finding, checking, content_of, file_of}
+use Rattle.hy_top.specs.Orders.{Order, Origin, of_file, of_number, Question, satisfiability, implication, equivalence, Task, watching, judging, deciding, finding, checking, driving, content_of, file_of}
 use Rattle.hy_top.specs.Classes.{FirstUntaken}
 use Rattle.hy_top.specs.Dropping.{AgreeUncounted, counted_alike, counted_otherwise}
 use Rattle.hy_top.specs.Deciding.{plan_of, plan_against, Determines, DecidesBy, DecidesOne, DecidesTwo, ComparesTwo, sat, unsat, implied, not_implied, beyond, equivalent, first_alone, second_alone, many_branches}
@@ -28,15 +28,17 @@ use Rattle.aig_net.specs.Nets.{Net}
 use Rattle.net_names.specs.Names.{AreSignals, IsFirstBad, IsBadName, name_at}
 use Rattle.hy_top.proofs.Checking.{comes_agree}
 use Rattle.hy_top.proofs.Completing.{only-not-bad}
+use Rattle.hy_top.proofs.Driving.{drives_agree}
 use Rattle.hy_top.proofs.Finding.{finds_agree}
 use Rattle.hy_top.proofs.FoundOnce.{lassos_once, pair_once}
-use Rattle.hy_top.specs.Checking.{Checks, ComesBy}
+use Rattle.hy_top.proofs.StrategyOnce.{shape_once}
+use Rattle.hy_top.specs.Checking.{Checks, ComesBy, RefusesName}
 use Rattle.hy_top.specs.Files.{Given, RefusesText, RefusesClass}
 use Rattle.hy_top.specs.Judging.{Judges, holds, fails}
 use Rattle.hy_top.specs.Monitoring.{specs_of, events_of, IsViolation, IsNoViolation, Brings, EventsCome, AreEvents, Monitors}
 use Rattle.hy_top.specs.Monitoring.{ComesTo as ComesToAnswer}
 use Rattle.hy_top.specs.Stages.{names as names_stage}
-use Rattle.hy_top.specs.Stages.{Stage, opening, reading, size, text, class, count, work, Met, First, here, later, IsMisnamed, ComesTo, Agree, same, other_tuple, other_model, other_proof, other_implied, other_proofs, other_witness, other_side}
+use Rattle.hy_top.specs.Stages.{Stage, opening, reading, size, text, class, shape, copied_names, count, work, Met, First, here, later, IsMisshapen, IsMiscopied, IsMisnamed, ComesTo, Agree, same, other_tuple, other_model, other_proof, other_implied, other_proofs, other_witness, other_side}
 use Rattle.hy_top.proofs.Formulas.{of_formulas, untaken_once}
 use Rattle.hy_top.proofs.Progress.{texts_once}
 use Rattle.hy_top.proofs.Reading.{bytes_once}
@@ -263,15 +265,26 @@ first_bad_once net names f j k a b one two =
     let P : ℕ → Type 0 = λ n. IsBadName net (name_at names n) a in
     (same, bad_once net (name_at names k) a b (subst P same one.bad) two.bad)
 
-names_agree : (task : Task) (order : Order) (given : Given) (a b : Answer) → IsMisnamed task order given a → IsMisnamed task order given b → a ≡ b
-names_agree (checking ask) order given a b one two =
+misnamed_once : (order : Order) (given : Given) (a b : Answer) → RefusesName order given a → RefusesName order given b → a ≡ b
+misnamed_once order given a b one two =
     let (nets, formulas, tables) = pair_once order given one.net two.net one.formula two.formula one.names two.names one.pair two.pair in
     let P : Net → Type 0 = λ n. IsFirstBad n one.names one.formula.body one.name one.twice in
     let Q : Plain → Type 0 = λ h. IsFirstBad two.net one.names h.body one.name one.twice in
     let R : List (List ℕ) → Type 0 = λ t. IsFirstBad two.net t two.formula.body one.name one.twice in
     let (name, twice) = first_bad_once two.net two.names two.formula one.name two.name one.twice two.twice (subst R tables (subst Q formulas (subst P nets one.bad))) two.bad in
     one.answered ∙ (λ i. answers.Name (name_at (tables i) (name i)) (twice i)) ∙ sym two.answered
+
+names_agree : (task : Task) (order : Order) (given : Given) (a b : Answer) → IsMisnamed task order given a → IsMisnamed task order given b → a ≡ b
+names_agree (checking ask) order given a b one two = misnamed_once order given a b one two
 names_agree _ order given a b one two = absurd one
+
+copied_agree : (task : Task) (order : Order) (given : Given) (a b : Answer) → IsMiscopied task order given a → IsMiscopied task order given b → a ≡ b
+copied_agree (driving ask) order given a b one two = misnamed_once order given a b one two
+copied_agree _ order given a b one two = absurd one
+
+shapes_agree : (task : Task) (order : Order) (given : Given) (a b : Answer) → IsMisshapen task order given a → IsMisshapen task order given b → a ≡ b
+shapes_agree (driving ask) order given a b one two = shape_once order given a b one two
+shapes_agree _ order given a b one two = absurd one
 
 checks_agree : (ask : Ask) (order : Order) (given : Given) (a b : Answer) → Checks ask order given a → Checks ask order given b → Agree a b
 checks_agree ask order given a b one two =
@@ -290,6 +303,7 @@ works_agree judging order given a b one two = judgements_agree order given a b o
 works_agree (deciding question states) order given a b one two = determined_agree question states order given a b one two
 works_agree (finding bound conflicts) order given a b one two = finds_agree bound conflicts order given a b one two
 works_agree (checking ask) order given a b one two = checks_agree ask order given a b one two
+works_agree (driving ask) order given a b one two = drives_agree ask order given a b one two
 
 one_stage : (order : Order) (given : Given) (stage : Stage) (a b : Answer) → Met order given stage a → Met order given stage b → Agree a b
 one_stage order given (opening k) a b e f = agree (e.1 ∙ sym f.1)
@@ -297,6 +311,8 @@ one_stage order given (reading k) a b e f = agree (e.1 ∙ sym f.1)
 one_stage order given (size k) a b e f = agree (e.1 ∙ sym f.1)
 one_stage order given (text k) a b e f = agree (text_agrees order given k a b e f)
 one_stage order given class a b e f = agree (class_agrees order given a b e f)
+one_stage order given shape a b e f = agree (shapes_agree order.task order given a b e f)
+one_stage order given copied_names a b e f = agree (copied_agree order.task order given a b e f)
 one_stage order given (count quantity) a b e f = agree (e.1 ∙ sym f.1)
 one_stage order given names_stage a b e f = agree (names_agree order.task order given a b e f)
 one_stage order given work a b e f = works_agree order.task order given a b e f

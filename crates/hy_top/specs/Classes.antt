@@ -1,7 +1,9 @@
--- Classes of formulas: which of them a command may take, and the first formula of a class that it does not take.
-use Rattle.std.specs.Prelude.{◌≡◌, ℕ, zero, suc, Bool, true, false, List, [], ◌∷◌}
-use Rattle.hy_formula.specs.Classes.{class_of}
+-- Which formulas a command may take, by their classes or prefixes, and the first formula that it does not take.
+use Rattle.std.specs.Prelude.{◌≡◌, ◌&&◌, nat_lt, ℕ, zero, suc, Bool, true, false, List, [], ◌∷◌, length}
+use Rattle.hy_formula.specs.Classes.{behind, class_of, has_only}
 use Rattle.hy_formula.specs.Quantifiers.{Each}
+use Rattle.hy_formula.specs.declared.prefix.Quant.{Quant}
+use Rattle.hy_formula.specs.declared.prefix.Quant.TheVariants as quant
 use Rattle.hy_formula.specs.declared.classes.Class.{Class}
 use Rattle.hy_formula.specs.declared.classes.Class.TheVariants.{Exists, Forall, ExistsForall, Other}
 use Rattle.hy_formula.specs.Formulas.{Plain}
@@ -30,12 +32,22 @@ is_decided Forall = true
 is_decided ExistsForall = true
 is_decided Other = false
 
--- Formula j is the first whose class is not taken: this one.
-abbrev pub FirstUntaken : (Class → Bool) → List Plain → ℕ → Class → Type 0
-FirstUntaken takes [] j class = ⊥
-FirstUntaken takes (f ∷ formulas) zero class = (class_of f.prefix ≡ class) × (takes class ≡ false)
-FirstUntaken takes (f ∷ formulas) (suc j) class = (takes (class_of f.prefix) ≡ true) × FirstUntaken takes formulas j class
+-- whether the class of a prefix is one of these
+abbrev pub by_class : (Class → Bool) → List Quant → Bool
+by_class is_one prefix = is_one (class_of prefix)
 
--- The class of each formula is taken.
-abbrev pub AreTaken : (Class → Bool) → List Plain → Type 0
-AreTaken takes formulas = Each (λ (f : Plain). takes (class_of f.prefix) ≡ true) formulas
+-- Universal quantifiers come first, and existential ones behind them: at least one of each.
+abbrev pub is_forall_exists : List Quant → Bool
+is_forall_exists prefix =
+    nat_lt (length (behind quant.Forall prefix)) (length prefix) && nat_lt 0 (length (behind quant.Forall prefix))
+    && has_only quant.Exists (behind quant.Forall prefix)
+
+-- Formula j is the first whose prefix is not taken: one of this class.
+abbrev pub FirstUntaken : (List Quant → Bool) → List Plain → ℕ → Class → Type 0
+FirstUntaken takes [] j class = ⊥
+FirstUntaken takes (f ∷ formulas) zero class = (class_of f.prefix ≡ class) × (takes f.prefix ≡ false)
+FirstUntaken takes (f ∷ formulas) (suc j) class = (takes f.prefix ≡ true) × FirstUntaken takes formulas j class
+
+-- The prefix of each formula is taken.
+abbrev pub AreTaken : (List Quant → Bool) → List Plain → Type 0
+AreTaken takes formulas = Each (λ (f : Plain). takes f.prefix ≡ true) formulas

@@ -22,7 +22,7 @@ use Rattle.ea_core.specs.Decided.{Decides, DecidesImplication, DecidesEquivalenc
 use Rattle.ea_core.specs.Undecided.{IsCounted, IsWithin, AreWithin, HasFewBranches, HasManyBranches}
 use Rattle.hy_answer.specs.declared.answer.Answer.{Answer}
 use Rattle.hy_answer.specs.declared.answer.Answer.TheVariants.{Sat, Unsat, Implied, NotImplied, Equivalent, NotEquivalent, States, Prefix, Limit, Memory}
-use Rattle.hy_top.specs.Classes.{FirstUntaken, AreTaken}
+use Rattle.hy_top.specs.Classes.{FirstUntaken, AreTaken, by_class}
 use Rattle.hy_top.specs.Orders.{Order, Question, satisfiability, implication, equivalence}
 use Rattle.hy_top.specs.Files.{Given, HasFormulas}
 
@@ -108,13 +108,13 @@ refusal_answer states errors.Memory = Memory
 
 -- What a question about formulas of classes that are taken comes to: the first of these that is met, or memory ran out.
 pub data Outcome (takes : Class → Bool) (question : Question) (states : ℕ) (formulas : List Plain) : Answer → Type 0 where
-  untaken : (place : ℕ) (class : Class) → FirstUntaken takes formulas place class
+  untaken : (place : ℕ) (class : Class) → FirstUntaken (by_class takes) formulas place class
       → Outcome takes question states formulas (Prefix place class)
-  many_instances : AreTaken takes formulas → (plan : PlainPlan) → Contains (plans_of question formulas) plan → HasManyMaps plan
+  many_instances : AreTaken (by_class takes) formulas → (plan : PlainPlan) → Contains (plans_of question formulas) plan → HasManyMaps plan
       → Outcome takes question states formulas (Limit Instances (most Instances))
-  large_closure : AreTaken takes formulas → Each HasFewMaps (plans_of question formulas) → (plan : PlainPlan)
+  large_closure : AreTaken (by_class takes) formulas → Each HasFewMaps (plans_of question formulas) → (plan : PlainPlan)
       → Contains (plans_of question formulas) plan → HasManyMembers plan
       → Outcome takes question states formulas (Limit Closure (most Closure))
-  done : (answer : Answer) → AreTaken takes formulas → Each IsCounted (plans_of question formulas)
+  done : (answer : Answer) → AreTaken (by_class takes) formulas → Each IsCounted (plans_of question formulas)
       → DecidesBy question states formulas answer → Outcome takes question states formulas answer
   spent : Outcome takes question states formulas Memory

@@ -1,6 +1,7 @@
 pub mod Checking
 pub mod Classes
 pub mod Deciding
+pub mod Driving
 pub mod Dropping
 pub mod Files
 pub mod Finding

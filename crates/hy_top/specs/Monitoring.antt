@@ -25,7 +25,7 @@ use Rattle.rv_core.specs.declared.rv_error.RvError.{RvError}
 use Rattle.rv_core.specs.declared.rv_error.RvError.TheVariants as errors
 use Rattle.hy_answer.specs.declared.answer.Answer.{Answer}
 use Rattle.hy_answer.specs.declared.answer.Answer.TheVariants.{NoViolation, Violation, Prefix, Session, Limit, Memory}
-use Rattle.hy_top.specs.Classes.{is_universal, FirstUntaken}
+use Rattle.hy_top.specs.Classes.{by_class, is_universal, FirstUntaken}
 use Rattle.hy_top.specs.Orders.{Order, Origin, of_file, of_number}
 use Rattle.hy_top.specs.Files.{Given, Came, HasTexts, HasFormulas}
 
@@ -136,7 +136,7 @@ pub record Monitors (origin : Origin) (lengths : Lengths) (drop : Bool) (order :
 
 -- What formulas come to on events that are so: the first of these that is met, or memory ran out.
 pub data IsOutcome (lengths : Lengths) (drop : Bool) (formulas : List Plain) (AreSo : List Placed → Type 0) : Answer → Type 0 where
-  untaken : (place : ℕ) (class : Class) → FirstUntaken is_universal formulas place class
+  untaken : (place : ℕ) (class : Class) → FirstUntaken (by_class is_universal) formulas place class
       → IsOutcome lengths drop formulas AreSo (Prefix 0 class)
   large_closure : AreUniversal formulas → SomePlain HasLargeClosure formulas
       → IsOutcome lengths drop formulas AreSo (Limit Closure (most Closure))

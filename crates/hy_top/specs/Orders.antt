@@ -1,14 +1,14 @@
 -- What each command asks for, in a row of its own: its files, in the order in which they are read, which formulas it
 -- takes, what the text of its answer shows, and its task. All else that is said of commands is said of their rows.
 use Rattle.std.specs.Prelude.{ℕ, zero, suc, Bool, false, List, [], ◌∷◌, map}
-use Rattle.hy_formula.specs.declared.classes.Class.{Class}
+use Rattle.hy_formula.specs.declared.prefix.Quant.{Quant}
 use Rattle.hy_finite.specs.declared.lengths.Lengths.{Lengths}
 use Rattle.bound_search.specs.declared.bound.Bound.{Bound}
 use Rattle.mc_core.specs.declared.ask.Ask.{Ask}
 use Rattle.hy_files.specs.Contents.{Content, specifications, one_formula, events, lassos, circuit}
 use Rattle.hy_answer.specs.declared.answer.Extras.{Extras}
-use Rattle.hy_words.specs.Commands.{Command, monitor, monitor_made, judge, decide, imply, compare, find, check}
-use Rattle.hy_top.specs.Classes.{is_any, is_universal, is_of_one_kind, is_decided}
+use Rattle.hy_words.specs.Commands.{Command, monitor, monitor_made, judge, decide, imply, compare, find, check, check_by_strategy}
+use Rattle.hy_top.specs.Classes.{by_class, is_any, is_universal, is_of_one_kind, is_decided, is_forall_exists}
 
 -- ---- tasks
 
@@ -40,6 +40,9 @@ pub data Task : Type 0 where
   finding : (bound : Bound) (conflicts : ℕ) → Task
   -- Say whether the circuit of the first file satisfies the formula of the second.
   checking : (ask : Ask) → Task
+  -- Say whether the strategy of the third file wins: whatever executions of the circuit of the first stand for the
+  -- universal quantifiers of the formula of the second, it makes executions for the existential ones.
+  driving : (ask : Ask) → Task
 
 -- ---- rows
 
@@ -53,8 +56,8 @@ pub record Order : Type 0 where
   pub files : List File
   -- the most quantifiers of a formula
   pub quantifiers : ℕ
-  -- whether formulas of the class are taken
-  pub takes : Class → Bool
+  -- whether formulas of the prefix are taken
+  pub takes : List Quant → Bool
   -- what the text of an answer shows beside the verdict
   pub extras : Extras
   pub task : Task
@@ -66,58 +69,65 @@ abbrev pub order_of : Command → Order
 order_of (monitor specs traces lengths drop) = record {
   files = file specs specifications ∷ file traces events ∷ [];
   quantifiers = 4;
-  takes = is_universal;
+  takes = by_class is_universal;
   extras = record { kept = drop; proof = false };
   task = watching of_file lengths drop;
 }
 order_of (monitor_made specs count lengths drop) = record {
   files = file specs specifications ∷ [];
   quantifiers = 4;
-  takes = is_universal;
+  takes = by_class is_universal;
   extras = record { kept = drop; proof = false };
   task = watching (of_number count) lengths drop;
 }
 order_of (judge formula list) = record {
   files = file formula one_formula ∷ file list lassos ∷ [];
   quantifiers = 8;
-  takes = is_any;
+  takes = by_class is_any;
   extras = record { kept = false; proof = false };
   task = judging;
 }
 order_of (decide formula states proof) = record {
   files = file formula one_formula ∷ [];
   quantifiers = 8;
-  takes = is_decided;
+  takes = by_class is_decided;
   extras = record { kept = false; proof = proof };
   task = deciding satisfiability states;
 }
 order_of (imply first second states proof) = record {
   files = file first one_formula ∷ file second one_formula ∷ [];
   quantifiers = 8;
-  takes = is_of_one_kind;
+  takes = by_class is_of_one_kind;
   extras = record { kept = false; proof = proof };
   task = deciding implication states;
 }
 order_of (compare first second states proof) = record {
   files = file first one_formula ∷ file second one_formula ∷ [];
   quantifiers = 8;
-  takes = is_of_one_kind;
+  takes = by_class is_of_one_kind;
   extras = record { kept = false; proof = proof };
   task = deciding equivalence states;
 }
 order_of (find formula bound conflicts) = record {
   files = file formula one_formula ∷ [];
   quantifiers = 8;
-  takes = is_any;
+  takes = by_class is_any;
   extras = record { kept = false; proof = false };
   task = finding bound conflicts;
 }
 order_of (check net formula depth conflicts plain proof) = record {
   files = file net circuit ∷ file formula one_formula ∷ [];
   quantifiers = 4;
-  takes = is_of_one_kind;
+  takes = by_class is_of_one_kind;
   extras = record { kept = false; proof = proof };
   task = checking (record { depth = depth; conflicts = conflicts; plain = plain });
+}
+order_of (check_by_strategy net formula strategy depth conflicts plain) = record {
+  files = file net circuit ∷ file formula one_formula ∷ file strategy circuit ∷ [];
+  quantifiers = 4;
+  takes = is_forall_exists;
+  extras = record { kept = false; proof = false };
+  task = driving (record { depth = depth; conflicts = conflicts; plain = plain });
 }
 
 -- ---- what a row says of its files

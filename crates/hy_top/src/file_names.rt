@@ -34,6 +34,16 @@ impl<'a> FileNames<'a> {
         }
     }
 
+    /// The names of three files.
+    pub fn three(first: &'a str, second: &'a str, third: &'a str) -> FileNames<'a>
+        ensures { names_in result ≡ first.entry.now ∷ second.entry.now ∷ third.entry.now ∷ [] }
+    {
+        FileNames {
+            names: [first, second, third],
+            count: 3,
+        }
+    }
+
     /// The names as a slice.
     pub fn as_slice(&self) -> &[&'a str]
         ensures { plain result.now ≡ names_in self.now }

@@ -184,6 +184,26 @@ fn due_to<'a, S: Shelf>(
                 files: FileNames::two(circuit, formula),
             }
         }
+        Command::CheckByStrategy {
+            circuit,
+            formula,
+            strategy,
+            depth,
+            conflicts,
+            plain,
+        } => {
+            let ask = Ask {
+                depth,
+                conflicts,
+                plain,
+            };
+            let files = (circuit, formula, strategy);
+            Due {
+                answer: mchyper::check_by_strategy(alloc, shelf, files, &ask, names),
+                extras: PLAIN,
+                files: FileNames::three(circuit, formula, strategy),
+            }
+        }
     }
 }
 

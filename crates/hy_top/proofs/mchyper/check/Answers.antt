@@ -1,19 +1,9 @@
-use Rattle.std.proofs.Common.{ℕ, ◌≤◌, false, List, [], ◌∷◌, length, refl}
-use Rattle.hy_base.specs.declared.shelf.Shelf.{Ghosts}
-use Rattle.hy_formula.specs.Formulas.{Plain}
+use Rattle.std.proofs.Common.{[], refl}
 use Rattle.hy_words.specs.Commands.{check}
-use Rattle.hy_files.specs.Contents.{one_formula}
-use Rattle.hy_files.specs.Steps.{Takes}
 use Rattle.hy_top.specs.Orders.{order_of}
-use Rattle.hy_top.proofs.FirstSpecs.{read-few}
 use Rattle.hy_top.proofs.Progress.{ends_first}
-use Rattle.hy_top.proofs.Checking.{ends_at_formula, check_follows}
+use Rattle.hy_top.proofs.Checking.{few-read, ends_at_formula, check_follows}
 use Rattle.hy_top.proofs.mchyper.check.Goals as goal
-
--- A formula that was read by a command of at most four quantifiers has no more.
-few-read : {S : Type 0} (g : Ghosts S) (old new : S) (name : List ℕ) (names : List (List ℕ)) (f : Plain)
-    (later : List (List ℕ)) → Takes g old new name 4 names one_formula (f ∷ []) later → length f.prefix ≤ 4
-few-read g old new name names f later takes = (read-few false 4 names takes.bytes (f ∷ []) later takes.is).1.0
 
 pub returns-in-Err-clause-follows : goal.returns-in-Err-clause-follows
 returns-in-Err-clause-follows g c proof =

@@ -1,5 +1,4 @@
-use Rattle.hy_top.specs.Watching.{AreLeft, OrMemory}
-use Rattle.hy_top.specs.Monitoring.{EventsCome}
+use Rattle.hy_top.specs.Watching.{AreLeft}
 use Rattle.hy_top.proofs.EventSteps.{or-fault}
 use Rattle.hy_top.proofs.FirstSpecs.{monitored-outcome}
 use Rattle.hy_top.proofs.rvhyper.judge.Goals as goal

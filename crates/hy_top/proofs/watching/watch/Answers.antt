@@ -1,5 +1,4 @@
 use Rattle.std.proofs.Common.{Ok, Err, inl, inr, ap, ◌∙◌}
-use Rattle.rv_core.specs.Held.{specs_of}
 use Rattle.rv_core.specs.Seen.{held}
 use Rattle.hy_answer.specs.Refusals.{fault_answer}
 use Rattle.hy_top.proofs.EventSteps.{watched-comes}

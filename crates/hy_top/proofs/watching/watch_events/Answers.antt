@@ -1,9 +1,8 @@
-use Rattle.std.proofs.Common.{ap, ◌∙◌, length, List, subst, suc, Option, Ok, Result}
-use Rattle.hy_finite.specs.declared.event.Event.{Event}
+use Rattle.std.proofs.Common.{ap, ◌∙◌, length, subst, Option, Ok, Result}
 use Rattle.hy_finite.specs.declared.event.Placed.{Placed}
 use Rattle.rv_core.specs.declared.reply.Reply.{Reply}
 use Rattle.rv_core.specs.declared.rv_error.RvError.{RvError}
-use Rattle.rv_core.specs.Replies.{Answers, Stop, Runs, on_quiet, on_arrival}
+use Rattle.rv_core.specs.Replies.{Answers, on_quiet, on_arrival}
 use Rattle.rv_core.specs.Seen.{held}
 use Rattle.hy_top.specs.Watching.{IsNext}
 use Rattle.hy_top.proofs.EventSteps.{Passed, goes-quiet, goes-arrived, passed-none, passed-more, passed-all, violation-comes, error-comes}
