@@ -13,10 +13,10 @@ use Rattle.hy_words.specs.declared.tool.Tool.{Tool}
 use Rattle.hy_top.specs.Checking.{Checks, HasPair}
 use Rattle.hy_top.specs.Deciding.{DecidesBy, Determines}
 use Rattle.hy_top.specs.Files.{Given, HasAll}
-use Rattle.hy_top.specs.Orders.{Order, Question, Task, checking, deciding, equivalence, implication, order_of, satisfiability}
+use Rattle.hy_top.specs.Orders.{Order, Question, Task, checking, deciding, driving, equivalence, implication, order_of, satisfiability}
 use Rattle.hy_top.specs.Runs.{Comes, Follows, IsSaid, IsTextDue, Reads, decided, short, unread, unworded, worded}
 use Rattle.hy_top.specs.Stages as stage
-use Rattle.hy_top.specs.Stages.{ComesTo, First, IsMisnamed, IsRight, Met, Stage, here, later, stages_of}
+use Rattle.hy_top.specs.Stages.{ComesTo, First, IsMiscopied, IsMisnamed, IsMisshapen, IsRight, Met, Stage, here, later, stages_of}
 use Rattle.hy_top.proofs.Formulas.{of_formulas}
 use Rattle.hy_top.proofs.Progress.{texts_once}
 use Rattle.hy_top.proofs.Silence.{IsSilent, fault-silent}
@@ -61,6 +61,16 @@ misnamed-none : (task : Task) (order : Order) (given : Given) (a : Answer)
 misnamed-none (checking ask) order given a bad verdict = subst IsVerdict bad.answered verdict
 misnamed-none _ order given a bad verdict = bad
 
+misshapen-none : (task : Task) (order : Order) (given : Given) (a : Answer)
+    → IsMisshapen task order given a → ¬ IsVerdict a
+misshapen-none (driving ask) order given a bad verdict = subst IsVerdict bad.answered verdict
+misshapen-none _ order given a bad verdict = bad
+
+miscopied-none : (task : Task) (order : Order) (given : Given) (a : Answer)
+    → IsMiscopied task order given a → ¬ IsVerdict a
+miscopied-none (driving ask) order given a bad verdict = subst IsVerdict bad.answered verdict
+miscopied-none _ order given a bad verdict = bad
+
 module _ (order : Order) (given : Given) where
   met-work : (at : Stage) (a : Answer) → IsVerdict a → Met order given at a
       → ComesTo order.task order given a
@@ -70,6 +80,9 @@ module _ (order : Order) (given : Given) where
   met-work (stage.text k) a verdict refuses =
       absurd (silent-none _ (fault-silent k refuses.fault) (subst IsVerdict refuses.answered verdict))
   met-work stage.class a verdict refuses = absurd (subst IsVerdict refuses.answered verdict)
+  met-work stage.shape a verdict bad = absurd (misshapen-none order.task order given a bad verdict)
+  met-work stage.copied_names a verdict bad =
+      absurd (miscopied-none order.task order given a bad verdict)
   met-work (stage.count quantity) a verdict (past, e) = absurd (subst IsVerdict e verdict)
   met-work stage.names a verdict bad = absurd (misnamed-none order.task order given a bad verdict)
   met-work stage.work a verdict comes = comes
