@@ -323,12 +323,14 @@ def circuits():
 
 
 def four_copies():
-    """constraints, under four quantifiers"""
-    four = "forall p. forall q. forall r. forall s. "
+    """constraints under four quantifiers: each is four literals of a query, as many as a query may have, or fewer"""
+    four = "forall p. forall q. forall r. forall s. a_s"
     for form, line in (("aag", "2\n"), ("aig", "")):
         what = "" if form == "aag" else "binary: "
         text = counted(f"{form} 1 1 0 0 0 0 N\n{line}", "2\n", "i0 a\n")
-        yield read(f"{what}constraints, four quantifiers", text, 0, "holds", four + "a_s", LARGE)
+        yield read(f"{what}constraints, four quantifiers", text, 5, "error E5: cnf-literals 134217728", four, LARGE)
+    text = itertools.chain(["aag 1 1 0 0 0 0 30000000\n2\n"], times("2\n", 30000000), ["i0 a\n"])
+    yield read("30,000,000 constraints, four quantifiers", text, 0, "holds", four, LARGE)
 
 
 # ---- certificates
