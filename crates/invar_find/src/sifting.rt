@@ -47,8 +47,19 @@ fn basis_of(alloc: Global, facts: &Inv, latches: usize) -> M<Inv>
     Ok(basis)
 }
 
-/// Asks whether a step breaks a fact of a group of the basis. Whether facts were left out: all that
-/// the step breaks, where it goes from a state that has all facts.
+/// What a small query comes to.
+#[derive(Clone, Copy)]
+enum Sifted {
+    /// Facts were left out.
+    Fewer,
+    /// None were.
+    Same,
+    /// It is past a limit, and so nothing was asked.
+    Past,
+}
+
+/// Asks whether a step breaks a fact of a group of the basis. Left out are all that the step breaks,
+/// where it goes from a state that has all facts.
 fn sift_group(
     alloc: Global,
     safe: &SafeNet,
@@ -56,7 +67,7 @@ fn sift_group(
     basis: &Inv,
     group: u32,
     conflicts: u32,
-) -> M<bool>
+) -> M<Sifted>
     requires safe { IsSafe safe.now }
     requires searching { IsSearching safe.now conflicts facts.old [] }
     requires inside { AllIn (length safe.now.net.latches) basis.now }
@@ -66,23 +77,23 @@ fn sift_group(
 {
     let query = match keep_query(alloc, safe, basis, group) {
         Ok(query) => query,
-        Err(FrameError::Limit(_)) => return Ok(false),
+        Err(FrameError::Limit(_)) => return Ok(Sifted::Past),
         Err(FrameError::Memory) => return Err(Memory),
     };
     let Outcome::Satisfied(values) = solve(alloc, &query.cnf, conflicts)? else {
-        return Ok(false);
+        return Ok(Sifted::Same);
     };
     let before = facts.len();
     let known = held(alloc, state_before(safe, values.as_slice()), facts)?;
     if known.len() < before {
-        return Ok(false);
+        return Ok(Sifted::Same);
     }
     *facts = held(alloc, state_after(safe, values.as_slice()), facts)?;
-    Ok(true)
+    Ok(Sifted::Fewer)
 }
 
 /// Asks for the groups of the basis from `first` on and before `end`: the first where facts were
-/// left out.
+/// left out. None where a query is past a limit, since the others are as large.
 fn sift_between(
     alloc: Global,
     safe: &SafeNet,
@@ -102,8 +113,10 @@ fn sift_between(
         if basis.len() <= 64 * (group as usize) {
             return Ok(None);
         }
-        if sift_group(alloc, safe, facts, basis, group, conflicts)? {
-            return Ok(Some(group));
+        match sift_group(alloc, safe, facts, basis, group, conflicts)? {
+            Sifted::Fewer => return Ok(Some(group)),
+            Sifted::Same => {}
+            Sifted::Past => return Ok(None),
         }
     }
     Ok(None)
