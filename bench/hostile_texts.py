@@ -14,6 +14,7 @@ ATOM = "forall p. a_p"
 INPUT = "aag 1 1 0 0 0\n2\ni0 a\n"
 LIST = "sat\n|{a}\n"
 VARIABLES = 1048576
+FORMS = ("aag", ""), ("aig", "binary: ")
 LONG = 100  # from which length on a text is the front of what is said
 
 
@@ -161,6 +162,8 @@ def large_bodies():
     yield Command(f"{name}, within a bound", "eahyper", "--bound 1,0,1 formula", {"formula": text()}, 0, "sat", LARGE)
     yield Command(f"{name}, its negation", "mchyper", "circuit formula", {"circuit": [INPUT], "formula": itertools.chain(
         ["exists p. !"], body(10000001))}, 0, "holds", LARGE)
+    yield played(name, ["aag 1 1 0 1 0\n2\n1\n"], *WINS, formula=itertools.chain(
+        ["forall q. exists p. "], body(10000001)), most=LARGE)
 
 
 # ---- traces
@@ -277,12 +280,16 @@ def faults():
     yield "binary: one line of blanks", Text("aig 0 0 0 1 0\n", " ", "\n"), "literal byte 14"
 
 
-def chain_of_ands(form):
-    """an input, and ands of which each is that of the one before it and the input, as many as there may be"""
-    ands = VARIABLES - 1
-    yield f"{form} {VARIABLES} 1 0 0 {ands}\n"
+def input_line(form):
+    """the line of the one input, which the binary form leaves out"""
+    return "2\n" if form == "aag" else ""
+
+
+def chain_of_ands(form, outputs=""):
+    """an input, lines of outputs, and ands of which each is that of the one before it and the input, as many as there may
+    be"""
+    yield f"{form} {VARIABLES} 1 0 {len(outputs.splitlines())} {VARIABLES - 1}\n{input_line(form)}{outputs}"
     if form == "aag":
-        yield "2\n"
         yield from (f"{2 * v} {2 * v - 2} 2\n" for v in range(2, VARIABLES + 1))
     else:
         yield from ("\x02" + seven_bits(2 * v - 4) for v in range(2, VARIABLES + 1))
@@ -298,39 +305,159 @@ def seven_bits(number):
     return "".join([*groups, chr(number)])
 
 
+def of_list(form, counts, line, outputs=""):
+    """a circuit of one input with a list (N of its counts behind the latches) that is as long as there is room for"""
+    return counted(f"{form} 1 1 0 {counts}\n{input_line(form)}{outputs}", line, "i0 a\n")
+
+
+def of_inputs(named, copies):
+    """as many inputs as there may be, one of them named, and so many outputs for each"""
+    yield f"aag {VARIABLES} {VARIABLES} 0 {copies * VARIABLES} 0\n"
+    yield from (f"{2 * v}\n" for v in range(1, VARIABLES + 1))
+    yield from (f"{2 * v}\n" * copies for v in range(1, VARIABLES + 1))
+    yield f"i{named} a\n"
+
+
+def many_names():
+    """an output with a name again and again"""
+    names = 4000000
+    return itertools.chain([f"aag 1 1 0 {names} 0\n2\n"], times("2\n", names), (
+        f"o{n} x\n" for n in range(names)), ["i0 a\n"])
+
+
 def circuits():
     for name, text, said in faults():
         yield read(name, text, 2, f"error E11 circuit: {said}")
-    for form in ("aag", "aig"):
-        what = "" if form == "aag" else "binary: "
+    for form, what in FORMS:
         yield read(f"{what}a chain of ands", chain_of_ands(form), 1, "violated", ATOM)
-        of_input = "2\n" if form == "aag" else ""
-
-        def lines_of(counts, line):
-            return counted(f"{form} 1 1 0 {counts}\n{of_input}", line, "i0 a\n")
-
-        yield read(f"{what}outputs", lines_of("N 0", "2\n"), 1, "violated", ATOM)
-        yield read(f"{what}bad literals", lines_of("0 0 N", "2\n"), 1, "violated", ATOM)
-        yield read(f"{what}constraints", lines_of("0 0 0 N", "2\n"), 0, "holds", ATOM)
-        yield read(f"{what}justice sizes", lines_of("0 0 0 0 N", "0\n"), 1, "violated", ATOM)
-        yield read(f"{what}fairness literals", lines_of("0 0 0 0 0 N", "2\n"), 5, "error E5: cnf-variables 16777216",
+        yield read(f"{what}outputs", of_list(form, "N 0", "2\n"), 1, "violated", ATOM)
+        yield read(f"{what}bad literals", of_list(form, "0 0 N", "2\n"), 1, "violated", ATOM)
+        yield read(f"{what}constraints", of_list(form, "0 0 0 N", "2\n"), 0, "holds", ATOM)
+        yield read(f"{what}justice sizes", of_list(form, "0 0 0 0 N", "0\n"), 1, "violated", ATOM)
+        yield read(f"{what}fairness literals", of_list(form, "0 0 0 0 0 N", "2\n"), 5, "error E5: cnf-variables 16777216",
                    "forall p. G !a_p")
     yield read("a long name", Text("aag 1 1 0 0 0\n2\ni0 ", "x", "\n"), 2, "error E12: a none", ATOM)
     yield read("a long comment", Text(INPUT + "c\n", "i0 b\n"), 1, "violated", ATOM)
-    names = 4000000
-    yield read("names", itertools.chain([f"aag 1 1 0 {names} 0\n2\n"], times("2\n", names), (
-        f"o{n} x\n" for n in range(names)), ["i0 a\n"]), 1, "violated", ATOM)
+    yield read("names", many_names(), 1, "violated", ATOM)
+
+
+def constraints(count):
+    """so many constraints, each of which is the input"""
+    return itertools.chain([f"aag 1 1 0 0 0 0 {count}\n2\n"], times("2\n", count), ["i0 a\n"])
 
 
 def four_copies():
     """constraints under four quantifiers: each is four literals of a query, as many as a query may have, or fewer"""
     four = "forall p. forall q. forall r. forall s. a_s"
-    for form, line in (("aag", "2\n"), ("aig", "")):
-        what = "" if form == "aag" else "binary: "
-        text = counted(f"{form} 1 1 0 0 0 0 N\n{line}", "2\n", "i0 a\n")
-        yield read(f"{what}constraints, four quantifiers", text, 5, "error E5: cnf-literals 134217728", four, LARGE)
-    text = itertools.chain(["aag 1 1 0 0 0 0 30000000\n2\n"], times("2\n", 30000000), ["i0 a\n"])
-    yield read("30,000,000 constraints, four quantifiers", text, 0, "holds", four, LARGE)
+    for form, what in FORMS:
+        yield read(f"{what}constraints, four quantifiers", of_list(form, "0 0 0 N", "2\n"), 5,
+                   "error E5: cnf-literals 134217728", four, LARGE)
+    yield read("30,000,000 constraints, four quantifiers", constraints(30000000), 0, "holds", four, LARGE)
+
+
+# ---- strategies
+
+SAME = "forall p. exists q. G (a_p <-> a_q)"
+ALL_SAME = "forall p. exists q. exists r. exists s. G (a_p <-> a_q) & G (a_p <-> a_r) & G (a_p <-> a_s)"
+COPIES = "aag 1 1 0 1 0\n2\n2\n"
+WINS = 0, "holds with strategy"
+PAST = 5, "error E5: cnf-variables 16777216"
+
+
+def played(name, strategy, status, said, circuit=(INPUT,), formula=(SAME,), most=QUICK):
+    return Command(f"strategy: {name}", "mchyper", "--strategy strategy circuit formula", {
+        "circuit": circuit, "formula": formula, "strategy": strategy}, status, said, most)
+
+
+def filled(pieces):
+    """a circuit, and a comment that is as long as there is room for"""
+    length = 0
+    for piece in pieces:
+        length += len(piece)
+        yield piece
+    yield "c\n"
+    yield from times(" ", BYTES - length - 2)
+
+
+def chain_of_latches(is_free):
+    """an input, which is put out, and latches of which each takes the value of the one before it, as many as there may be"""
+    yield f"aag {VARIABLES} 1 {VARIABLES - 1} 1 0\n2\n"
+    yield from (f"{2 * v} {2 * v - 2} {2 * v if is_free else 0}\n" for v in range(2, VARIABLES + 1))
+    yield "2\n"
+
+
+def misshapen():
+    """circuits that have not one input and one output, or that have what a strategy may not have"""
+    for form, what in FORMS:
+        yield f"{what}outputs", of_list(form, "N 0", "2\n")
+        yield f"{what}constraints", of_list(form, "1 0 0 N", "2\n", "2\n")
+        yield f"{what}fairness literals", of_list(form, "1 0 0 0 0 N", "2\n", "2\n")
+        yield f"{what}a chain of ands, no output", chain_of_ands(form)
+    yield "names", many_names()
+    yield "inputs, an output for each", of_inputs(0, 1)
+    yield "a chain of uninitialised latches", chain_of_latches(True)
+
+
+def well_shaped():
+    last = 2 * VARIABLES
+    for form, what in FORMS:
+        yield played(f"{what}a chain of ands, a comment", filled(chain_of_ands(form, f"{last}\n")), *WINS)
+        yield played(f"{what}a chain of ands, negated", chain_of_ands(form, f"{last + 1}\n"), 1, "strategy fails")
+        yield played(f"{what}bad literals", of_list(form, "1 0 N", "2\n", "2\n"), *WINS)
+        yield played(f"{what}justice sizes", of_list(form, "1 0 0 0 N", "0\n", "2\n"), *WINS)
+    yield played("a long name", Text("aag 1 1 0 1 0\n2\n2\ni0 ", "x", "\n"), *WINS)
+    yield played("a long comment", Text(COPIES + "c\n", "i0 b\n"), *WINS)
+    yield played("inputs, three outputs for each", of_inputs(0, 3), *WINS, of_inputs(VARIABLES - 1, 0), [ALL_SAME])
+    # a safe net has nine variables a latch, and a query that asks for a step has two frames of them
+    yield played("a chain of latches", chain_of_latches(False), *PAST)
+
+
+def beside_formulas():
+    """a small strategy, and formulas that are none, that are past a count, or that are long"""
+    head = "forall p. exists q. "
+    text = Text(head, "(")
+    yield played("beside parentheses", [COPIES], 2, f"error E2 formula: token {6 + text.count} byte {text.length}",
+                 formula=text)
+    yield played("beside exists q. .. a_q", [COPIES], 5, "error E5: quantifiers 4",
+                 formula=Text(head, "exists q. ", "a_q"))
+    yield played("beside a_q & .. a_q", [COPIES], 5, "error E5: height 200", formula=Text(head, "a_q & ", "a_q"))
+    yield played("beside one long atom", [COPIES], *LONG_ATOM["mchyper"], formula=Text(head + "a", "a", "_q"))
+    yield played("beside blanks", [COPIES], *WINS, formula=Text(SAME, " "))
+
+
+def beside_circuits():
+    """a small strategy, and circuits that are none, that want another strategy, or that make much work"""
+    header = f"aag {VARIABLES} {VARIABLES} 0 0 0\n"
+    yield played("beside an input again and again", [COPIES], 2, f"error E11 circuit: redefined byte {len(header) + 2}",
+                 Text(header, "2\n"))
+    yield played("beside inputs", [COPIES], 2, f"error E15 strategy: inputs {VARIABLES} outputs {3 * VARIABLES}",
+                 of_inputs(0, 0), [ALL_SAME])
+    yield played("beside fairness literals", [COPIES], 5, "error E5: strategy-names 64",
+                 of_list("aag", "0 0 0 0 0 N", "2\n"))
+    # the driven copy owes the conjunction of all constraints, which has an and for each but one
+    yield played("beside constraints", [COPIES], *PAST, of_list("aag", "0 0 0 N", "2\n"))
+    yield played("beside a chain of ands", [COPIES], *WINS, chain_of_ands("aag"))
+
+
+def strategies():
+    for name, text, said in faults():
+        yield played(name, text, 2, f"error E11 strategy: {said}")
+    for name, text in misshapen():
+        yield played(name, text, 2, "error E15 strategy: inputs 1 outputs 1")
+    yield from well_shaped()
+    yield from beside_formulas()
+    yield from beside_circuits()
+
+
+def three_driven():
+    """Constraints of which three copies are driven: these owe the conjunction of three literals for each, with an and for
+    each literal but one. A query has two frames of these ands and of 36 more variables, and further ones for its facts;
+    so there is room for 2,796,191 constraints at most."""
+    strategy, driven = ["aag 1 1 0 3 0\n2\n2\n2\n2\n"], ["forall p. exists q. exists r. exists s. a_s"]
+    for form, what in FORMS:
+        yield played(f"{what}three copies, constraints", strategy, *PAST, of_list(form, "0 0 0 N", "2\n"), driven, LARGE)
+    for count, answer in ((30000000, PAST), (2796192, PAST), (2796180, WINS), (1500000, WINS)):
+        yield played(f"three copies, {count:,} constraints", strategy, *answer, constraints(count), driven, LARGE)
 
 
 # ---- certificates
@@ -399,9 +526,11 @@ def all_commands():
     yield from traces()
     yield from lassos()
     yield from circuits()
+    yield from strategies()
     yield from certificates()
 
 
 def large_commands():
     yield from four_copies()
+    yield from three_driven()
     yield from large_bodies()
