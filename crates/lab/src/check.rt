@@ -1,6 +1,6 @@
 //! `lab check FILE LOG`.
 
-use crate::dimacs::clauses_of;
+use crate::dimacs::clauses_in;
 use crate::files::text_of;
 use anyhow::{Result, bail};
 use chain_check::{Learned, Log, check};
@@ -14,15 +14,27 @@ pub fn run(rt: &HostRuntime, words: &[String]) -> Result<ExitCode> {
     let [file, log] = words else {
         bail!("the words are: check FILE LOG");
     };
-    let cnf = clauses_of(rt.alloc(), text_of(rt, file.as_str())?.as_str())?;
-    let log = log_of(rt.alloc(), text_of(rt, log.as_str())?.as_str())?;
-    if check(rt.alloc(), &cnf, &log)? {
+    let cnf = clauses_in(rt, file.as_str())?;
+    let log = log_in(rt, log.as_str())?;
+    let passes = check(rt.alloc(), &cnf, &log)?;
+    report(rt, passes)
+}
+
+/// Prints whether a log passes, and gives the status for it.
+fn report(rt: &HostRuntime, passes: bool) -> Result<ExitCode> {
+    if passes {
         println!(rt; "accepted")?;
         Ok(ExitCode::from(0))
     } else {
         println!(rt; "rejected")?;
         Ok(ExitCode::from(1))
     }
+}
+
+/// The log of a file.
+fn log_in(rt: &HostRuntime, file: &str) -> Result<Log> {
+    let text = text_of(rt, file)?;
+    log_of(rt.alloc(), text.as_str())
 }
 
 /// The log of a text as `print_log` writes it.

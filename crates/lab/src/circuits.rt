@@ -1,18 +1,22 @@
 //! `lab aag FILE`, `lab aig FILE`, `lab simulate FILE FIRST STEM CYCLE`, `lab compose N FILE` and
 //! `lab safe FILE FORMULA`.
 
+ghost use Rattle.std.specs.Prelude.{◌+◌, ◌≤◌, length, IfOk};
+ghost use Rattle.hy_base.specs.declared.reading.TheConstants.{BYTES_LIMIT};
+
 use crate::files::text_of;
-use aig_net::{Net, simulate};
+use aig_net::{Net, ValueLasso, simulate};
 use aiger_print::{print_aag, print_aig};
 use aiger_read::{AigerError, read_aiger};
 use anyhow::{Result, bail};
 use bench_tools::{composed, rows_text, run_of, safe_net};
-use hy_base::{BYTES_LIMIT, DiskShelf, FileError, read_all};
+use hy_base::{BYTES_LIMIT, DiskShelf, FileError, M, Text, read_all};
+use std::alloc::Global;
 use std::io::Write;
 use std::process::ExitCode;
 
 /// Why a file gives no net.
-enum Refused {
+pub enum Refused {
     File(FileError),
     Circuit(AigerError),
 }
@@ -41,13 +45,17 @@ pub fn print(rt: &HostRuntime, words: &[String], binary: bool) -> Result<ExitCod
 }
 
 fn print_net(rt: &HostRuntime, net: &Net, binary: bool) -> Result<ExitCode> {
-    let text = if binary {
-        print_aig(rt.alloc(), net)?
-    } else {
-        print_aag(rt.alloc(), net)?
-    };
+    let text = net_text(rt.alloc(), net, binary)?;
     rt.stdout().write_all(text.as_slice())?;
     Ok(ExitCode::from(0))
+}
+
+fn net_text(alloc: Global, net: &Net, binary: bool) -> M<Text> {
+    if binary {
+        print_aig(alloc, net)
+    } else {
+        print_aag(alloc, net)
+    }
 }
 
 /// Prints the values of all variables in a run: the first latch row, and the input rows of the
@@ -72,9 +80,17 @@ fn print_run(
 ) -> Result<ExitCode> {
     let run = run_of(rt.alloc(), first, stem, cycle)?;
     match simulate(rt.alloc(), net, &run)? {
-        Some(values) => println!(rt; "{}", rows_text(rt.alloc(), &values)?)?,
-        None => println!(rt; "no lasso")?,
+        Some(values) => print_values(rt, &values),
+        None => {
+            println!(rt; "no lasso")?;
+            Ok(ExitCode::from(0))
+        }
     }
+}
+
+fn print_values(rt: &HostRuntime, values: &ValueLasso) -> Result<ExitCode> {
+    let text = rows_text(rt.alloc(), values)?;
+    println!(rt; "{text}")?;
     Ok(ExitCode::from(0))
 }
 
@@ -99,42 +115,67 @@ pub fn safe(rt: &HostRuntime, words: &[String]) -> Result<ExitCode> {
     };
     let text = text_of(rt, formula.as_str())?;
     match net_of(rt, file.as_str()) {
-        Ok(net) => print_net(rt, &safe_net(rt.alloc(), &net, text.as_str())?, false),
+        Ok(net) => print_safe(rt, &net, text.as_str()),
         Err(refused) => tell(rt, refused),
     }
 }
 
+fn print_safe(rt: &HostRuntime, net: &Net, formula: &str) -> Result<ExitCode> {
+    let safe = safe_net(rt.alloc(), net, formula)?;
+    print_net(rt, &safe, false)
+}
+
 /// The net of a file.
-fn net_of(rt: &HostRuntime, file: &str) -> Result<Net, Refused> {
-    let bytes = read_all(rt.alloc(), &mut DiskShelf::new(rt), file)?;
-    if bytes.len() > BYTES_LIMIT {
+pub fn net_of(rt: &HostRuntime, file: &str) -> Result<Net, Refused>
+    ensures variables { IfOk result (λ net.
+        net.inputs + length net.latches + length net.ands ≤ 1048576) }
+    ensures literals { IfOk result (λ net.
+        length net.outputs + length net.constraints + length net.fairs ≤ BYTES_LIMIT) }
+{
+    let content = read_all(rt.alloc(), &mut DiskShelf::new(rt), file)?;
+    if content.len() > BYTES_LIMIT {
         return Err(Refused::File(FileError::Limit));
     }
-    Ok(read_aiger(rt.alloc(), bytes.as_slice())?)
+    Ok(read_aiger(rt.alloc(), content.as_slice())?)
 }
 
 /// Says on standard error why there is no net, and gives the status for it.
-fn tell(rt: &HostRuntime, refused: Refused) -> Result<ExitCode> {
+pub fn tell(rt: &HostRuntime, refused: Refused) -> Result<ExitCode> {
     match refused {
-        Refused::Circuit(AigerError::Bad { kind, byte }) => {
-            eprintln!(rt; "error E11: {kind} byte {byte}")?;
-            Ok(ExitCode::from(2))
-        }
-        Refused::File(FileError::OpenFailed | FileError::ReadFailed) => {
+        Refused::File(error) => tell_file(rt, error),
+        Refused::Circuit(error) => tell_circuit(rt, error),
+    }
+}
+
+fn tell_file(rt: &HostRuntime, error: FileError) -> Result<ExitCode> {
+    match error {
+        FileError::OpenFailed | FileError::ReadFailed => {
             eprintln!(rt; "the file does not read")?;
             Ok(ExitCode::from(3))
         }
-        Refused::File(FileError::Limit) => {
+        FileError::Limit => {
             eprintln!(rt; "error E5: bytes {BYTES_LIMIT}")?;
             Ok(ExitCode::from(5))
         }
-        Refused::Circuit(AigerError::Limit(limit)) => {
+        FileError::Memory => tell_memory(rt),
+    }
+}
+
+fn tell_circuit(rt: &HostRuntime, error: AigerError) -> Result<ExitCode> {
+    match error {
+        AigerError::Bad { kind, byte } => {
+            eprintln!(rt; "error E11: {kind} byte {byte}")?;
+            Ok(ExitCode::from(2))
+        }
+        AigerError::Limit(limit) => {
             eprintln!(rt; "error E5: variables {}", limit.limit)?;
             Ok(ExitCode::from(5))
         }
-        Refused::File(FileError::Memory) | Refused::Circuit(AigerError::Memory) => {
-            eprintln!(rt; "error: memory")?;
-            Ok(ExitCode::from(6))
-        }
+        AigerError::Memory => tell_memory(rt),
     }
+}
+
+fn tell_memory(rt: &HostRuntime) -> Result<ExitCode> {
+    eprintln!(rt; "error: memory")?;
+    Ok(ExitCode::from(6))
 }

@@ -1,12 +1,20 @@
 //! Clauses in DIMACS: a line `p cnf VARIABLES CLAUSES`, then literals, each clause ended by `0`.
 //! A line that begins with `c` says nothing.
 
+use crate::files::text_of;
 use anyhow::{Result, bail};
-use chain_check::Cnf;
+use chain_check::{Cnf, Literal};
 use std::alloc::Global;
+use std::io::{self, BufWriter, Write};
+
+/// The clauses of a file.
+pub fn clauses_in(rt: &HostRuntime, file: &str) -> Result<Cnf> {
+    let text = text_of(rt, file)?;
+    clauses_of(rt.alloc(), text.as_str())
+}
 
 /// The clauses of the text. A clause may go over several lines.
-pub fn clauses_of(alloc: Global, text: &str) -> Result<Cnf> {
+fn clauses_of(alloc: Global, text: &str) -> Result<Cnf> {
     let mut cnf = None;
     let mut clause = Vec::new(alloc);
     for line in text.lines() {
@@ -63,4 +71,23 @@ fn add(cnf: &mut Cnf, clause: &[i32]) -> Result<()> {
     }
     cnf.add_literals(clause)?;
     Ok(())
+}
+
+/// Prints clauses, each in a line of its own.
+pub fn print_clauses(rt: &HostRuntime, cnf: &Cnf) -> Result<()> {
+    let mut out = BufWriter::new(rt.alloc(), io::writer(rt))?;
+    let clauses = &cnf.clauses;
+    writeln!(out, "p cnf {} {}", cnf.variables, clauses.len())?;
+    for i in 0..clauses.len() {
+        print_clause(&mut out, clauses.clause(i))?;
+    }
+    out.flush()?;
+    Ok(())
+}
+
+fn print_clause<W: Write>(out: &mut W, clause: &[Literal]) -> io::Result<()> {
+    for literal in clause {
+        write!(out, "{} ", literal.number())?;
+    }
+    writeln!(out, "0")
 }

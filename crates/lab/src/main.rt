@@ -10,14 +10,25 @@
 //! lab simulate FILE FIRST STEM CYCLE  prints the values of all variables in a run, or `no lasso`
 //! lab compose N FILE                  prints N copies of the net in ASCII
 //! lab safe FILE FORMULA               prints the safe net of a formula on it; its output is `bad`
+//! lab query FILE FORMULA base K            prints in DIMACS the clauses for a path of the safe net
+//!                                          of K steps from its start to a bad state
+//! lab query FILE FORMULA step K PROOF      prints those for K + 1 distinct good states with the
+//!                                          facts of a proof, and a step to a bad one
+//! lab query FILE FORMULA keep GROUP PROOF  prints those for a step from a state with the facts of
+//!                                          a proof to one without some fact of a group of 64
 //! ```
+//!
+//! A PROOF is what `mchyper --proof` printed: its lines of facts are read, and no others.
 #![tactic(auto)]
 
 mod check;
 mod circuits;
 mod dimacs;
+mod facts;
 mod files;
 mod graphs;
+mod posed;
+mod query;
 mod search;
 mod solve;
 mod tableau;
@@ -35,7 +46,7 @@ fn main(rt: HostRuntime) -> Result<ExitCode> {
         [command, rest @ ..] => run(&rt, command.as_str(), rest),
         [] => bail!(
             "the first word is a command: solve, check, tableau, search, aag, aig, simulate, \
-             compose, safe"
+             compose, safe, query"
         ),
     }
 }
@@ -52,6 +63,7 @@ fn run(rt: &HostRuntime, command: &str, words: &[String]) -> Result<ExitCode> {
         "simulate" => circuits::run(rt, words),
         "compose" => circuits::compose(rt, words),
         "safe" => circuits::safe(rt, words),
+        "query" => query::run(rt, words),
         _ => bail!("no command is called {command:?}"),
     }
 }

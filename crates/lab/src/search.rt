@@ -19,8 +19,14 @@ pub fn run(rt: &HostRuntime, words: &[String]) -> Result<ExitCode> {
     let [file] = words else {
         bail!("the words are: search FILE");
     };
-    let graph = graph_of(rt.alloc(), text_of(rt, file.as_str())?.as_str())?;
+    let graph = graph_in(rt, file.as_str())?;
     report::<Brand>(rt, &graph, Blank::new(1))
+}
+
+/// The graph of a file.
+fn graph_in(rt: &HostRuntime, file: &str) -> Result<Graph> {
+    let text = text_of(rt, file)?;
+    graph_of(rt.alloc(), text.as_str())
 }
 
 /// Searches, with a counter of steps of its own.
@@ -33,6 +39,11 @@ fn report<L: Ledger>(rt: &HostRuntime, graph: &Graph, blank: Blank) -> Result<Ex
     let start = Instant::now(rt)?;
     let found = search(rt.alloc(), graph, &mut steps)?;
     let seconds = start.elapsed(rt)?.as_secs_f64();
+    print_found(rt, &found, seconds)
+}
+
+/// Prints what was found and the seconds that it took, and gives the status for it.
+fn print_found(rt: &HostRuntime, found: &Found, seconds: f64) -> Result<ExitCode> {
     let status = match found {
         Found::Lasso(lasso) => {
             println!(rt; "walk {} {}", lasso.stem.len(), lasso.cycle.len())?;

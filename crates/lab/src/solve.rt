@@ -1,7 +1,8 @@
 //! `lab solve CONFLICTS FILE [--log]`.
 
-use crate::dimacs::clauses_of;
-use crate::files::text_of;
+ghost use Rattle.std.specs.Prelude.{◌<◌, ◌^◌, IfOk};
+
+use crate::dimacs::clauses_in;
 use anyhow::{Result, bail};
 use chain_check::{Log, print_log};
 use sat_core::{Assignment, Outcome, solve};
@@ -11,37 +12,59 @@ use std::process::ExitCode;
 /// Solves a file, and prints what solvers print; behind it the log, where it is asked for. The
 /// status is 10 for an assignment, 20 for a refutation, and else 0.
 pub fn run(rt: &HostRuntime, words: &[String]) -> Result<ExitCode> {
-    let (conflicts, file, with_log) = match words {
-        [conflicts, file] => (conflicts, file, false),
-        [conflicts, file, flag] if flag.as_str() == "--log" => (conflicts, file, true),
+    match words {
+        [conflicts, file] => solve_file(rt, conflicts.as_str(), file.as_str(), false),
+        [conflicts, file, flag] if flag.as_str() == "--log" => {
+            solve_file(rt, conflicts.as_str(), file.as_str(), true)
+        }
         _ => bail!("the words are: solve CONFLICTS FILE [--log]"),
-    };
-    let conflicts = match conflicts.as_str().parse::<u32>() {
-        Ok(conflicts) if conflicts < 1 << 31 => conflicts,
+    }
+}
+
+fn solve_file(rt: &HostRuntime, conflicts: &str, file: &str, with_log: bool) -> Result<ExitCode> {
+    let conflicts = conflicts_of(conflicts)?;
+    let cnf = clauses_in(rt, file)?;
+    let outcome = solve(rt.alloc(), &cnf, conflicts)?;
+    report(rt, &outcome, with_log)
+}
+
+/// The number of conflicts that a word stands for.
+fn conflicts_of(word: &str) -> Result<u32>
+    ensures { IfOk result (λ conflicts. conflicts < 2 ^ 31) }
+{
+    match word.parse::<u32>() {
+        Ok(conflicts) if conflicts < 1 << 31 => Ok(conflicts),
         _ => bail!("the number of conflicts is below 2147483648"),
-    };
-    let cnf = clauses_of(rt.alloc(), text_of(rt, file.as_str())?.as_str())?;
-    match solve(rt.alloc(), &cnf, conflicts)? {
+    }
+}
+
+/// Prints what a solver's answer comes to, and gives the status for it.
+fn report(rt: &HostRuntime, outcome: &Outcome, with_log: bool) -> Result<ExitCode> {
+    match outcome {
         Outcome::Satisfied(values) => {
-            println!(rt; "s SATISFIABLE")?;
-            print_values(rt, &values)?;
+            print_values(rt, values)?;
             Ok(ExitCode::from(10))
         }
         Outcome::Refuted(log) => {
-            println!(rt; "s UNSATISFIABLE")?;
-            print_text(rt, &log, with_log)?;
+            print_answer(rt, "s UNSATISFIABLE", log, with_log)?;
             Ok(ExitCode::from(20))
         }
         Outcome::Spent(log) => {
-            println!(rt; "s UNKNOWN")?;
-            print_text(rt, &log, with_log)?;
+            print_answer(rt, "s UNKNOWN", log, with_log)?;
             Ok(ExitCode::from(0))
         }
     }
 }
 
+/// Prints an answer, and behind it a log, where it is asked for.
+fn print_answer(rt: &HostRuntime, answer: &str, log: &Log, with_log: bool) -> Result<()> {
+    println!(rt; "{answer}")?;
+    print_text(rt, log, with_log)
+}
+
 /// Prints an assignment, as one line of literals that `0` ends.
 fn print_values(rt: &HostRuntime, values: &Assignment) -> Result<()> {
+    println!(rt; "s SATISFIABLE")?;
     let mut text = String::from_str(rt.alloc(), "v")?;
     for (place, value) in values.as_slice().iter().enumerate() {
         let sign = if *value { "" } else { "-" };

@@ -1,6 +1,6 @@
 //! `lab tableau STATES FILE`.
 
-ghost use Rattle.std.specs.Prelude.{◌≡◌, ◌*◌, ◌-◌, ◌≤◌, ◌<◌, ◌^◌, length, IfOk};
+ghost use Rattle.std.specs.Prelude.{◌*◌, ◌-◌, ◌≤◌, ◌<◌, ◌^◌, length, IfOk};
 
 use crate::files::text_of;
 use anyhow::{Result, bail};
@@ -19,13 +19,33 @@ pub fn run(rt: &HostRuntime, words: &[String]) -> Result<ExitCode> {
     let [states, file] = words else {
         bail!("the words are: tableau STATES FILE");
     };
-    let states = match states.as_str().parse::<u32>() {
-        Ok(states) if states < u32::MAX => states,
+    let states = states_of(states.as_str())?;
+    let c = closure_in(rt, file.as_str())?;
+    report(rt, &c, states)
+}
+
+/// The number of states that a word stands for.
+fn states_of(word: &str) -> Result<u32>
+    ensures { IfOk result (λ states. states < 2 ^ 32 - 1) }
+{
+    match word.parse::<u32>() {
+        Ok(states) if states < u32::MAX => Ok(states),
         _ => bail!("the number of states is below 4294967295"),
-    };
-    let c = body_closure(rt.alloc(), text_of(rt, file.as_str())?.as_str())?;
+    }
+}
+
+/// The closure of the body of the formula of a file.
+fn closure_in(rt: &HostRuntime, file: &str) -> Result<Closure> {
+    let text = text_of(rt, file)?;
+    body_closure(rt.alloc(), text.as_str())
+}
+
+/// Builds the tableau of a closure at its least width, and prints what it comes to.
+fn report(rt: &HostRuntime, c: &Closure, states: u32) -> Result<ExitCode>
+    requires { states < 2 ^ 32 - 1 }
+{
     println!(rt; "members {}", c.len())?;
-    each_width!(c.len(), build(rt, &c, states))
+    each_width!(c.len(), build(rt, c, states))
 }
 
 /// Builds the tableau of a closure at one width, and reports it.
@@ -35,17 +55,23 @@ fn build<const W: usize>(rt: &HostRuntime, c: &Closure, states: u32) -> Result<E
     requires states { states < 2 ^ 32 - 1 }
 {
     let start = Instant::now(rt)?;
-    let tableau = match Tableau::<W>::build(rt.alloc(), c, states) {
-        Ok(tableau) => tableau,
+    match Tableau::<W>::build(rt.alloc(), c, states) {
+        Ok(tableau) => {
+            let seconds = start.elapsed(rt)?.as_secs_f64();
+            print_sizes(rt, tableau.count(), tableau.graph(), seconds)
+        }
         Err(TableauError::States) => {
             println!(rt; "more than {states} branches")?;
-            return Ok(ExitCode::from(1));
+            Ok(ExitCode::from(1))
         }
         Err(error) => bail!("no tableau: {error:?}"),
-    };
-    let seconds = start.elapsed(rt)?.as_secs_f64();
-    println!(rt; "branches {}", tableau.count())?;
-    println!(rt; "edges {}", edges_of(tableau.graph()))?;
+    }
+}
+
+/// Prints how many branches and edges a tableau has, and the seconds that it took.
+fn print_sizes(rt: &HostRuntime, branches: u32, graph: &Graph, seconds: f64) -> Result<ExitCode> {
+    println!(rt; "branches {branches}")?;
+    println!(rt; "edges {}", edges_of(graph))?;
     println!(rt; "seconds {seconds:.3}")?;
     Ok(ExitCode::from(0))
 }
