@@ -282,6 +282,7 @@ pub kept : (safe : SafeNet) (conflicts : ℕ) (facts : List Fact) (logs : List (
     AreKept safe facts logs × AreKeepsWithin safe facts →
     IsKept safe conflicts (record { inv = facts; logs = logs; spent = gone })
 kept safe conflicts facts logs gone is search (logged, within) = record {
+  inside = all-in safe facts search.starting;
   inductive = kept-inductive safe facts logs is (all-in safe facts search.starting)
       search.starting.starts logged;
   starting = search.starting;

@@ -9,7 +9,7 @@ use Rattle.cnf_frames.specs.declared.facts.Fact.{Fact}
 use Rattle.cnf_frames.specs.declared.queries.Asked.TheVariants.{Keep}
 use Rattle.cnf_frames.specs.declared.queries.FrameError.{FrameError}
 use Rattle.cnf_frames.specs.declared.queries.FrameError.TheVariants.{Limit, Memory}
-use Rattle.cnf_frames.specs.Facts.{AllHold, AreAmong, IsInductive}
+use Rattle.cnf_frames.specs.Facts.{AllHold, AllIn, AreAmong, IsInductive}
 use Rattle.cnf_frames.specs.Queries.{IsPast, clauses_of, group_of, groups, variables_of}
 use Rattle.cnf_frames.specs.Proofs.{AreKeepsWithin, AreKept}
 use Rattle.invar_find.specs.declared.kept.SpentGroup.{SpentGroup}
@@ -48,6 +48,7 @@ HasAll safe spent facts =
     ((f : Fact) → Contains some f → IsOpenCandidate safe spent f) → AreAmong some facts
 
 pub record IsKept (safe : SafeNet) (conflicts : ℕ) (kept : Kept) : Type 0 where
+  pub inside : AllIn (length safe.net.latches) kept.inv
   pub inductive : IsInductive safe.net kept.inv
   pub starting : AreStarting safe kept.inv
   pub unspent : (f : Fact) → Contains kept.inv f → ¬ IsSpentFact kept.spent f

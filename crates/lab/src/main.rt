@@ -16,6 +16,8 @@
 //!                                          facts of a proof, and a step to a bad one
 //! lab query FILE FORMULA keep GROUP PROOF  prints those for a step from a state with the facts of
 //!                                          a proof to one without some fact of a group of 64
+//! lab ic3 CALLS FILE FORMULA          prints facts of the safe net, and clauses over its latches
+//!                                     that are found beside them
 //! ```
 //!
 //! A PROOF is what `mchyper --proof` printed: its lines of facts are read, and no others.
@@ -27,6 +29,7 @@ mod dimacs;
 mod facts;
 mod files;
 mod graphs;
+mod ic3;
 mod posed;
 mod query;
 mod search;
@@ -46,7 +49,7 @@ fn main(rt: HostRuntime) -> Result<ExitCode> {
         [command, rest @ ..] => run(&rt, command.as_str(), rest),
         [] => bail!(
             "the first word is a command: solve, check, tableau, search, aag, aig, simulate, \
-             compose, safe, query"
+             compose, safe, query, ic3"
         ),
     }
 }
@@ -64,6 +67,7 @@ fn run(rt: &HostRuntime, command: &str, words: &[String]) -> Result<ExitCode> {
         "compose" => circuits::compose(rt, words),
         "safe" => circuits::safe(rt, words),
         "query" => query::run(rt, words),
+        "ic3" => ic3::run(rt, words),
         _ => bail!("no command is called {command:?}"),
     }
 }

@@ -76,7 +76,7 @@ fn ask_keep(rt: &HostRuntime, safe: &SafeNet, group: &str, proof: &str) -> Resul
 }
 
 /// The number that a word stands for.
-fn number_of(word: &str) -> Result<u32> {
+pub fn number_of(word: &str) -> Result<u32> {
     match word.parse::<u32>() {
         Ok(number) => Ok(number),
         Err(_) => bail!("{word:?} is no number"),
@@ -90,10 +90,15 @@ fn print(rt: &HostRuntime, query: Result<Query, FrameError>) -> Result<ExitCode>
             print_clauses(rt, &query.cnf)?;
             Ok(ExitCode::from(0))
         }
-        Err(FrameError::Limit(limit)) => {
-            bail!("error E5: {} {}", count_text(limit.kind), limit.limit)
-        }
-        Err(FrameError::Memory) => bail!("error: memory"),
+        Err(error) => refuse(error),
+    }
+}
+
+/// Says why there is no query.
+pub fn refuse<T>(error: FrameError) -> Result<T> {
+    match error {
+        FrameError::Limit(limit) => bail!("error E5: {} {}", count_text(limit.kind), limit.limit),
+        FrameError::Memory => bail!("error: memory"),
     }
 }
 
