@@ -14,6 +14,7 @@ mod stating;
 mod writing;
 
 pub use facts::{Fact, Inv};
+pub use frames::add_frames;
 pub use inductions::{InductionProof, LogList};
 pub use laws::{
     clauses_are_few, facts_survive, induction, induction_proof, inductive_facts, queries_are_paths,
@@ -21,3 +22,5 @@ pub use laws::{
 };
 pub use printing::print_proof;
 pub use queries::{Asked, FrameError, Query, base_query, keep_query, step_fits, step_query};
+pub use stating::add_facts;
+pub use writing::{latch_number, number_of, opposite};
