@@ -1,0 +1,11 @@
+use Rattle.std.proofs.Common.{◌≡◌, ◌+◌, ◌≤◌, length}
+use Rattle.sat_core.proofs.solver.Solver.trace.Given as goal
+
+abbrev pub invariant-loop-p : goal.invariant-loop-p
+invariant-loop-p l = record {
+  long : length l.seen ≡ length l.initial.seen;
+  inside : l.p ≤ l.place + 1;
+}
+
+abbrev pub decreases-loop-p : goal.decreases-loop-p
+decreases-loop-p l = l.p
