@@ -15,3 +15,4 @@ pub mod Visiting
 pub mod Stamping
 pub mod Rewinding
 pub mod Assuming
+pub mod Forcing

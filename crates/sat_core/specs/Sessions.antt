@@ -1,6 +1,7 @@
 -- A session: what an ask does, and what it answers.
-use Rattle.std.specs.Prelude.{◌≡◌, ℕ, ◌<◌, ◌⊎◌, Bool, ℤ, pos, neg_ℤ, List, ◌∷◌, ◌++◌, [], length, Contains, slice_index_or}
+use Rattle.std.specs.Prelude.{◌≡◌, ℕ, ◌<◌, ◌⊎◌, Bool, true, false, ℤ, pos, neg_ℤ, List, ◌∷◌, ◌++◌, [], length, Contains, take, slice_index, slice_index_or}
 use Rattle.chain_check.specs.Clauses.{Clause, IsLiteral, IsMadeTrue, SatisfiesAll, IsSubset}
+use Rattle.sat_core.specs.declared.solver.Solver.{Solver}
 use Rattle.sat_core.specs.declared.solving.Search.{Search}
 use Rattle.sat_core.specs.declared.asking.Reply.{Reply}
 use Rattle.sat_core.specs.declared.asking.Reply.TheVariants.{Values, Core, Spent}
@@ -41,3 +42,26 @@ IsStepOf old new assumptions Full = IsSound new × (new.solver ≡ old.solver) �
     AreAllTrue new.solver.partial.literals assumptions
 IsStepOf old new assumptions (False l) = IsSound new × (new.solver ≡ old.solver) ×
     Contains assumptions l × Contains new.solver.partial.literals (neg_ℤ l)
+
+-- no values make the clauses and all these literals true
+abbrev pub Excludes : List Clause → List ℤ → Type 0
+Excludes clauses literals = (values : List Bool) → SatisfiesAll values clauses →
+    ¬ ((l : ℤ) → Contains literals l → IsMadeTrue values l)
+
+-- what makes the clauses, the marked places below p and all marked decisions true, makes l true
+abbrev pub IsTraced : Solver → List Bool → ℕ → ℤ → Type 0
+IsTraced s seen p l = (values : List Bool) → SatisfiesAll values s.clauses →
+    ((i : ℕ) → i < length s.partial.literals → slice_index_or seen i false ≡ true →
+    (i < p) ⊎ (slice_index s.reasons.items i ≡ 0) →
+    IsMadeTrue values (slice_index_or s.partial.literals i (pos 0))) → IsMadeTrue values l
+
+-- all decisions are assumptions
+abbrev pub AreDecided : Solver → List ℤ → Type 0
+AreDecided s assumptions = (q : ℕ) → q < length s.limits.items →
+    Contains assumptions (slice_index_or s.partial.literals (slice_index s.limits.items q) (pos 0))
+
+-- each decision is one of the assumptions, or was made when all of them were true
+abbrev pub AreAssumed : Solver → List ℤ → Type 0
+AreAssumed s assumptions = (q : ℕ) → q < length s.limits.items →
+    Contains assumptions (slice_index_or s.partial.literals (slice_index s.limits.items q) (pos 0))
+    ⊎ AreAllTrue (take (slice_index s.limits.items q) s.partial.literals) assumptions
