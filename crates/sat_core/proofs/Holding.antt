@@ -1,22 +1,18 @@
 -- The state of all watches, as the solver goes on, decides and goes back.
-use Rattle.std.proofs.Common.{◌≡◌, ◌≢◌, ℕ, suc, ◌+◌, ◌-◌, ◌*◌, ◌<◌, ◌≤◌, ◌⊎◌, List, [], ◌∷◌, ◌++◌, length, get_or, set, take, replicate, inl, inr, refl, sym, ap, ◌∙◌, subst, arith, get_or-set_same, get_or-set_other}
-use Rattle.std.specs.Prelude.{ℤ, pos, negsuc, neg_ℤ, Option}
+use Rattle.std.proofs.Common.{◌≡◌, ℕ, ◌+◌, ◌-◌, ◌*◌, ◌<◌, ◌≤◌, List, [], ◌∷◌, ◌++◌, length, get_or, take, replicate, inl, inr, sym, ap, ◌∙◌, subst, arith}
+use Rattle.std.specs.Prelude.{ℤ, pos, negsuc, Option}
 use Rattle.std.specs.List.{Contains}
-use Rattle.std.proofs.lemmas.Bool.{cases_eq, cases_lt}
-use Rattle.std.proofs.lemmas.List.{length-set, length_push, length-append, length-take-le, length-replicate, get_or-replicate, get_or_past, get_or_append_left, get_or_push, get_or_default, get_or-take}
-use Rattle.std.proofs.lemmas.List.Elements.{Contains-append_left, Contains-push, Contains-push_cases}
+use Rattle.std.proofs.lemmas.Bool.{cases_lt}
+use Rattle.std.proofs.lemmas.List.{length_push, length-append, length-take-le, length-replicate, get_or-replicate, get_or_past, get_or_append_left, get_or_push, get_or_default, get_or-take}
 use Rattle.chain_check.specs.Clauses.{Clause, IsLiteral}
 use Rattle.sat_core.specs.declared.solver.Solver.{Solver}
 use Rattle.sat_core.specs.declared.watches.Pair.{Pair}
-use Rattle.sat_core.specs.declared.watches.Watches.{Watches}
 use Rattle.sat_core.specs.Trails.{AreSettled, IsSettled}
 use Rattle.sat_core.specs.Solvers.{IsReady, GoesOn}
 use Rattle.sat_core.specs.Lists.{place_of}
-use Rattle.sat_core.specs.Watches.{StandsAt, IsCovered, IsFixed, IsWatched, IsHeld, IsWatching, no_pair, IsReplacement, IsOther, AreAdded}
-use Rattle.sat_core.specs.Lessons.{IsSecond, IsTaught}
-use Rattle.sat_core.proofs.Resolving.{consistent-trail}
-use Rattle.chain_check.proofs.Literals.{same-or-not, twice}
-use Rattle.sat_core.proofs.Covering.{place-of, there-at, stands-more, watched-settled, fixed-settled, watched-implied, fixed-implied, watched-decided, fixed-decided, watched-back, fixed-back, watched-next, covered-open, covered-none, covered-late}
+use Rattle.sat_core.specs.Watches.{IsFixed, IsWatched, IsHeld, IsWatching, no_pair}
+use Rattle.sat_core.specs.Lessons.{IsTaught}
+use Rattle.sat_core.proofs.Covering.{watched-settled, fixed-settled, watched-implied, fixed-implied, watched-decided, fixed-decided, watched-back, fixed-back}
 
 -- different literals have different places
 pub same-place : (l m : ℤ) → place_of l ≡ place_of m → l ≡ m
@@ -48,7 +44,7 @@ watching-settled s done pairs lists is long all c (k, lt, e) =
     ])
 
 -- a state given by its parts
-watching-from : (t : Solver) (n : ℕ) (clauses : List Clause) (trail : List ℤ) (limits : List ℕ)
+pub watching-from : (t : Solver) (n : ℕ) (clauses : List Clause) (trail : List ℤ) (limits : List ℕ)
     (done : ℕ) (pairs : List Pair) (lists : List (List ℕ)) → t.partial.variables ≡ n →
     t.clauses ≡ clauses → t.partial.literals ≡ trail → t.limits.items ≡ limits →
     done ≤ length trail → ((q : ℕ) → q < length limits → get_or limits q 0 ≤ done) →

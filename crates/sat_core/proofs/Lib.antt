@@ -13,3 +13,6 @@ pub mod Rounds
 pub mod Adding
 pub mod Visiting
 pub mod Stamping
+pub mod Rewinding
+pub mod Assuming
+pub mod Forcing

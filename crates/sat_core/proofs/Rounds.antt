@@ -1,22 +1,18 @@
 -- A round of visits to the clauses that watch a literal.
-use Rattle.std.proofs.Common.{◌≡◌, ◌≢◌, ℕ, suc, ◌+◌, ◌-◌, ◌*◌, ◌<◌, ◌≤◌, ◌⊎◌, List, [], ◌∷◌, ◌++◌, length, get_or, set, take, replicate, inl, inr, refl, sym, ap, ◌∙◌, subst, arith, get_or-set_same, get_or-set_other}
-use Rattle.std.specs.Prelude.{ℤ, pos, negsuc, neg_ℤ, Option}
+use Rattle.std.proofs.Common.{◌≡◌, ◌≢◌, ℕ, suc, ◌+◌, ◌-◌, ◌<◌, ◌≤◌, ◌⊎◌, List, [], ◌∷◌, ◌++◌, length, get_or, set, take, inl, inr, refl, sym, ap, ◌∙◌, subst, arith, get_or-set_same, get_or-set_other}
+use Rattle.std.specs.Prelude.{ℤ, neg_ℤ}
 use Rattle.std.specs.List.{Contains}
-use Rattle.std.proofs.lemmas.Bool.{cases_eq, cases_lt}
-use Rattle.std.proofs.lemmas.List.{length-set, length_push, length-append, length-take-le, length-replicate, get_or-replicate, get_or_past, get_or_append_left, get_or_push, get_or_default, get_or-take}
+use Rattle.std.proofs.lemmas.Bool.{cases_eq}
+use Rattle.std.proofs.lemmas.List.{length-set, length-take-le, get_or_default, get_or-take}
 use Rattle.std.proofs.lemmas.List.Elements.{Contains-append_left, Contains-push, Contains-push_cases}
 use Rattle.chain_check.specs.Clauses.{Clause, IsLiteral}
 use Rattle.sat_core.specs.declared.solver.Solver.{Solver}
 use Rattle.sat_core.specs.declared.watches.Pair.{Pair}
-use Rattle.sat_core.specs.declared.watches.Watches.{Watches}
-use Rattle.sat_core.specs.Trails.{AreSettled, IsSettled}
-use Rattle.sat_core.specs.Solvers.{IsReady, GoesOn}
+use Rattle.sat_core.specs.Solvers.{GoesOn}
 use Rattle.sat_core.specs.Lists.{place_of}
-use Rattle.sat_core.specs.Watches.{StandsAt, IsCovered, IsFixed, IsWatched, IsHeld, IsWatching, no_pair, IsReplacement, IsOther, AreAdded}
-use Rattle.sat_core.specs.Lessons.{IsSecond, IsTaught}
-use Rattle.sat_core.proofs.Resolving.{consistent-trail}
+use Rattle.sat_core.specs.Watches.{StandsAt, IsCovered, IsFixed, IsWatched, IsHeld, IsWatching, no_pair, IsReplacement, IsOther}
 use Rattle.chain_check.proofs.Literals.{same-or-not, twice}
-use Rattle.sat_core.proofs.Covering.{place-of, there-at, stands-more, watched-settled, fixed-settled, watched-implied, fixed-implied, watched-decided, fixed-decided, watched-back, fixed-back, watched-next, covered-open, covered-none, covered-late}
+use Rattle.sat_core.proofs.Covering.{there-at, stands-more, watched-implied, fixed-implied, watched-next, covered-open}
 use Rattle.sat_core.proofs.Holding.{same-place, place-inside, held-on, watching-on, watching-lists}
 
 -- the clause is watched one place further

@@ -52,6 +52,28 @@ empty-follows n before chain refuted = record {
   refuted = refuted;
 }
 
+-- what stands on the trail is true by the values
+pub made-true : (s : Solver) (values : List Bool) → IsReady s →
+    AreValues s.partial.variables s.partial.literals values → (l : ℤ) →
+    IsLiteral s.partial.variables l → Contains s.partial.literals l → IsMadeTrue values l
+made-true s values ready is (pos zero) right true' = absurd (omega (arith, right.0))
+made-true s values ready is (pos (suc v)) right true' =
+    let P : ℕ → Type 0 = λ k. Contains s.partial.literals (pos k) in
+    let same : suc v ≡ v + 1 = omega arith in
+    let Q : ℕ → Type 0 = λ k. get_or values k false ≡ true in
+    let place : v ≡ suc v - 1 = omega arith in
+    subst Q place ((is.right v (omega (arith, right.1))).1 (subst P same true'))
+made-true s values ready is (negsuc v) right true' =
+    let P : ℕ → Type 0 = λ k. Contains s.partial.literals (pos k) in
+    let same : v + 1 ≡ suc v = omega arith in
+    let Q : ℕ → Type 0 = λ k. get_or values k false ≡ false in
+    let place : v ≡ suc v - 1 = omega arith in
+    subst Q place (elim (cases_Bool (get_or values v false)) [
+      | inr no' ↦ no'
+      | inl yes' ↦ absurd (consistent-trail s ready (negsuc v) true'
+          (subst P same ((is.right v (omega (arith, right.1))).0 yes')))
+    ])
+
 -- every settled clause has a true literal where no literal is open
 pub all-satisfied : (s : Solver) (values : List Bool) → IsReady s →
     AreSettled s.clauses s.partial.literals →
@@ -59,6 +81,7 @@ pub all-satisfied : (s : Solver) (values : List Bool) → IsReady s →
     Contains s.partial.literals (neg_ℤ l)) → AreValues s.partial.variables s.partial.literals values
     → SatisfiesAll values s.clauses
 all-satisfied s values ready settled full is c there =
+    let made = made-true s values ready is in
     elim (settled c there) [
       | inl (l, of, true') ↦ (l, of, made l (ready.right c there l of) true')
       | inr (l, m, two) ↦ elim (full l (ready.right c there l two.first)) [
@@ -66,26 +89,6 @@ all-satisfied s values ready settled full is c there =
         | inr false' ↦ absurd (two.open_first false')
       ]
     ]
-  where
-    made : (l : ℤ) → IsLiteral s.partial.variables l → Contains s.partial.literals l →
-        IsMadeTrue values l
-    made (pos zero) right true' = absurd (omega (arith, right.0))
-    made (pos (suc v)) right true' =
-        let P : ℕ → Type 0 = λ k. Contains s.partial.literals (pos k) in
-        let same : suc v ≡ v + 1 = omega arith in
-        let Q : ℕ → Type 0 = λ k. get_or values k false ≡ true in
-        let place : v ≡ suc v - 1 = omega arith in
-        subst Q place ((is.right v (omega (arith, right.1))).1 (subst P same true'))
-    made (negsuc v) right true' =
-        let P : ℕ → Type 0 = λ k. Contains s.partial.literals (pos k) in
-        let same : v + 1 ≡ suc v = omega arith in
-        let Q : ℕ → Type 0 = λ k. get_or values k false ≡ false in
-        let place : v ≡ suc v - 1 = omega arith in
-        subst Q place (elim (cases_Bool (get_or values v false)) [
-          | inr no' ↦ no'
-          | inl yes' ↦ absurd (consistent-trail s ready (negsuc v) true'
-              (subst P same ((is.right v (omega (arith, right.1))).0 yes')))
-        ])
 
 pub less-open : (m n x y : ℕ) → x < y → y ≤ n → m + (n - y) < m + (n - x)
 less-open m n x y lt le = omega arith

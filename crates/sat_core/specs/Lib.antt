@@ -10,3 +10,5 @@ pub mod Visits
 pub mod Lessons
 pub mod Searches
 pub mod Marks
+pub mod Sessions
+pub mod Keeping

@@ -1,8 +1,7 @@
 -- What a search found.
-use Rattle.std.specs.Prelude.{◌≡◌, ℕ, ◌+◌, ◌<◌, ◌^◌, ◌↔◌, Bool, true, false, ℤ, pos, List, [], ◌∷◌, ◌++◌, length, Contains, slice_index_or}
+use Rattle.std.specs.Prelude.{◌≡◌, ℕ, ◌+◌, ◌<◌, ◌^◌, ◌↔◌, Bool, true, false, ℤ, pos, List, length, Contains, slice_index_or}
 use Rattle.sat_core.specs.declared.solving.Outcome.{Outcome}
 use Rattle.sat_core.specs.declared.solving.Outcome.TheVariants.{Satisfied, Refuted, Spent}
-use Rattle.chain_check.specs.declared.logs.Learned.{Learned}
 use Rattle.chain_check.specs.Clauses.{Clause, SatisfiesAll}
 use Rattle.chain_check.specs.Logs.{IsPassed, AreNew, EndsEmpty}
 

@@ -3,13 +3,19 @@
 
 mod analysis;
 mod analyzing;
+mod asking;
+mod cores;
+mod entering;
 mod learning;
 mod lists;
 mod marks;
 mod order;
+mod session;
 mod solver;
 mod solving;
 mod watches;
 mod watching;
 
+pub use asking::Reply;
+pub use session::Session;
 pub use solving::{Assignment, Outcome, solve};

@@ -129,7 +129,7 @@ pub struct Search {
 
 impl Search {
     /// Nothing is true or watched yet.
-    fn new(alloc: Global, cnf: &Cnf) -> M<Search>
+    pub(crate) fn new(alloc: Global, cnf: &Cnf) -> M<Search>
         ensures start { IfOk result IsStart }
         ensures clauses { IfOk result (λ s. s.solver.clauses ≡ cnf.now.clauses) }
         ensures variables { IfOk result (λ s. s.solver.partial.variables ≡ cnf.now.variables) }
@@ -145,7 +145,7 @@ impl Search {
 
     /// Makes true what follows by single clauses. The number of a clause with only false literals,
     /// or none, where each clause has a true literal or two that are not false.
-    fn propagate(&mut self, alloc: Global) -> M<Option<u32>>
+    pub(crate) fn propagate(&mut self, alloc: Global) -> M<Option<u32>>
         requires { IsSound self.old }
         ensures sound { OnOk result (IsSound self.new) }
         ensures goes_on { OnOk result (GoesOn self.old.solver self.new.solver) }
@@ -179,7 +179,7 @@ impl Search {
     }
 
     /// Learns from a conflict.
-    fn learn(&mut self, alloc: Global, number: u32) -> M<Learned>
+    pub(crate) fn learn(&mut self, alloc: Global, number: u32) -> M<Learned>
         requires sound { IsSound self.old }
         requires conflict { IsConflict self.old.solver number }
         requires level { 0 < length self.old.solver.limits.items }
