@@ -5,11 +5,11 @@ ghost use Rattle.aig_net.specs.Nets.{variables};
 ghost use Rattle.chain_check.specs.Clauses.{AreLiterals};
 ghost use Rattle.cnf_frames.specs.Facts.{AllIn, IsSafe};
 
-use crate::session::{Reply, Session};
 use chain_check::{Cnf, Literal};
 use cnf_frames::{Inv, add_facts, add_frames};
 use hy_base::M;
 use live_safe::SafeNet;
+use sat_core::{Reply, Session};
 use std::alloc::Global;
 
 /// How many clauses a call may learn.

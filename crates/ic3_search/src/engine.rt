@@ -11,12 +11,11 @@ use crate::asker::Asker;
 use crate::cubes::{Cube, part_of};
 use crate::layout::{Layout, Switch, clause_outside, push_cube};
 use crate::lemmas::Lemmas;
-use crate::session::Reply;
 use chain_check::{Clause, Literal};
 use cnf_frames::Inv;
 use hy_base::M;
 use live_safe::SafeNet;
-use sat_core::Assignment;
+use sat_core::{Assignment, Reply};
 use std::alloc::Global;
 
 /// How many levels there may be.

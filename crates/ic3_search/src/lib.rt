@@ -13,7 +13,6 @@ mod lemmas;
 mod obligations;
 mod pushing;
 mod reducing;
-mod session;
 
 pub use clauses::{LatchClause, LatchClauseList};
 pub use finding::find_clauses;

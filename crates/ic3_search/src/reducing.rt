@@ -8,11 +8,11 @@ ghost use Rattle.cnf_frames.specs.Facts.{AllIn, IsSafe};
 use crate::asker::Asker;
 use crate::cubes::Cube;
 use crate::layout::{Layout, Switch, clause_outside, push_cube};
-use crate::session::Reply;
 use chain_check::{Clause, Literal};
 use cnf_frames::Inv;
 use hy_base::M;
 use live_safe::SafeNet;
+use sat_core::Reply;
 use std::alloc::Global;
 
 /// How many cubes are reduced at most.
