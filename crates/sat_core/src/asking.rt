@@ -43,6 +43,8 @@ impl Search {
         requires open_yet { IsOpenIn self.old.solver.partial.literals l }
         ensures sound { OnOk result (IsSound self.new) }
         ensures clauses { OnOk result (self.new.solver.clauses ≡ self.old.solver.clauses) }
+        ensures limits { OnOk result (self.new.solver.limits.items
+            ≡ self.old.solver.limits.items ++ length self.old.solver.partial.literals ∷ []) }
         ensures pushed { OnOk result (self.new.solver.partial ≡ record self.old.solver.partial
             { literals = self.old.solver.partial.literals ++ l ∷ [] }) }
     {
