@@ -112,12 +112,7 @@ impl Search {
     }
 
     /// Searches for values that make the assumptions true, learning at most so many clauses.
-    pub(crate) fn ask(
-        &mut self,
-        alloc: Global,
-        assumptions: &[Literal],
-        conflicts: u32,
-    ) -> M<Reply>
+    pub(crate) fn ask(&mut self, alloc: Global, assumptions: &[Literal], conflicts: u32) -> M<Reply>
         requires sound { IsSound self.old }
         requires right { AreLiterals self.old.solver.partial.variables assumptions.now }
         requires few { conflicts < 2 ^ 31 }
@@ -150,9 +145,9 @@ impl Search {
                         Step::Decided => {}
                         Step::Full => return Ok(Reply::Values(self.solver.values(alloc)?)),
                         Step::False(l) => {
-                            let core =
-                                self.solver
-                                    .core_of(alloc, &mut self.analysis.seen, assumptions, l)?;
+                            let core = self
+                                .solver
+                                .core_of(alloc, &mut self.analysis.seen, assumptions, l)?;
                             return Ok(Reply::Core(core));
                         }
                     }
