@@ -1,9 +1,9 @@
 -- A search under assumptions.
-use Rattle.std.proofs.Common.{◌≡◌, ℕ, ◌+◌, ◌-◌, ◌<◌, ◌≤◌, ◌⊎◌, Bool, List, [], ◌∷◌, ◌++◌, length, get_or, inl, inr, sym, ap, ◌∙◌, subst, arith}
-use Rattle.std.specs.Prelude.{ℤ, pos, neg_ℤ, Result, Ok, Err, OnOk, IfOk}
+use Rattle.std.proofs.Common.{◌≡◌, ℕ, ◌+◌, ◌-◌, ◌<◌, ◌≤◌, ◌⊎◌, Bool, List, [], ◌∷◌, ◌++◌, length, get_or, take, drop, inl, inr, refl, sym, ap, ◌∙◌, subst, arith}
+use Rattle.std.specs.Prelude.{ℤ, pos, neg_ℤ, Option, Result, Ok, Err, OnOk, IfOk}
 use Rattle.std.specs.List.{Contains}
-use Rattle.std.proofs.lemmas.Bool.{cases_eq}
-use Rattle.std.proofs.lemmas.List.{append_assoc, append-nil, length_push, get_or_default}
+use Rattle.std.proofs.lemmas.Bool.{cases_eq, cases_lt}
+use Rattle.std.proofs.lemmas.List.{append_assoc, append-nil, length_push, get_or_default, length-take-le, get_or_append_left, get_or_push, get_or-take, take-append-le, take-take, take-append-drop, take_at}
 use Rattle.std.proofs.lemmas.List.Elements.{Contains-append_left, Contains-push_cases}
 use Rattle.chain_check.specs.declared.logs.Learned.{Learned}
 use Rattle.chain_check.specs.Clauses.{Clause, IsLiteral, AreLiterals, IsMadeTrue, Satisfies, SatisfiesAll, IsSubset}
@@ -16,10 +16,12 @@ use Rattle.sat_core.specs.Searches.{IsSound}
 use Rattle.sat_core.specs.Watches.{IsWatching}
 use Rattle.sat_core.proofs.Holding.{watching-decided}
 use Rattle.sat_core.specs.Outcomes.{AreValues}
-use Rattle.sat_core.specs.Sessions.{IsLearned, AreFirstTrue, AreAllTrue}
+use Rattle.sat_core.specs.Sessions.{IsLearned, AreFirstTrue, AreAllTrue, AreAssumed, AreDecided, IsDecided}
+use Rattle.sat_core.specs.Lessons.{IsTaught}
 use Rattle.sat_core.specs.Solvers.{IsReady, GoesOn}
 use Rattle.sat_core.specs.Trails.{AreSettled}
 use Rattle.sat_core.proofs.Propagating.{not-shorter, no-more-than}
+use Rattle.sat_core.proofs.Resolving.{consistent-trail}
 use Rattle.sat_core.proofs.Searching.{all-satisfied, made-true, less-open}
 
 pub learned-none : (old new : List Clause) → new ≡ old → IsLearned old new
@@ -143,3 +145,127 @@ subset-more core assumptions l all there m of = elim (Contains-push_cases core l
   | inl old ↦ all m old
   | inr same ↦ let P : ℤ → Type 0 = Contains assumptions in subst P same there
 ]
+
+-- at the place of a decision: it is one of the assumptions, or all these were true
+abbrev IsAssumedAt : List ℤ → List ℤ → ℕ → Type 0
+IsAssumedAt assumptions trail k = Contains assumptions (get_or trail k (pos 0)) ⊎
+    AreAllTrue (take k trail) assumptions
+
+assumed-at : (assumptions xs ys : List ℤ) (k : ℕ) → get_or ys k (pos 0) ≡ get_or xs k (pos 0) →
+    take k ys ≡ take k xs → IsAssumedAt assumptions xs k → IsAssumedAt assumptions ys k
+assumed-at assumptions xs ys k at front (inl there) = let P : ℤ → Type 0 = Contains assumptions in
+    inl (subst P (sym at) there)
+assumed-at assumptions xs ys k at front (inr all) =
+    let P : List ℤ → Type 0 = λ zs. AreAllTrue zs assumptions in inr (subst P (sym front) all)
+
+-- a state given by its parts
+assumed-from : (t : Solver) (assumptions trail : List ℤ) (limits : List ℕ) →
+    t.partial.literals ≡ trail → t.limits.items ≡ limits →
+    ((q : ℕ) → q < length limits → IsAssumedAt assumptions trail (get_or limits q 0)) →
+    AreAssumed t assumptions
+assumed-from t assumptions trail limits e f all =
+    let P : List ℤ → Type 0 = λ xs. (q : ℕ) → q < length limits →
+    IsAssumedAt assumptions xs (get_or limits q 0) in
+    let Q : List ℕ → Type 0 = λ ls. (q : ℕ) → q < length ls →
+    IsAssumedAt assumptions t.partial.literals (get_or ls q 0) in
+    subst Q (sym f) (subst P (sym e) all)
+
+pub assumed-none : (t : Solver) (assumptions : List ℤ) → t.limits.items ≡ [] →
+    AreAssumed t assumptions
+assumed-none t assumptions none q lt = absurd (omega (arith, lt, ap length none))
+
+pub assumed-on : (s t : Solver) (assumptions : List ℤ) → IsReady s → GoesOn s t →
+    AreAssumed s assumptions → AreAssumed t assumptions
+assumed-on s t assumptions ready on all =
+    let (more, e) = on.longer in
+    assumed-from t assumptions (s.partial.literals ++ more) s.limits.items e on.limits
+    (λ q lt. assumed-at assumptions s.partial.literals (s.partial.literals ++ more)
+    (get_or s.limits.items q 0)
+    (get_or_append_left s.partial.literals more (pos 0) (get_or s.limits.items q 0)
+    (ready.trail.within q lt))
+    (take-append-le (get_or s.limits.items q 0) s.partial.literals more
+    (omega (arith, ready.trail.within q lt))) (all q lt))
+
+pub assumed-decided : (s t : Search) (assumptions : List ℤ) (l : ℤ) → IsReady s.solver →
+    IsDecided s t assumptions l → AreAssumed s.solver assumptions → AreAssumed t.solver assumptions
+assumed-decided s t assumptions l ready is all =
+    assumed-from t.solver assumptions (trail ++ l ∷ []) (limits ++ length trail ∷ [])
+    (ap (λ q. q.literals) is.pushed) is.limits each
+  where
+    trail : List ℤ
+    trail = s.solver.partial.literals
+
+    limits : List ℕ
+    limits = s.solver.limits.items
+
+    here : IsAssumedAt assumptions (trail ++ l ∷ []) (length trail)
+    here = elim is.assumed [
+      | inl there ↦ let P : ℤ → Type 0 = Contains assumptions in
+          inl (subst P (sym (get_or_push trail l (pos 0) (length trail) refl)) there)
+      | inr true' ↦ let P : List ℤ → Type 0 = λ xs. AreAllTrue xs assumptions in
+          inr (subst P (sym (take_at trail (l ∷ []) (length trail) refl)) true')
+    ]
+
+    each : (q : ℕ) → q < length (limits ++ length trail ∷ []) →
+        IsAssumedAt assumptions (trail ++ l ∷ []) (get_or (limits ++ length trail ∷ []) q 0)
+    each q lt = let P : ℕ → Type 0 = IsAssumedAt assumptions (trail ++ l ∷ []) in
+        elim (cases_lt q (length limits)) [
+          | inl old ↦
+              subst P (sym (get_or_append_left limits (length trail ∷ []) 0 q old))
+              (assumed-at assumptions trail (trail ++ l ∷ []) (get_or limits q 0)
+              (get_or_append_left trail (l ∷ []) (pos 0) (get_or limits q 0)
+              (ready.trail.within q old))
+              (take-append-le (get_or limits q 0) trail (l ∷ [])
+              (omega (arith, ready.trail.within q old))) (all q old))
+          | inr past ↦
+              subst P (sym (get_or_push limits (length trail) 0 q
+              (omega (arith, lt, past, length_push limits (length trail))))) here
+        ]
+
+pub assumed-taught : (s t : Solver) (assumptions : List ℤ) (c : Clause) (top : ℤ)
+    (second : Option ℤ) (level : ℕ) → IsReady s → IsTaught s t c top second level →
+    AreAssumed s assumptions → AreAssumed t assumptions
+assumed-taught s t assumptions c top second level ready taught all =
+    assumed-from t assumptions (take to s.partial.literals ++ top ∷ []) (take level s.limits.items)
+    taught.trail taught.limits each
+  where
+    to : ℕ
+    to = get_or s.limits.items level 0
+
+    front : length (take to s.partial.literals) ≡ to
+    front = length-take-le to s.partial.literals
+        (omega (arith, ready.trail.within level taught.inside))
+
+    each : (q : ℕ) → q < length (take level s.limits.items) → IsAssumedAt assumptions
+        (take to s.partial.literals ++ top ∷ []) (get_or (take level s.limits.items) q 0)
+    each q lt =
+        let small : q < level = omega (
+          arith,
+          lt,
+          length-take-le level s.limits.items (omega (arith, taught.inside)),
+        ) in
+        let k : ℕ = get_or s.limits.items q 0 in
+        let low : k < to = ready.trail.rising q level small taught.inside in
+        let P : ℕ → Type 0 = IsAssumedAt assumptions (take to s.partial.literals ++ top ∷ []) in
+        subst P (sym (get_or-take level s.limits.items q 0 small))
+        (assumed-at assumptions s.partial.literals (take to s.partial.literals ++ top ∷ []) k
+        (get_or_append_left (take to s.partial.literals) (top ∷ []) (pos 0) k
+        (omega (arith, low, front)) ∙ get_or-take to s.partial.literals k (pos 0) low)
+        (take-append-le k (take to s.partial.literals) (top ∷ []) (omega (arith, low, front)) ∙
+        take-take k to s.partial.literals (omega (arith, low)))
+        (all q (omega (arith, small, taught.inside))))
+
+-- with an assumption that is false, all decisions are assumptions
+pub decided-all : (s : Solver) (assumptions : List ℤ) (l : ℤ) → IsReady s →
+    AreAssumed s assumptions → Contains assumptions l → Contains s.partial.literals (neg_ℤ l) →
+    AreDecided s assumptions
+decided-all s assumptions l ready assumed there false' q lt =
+    elim (assumed q lt) [
+      | inl of ↦ of
+      | inr all ↦
+          let k : ℕ = get_or s.limits.items q 0 in
+          let P : List ℤ → Type 0 = λ xs. Contains xs l in
+          absurd (consistent-trail s ready l (subst P (take-append-drop k s.partial.literals)
+          (Contains-append_left (take k s.partial.literals) (drop k s.partial.literals) l
+          (all l there))) false')
+    ]

@@ -6,7 +6,7 @@ use Rattle.std.specs.List.{Contains}
 use Rattle.std.proofs.lemmas.Bool.{cases_eq, cases_lt}
 use Rattle.std.proofs.lemmas.List.{length-take-le, get_or-take}
 use Rattle.std.proofs.lemmas.List.Elements.{Contains-append_left, Contains-push, Contains-push_cases}
-use Rattle.chain_check.specs.Clauses.{Clause, AreLiterals, IsMadeTrue, Satisfies, SatisfiesAll}
+use Rattle.chain_check.specs.Clauses.{Clause, AreLiterals, IsMadeTrue, IsSubset, Satisfies, SatisfiesAll}
 use Rattle.chain_check.specs.Chains.{IsUnit}
 use Rattle.chain_check.proofs.Literals.{same-or-not, not-both, same-variable}
 use Rattle.chain_check.proofs.Passing.{numbered-there}
@@ -267,3 +267,10 @@ pub true-place : (s : Solver) (l : ℤ) (i place : ℕ) → IsReady s →
     StandsAt s.partial.literals l i → place ≡ get_or s.places.items (unsigned_abs l) 0 → place ≡ i
 true-place s l i place ready (inside, at) its =
     its ∙ ap (λ z. get_or s.places.items (unsigned_abs z) 0) (sym at) ∙ ready.placed i inside
+
+-- the core of no literal
+pub none-core : (clauses : List Clause) (core assumptions : List ℤ) → core ≡ [] →
+    Excludes clauses [] → IsSubset core assumptions × Excludes clauses core
+none-core clauses core assumptions none excluded =
+    let P : List ℤ → Type 0 = λ d. IsSubset d assumptions × Excludes clauses d in
+    subst P (sym none) (λ l (k, lt, e). absurd (omega arith), excluded)

@@ -1,6 +1,6 @@
 -- A search between two asks: back to before all decisions, and one clause more.
-use Rattle.std.proofs.Common.{◌≡◌, ℕ, ◌+◌, ◌^◌, ◌<◌, ◌≤◌, Bool, true, false, List, [], ◌∷◌, ◌++◌, Some, length, get_or, take, inl, inr, refl, sym, ap, ◌∙◌, subst, arith}
-use Rattle.std.specs.Prelude.{ℤ, pos, unsigned_abs, MatchBool, ⊤, slice_get}
+use Rattle.std.proofs.Common.{◌≡◌, ℕ, ◌+◌, ◌^◌, ◌<◌, ◌≤◌, Bool, true, false, List, [], ◌∷◌, ◌++◌, length, get_or, take, inl, inr, refl, sym, ap, ◌∙◌, subst, arith}
+use Rattle.std.specs.Prelude.{ℤ, pos, unsigned_abs, Option, Some, None, is_some, not, MatchBool, MatchOption, Result, Ok, Err, OnOk, IfOk, slice_get}
 use Rattle.std.specs.List.{Contains}
 use Rattle.std.proofs.lemmas.Bool.{cases_eq}
 use Rattle.std.proofs.lemmas.List.{length-take-le, length_push, get_or_append_left, get_or-take}
@@ -13,10 +13,12 @@ use Rattle.sat_core.specs.declared.watches.Watches.{Watches}
 use Rattle.sat_core.specs.Backs.{IsBack}
 use Rattle.sat_core.specs.Lists.{place_of}
 use Rattle.sat_core.specs.Searches.{IsSound}
-use Rattle.sat_core.specs.Solvers.{IsReady, GoesOn}
+use Rattle.sat_core.specs.Solvers.{IsReady, GoesOn, IsConflict}
+use Rattle.sat_core.specs.Sessions.{Excludes}
 use Rattle.sat_core.specs.Watches.{AllFalseBut, AreAdded, IsHeld, IsReplacement, IsWatching, no_pair}
 use Rattle.sat_core.proofs.Adding.{watching-added, held-fixed, added-long, added-old, added-cases, added-first, added-second}
 use Rattle.sat_core.proofs.Covering.{covered-open, watched-back, fixed-back}
+use Rattle.sat_core.proofs.Forcing.{conflict-unmet}
 use Rattle.sat_core.proofs.Holding.{held-on, place-inside, watching-from, watching-on}
 use Rattle.sat_core.proofs.Visiting.{clause-is, literals-read}
 
@@ -192,14 +194,44 @@ module _ (s : Solver) (w : Watches) (place : ℕ) (ready : IsReady s)
         long-more w'.pairs.items pair e,
       )
 
--- a search whose last clause is watched, too
-pub sound-entered : (t : Search) (entered : Bool) (place : ℕ) (C : Type 0) → IsReady t.solver →
-    place + 1 ≡ length t.solver.clauses → MatchBool entered
+-- a search whose last clause is watched, too, or false for good
+pub sound-entered : (t : Search) (entered : Bool) (place : ℕ) → IsReady t.solver →
+    length t.solver.limits.items ≡ 0 → place + 1 ≡ length t.solver.clauses → MatchBool entered
     (IsWatching t.solver t.watches.done t.watches.pairs.items t.watches.lists
-    × (length t.watches.pairs.items ≡ place + 1)) C → MatchBool entered (IsSound t) (⊤)
-sound-entered t true place C ready all is = record {
+    × (length t.watches.pairs.items ≡ place + 1)) (IsConflict t.solver (place + 1)) →
+    MatchBool entered (IsSound t) (Excludes t.solver.clauses [])
+sound-entered t true place ready none all is = record {
   ready = ready;
   watching = is.0;
   long = is.1 ∙ all;
 }
-sound-entered t false place C ready all is = tt
+sound-entered t false place ready none all is = λ values sat given.
+    conflict-unmet t.solver (place + 1) ready none is values sat
+
+pub sound-added : (s : Solver) (t : Search) (place : ℕ) {E : Type 0} (r : Result Bool E) →
+    OnOk r (IsReady t.solver) → OnOk r (GoesOn s t.solver) → s.limits.items ≡ [] →
+    place + 1 ≡ length s.clauses → IfOk r (λ entered. MatchBool entered
+    (IsWatching t.solver t.watches.done t.watches.pairs.items t.watches.lists
+    × (length t.watches.pairs.items ≡ place + 1)) (IsConflict t.solver (place + 1))) →
+    IfOk r (λ entered. MatchBool entered (IsSound t) (Excludes t.solver.clauses []))
+sound-added s t place (Err e) ready on none all is = tt
+sound-added s t place (Ok entered) ready on none all is =
+    sound-entered t entered place ready (ap length (on.limits ∙ none))
+    (all ∙ sym (ap length on.clauses)) is
+
+-- a search at its start, of which all is watched or a clause is false for good
+pub first-kept : (t : Search) (n : ℕ) (found : Option ℕ) (refuted : Bool) →
+    refuted ≡ is_some found → IsReady t.solver → length t.solver.limits.items ≡ 0 →
+    t.solver.partial.variables ≡ n → MatchOption found
+    (IsWatching t.solver t.watches.done t.watches.pairs.items t.watches.lists
+    × (length t.watches.pairs.items ≡ length t.solver.clauses)) (λ k. IsConflict t.solver k) →
+    (not refuted ≡ true → IsSound t × (t.solver.partial.variables ≡ n)) ×
+    (refuted ≡ true → Excludes t.solver.clauses [])
+first-kept t n None refuted e ready none same is = (
+  λ sound. (record { ready = ready; watching = is.0; long = is.1 }, same),
+  λ h. let clash : false ≡ true = sym e ∙ h in absurd (cc),
+)
+first-kept t n (Some k) refuted e ready none same is = (
+  λ h. let clash : false ≡ true = sym (ap not e) ∙ h in absurd (cc),
+  λ h values sat given. conflict-unmet t.solver k ready none is values sat,
+)

@@ -14,10 +14,16 @@ pub record IsLearned (old new : List Clause) : Type 0 where
   pub longer : (more : List Clause) × (new ≡ old ++ more)
   pub followed : (values : List Bool) → SatisfiesAll values old → SatisfiesAll values new
 
+-- no values make the clauses and all these literals true
+abbrev pub Excludes : List Clause → List ℤ → Type 0
+Excludes clauses literals = (values : List Bool) → SatisfiesAll values clauses →
+    ¬ ((l : ℤ) → Contains literals l → IsMadeTrue values l)
+
 abbrev pub IsReply : ℕ → List Clause → List ℤ → Reply → Type 0
 IsReply variables clauses assumptions (Values values) = (length values ≡ variables) ×
     SatisfiesAll values clauses × ((l : ℤ) → Contains assumptions l → IsMadeTrue values l)
-IsReply variables clauses assumptions (Core core) = IsSubset core assumptions
+IsReply variables clauses assumptions (Core core) = IsSubset core assumptions ×
+    Excludes clauses core
 IsReply variables clauses assumptions Spent = Unit {0}
 
 -- the first n of the assumptions are true
@@ -33,20 +39,23 @@ abbrev pub IsFull : Search → Type 0
 IsFull s = (l : ℤ) → IsLiteral s.solver.partial.variables l →
     Contains s.solver.partial.literals l ⊎ Contains s.solver.partial.literals (neg_ℤ l)
 
+-- The literal was decided: it is one of the assumptions, or these were all true.
+pub record IsDecided (old new : Search) (assumptions : List ℤ) (l : ℤ) : Type 0 where
+  pub sound : IsSound new
+  pub clauses : new.solver.clauses ≡ old.solver.clauses
+  pub limits : new.solver.limits.items
+      ≡ old.solver.limits.items ++ length old.solver.partial.literals ∷ []
+  pub pushed : new.solver.partial ≡ record old.solver.partial
+      { literals = old.solver.partial.literals ++ l ∷ [] }
+  pub assumed : Contains assumptions l ⊎ AreAllTrue old.solver.partial.literals assumptions
+
 -- what a step does to a search where the clauses say no more
 abbrev pub IsStepOf : Search → Search → List ℤ → Step → Type 0
-IsStepOf old new assumptions Decided = IsSound new × (new.solver.clauses ≡ old.solver.clauses) ×
-    ((l : ℤ) × (new.solver.partial ≡ record old.solver.partial
-    { literals = old.solver.partial.literals ++ l ∷ [] }))
+IsStepOf old new assumptions Decided = (l : ℤ) × IsDecided old new assumptions l
 IsStepOf old new assumptions Full = IsSound new × (new.solver ≡ old.solver) × IsFull new ×
     AreAllTrue new.solver.partial.literals assumptions
 IsStepOf old new assumptions (False l) = IsSound new × (new.solver ≡ old.solver) ×
     Contains assumptions l × Contains new.solver.partial.literals (neg_ℤ l)
-
--- no values make the clauses and all these literals true
-abbrev pub Excludes : List Clause → List ℤ → Type 0
-Excludes clauses literals = (values : List Bool) → SatisfiesAll values clauses →
-    ¬ ((l : ℤ) → Contains literals l → IsMadeTrue values l)
 
 -- what makes the clauses, the marked places below p and all marked decisions true, makes l true
 abbrev pub IsTraced : Solver → List Bool → ℕ → ℤ → Type 0
@@ -65,3 +74,9 @@ abbrev pub AreAssumed : Solver → List ℤ → Type 0
 AreAssumed s assumptions = (q : ℕ) → q < length s.limits.items →
     Contains assumptions (slice_index_or s.partial.literals (slice_index s.limits.items q) (pos 0))
     ⊎ AreAllTrue (take (slice_index s.limits.items q) s.partial.literals) assumptions
+
+-- the reply says that the clauses can't be true
+abbrev pub IsRefutation : Reply → Type 0
+IsRefutation (Values values) = ⊥
+IsRefutation (Core core) = core ≡ []
+IsRefutation Spent = ⊥

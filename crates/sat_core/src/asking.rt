@@ -43,6 +43,8 @@ impl Search {
         requires open_yet { IsOpenIn self.old.solver.partial.literals l }
         ensures sound { OnOk result (IsSound self.new) }
         ensures clauses { OnOk result (self.new.solver.clauses ≡ self.old.solver.clauses) }
+        ensures limits { OnOk result (self.new.solver.limits.items
+            ≡ self.old.solver.limits.items ++ length self.old.solver.partial.literals ∷ []) }
         ensures pushed { OnOk result (self.new.solver.partial ≡ record self.old.solver.partial
             { literals = self.old.solver.partial.literals ++ l ∷ [] }) }
     {
@@ -110,12 +112,7 @@ impl Search {
     }
 
     /// Searches for values that make the assumptions true, learning at most so many clauses.
-    pub(crate) fn ask(
-        &mut self,
-        alloc: Global,
-        assumptions: &[Literal],
-        conflicts: u32,
-    ) -> M<Reply>
+    pub(crate) fn ask(&mut self, alloc: Global, assumptions: &[Literal], conflicts: u32) -> M<Reply>
         requires sound { IsSound self.old }
         requires right { AreLiterals self.old.solver.partial.variables assumptions.now }
         requires few { conflicts < 2 ^ 31 }
@@ -148,9 +145,9 @@ impl Search {
                         Step::Decided => {}
                         Step::Full => return Ok(Reply::Values(self.solver.values(alloc)?)),
                         Step::False(l) => {
-                            let core =
-                                self.solver
-                                    .core_of(alloc, &mut self.analysis.seen, assumptions, l)?;
+                            let core = self
+                                .solver
+                                .core_of(alloc, &mut self.analysis.seen, assumptions, l)?;
                             return Ok(Reply::Core(core));
                         }
                     }

@@ -1,9 +1,10 @@
 //! A clause more between two searches: back to before all decisions, and the clause is watched.
 
-ghost use Rattle.std.specs.Prelude.{◌≡◌, ◌+◌, ◌-◌, ◌<◌, ◌^◌, ◌∷◌, ◌++◌, [], length, ⊤, IsTrue, OnOk, IfOk, MatchBool};
+ghost use Rattle.std.specs.Prelude.{◌≡◌, ◌+◌, ◌-◌, ◌<◌, ◌^◌, ◌∷◌, ◌++◌, [], length, IsTrue, OnOk, IfOk, MatchBool};
 ghost use Rattle.chain_check.specs.Clauses.{AreLiterals};
 ghost use Rattle.sat_core.specs.Solvers.{IsReady, GoesOn, IsConflict};
 ghost use Rattle.sat_core.specs.Searches.{IsSound};
+ghost use Rattle.sat_core.specs.Sessions.{Excludes};
 ghost use Rattle.sat_core.specs.Watches.{IsWatching};
 
 use crate::solver::Solver;
@@ -77,7 +78,8 @@ impl Search {
         requires sound { IsSound self.old }
         requires right { AreLiterals self.old.solver.partial.variables clause.now }
         requires room { length self.old.solver.clauses + 1 < 2 ^ 32 - 1 }
-        ensures sound { IfOk result (λ entered. MatchBool entered (IsSound self.new) ⊤) }
+        ensures sound { IfOk result (λ entered. MatchBool entered (IsSound self.new)
+            (Excludes self.new.solver.clauses [])) }
         ensures clauses { OnOk result (self.new.solver.clauses
             ≡ self.old.solver.clauses ++ clause.now ∷ []) }
         ensures variables { OnOk result (self.new.solver.partial.variables

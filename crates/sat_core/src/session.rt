@@ -1,8 +1,8 @@
 //! A solver that is asked many times, with clauses between the asks and assumptions for each.
 
-ghost use Rattle.std.specs.Prelude.{◌≡◌, ◌<◌, ◌^◌, ◌∷◌, ◌++◌, [], OnOk, IfOk};
+ghost use Rattle.std.specs.Prelude.{◌≡◌, ◌<◌, ◌^◌, ◌∷◌, ◌++◌, [], IsTrue, OnOk, IfOk};
 ghost use Rattle.chain_check.specs.Clauses.{AreLiterals};
-ghost use Rattle.sat_core.specs.Sessions.{IsLearned, IsReply};
+ghost use Rattle.sat_core.specs.Sessions.{IsLearned, IsRefutation, IsReply};
 
 use crate::asking::Reply;
 use crate::solving::Search;
@@ -101,7 +101,9 @@ impl Session {
 }
 
 /// Whether it is the core of no assumption.
-fn is_refutation(reply: &Reply) -> bool {
+fn is_refutation(reply: &Reply) -> bool
+    ensures { IsTrue result → IsRefutation reply.now }
+{
     match reply {
         Reply::Core(core) => core.len() == 0,
         _ => false,

@@ -1,9 +1,10 @@
 //! The search from the first clause to the outcome.
 
-ghost use Rattle.std.specs.Prelude.{◌≡◌, ◌<◌, ◌-◌, ◌+◌, ◌^◌, ◌≢◌, ◌∷◌, ◌++◌, [], List, ℤ, ℕ, ⊤, ◌⊎◌, ◌↔◌, IsTrue, IfSome, neg_ℤ, Contains, length, OnOk, IfOk, MatchOption, MatchBool};
+ghost use Rattle.std.specs.Prelude.{◌≡◌, ◌<◌, ◌-◌, ◌+◌, ◌^◌, ◌≢◌, ◌∷◌, ◌++◌, [], List, Option, ℤ, ℕ, ⊤, ◌⊎◌, ◌↔◌, IsTrue, IfSome, neg_ℤ, Contains, length, OnOk, IfOk, MatchOption, MatchBool};
 ghost use Rattle.chain_check.specs.Clauses.{Clause, IsLiteral, IsNew};
 ghost use Rattle.chain_check.specs.Chains.{Follows};
 ghost use Rattle.sat_core.specs.Trails.{IsOpenIn, AreSettled};
+ghost use Rattle.sat_core.specs.Lessons.{IsTaught};
 ghost use Rattle.sat_core.specs.Solvers.{IsReady, GoesOn, IsConflict};
 ghost use Rattle.sat_core.specs.Searches.{IsStart, IsSound, IsSearching};
 ghost use Rattle.sat_core.specs.Outcomes.{IsOutcome, AreValues};
@@ -193,6 +194,8 @@ impl Search {
             self.old.solver.clauses e.clause e.chain) }
         ensures is_new { IfOk result (λ e. IsNew self.old.solver.clauses e.clause) }
         ensures not_empty { IfOk result (λ e. e.clause ≢ []) }
+        ensures taught { IfOk result (λ e. (top : ℤ) × (second : Option ℤ) × (level : ℕ) ×
+            IsTaught self.old.solver self.new.solver e.clause top second level) }
     {
         let lesson = self
             .solver

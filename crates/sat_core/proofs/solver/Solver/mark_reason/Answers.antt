@@ -41,7 +41,7 @@ loop-l-preserved c =
     let small : c.variable.result < length c.args.self.now.places.items =
     omega (arith, right.1, c.variable.ensures, c.requires.ready.sized) in
     let place : c.index-place.result.now
-        ≡ get_or c.args.self.now.places.items (unsigned_abs c.l-item.result) 0 =
+    ≡ get_or c.args.self.now.places.items (unsigned_abs c.l-item.result) 0 =
     c.index-place.ensures ∙ get_or_default c.args.self.now.places.items c.variable.result
     c.index-place.result.now 0 small ∙
     ap (λ v. get_or c.args.self.now.places.items v 0) c.variable.ensures in

@@ -1,6 +1,6 @@
 use Rattle.std.proofs.Common.{◌≡◌, ◌+◌, ◌-◌, ◌*◌, ◌≤◌, length}
 use Rattle.sat_core.specs.Searches.{IsSound}
-use Rattle.sat_core.specs.Sessions.{IsLearned, AreFirstTrue}
+use Rattle.sat_core.specs.Sessions.{IsLearned, AreAssumed, AreFirstTrue}
 use Rattle.sat_core.proofs.solving.Search.ask.Given as goal
 
 abbrev pub invariant-asking : goal.invariant-asking
@@ -10,6 +10,7 @@ invariant-asking l = record {
   learned : IsLearned l.fn.self.solver.clauses l.self.solver.clauses;
   few : l.learned ≤ l.conflicts;
   passed : l.passed ≤ length l.assumptions;
+  assumed : AreAssumed l.self.solver l.assumptions;
   first : AreFirstTrue l.self.solver.partial.literals l.assumptions l.passed;
 }
 

@@ -57,3 +57,13 @@ returns-in_ok-add_fixed-in-None-clause-sound c =
     (omega (arith, c.in_ok-add_fixed-in-None.ensures.done, c.len.ensures))
     c.in_ok-add_fixed-in-None.ensures.pairs c.in_ok-add_fixed-in-None.ensures.lists in
     record { ready = c.in_ok-lesson.ensures.ready; watching = both.0; long = both.1 }
+
+pub returns-in_ok-add-in-Some-clause-taught : goal.returns-in_ok-add-in-Some-clause-taught
+returns-in_ok-add-in-Some-clause-taught c =
+    let (level, taught) = c.in_ok-lesson.ensures.taught in
+    (c.in_ok-lesson.lesson.top, c.in_ok-lesson.lesson.second, level, taught)
+
+pub returns-in_ok-add_fixed-in-None-clause-taught : goal.returns-in_ok-add_fixed-in-None-clause-taught
+returns-in_ok-add_fixed-in-None-clause-taught c =
+    let (level, taught) = c.in_ok-lesson.ensures.taught in
+    (c.in_ok-lesson.lesson.top, c.in_ok-lesson.lesson.second, level, taught)

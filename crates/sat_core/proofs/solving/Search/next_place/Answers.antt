@@ -8,7 +8,7 @@ use Rattle.sat_core.proofs.solving.Search.next_place.Goals as goal
 pub loop-place-preserved : goal.loop-place-preserved
 loop-place-preserved c =
     let at : c.index-assumptions-place.result
-        ≡ get_or c.args.assumptions.now c.loop-place.place (pos 0) =
+    ≡ get_or c.args.assumptions.now c.loop-place.place (pos 0) =
     c.index-assumptions-place.is ∙ sym (get_or_default c.args.assumptions.now c.loop-place.place
     (pos 0) c.index-assumptions-place.result c.loop-place-test.true) in
     let P : ℤ → Type 0 = Contains c.args.self.now.solver.partial.literals in

@@ -16,7 +16,7 @@ returns-then-assumptions-passed c =
 pub assume-requires-clause-open_yet : goal.assume-requires-clause-open_yet
 assume-requires-clause-open_yet c =
     let at : get_or c.args.assumptions.now c.args.passed (pos 0)
-        ≡ c.index-assumptions-passed.result =
+    ≡ c.index-assumptions-passed.result =
     get_or_default c.args.assumptions.now c.args.passed (pos 0) c.index-assumptions-passed.result
     c.if-assumptions-passed.false ∙ sym c.index-assumptions-passed.is in
     let P : ℤ → Type 0 = λ z. ¬ Contains c.args.self.now.solver.partial.literals z in (
