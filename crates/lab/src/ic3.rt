@@ -6,7 +6,7 @@ ghost use Rattle.cnf_frames.specs.Facts.{AllIn, IsSafe};
 use crate::circuits::{net_of, tell};
 use crate::files::text_of;
 use crate::posed::safe_net_of;
-use crate::query::{number_of, refuse};
+use crate::query::{number_of, refusal};
 use anyhow::{Result, bail};
 use cnf_frames::{Fact, Inv};
 use ic3_search::{LatchClause, find_clauses};
@@ -55,7 +55,7 @@ fn facts_in(rt: &HostRuntime, safe: &SafeNet) -> Result<Inv>
 {
     match invariants(rt.alloc(), safe, CONFLICTS) {
         Ok(kept) => Ok(kept.inv),
-        Err(error) => refuse(error),
+        Err(error) => Err(refusal(error)),
     }
 }
 

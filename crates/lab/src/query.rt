@@ -9,7 +9,7 @@ use crate::dimacs::print_clauses;
 use crate::facts::facts_of;
 use crate::files::text_of;
 use crate::posed::safe_net_of;
-use anyhow::{Result, bail, ensure};
+use anyhow::{Error, Result, anyhow, bail, ensure};
 use cnf_frames::{FrameError, Inv, Query, base_query, keep_query, step_query};
 use hy_base::Kind;
 use live_safe::SafeNet;
@@ -90,15 +90,15 @@ fn print(rt: &HostRuntime, query: Result<Query, FrameError>) -> Result<ExitCode>
             print_clauses(rt, &query.cnf)?;
             Ok(ExitCode::from(0))
         }
-        Err(error) => refuse(error),
+        Err(error) => Err(refusal(error)),
     }
 }
 
 /// Says why there is no query.
-pub fn refuse<T>(error: FrameError) -> Result<T> {
+pub fn refusal(error: FrameError) -> Error {
     match error {
-        FrameError::Limit(limit) => bail!("error E5: {} {}", count_text(limit.kind), limit.limit),
-        FrameError::Memory => bail!("error: memory"),
+        FrameError::Limit(limit) => anyhow!("error E5: {} {}", count_text(limit.kind), limit.limit),
+        FrameError::Memory => anyhow!("error: memory"),
     }
 }
 
