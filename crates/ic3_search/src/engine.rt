@@ -48,17 +48,25 @@ pub struct Engine {
     passing: u32,
 }
 
-/// The literals of a cube whose numbers a core has, and one that excludes the start.
-fn named_part(alloc: Global, table: &[Literal], cube: &[u32], core: &Clause) -> M<Cube> {
+/// The literals of a cube whose numbers a core has or whose latches are to stay, and one that
+/// excludes the start.
+fn named_part(
+    alloc: Global,
+    table: &[Literal],
+    cube: &[u32],
+    core: &Clause,
+    stay: &[bool],
+) -> M<Cube> {
     let mut numbers = Vec::new(alloc);
     numbers.extend_from_slice(core.as_slice())?;
     numbers.sort_unstable();
     let mut named = Vec::new(alloc);
     for literal in cube {
-        named.push(match table.get(*literal as usize) {
+        let is_named = match table.get(*literal as usize) {
             Some(number) => numbers.as_slice().binary_search(&number.number()).is_ok(),
             None => true,
-        })?;
+        };
+        named.push(is_named || stay.get(*literal as usize / 2) == Some(&true))?;
     }
     part_of(alloc, cube, named.as_slice())
 }
@@ -139,6 +147,7 @@ impl Engine {
                 self.layout.next.as_slice(),
                 cube,
                 &core,
+                &[],
             )?)),
             Reply::Spent => Ok(Step::Unknown),
         }
@@ -176,22 +185,23 @@ impl Engine {
     }
 
     /// A part of the state before a step, from whose states the inputs of the step lead where the
-    /// assumption is false.
+    /// assumption is false. It keeps all latches on which constraints depend.
     fn lifted(&mut self, alloc: Global, values: &Assignment, elsewhere: Literal) -> M<Cube> {
+        let layout = &self.layout;
         let values = values.as_slice();
-        let state = self.layout.state(alloc, values)?;
+        let state = layout.state(alloc, values)?;
         let mut assumptions = Vec::new(alloc);
         assumptions.push(elsewhere)?;
-        self.layout.push_inputs(values, &mut assumptions)?;
-        push_cube(
-            self.layout.now.as_slice(),
-            state.as_slice(),
-            &mut assumptions,
-        )?;
+        layout.push_inputs(values, &mut assumptions)?;
+        push_cube(layout.now.as_slice(), state.as_slice(), &mut assumptions)?;
         match self.asker.ask(alloc, assumptions.as_slice())? {
-            Reply::Core(core) => {
-                named_part(alloc, self.layout.now.as_slice(), state.as_slice(), &core)
-            }
+            Reply::Core(core) => named_part(
+                alloc,
+                layout.now.as_slice(),
+                state.as_slice(),
+                &core,
+                layout.constrained.as_slice(),
+            ),
             _ => Ok(state),
         }
     }

@@ -5,6 +5,7 @@ ghost use Rattle.std.specs.Prelude.{◌≡◌, suc, ◌+◌, ◌*◌, ◌<◌, �
 ghost use Rattle.aig_net.specs.Nets.{variables};
 ghost use Rattle.cnf_frames.specs.Facts.{AllIn, IsSafe};
 
+use crate::constrained::constrained_latches;
 use crate::cubes::Cube;
 use aig_net::{Net, opposite_of};
 use chain_check::Literal;
@@ -47,6 +48,8 @@ pub struct Layout {
     pub bad: Literal,
     /// The state after the step is not bad.
     pub good: Literal,
+    /// By latch: whether a constraint depends on it.
+    pub constrained: Vec<bool>,
     /// The latches but for those that are known by the facts and the others.
     places: Vec<Place>,
     /// How many inputs there are.
@@ -145,6 +148,7 @@ impl Layout {
             next: table(alloc, net, 1)?,
             bad,
             good: opposite(bad),
+            constrained: constrained_latches(alloc, net, inv.as_slice())?,
             places: places(alloc, net, inv.as_slice())?,
             inputs: net.inputs(),
             first: 2 * net.variables(),

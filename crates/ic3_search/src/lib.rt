@@ -5,6 +5,7 @@
 
 mod asker;
 mod clauses;
+mod constrained;
 mod cubes;
 mod engine;
 mod finding;

@@ -1,0 +1,58 @@
+//! Which latches decide, with the inputs, whether the constraints of a net are true.
+
+use aig_net::Net;
+use cnf_frames::Fact;
+use hy_base::M;
+use std::alloc::Global;
+
+/// Marks the variable of a literal.
+fn mark(marks: &mut [bool], literal: u32) {
+    if let Some(marked) = marks.get_mut(literal as usize / 2) {
+        *marked = true;
+    }
+}
+
+/// For each variable whether a constraint depends on it, in time linear in the net.
+fn constrained_variables(alloc: Global, net: &Net) -> M<Vec<bool>> {
+    let mut marks = vec![in alloc; false; net.variables() as usize]?;
+    for literal in net.constraints().as_slice() {
+        mark(marks.as_mut_slice(), *literal);
+    }
+    let ands = net.ands().as_slice();
+    for back in 0..ands.len() {
+        let i = ands.len() - 1 - back;
+        let variable = 1 + net.inputs() as usize + net.latches().len() + i;
+        if marks.get(variable) == Some(&true) {
+            let gate = ands[i];
+            mark(marks.as_mut_slice(), gate.left);
+            mark(marks.as_mut_slice(), gate.right);
+        }
+    }
+    Ok(marks)
+}
+
+/// Marks the earlier of two latches by which the later one is known, where that is marked.
+fn mark_earlier(marks: &mut [bool], fact: Fact) {
+    if let Fact::Same(a, b) | Fact::Differ(a, b) = fact
+        && marks.get(a.max(b) as usize) == Some(&true)
+        && let Some(earlier) = marks.get_mut(a.min(b) as usize)
+    {
+        *earlier = true;
+    }
+}
+
+/// For each latch whether a constraint depends on it, or on a later one that facts say to be equal
+/// or to differ. In time linear in the net and the facts.
+pub fn constrained_latches(alloc: Global, net: &Net, facts: &[Fact]) -> M<Vec<bool>> {
+    net.variables(); // what each net keeps
+    let variables = constrained_variables(alloc, net)?;
+    let first = 1 + net.inputs() as usize;
+    let mut marks = Vec::new(alloc);
+    for latch in 0..net.latches().len() {
+        marks.push(variables.get(first + latch) == Some(&true))?;
+    }
+    for fact in facts {
+        mark_earlier(marks.as_mut_slice(), *fact);
+    }
+    Ok(marks)
+}
