@@ -53,7 +53,13 @@ fn are_literals(literals: &[Literal], variables: u32) -> bool
 
 impl Asker {
     /// With as many further variables as there are switches, in time linear in the net and the facts.
-    pub fn new(alloc: Global, safe: &SafeNet, inv: &Inv, switches: u32, calls: u32) -> M<Asker>
+    pub(crate) fn new(
+        alloc: Global,
+        safe: &SafeNet,
+        inv: &Inv,
+        switches: u32,
+        calls: u32,
+    ) -> M<Asker>
         requires safe { IsSafe safe.now }
         requires inside { AllIn (length safe.now.net.latches) inv.now }
         requires room { 2 * variables safe.now.net + switches < 2 ^ 31 }
@@ -69,18 +75,18 @@ impl Asker {
     }
 
     /// How many calls are left.
-    pub fn calls(&self) -> u32 {
+    pub(crate) fn calls(&self) -> u32 {
         self.calls
     }
 
     /// Begins anew, without what was added.
-    pub fn renew(&mut self, alloc: Global) -> M<()> {
+    pub(crate) fn renew(&mut self, alloc: Global) -> M<()> {
         self.session = Session::new(alloc, &self.cnf)?;
         Ok(())
     }
 
     /// Adds a clause, unless one of its literals is of no variable.
-    pub fn add(&mut self, alloc: Global, clause: &[i32]) -> M<()> {
+    pub(crate) fn add(&mut self, alloc: Global, clause: &[i32]) -> M<()> {
         if self.cnf.takes(clause) {
             self.session.add(alloc, clause)?;
         }
@@ -88,7 +94,7 @@ impl Asker {
     }
 
     /// Asks for values under assumptions. Spent where no call is left.
-    pub fn ask(&mut self, alloc: Global, assumptions: &[Literal]) -> M<Reply> {
+    pub(crate) fn ask(&mut self, alloc: Global, assumptions: &[Literal]) -> M<Reply> {
         if self.calls == 0 || !are_literals(assumptions, self.cnf.variables) {
             return Ok(Reply::Spent);
         }

@@ -43,7 +43,7 @@ fn mark_earlier(marks: &mut [bool], fact: Fact) {
 
 /// For each latch whether a constraint depends on it, or on a later one that facts say to be equal
 /// or to differ. In time linear in the net and the facts.
-pub fn constrained_latches(alloc: Global, net: &Net, facts: &[Fact]) -> M<Vec<bool>> {
+pub(crate) fn constrained_latches(alloc: Global, net: &Net, facts: &[Fact]) -> M<Vec<bool>> {
     net.variables(); // what each net keeps
     let variables = constrained_variables(alloc, net)?;
     let first = 1 + net.inputs() as usize;

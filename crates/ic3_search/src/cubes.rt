@@ -8,18 +8,18 @@ use std::alloc::Global;
 pub type Cube = NumList;
 
 /// Whether some latch is 1 in all states of the cube, so that the start is none of them.
-pub fn excludes_start(cube: &[u32]) -> bool {
+pub(crate) fn excludes_start(cube: &[u32]) -> bool {
     cube.iter().any(|literal| *literal % 2 == 0)
 }
 
 /// Whether each literal of one cube is one of the other.
-pub fn is_part(some: &[u32], all: &[u32]) -> bool {
+pub(crate) fn is_part(some: &[u32], all: &[u32]) -> bool {
     some.iter()
         .all(|literal| all.binary_search(literal).is_ok())
 }
 
 /// The cube without a literal, in time linear in it.
-pub fn without(alloc: Global, cube: &[u32], literal: u32) -> M<Cube> {
+pub(crate) fn without(alloc: Global, cube: &[u32], literal: u32) -> M<Cube> {
     let mut left = List::new(alloc);
     for other in cube {
         if *other != literal {
@@ -31,7 +31,7 @@ pub fn without(alloc: Global, cube: &[u32], literal: u32) -> M<Cube> {
 
 /// The literals for which the test holds, and if these leave no latch that is 1, the first literal
 /// that says so of one.
-pub fn part_of(alloc: Global, cube: &[u32], named: &[bool]) -> M<Cube> {
+pub(crate) fn part_of(alloc: Global, cube: &[u32], named: &[bool]) -> M<Cube> {
     let mut part = List::new(alloc);
     let mut lacks = !cube
         .iter()

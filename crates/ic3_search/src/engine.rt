@@ -73,7 +73,7 @@ fn named_part(
 
 impl Engine {
     /// A search without lemmas, which may call the solver so often.
-    pub fn new(alloc: Global, safe: &SafeNet, inv: &Inv, calls: u32) -> M<Engine>
+    pub(crate) fn new(alloc: Global, safe: &SafeNet, inv: &Inv, calls: u32) -> M<Engine>
         requires safe { IsSafe safe.now }
         requires inside { AllIn (length safe.now.net.latches) inv.now }
         requires few { 2 * variables safe.now.net ≤ 2 ^ 24 }
@@ -90,7 +90,7 @@ impl Engine {
     }
 
     /// Adds a lemma's clause, switched on with its level.
-    pub fn add_clause(&mut self, alloc: Global, level: u32, cube: &[u32]) -> M<()> {
+    pub(crate) fn add_clause(&mut self, alloc: Global, level: u32, cube: &[u32]) -> M<()> {
         let Some(switch) = self.layout.switch(level) else {
             return Ok(());
         };
@@ -154,13 +154,13 @@ impl Engine {
     }
 
     /// Asks for a step from a state of the level to one of the cube.
-    pub fn step_into(&mut self, alloc: Global, level: u32, cube: &[u32]) -> M<Step> {
+    pub(crate) fn step_into(&mut self, alloc: Global, level: u32, cube: &[u32]) -> M<Step> {
         let assumptions = self.level(alloc, level)?;
         self.ask_into(alloc, assumptions, cube)
     }
 
     /// Asks for a step from a state of the level that is not of the cube to one of the cube.
-    pub fn step_from_outside(&mut self, alloc: Global, level: u32, cube: &[u32]) -> M<Step> {
+    pub(crate) fn step_from_outside(&mut self, alloc: Global, level: u32, cube: &[u32]) -> M<Step> {
         let Some(Switch { on, off }) = self.passing_switch(alloc)? else {
             return Ok(Step::Unknown);
         };
@@ -174,7 +174,7 @@ impl Engine {
     }
 
     /// Asks for a step from a state of the level to a bad one.
-    pub fn step_to_bad(&mut self, alloc: Global, level: u32) -> M<Step> {
+    pub(crate) fn step_to_bad(&mut self, alloc: Global, level: u32) -> M<Step> {
         let mut assumptions = self.level(alloc, level)?;
         assumptions.push(self.layout.bad)?;
         match self.asker.ask(alloc, assumptions.as_slice())? {
@@ -207,13 +207,13 @@ impl Engine {
     }
 
     /// A cube of states that have a step to a bad one, with that before the step.
-    pub fn before_bad(&mut self, alloc: Global, values: &Assignment) -> M<Cube> {
+    pub(crate) fn before_bad(&mut self, alloc: Global, values: &Assignment) -> M<Cube> {
         let good = self.layout.good;
         self.lifted(alloc, values, good)
     }
 
     /// A cube of states that have a step into a cube, with that before the step.
-    pub fn before(&mut self, alloc: Global, values: &Assignment, cube: &[u32]) -> M<Cube> {
+    pub(crate) fn before(&mut self, alloc: Global, values: &Assignment, cube: &[u32]) -> M<Cube> {
         let Some(Switch { on, off }) = self.passing_switch(alloc)? else {
             return self.layout.state(alloc, values.as_slice());
         };

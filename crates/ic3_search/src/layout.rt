@@ -113,7 +113,7 @@ fn places(alloc: Global, net: &Net, facts: &[Fact]) -> M<Vec<Place>> {
 }
 
 /// Adds the literals that a table has for those of a cube.
-pub fn push_cube(table: &[Literal], cube: &[u32], literals: &mut Vec<Literal>) -> M<()> {
+pub(crate) fn push_cube(table: &[Literal], cube: &[u32], literals: &mut Vec<Literal>) -> M<()> {
     for literal in cube {
         if let Some(number) = table.get(*literal as usize) {
             literals.push(*number)?;
@@ -124,7 +124,12 @@ pub fn push_cube(table: &[Literal], cube: &[u32], literals: &mut Vec<Literal>) -
 
 /// The clause that a switch switches on, where this is the number of its opposite literal: not all
 /// literals of the cube are true.
-pub fn clause_outside(alloc: Global, table: &[Literal], off: i32, cube: &[u32]) -> M<Vec<i32>> {
+pub(crate) fn clause_outside(
+    alloc: Global,
+    table: &[Literal],
+    off: i32,
+    cube: &[u32],
+) -> M<Vec<i32>> {
     let mut clause = Vec::new(alloc);
     clause.push(off)?;
     for literal in cube {
@@ -137,7 +142,7 @@ pub fn clause_outside(alloc: Global, table: &[Literal], off: i32, cube: &[u32]) 
 
 impl Layout {
     /// With so many switches, in time linear in latches and facts.
-    pub fn new(alloc: Global, safe: &SafeNet, inv: &Inv, switches: u32) -> M<Layout>
+    pub(crate) fn new(alloc: Global, safe: &SafeNet, inv: &Inv, switches: u32) -> M<Layout>
         requires safe { IsSafe safe.now }
         requires room { 2 * variables safe.now.net + switches < 2 ^ 31 }
     {
@@ -157,7 +162,7 @@ impl Layout {
     }
 
     /// The switch of this number, counted from 0, if there are so many.
-    pub fn switch(&self, i: u32) -> Option<Switch> {
+    pub(crate) fn switch(&self, i: u32) -> Option<Switch> {
         if self.switches <= i {
             return None;
         }
@@ -169,7 +174,7 @@ impl Layout {
     }
 
     /// The state before the step, by the latches that states are told by.
-    pub fn state(&self, alloc: Global, values: &[bool]) -> M<Cube> {
+    pub(crate) fn state(&self, alloc: Global, values: &[bool]) -> M<Cube> {
         let mut cube = List::new(alloc);
         for place in &self.places {
             match values.get(place.value) {
@@ -182,7 +187,7 @@ impl Layout {
     }
 
     /// Adds the values of the inputs before the step.
-    pub fn push_inputs(&self, values: &[bool], literals: &mut Vec<Literal>) -> M<()> {
+    pub(crate) fn push_inputs(&self, values: &[bool], literals: &mut Vec<Literal>) -> M<()> {
         for input in 0..self.inputs {
             let number = (input + 2) as i32;
             match values.get(input as usize + 1) {
@@ -195,7 +200,7 @@ impl Layout {
     }
 
     /// Adds that all latches are 0 before the step.
-    pub fn push_start(&self, literals: &mut Vec<Literal>) -> M<()> {
+    pub(crate) fn push_start(&self, literals: &mut Vec<Literal>) -> M<()> {
         for (literal, number) in self.now.iter().enumerate() {
             if literal % 2 == 1 {
                 literals.push(*number)?;

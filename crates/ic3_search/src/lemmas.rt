@@ -19,24 +19,24 @@ pub struct Lemmas {
 
 impl Lemmas {
     /// No lemma. Takes no memory.
-    pub fn new(alloc: Global) -> Lemmas {
+    pub(crate) fn new(alloc: Global) -> Lemmas {
         Lemmas {
             items: Vec::new(alloc),
         }
     }
 
     /// The lemmas, in the order in which they were found.
-    pub fn as_slice(&self) -> &[Lemma] {
+    pub(crate) fn as_slice(&self) -> &[Lemma] {
         self.items.as_slice()
     }
 
     /// Whether a lemma says that no state of the level is in the cube.
-    pub fn exclude(&self, level: u32, cube: &[u32]) -> bool {
+    pub(crate) fn exclude(&self, level: u32, cube: &[u32]) -> bool {
         self.items.iter().any(|lemma| level <= lemma.level && is_part(lemma.cube.as_slice(), cube))
     }
 
     /// Adds a lemma, in the place of those that say less.
-    pub fn add(&mut self, lemma: Lemma) -> M<()> {
+    pub(crate) fn add(&mut self, lemma: Lemma) -> M<()> {
         self.items.retain(|other| {
             lemma.level < other.level || !is_part(lemma.cube.as_slice(), other.cube.as_slice())
         });
@@ -45,7 +45,7 @@ impl Lemmas {
     }
 
     /// The cube of the lemma at this place, if it is of the level.
-    pub fn cube_at(&self, alloc: Global, i: usize, level: u32) -> M<Option<Cube>> {
+    pub(crate) fn cube_at(&self, alloc: Global, i: usize, level: u32) -> M<Option<Cube>> {
         match self.items.get(i) {
             Some(lemma) if lemma.level == level => Ok(Some(lemma.cube.copy(alloc)?)),
             _ => Ok(None),
@@ -53,14 +53,14 @@ impl Lemmas {
     }
 
     /// Raises the lemma at this place to a level.
-    pub fn raise(&mut self, i: usize, level: u32) {
+    pub(crate) fn raise(&mut self, i: usize, level: u32) {
         if let Some(lemma) = self.items.get_mut(i) {
             lemma.level = level;
         }
     }
 
     /// The cubes of the lemmas above a level.
-    pub fn above(&self, alloc: Global, level: u32) -> M<Vec<Cube>> {
+    pub(crate) fn above(&self, alloc: Global, level: u32) -> M<Vec<Cube>> {
         let mut cubes = Vec::new(alloc);
         for lemma in &self.items {
             if level < lemma.level {

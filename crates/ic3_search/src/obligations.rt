@@ -143,7 +143,7 @@ impl Engine {
 
     /// Excludes a cube from the last level, and what leads to it from those before. False where that
     /// does not succeed.
-    pub fn exclude(&mut self, alloc: Global, cube: Cube) -> M<bool> {
+    pub(crate) fn exclude(&mut self, alloc: Global, cube: Cube) -> M<bool> {
         let mut open = Vec::new(alloc);
         let level = self.levels.saturating_sub(1);
         open.push(Obligation { level, cube })?;

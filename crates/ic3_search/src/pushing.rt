@@ -33,7 +33,7 @@ impl Engine {
 
     /// Raises the lemmas of all levels but the last, the lowest first. A level that keeps none of its
     /// own, if there is one: its lemmas exclude what each step from its states leads to.
-    pub fn push_levels(&mut self, alloc: Global) -> M<Option<u32>> {
+    pub(crate) fn push_levels(&mut self, alloc: Global) -> M<Option<u32>> {
         for level in 1..self.levels.saturating_sub(1) {
             if self.push_level(alloc, level)? {
                 return Ok(Some(level));

@@ -146,7 +146,7 @@ impl Reduction {
 
 /// The cubes that are needed, if no step from outside all cubes leads into one or is bad, and so many
 /// calls of the solver show it; else all cubes. A call for each needed cube and one more.
-pub fn reduced(
+pub(crate) fn reduced(
     alloc: Global,
     safe: &SafeNet,
     inv: &Inv,
