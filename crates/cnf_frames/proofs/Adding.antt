@@ -1,8 +1,9 @@
 -- Lists to which clauses are added one after the other.
-use Rattle.std.proofs.Common.{◌≡◌, ℕ, suc, ◌+◌, List, [], ◌∷◌, ◌++◌, append_assoc, refl, sym, ap, ◌∙◌, arith}
+use Rattle.std.proofs.Common.{◌≡◌, ℕ, suc, ◌+◌, ◌<◌, List, [], ◌∷◌, ◌++◌, map, take, get_or, length, append_assoc, refl, sym, ap, ◌∙◌, arith}
 use Rattle.std.specs.Prelude.{ℤ, neg_ℤ}
+use Rattle.std.proofs.lemmas.List.{map-append, map_more}
 use Rattle.chain_check.specs.Clauses.{Clause}
-use Rattle.chain_check.specs.FewClauses.{for_each, and_clauses, same_clauses, differ_clauses, guarded}
+use Rattle.chain_check.specs.FewClauses.{for_each, alone, and_clauses, same_clauses, differ_clauses, guarded}
 
 pub two_added : (old made more : List Clause) (c d : Clause) → made ≡ old ++ c ∷ [] →
     more ≡ made ++ d ∷ [] → more ≡ old ++ c ∷ d ∷ []
@@ -61,6 +62,21 @@ same_added old made more d x y d' d'' x' y' p q r s e f =
     let whole : more ≡ old ++ (d' ∷ x ∷ y' ∷ []) ∷ (d'' ∷ x' ∷ y ∷ []) ∷ [] =
     two_added old made more (d' ∷ x ∷ y' ∷ []) (d'' ∷ x' ∷ y ∷ []) e f in
     cc
+
+-- one more literal that is false
+pub none_more : (old made more : List Clause) (d : ℤ) (f : ℕ → ℤ) (ls : List ℕ) (i : ℕ)
+    (y : ℤ) → i < length ls → made ≡ old ++ guarded d (map (λ k. f k ∷ []) (take i ls)) →
+    y ≡ f (get_or ls i 0) → more ≡ made ++ guarded d (alone y) →
+    more ≡ old ++ guarded d (map (λ k. f k ∷ []) (take (i + 1) ls))
+none_more old made more d f ls i y lt e same g =
+    let c : Clause = f (get_or ls i 0) ∷ [] in
+    let front : List Clause = map (λ k. f k ∷ []) (take i ls) in
+    let whole : guarded d (map (λ k. f k ∷ []) (take (i + 1) ls))
+    ≡ guarded d front ++ guarded d (c ∷ []) =
+    ap (guarded d) (map_more (λ k. f k ∷ []) ls i 0 lt)
+    ∙ map-append (λ b. neg_ℤ d ∷ b) front (c ∷ []) in
+    both_added old made more (guarded d front) (guarded d (c ∷ [])) e
+    (g ∙ ap (λ z. made ++ guarded d (alone z)) same) ∙ ap (λ z. old ++ z) (sym whole)
 
 -- all of them
 pub all_added : (old made : List Clause) (f : ℕ → List Clause) (i n : ℕ) →

@@ -1,15 +1,18 @@
 -- How many literals the clauses of queries have.
-use Rattle.std.proofs.Common.{◌≡◌, ℕ, zero, suc, ◌+◌, ◌-◌, ◌*◌, ◌<◌, List, [], ◌∷◌, ◌++◌, length, refl, sym, ap, ◌∙◌, arith, length-append}
+use Rattle.std.proofs.Common.{◌≡◌, ℕ, zero, suc, ◌+◌, ◌-◌, ◌*◌, ◌<◌, ◌≤◌, ◌↔◌, map, List, [], ◌∷◌, ◌++◌, length, refl, sym, ap, ◌∙◌, arith, length-append}
 use Rattle.std.specs.Prelude.{ℤ, neg_ℤ}
+use Rattle.std.proofs.lemmas.List.{length-map}
+use Rattle.hy_base.specs.declared.limit.Kind.TheVariants.{CnfLiterals}
+use Rattle.hy_base.specs.Limits.{most}
 use Rattle.aig_net.specs.Nets.{Net, variables}
 use Rattle.chain_check.specs.Clauses.{Clause}
 use Rattle.live_safe.specs.declared.safe_net.SafeNet.{SafeNet}
 use Rattle.cnf_frames.specs.declared.facts.Fact.{Fact}
-use Rattle.cnf_frames.specs.declared.facts.Fact.TheVariants.{Zero, One, Same, Differ}
+use Rattle.cnf_frames.specs.declared.facts.Fact.TheVariants.{Zero, One, Same, Differ, AnyOf}
 use Rattle.cnf_frames.specs.declared.queries.Asked.TheVariants.{Base, Step, Keep}
-use Rattle.cnf_frames.specs.Facts.{fact_at, opposite_fact}
-use Rattle.cnf_frames.specs.Counts.{sum_for, pairs, frames_literals, fact_literals, facts_literals, one_failing, failing_literals, base_literals, step_literals, keep_literals}
-use Rattle.cnf_frames.specs.Queries.{in_frame, latch_in, gate_clauses, frame_gates, constraint_clauses, latch_clauses, frame_step, frames, start_clauses, bad_in, fact_clauses, facts_clauses, good_clauses, latch_differs, apart_clauses, pairs_before, pair_start, apart_from, group_of, fails_clauses, clauses_of}
+use Rattle.cnf_frames.specs.Facts.{fact_at}
+use Rattle.cnf_frames.specs.Counts.{capped, sum_for, pairs, frames_literals, fact_literals, facts_literals, one_failing, failing_literals, base_literals, step_literals, keep_literals}
+use Rattle.cnf_frames.specs.Queries.{in_frame, latch_in, gate_clauses, frame_gates, constraint_clauses, latch_clauses, frame_step, frames, start_clauses, bad_in, fact_clauses, failing_clauses, literal_in, facts_clauses, good_clauses, latch_differs, apart_clauses, pairs_before, pair_start, apart_from, group_of, fails_clauses, clauses_of}
 use Rattle.chain_check.specs.FewClauses.{for_each, further, alone, some_further, guarded, literals_in}
 use Rattle.cnf_frames.proofs.Pairs.{pairs-counted}
 
@@ -89,13 +92,20 @@ module _ (net : Net) where
   fact j (One a) = refl
   fact j (Same a b) = refl
   fact j (Differ a b) = refl
+  fact j (AnyOf ls) = omega (arith, length-map ls (literal_in net j))
+
+  none : (d : ℤ) (ls : List ℕ) →
+      literals_in (guarded d (map (λ l. neg_ℤ (literal_in net 1 l) ∷ []) ls)) ≡ 2 * length ls
+  none d [] = refl
+  none d (l ∷ ls) = omega (arith, none d ls)
 
   failing : (d : ℤ) (f : Fact) →
-      literals_in (guarded d (fact_clauses net 1 (opposite_fact f))) ≡ one_failing f
+      literals_in (guarded d (failing_clauses net 1 f)) ≡ one_failing f
   failing d (Zero a) = refl
   failing d (One a) = refl
   failing d (Same a b) = refl
   failing d (Differ a b) = refl
+  failing d (AnyOf ls) = none d ls
 
   factual : (j : ℕ) (facts : List Fact) →
       literals_in (facts_clauses net j facts) ≡ facts_literals facts
@@ -124,6 +134,26 @@ module _ (net : Net) where
       sum : (p x c a b : ℕ) → a ≡ p * c → b ≡ x * c → a + b ≡ (p + x) * c
       sum p x c a b e f = omega (arith, e, f)
 
+-- ---- what the limit of literals sees of a count
+
+abbrev pub AreLike : ℕ → ℕ → Type 0
+AreLike m n = (m ≤ most CnfLiterals) ↔ (n ≤ most CnfLiterals)
+
+like-step : (f k x r n : ℕ) → n ≡ f + ((k + 1) * (x + 1) + r) →
+    AreLike (f + ((k + 1) * (capped x + 1) + r)) n
+like-step f k x r n e = (
+  λ h.
+      let same : capped x ≡ x = omega (arith, h) in
+      omega (arith, e, h, ap (λ c. (k + 1) * (c + 1)) same),
+  λ h.
+      let same : capped x ≡ x = omega (arith, e, h) in
+      omega (arith, e, h, ap (λ c. (k + 1) * (c + 1)) same),
+)
+
+like-keep : (f x y g n : ℕ) → n ≡ f + (x + (y + g)) →
+    AreLike (f + (capped x + (capped y + g))) n
+like-keep f x y g n e = (λ h. omega (arith, e, h), λ h. omega (arith, e, h))
+
 module _ (safe : SafeNet) where
   good : (facts : List Fact) (j : ℕ) →
       literals_in (good_clauses safe facts j) ≡ facts_literals facts + 1
@@ -143,7 +173,7 @@ module _ (safe : SafeNet) where
       ))
 
   pub step-counted : (facts : List Fact) (k : ℕ) →
-      step_literals safe.net facts k ≡ literals_in (clauses_of safe (Step facts k))
+      AreLike (step_literals safe.net facts k) (literals_in (clauses_of safe (Step facts k)))
   unfolding clauses_of
   step-counted facts k =
       let up : k + 1 ≡ suc k = omega arith in
@@ -157,7 +187,9 @@ module _ (safe : SafeNet) where
       (sym up) ∙ ap (λ p. p * (7 * length safe.net.latches)) (pairs-counted k) in
       let c : literals_in (frames safe.net (suc k)) ≡ frames_literals safe.net (k + 1) =
       framed safe.net (suc k) ∙ ap (frames_literals safe.net) (sym up) in
-      sym (both (frames safe.net (suc k)) (goods ++ (alone (bad_in safe (suc k)) ++ ends))
+      like-step (frames_literals safe.net (k + 1)) k (facts_literals facts)
+      (1 + pairs k * (7 * length safe.net.latches)) _
+      (both (frames safe.net (suc k)) (goods ++ (alone (bad_in safe (suc k)) ++ ends))
       ∙ sum _ _ _ _ _ _ _ _ c a b (both goods (alone (bad_in safe (suc k)) ++ ends))
       (both (alone (bad_in safe (suc k))) ends))
     where
@@ -166,14 +198,15 @@ module _ (safe : SafeNet) where
       sum f g h f' g' h' r s p q w e d = omega (arith, p, q, w, e, d)
 
   pub keep-counted : (facts : List Fact) (group : ℕ) →
-      keep_literals safe.net facts (group_of facts group)
-      ≡ literals_in (clauses_of safe (Keep facts group))
+      AreLike (keep_literals safe.net facts (group_of facts group))
+      (literals_in (clauses_of safe (Keep facts group)))
   unfolding clauses_of
   keep-counted facts group =
       let g : List Fact = group_of facts group in
       let fails : List Clause = for_each (fails_clauses safe.net g) (length g) in
       let some : List Clause = some_further (2 * variables safe.net) (length g) in
-      sym (both (frames safe.net 1) (facts_clauses safe.net 0 facts ++ (fails ++ some))
+      like-keep (frames_literals safe.net 1) (facts_literals facts) (failing_literals g)
+      (length g) _ (both (frames safe.net 1) (facts_clauses safe.net 0 facts ++ (fails ++ some))
       ∙ sum _ _ _ _ _ _ _ _ _ _ (framed safe.net 1) (factual safe.net 0 facts)
       (failings safe.net g) (some-literals (2 * variables safe.net) (length g))
       (both (facts_clauses safe.net 0 facts) (fails ++ some)) (both fails some))

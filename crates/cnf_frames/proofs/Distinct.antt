@@ -1,5 +1,5 @@
 -- The clauses of a step query say that an assignment is a path of pairwise distinct good states.
-use Rattle.std.proofs.Common.{◌≡◌, ◌≢◌, ℕ, suc, ◌+◌, ◌-◌, ◌<◌, ◌≤◌, ◌↔◌, true, false, List, ◌++◌, length, IsTrue, sym, ◌∙◌, subst, arith}
+use Rattle.std.proofs.Common.{◌≡◌, ◌≢◌, ℕ, suc, ◌||◌, [], ◌∷◌, map, refl, ap, ◌+◌, ◌-◌, ◌<◌, ◌≤◌, ◌↔◌, Bool, true, false, List, ◌++◌, length, IsTrue, sym, ◌∙◌, subst, arith}
 use Rattle.std.specs.Prelude.{neg_ℤ}
 use Rattle.std.specs.List.{Contains}
 use Rattle.std.proofs.lemmas.List.{get_or_default}
@@ -10,14 +10,14 @@ use Rattle.live_safe.specs.declared.safe_net.SafeNet.{SafeNet}
 use Rattle.live_safe.specs.Paths.{IsPath}
 use Rattle.chain_check.specs.Clauses.{Clause}
 use Rattle.cnf_frames.specs.declared.facts.Fact.{Fact}
-use Rattle.cnf_frames.specs.declared.facts.Fact.TheVariants.{Zero, One, Same, Differ}
-use Rattle.cnf_frames.specs.Facts.{FactHolds, AllHold, fact_at}
-use Rattle.cnf_frames.specs.Queries.{latch_in, frames, bad_in, fact_clauses, facts_clauses, good_clauses, latch_differs, apart_clauses, apart_from, pair_start, step_clauses}
+use Rattle.cnf_frames.specs.declared.facts.Fact.TheVariants.{Zero, One, Same, Differ, AnyOf}
+use Rattle.cnf_frames.specs.Facts.{FactHolds, AllHold, any_true, fact_at}
+use Rattle.cnf_frames.specs.Queries.{latch_in, literal_in, frames, bad_in, fact_clauses, facts_clauses, good_clauses, latch_differs, apart_clauses, apart_from, pair_start, step_clauses}
 use Rattle.chain_check.specs.FewClauses.{for_each, further, alone, differ_clauses, some_further}
 use Rattle.cnf_frames.specs.QueryPaths.{IsStepPath}
 use Rattle.chain_check.proofs.Values.{met-append, met-each, each-met, some-value, value-some}
-use Rattle.chain_check.specs.Values.{Assignment, AllMet, Means}
-use Rattle.cnf_frames.proofs.Meanings.{path_of, frame-means}
+use Rattle.chain_check.specs.Values.{Assignment, AllMet, Means, clause_value}
+use Rattle.cnf_frames.proofs.Meanings.{path_of, frame-means, literal-means}
 use Rattle.chain_check.proofs.FewMeanings.{alone-met, opposite-met, same-met, differ-met, guarded-met}
 use Rattle.cnf_frames.proofs.FramePaths.{frames-met, variable-means}
 
@@ -41,8 +41,18 @@ module _ (net : Net) (a : Assignment) where
   abbrev word : Word
   word = path_of V a
 
-  latch-means : (j i : ℕ) → Means a (latch_in net j i) (word j (latch_variable net i))
+  abbrev pub state : ℕ → ℕ → Bool
+  state j i = word j (latch_variable net i)
+
+  pub latch-means : (j i : ℕ) → Means a (latch_in net j i) (word j (latch_variable net i))
   latch-means j i = variable-means net a j (latch_variable net i)
+
+  any-value : (j : ℕ) (ls : List ℕ) →
+      clause_value a (map (literal_in net j) ls) ≡ any_true (state j) ls
+  any-value j [] = refl
+  any-value j (l ∷ ls) =
+      ap (λ b. b || clause_value a (map (literal_in net j) ls)) (literal-means net a j l).is
+      ∙ ap (λ b. literal_value (state j) l || b) (any-value j ls)
 
   pub fact-met : (j : ℕ) (fact : Fact) →
       AllMet a (fact_clauses net j fact) ↔ FactHolds net (word j) fact
@@ -50,6 +60,7 @@ module _ (net : Net) (a : Assignment) where
   fact-met j (One x) = alone-met a _ _ (latch-means j x)
   fact-met j (Same x y) = same-met a _ _ _ _ (latch-means j x) (latch-means j y)
   fact-met j (Differ x y) = differ-met a _ _ _ _ (latch-means j x) (latch-means j y)
+  fact-met j (AnyOf ls) = (λ (h, _). sym (any-value j ls) ∙ h, λ h. (any-value j ls ∙ h, tt))
 
   pub facts-met : (j : ℕ) (facts : List Fact) →
       AllMet a (facts_clauses net j facts) ↔ AllHold net facts (word j)

@@ -1,18 +1,20 @@
 -- A path of pairwise distinct states gives an assignment of the step query.
-use Rattle.std.proofs.Common.{◌≡◌, ◌≢◌, ℕ, zero, suc, ◌+◌, ◌-◌, ◌*◌, ◌/◌, ◌%◌, ◌<◌, ◌≤◌, ◌⊎◌, Bool, true, false, not, cond, List, [], ◌++◌, length, get_or, inl, inr, refl, sym, ap, ◌∙◌, subst, arith, length-append}
+use Rattle.std.proofs.Common.{◌≡◌, ◌≢◌, ◌||◌, ◌∷◌, ℕ, zero, suc, ◌+◌, ◌-◌, ◌*◌, ◌/◌, ◌%◌, ◌<◌, ◌≤◌, ◌⊎◌, Bool, true, false, not, cond, List, [], ◌++◌, length, get_or, inl, inr, refl, sym, ap, ◌∙◌, subst, arith, length-append}
 use Rattle.std.proofs.lemmas.Bool.{cases_eq}
+use Rattle.std.specs.Prelude.{All}
+use Rattle.std.proofs.lemmas.List.Elements.{All-head, All-tail}
 use Rattle.std.proofs.lemmas.List.{get_or_append_left, get_or-append_right}
 use Rattle.std.proofs.lemmas.Nat.{mod-mul-add, div-mul-add}
 use Rattle.hy_base.proofs.Places.{below-row}
-use Rattle.aig_net.specs.Nets.{Net, Valuation, literal_value, latch_variable, variables}
+use Rattle.aig_net.specs.Nets.{Net, Valuation, Below, literal_value, latch_variable, variables}
 use Rattle.aig_net.specs.Executions.{Word}
 use Rattle.hy_base.specs.Rows.{listed}
 use Rattle.aig_net.proofs.Literals.{value-same}
 use Rattle.hy_base.proofs.Listed.{length-listed, at-listed}
 use Rattle.live_safe.specs.declared.safe_net.SafeNet.{SafeNet}
 use Rattle.cnf_frames.specs.declared.facts.Fact.{Fact}
-use Rattle.cnf_frames.specs.declared.facts.Fact.TheVariants.{Zero, One, Same, Differ}
-use Rattle.cnf_frames.specs.Facts.{FactHolds, IsIn, AllIn, IsSafe}
+use Rattle.cnf_frames.specs.declared.facts.Fact.TheVariants.{Zero, One, Same, Differ, AnyOf}
+use Rattle.cnf_frames.specs.Facts.{FactHolds, IsIn, AllIn, IsSafe, any_true}
 use Rattle.cnf_frames.specs.Queries.{pairs_before, pair_start, step_clauses}
 use Rattle.cnf_frames.specs.QueryPaths.{IsStepPath}
 use Rattle.chain_check.specs.Values.{Assignment, AllMet}
@@ -106,6 +108,15 @@ find f (suc n) = at (f n) refl (find f n)
     at false e (inr none) = inr (λ j lt. elim (cases_eq j n)
         [ inl same ↦ ap f same ∙ e | inr apart ↦ none j (omega arith) ])
 
+-- literals look at their latches alone
+pub any-alike : (n : ℕ) (s t : ℕ → Bool) → ((j : ℕ) → j < n → s j ≡ t j) → (ls : List ℕ) →
+    All (Below n) ls → any_true s ls ≡ any_true t ls
+any-alike n s t same [] all = refl
+any-alike n s t same (l ∷ ls) all =
+    ap (λ b. b || any_true s ls) (value-same s t l (same (l / 2) (All-head (Below n) l ls all)))
+    ∙ ap (λ b. literal_value t l || b)
+    (any-alike n s t same ls (All-tail (Below n) l ls all))
+
 -- a fact looks at its latches alone
 pub fact-alike : (net : Net) (v w : Valuation) → ((j : ℕ) → j < length net.latches →
     v (latch_variable net j) ≡ w (latch_variable net j)) → (fact : Fact) →
@@ -114,6 +125,9 @@ fact-alike net v w same (Zero j) lt h = sym (same j lt) ∙ h
 fact-alike net v w same (One j) lt h = sym (same j lt) ∙ h
 fact-alike net v w same (Same i j) (p, q) h = sym (same i p) ∙ h ∙ same j q
 fact-alike net v w same (Differ i j) (p, q) h = λ e. h (same i p ∙ e ∙ sym (same j q))
+fact-alike net v w same (AnyOf ls) (some, inside) h =
+    sym (any-alike (length net.latches) (λ j. v (latch_variable net j))
+    (λ j. w (latch_variable net j)) same ls inside) ∙ h
 
 module _ (safe : SafeNet) (good : IsSafe safe) (facts : List Fact)
     (inside : AllIn (length safe.net.latches) facts) (k : ℕ) (path : Word)

@@ -3,15 +3,8 @@ use Rattle.std.proofs.Common.{◌≡◌, ℕ, ◌+◌, ◌*◌, ◌/◌, ◌%◌
 use Rattle.std.specs.List.{Contains}
 use Rattle.std.proofs.lemmas.List.{get_or-take, get_or-drop, length-take}
 use Rattle.cnf_frames.specs.declared.facts.Fact.{Fact}
-use Rattle.cnf_frames.specs.declared.facts.Fact.TheVariants.{Zero, One, Same, Differ}
-use Rattle.cnf_frames.specs.Facts.{IsIn, AllIn, opposite_fact}
+use Rattle.cnf_frames.specs.Facts.{AllIn}
 use Rattle.cnf_frames.specs.Queries.{group_of, groups}
-
-pub opposite-in : (n : ℕ) (fact : Fact) → IsIn n fact → IsIn n (opposite_fact fact)
-opposite-in n (Zero j) lt = lt
-opposite-in n (One j) lt = lt
-opposite-in n (Same i j) lt = lt
-opposite-in n (Differ i j) lt = lt
 
 -- a fact of a group is one of the facts
 pub of-group : (facts : List Fact) (g : ℕ) (f : Fact) → Contains (group_of facts g) f →

@@ -8,16 +8,15 @@ use Rattle.aig_net.specs.Nets.{Net, IsNet, latch_variable, variables}
 use Rattle.aig_net.specs.Executions.{Word}
 use Rattle.cnf_frames.specs.declared.facts.Fact.{Fact}
 use Rattle.cnf_frames.specs.declared.facts.Fact.TheVariants.{Zero}
-use Rattle.cnf_frames.specs.Facts.{FactHolds, AllIn, fact_at, opposite_fact}
+use Rattle.cnf_frames.specs.Facts.{FactHolds, AllIn, fact_at}
 use Rattle.cnf_frames.specs.Queries.{keep_clauses}
 use Rattle.cnf_frames.specs.QueryPaths.{IsKeepPath}
 use Rattle.chain_check.specs.Values.{Assignment, AllMet}
 use Rattle.cnf_frames.proofs.Meanings.{path_of}
-use Rattle.cnf_frames.proofs.Keeping.{fails-opposite, keep-met}
+use Rattle.cnf_frames.proofs.Keeping.{keep-met}
 use Rattle.cnf_frames.proofs.Likeness.{path-alike}
 use Rattle.cnf_frames.proofs.Choosing.{chosen, chosen-path, chosen-extra}
 use Rattle.cnf_frames.proofs.DistinctChosen.{fact-alike}
-use Rattle.cnf_frames.proofs.Groups.{opposite-in}
 
 module _ (net : Net) (good : IsNet net) (facts group : List Fact)
     (inside : AllIn (length net.latches) facts) (group-inside : AllIn (length net.latches) group)
@@ -56,19 +55,18 @@ module _ (net : Net) (good : IsNet net) (facts group : List Fact)
       path i (latch_variable net j) ≡ W i (latch_variable net j)
   latch-same i j le lt = sym (a-path i (latch_variable net j) le (omega arith))
 
-  fails-there : FactHolds net (W 1) (opposite_fact failing)
-  fails-there =
+  fails-there : ¬ FactHolds net (W 1) failing
+  fails-there holds =
       let P : Fact → Type 0 = λ f. ¬ FactHolds net (path 1) f in
-      fact-alike net (path 1) (W 1) (λ j lt. latch-same 1 j (omega arith) lt)
-      (opposite_fact failing) (opposite-in (length net.latches) failing
-      (group-inside failing (Contains-get_or group place (Zero 0) is.fails.1.1)))
-      (fails-opposite net (path 1) failing (subst P (sym is-failing) is.fails.2))
+      subst P (sym is-failing) is.fails.2
+      (fact-alike net (W 1) (path 1) (λ j lt. sym (latch-same 1 j (omega arith) lt)) failing
+      (group-inside failing (Contains-get_or group place (Zero 0) is.fails.1.1)) holds)
 
   marked : (i : ℕ) → i < length group → a (2 * V + i) ≡ true →
-      FactHolds net (W 1) (opposite_fact (fact_at group i))
+      ¬ FactHolds net (W 1) (fact_at group i)
   marked i lt on =
       let e : i ≡ place = (Decides-eqb i place).0 (sym (a-mark i) ∙ on) in
-      let P : ℕ → Type 0 = λ i. FactHolds net (W 1) (opposite_fact (fact_at group i)) in
+      let P : ℕ → Type 0 = λ i. ¬ FactHolds net (W 1) (fact_at group i) in
       subst P (sym e) fails-there
 
   pub keep-exists : (a : Assignment) × AllMet a (keep_clauses net facts group)

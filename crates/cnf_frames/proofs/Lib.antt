@@ -15,6 +15,7 @@ pub mod DistinctChosen
 pub mod Groups
 pub mod KeepingChosen
 pub mod Counting
+pub mod Capping
 pub mod Fewness
 pub mod Querying
 pub mod Rows

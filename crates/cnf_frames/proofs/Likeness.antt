@@ -1,6 +1,6 @@
 -- Paths of valuations that agree on the variables of a net.
 use Rattle.std.proofs.Common.{ℕ, suc, ◌≤◌, sym, ◌∙◌, arith}
-use Rattle.aig_net.specs.Nets.{Net, IsNet, variables}
+use Rattle.aig_net.specs.Nets.{Net, IsNet}
 use Rattle.aig_net.specs.Executions.{Word}
 use Rattle.aig_net.proofs.Literals.{value-same}
 use Rattle.aig_net.proofs.Likeness.{Alike, true-alike, start-alike, right-alike, step-alike}

@@ -1,6 +1,8 @@
 -- Queries as they are made: their clauses one part after the other, and why they are refused.
-use Rattle.std.proofs.Common.{◌≡◌, ℕ, suc, ◌+◌, ◌*◌, ◌≤◌, List, [], ◌++◌, length, sym, ap, ◌∙◌, subst, arith}
+use Rattle.std.proofs.Common.{◌≡◌, ℕ, suc, ◌+◌, ◌*◌, ◌≤◌, List, [], ◌++◌, length, sym, ap, ◌∙◌, subst, inl, inr, arith}
 use Rattle.std.specs.Prelude.{ℤ}
+use Rattle.std.proofs.lemmas.Bool.{cases_lt}
+use Rattle.hy_base.specs.declared.limit.Kind.{Kind}
 use Rattle.hy_base.specs.declared.limit.Kind.TheVariants.{CnfVariables, CnfLiterals}
 use Rattle.hy_base.specs.Limits.{most}
 use Rattle.aig_net.specs.Nets.{variables}
@@ -10,26 +12,42 @@ use Rattle.cnf_frames.specs.declared.facts.Fact.{Fact}
 use Rattle.cnf_frames.specs.declared.queries.Asked.{Asked}
 use Rattle.cnf_frames.specs.declared.queries.Asked.TheVariants.{Base, Step, Keep}
 use Rattle.cnf_frames.specs.declared.queries.FrameError.{FrameError}
+use Rattle.cnf_frames.specs.declared.queries.FrameError.TheVariants.{Limit, Memory}
 use Rattle.cnf_frames.specs.Counts.{pairs}
-use Rattle.cnf_frames.specs.Queries.{frames, start_clauses, bad_in, facts_clauses, good_clauses, apart_from, fails_clauses, pairs_before, pair_start, group_of, clauses_of, variables_of, IsRefusalBy, IsWithin}
+use Rattle.cnf_frames.specs.Queries.{frames, start_clauses, bad_in, facts_clauses, good_clauses, apart_from, fails_clauses, pairs_before, pair_start, group_of, clauses_of, variables_of, IsPastBy, IsRefusalBy, IsWithin}
 use Rattle.chain_check.specs.FewClauses.{for_each, alone, some_further, literals_in}
 use Rattle.cnf_frames.proofs.Adding.{both_added}
+use Rattle.cnf_frames.proofs.Counting.{AreLike}
 use Rattle.cnf_frames.proofs.Pairs.{pairs-counted}
 
-pub refused-as : (v l v' l' : ℕ) (e : FrameError) → v ≡ v' → l ≡ l' → IsRefusalBy v l e →
+pub like-same : (l m : ℕ) → l ≡ m → AreLike l m
+like-same l m e = (λ h. omega (arith, e, h), λ h. omega (arith, e, h))
+
+pub like-after : (l m n : ℕ) → l ≡ m → AreLike m n → AreLike l n
+like-after l m n e like = let P : ℕ → Type 0 = λ l. AreLike l n in subst P (sym e) like
+
+past-as : (v l v' l' : ℕ) (kind : Kind) → v ≡ v' → AreLike l l' → IsPastBy v l kind →
+    IsPastBy v' l' kind
+past-as v l v' l' CnfVariables e like h = omega (arith, e, h)
+past-as v l v' l' CnfLiterals e like (few, more) = (
+  omega (arith, e, few),
+  elim (cases_lt (most CnfLiterals) l')
+      [ inl lt ↦ lt | inr le ↦ absurd (omega (arith, like.1 le, more)) ],
+)
+past-as v l v' l' _ e like h = absurd h
+
+pub refused-as : (v l v' l' : ℕ) (e : FrameError) → v ≡ v' → AreLike l l' → IsRefusalBy v l e →
     IsRefusalBy v' l' e
-refused-as v l v' l' e p q h =
-    let P : ℕ → Type 0 = λ v. IsRefusalBy v l e in
-    let Q : ℕ → Type 0 = λ l. IsRefusalBy v' l e in
-    subst Q q (subst P p h)
+refused-as v l v' l' (Limit limit) p q (past, is) =
+    (past-as v l v' l' limit.kind p q past, is)
+refused-as v l v' l' Memory p q h = h
 
 pub within-as : (safe : SafeNet) (asked : Asked) (v l : ℕ) → v ≡ variables_of safe asked →
-    l ≡ literals_in (clauses_of safe asked) →
+    AreLike l (literals_in (clauses_of safe asked)) →
     (v ≤ most CnfVariables) × (l ≤ most CnfLiterals) → IsWithin safe asked
 within-as safe asked v l p q (few, less) =
     let P : ℕ → Type 0 = λ n. n ≤ most CnfVariables in
-    let Q : ℕ → Type 0 = λ n. n ≤ most CnfLiterals in
-    record { few_variables = subst P p few; few_literals = subst Q q less }
+    record { few_variables = subst P p few; few_literals = q.0 less }
 
 first-added : (none made xs : List Clause) → none ≡ [] → made ≡ none ++ xs → made ≡ xs
 first-added none made xs e f = f ∙ ap (λ l. l ++ xs) e

@@ -1,22 +1,22 @@
 -- The literals of a query are of its variables.
-use Rattle.std.proofs.Common.{◌≡◌, ℕ, zero, suc, ◌+◌, ◌-◌, ◌*◌, ◌/◌, ◌<◌, ◌≤◌, Bool, true, false, cond, List, [], ◌∷◌, ◌++◌, length, inl, inr, refl, sym, ◌∙◌, subst, arith}
-use Rattle.std.specs.Prelude.{ℤ, pos, negsuc, neg_ℤ}
+use Rattle.std.proofs.Common.{◌≡◌, ℕ, zero, suc, ◌+◌, ◌-◌, ◌*◌, ◌/◌, ◌%◌, ◌<◌, ◌≤◌, map, take, Bool, true, false, cond, List, [], ◌∷◌, ◌++◌, length, inl, inr, refl, sym, ◌∙◌, subst, arith}
+use Rattle.std.specs.Prelude.{ℤ, pos, negsuc, neg_ℤ, All}
 use Rattle.std.proofs.Math.Nat.{mul-le-mul_left}
-use Rattle.std.proofs.lemmas.List.Elements.{Contains-append_cases, Contains-get_or}
+use Rattle.std.proofs.lemmas.List.Elements.{All-head, All-tail, All-take, Contains-append_cases, Contains-get_or}
 use Rattle.aig_net.specs.Nets.{Net, IsNet, Below, is_even, and_at, literal_at, first_and, latch_variable, variables}
 use Rattle.chain_check.specs.Clauses.{Clause, IsLiteral, AreLiterals, AreClauses}
 use Rattle.chain_check.proofs.Literals.{opposite-literal}
 use Rattle.live_safe.specs.declared.safe_net.SafeNet.{SafeNet}
 use Rattle.cnf_frames.specs.declared.facts.Fact.{Fact}
-use Rattle.cnf_frames.specs.declared.facts.Fact.TheVariants.{Zero, One, Same, Differ}
+use Rattle.cnf_frames.specs.declared.facts.Fact.TheVariants.{Zero, One, Same, Differ, AnyOf}
 use Rattle.cnf_frames.specs.declared.queries.Asked.{Asked}
 use Rattle.cnf_frames.specs.declared.queries.Asked.TheVariants.{Base, Step, Keep}
-use Rattle.cnf_frames.specs.Facts.{IsIn, AllIn, IsSafe, fact_at, opposite_fact}
-use Rattle.cnf_frames.specs.Queries.{in_frame, latch_in, gate_clauses, frame_gates, constraint_clauses, latch_clauses, frame_step, frames, start_clauses, bad_in, fact_clauses, facts_clauses, good_clauses, latch_differs, apart_clauses, pairs_before, pair_start, apart_from, group_of, fails_clauses, clauses_of, variables_of}
+use Rattle.cnf_frames.specs.Facts.{IsIn, AllIn, IsSafe, fact_at}
+use Rattle.cnf_frames.specs.Queries.{in_frame, latch_in, gate_clauses, frame_gates, constraint_clauses, latch_clauses, frame_step, frames, start_clauses, bad_in, fact_clauses, failing_clauses, latch_literal, literal_in, facts_clauses, good_clauses, latch_differs, apart_clauses, pairs_before, pair_start, apart_from, group_of, fails_clauses, clauses_of, variables_of}
 use Rattle.chain_check.specs.FewClauses.{for_each, further, alone, and_clauses, next_clauses, same_clauses, differ_clauses, guarded, some_further}
 use Rattle.cnf_frames.specs.QueryPaths.{CanAsk}
 use Rattle.cnf_frames.proofs.Pairs.{pairs-more}
-use Rattle.cnf_frames.proofs.Groups.{opposite-in, group-in}
+use Rattle.cnf_frames.proofs.Groups.{group-in}
 
 -- The literal is of the first n variables.
 record IsOf (n : ℕ) (l : ℤ) : Type 0 where
@@ -178,6 +178,26 @@ module _ (n : ℕ) where
         (λ i lt. alone-of (neg_ℤ (latch_in net 0 i)) (opp (latch_in net 0 i)
         (latch-of 0 i (omega (arith, room)) lt)))
 
+    literal-of : (j l : ℕ) → suc j * V ≤ n → Below L l → IsOf n (literal_in net j l)
+    literal-of j l room lt = frame-of j (latch_literal net (l / 2) + l % 2) room (omega (arith, lt))
+
+    any-of : (j : ℕ) (ls : List ℕ) → suc j * V ≤ n → All (Below L) ls →
+        AreLiterals n (map (literal_in net j) ls)
+    any-of j [] room all = literals-none
+    any-of j (l ∷ ls) room all =
+        literals-more (literal_in net j l) (map (literal_in net j) ls)
+        (literal-of j l room (All-head (Below L) l ls all))
+        (any-of j ls room (All-tail (Below L) l ls all))
+
+    none-of : (j : ℕ) (ls : List ℕ) → suc j * V ≤ n → All (Below L) ls →
+        AreOf n (map (λ l. neg_ℤ (literal_in net j l) ∷ []) ls)
+    none-of j [] room all = none
+    none-of j (l ∷ ls) room all =
+        more (neg_ℤ (literal_in net j l) ∷ []) (map (λ l. neg_ℤ (literal_in net j l) ∷ []) ls)
+        (one (neg_ℤ (literal_in net j l)) (opp (literal_in net j l)
+        (literal-of j l room (All-head (Below L) l ls all))))
+        (none-of j ls room (All-tail (Below L) l ls all))
+
     fact-of : (j : ℕ) (f : Fact) → suc j * V ≤ n → IsIn L f → AreOf n (fact_clauses net j f)
     fact-of j (Zero a) room lt =
         alone-of (neg_ℤ (latch_in net j a)) (opp (latch_in net j a) (latch-of j a room lt))
@@ -186,6 +206,18 @@ module _ (n : ℕ) where
         (latch-of j a room p) (latch-of j b room q)
     fact-of j (Differ a b) room (p, q) = differ-of (latch_in net j a) (latch_in net j b)
         (latch-of j a room p) (latch-of j b room q)
+    fact-of j (AnyOf ls) room (some, all) =
+        more (map (literal_in net j) ls) [] (any-of j ls room all) none
+
+    failing-of : (j : ℕ) (f : Fact) → suc j * V ≤ n → IsIn L f → AreOf n (failing_clauses net j f)
+    failing-of j (Zero a) room lt = alone-of (latch_in net j a) (latch-of j a room lt)
+    failing-of j (One a) room lt =
+        alone-of (neg_ℤ (latch_in net j a)) (opp (latch_in net j a) (latch-of j a room lt))
+    failing-of j (Same a b) room (p, q) = differ-of (latch_in net j a) (latch_in net j b)
+        (latch-of j a room p) (latch-of j b room q)
+    failing-of j (Differ a b) room (p, q) = same-of (latch_in net j a) (latch_in net j b)
+        (latch-of j a room p) (latch-of j b room q)
+    failing-of j (AnyOf ls) room (some, all) = none-of j ls room all
 
     facts-of : (j : ℕ) (facts : List Fact) → suc j * V ≤ n → AllIn L facts →
         AreOf n (facts_clauses net j facts)
@@ -212,11 +244,9 @@ module _ (n : ℕ) where
         both (for_each (fails_clauses net group) (length group)) (some_further (2 * V) (length group))
         (each (fails_clauses net group) (length group)
         (λ i lt. guarded-of (further (2 * V + i))
-        (fact_clauses net 1 (opposite_fact (fact_at group i)))
-        (further-of (2 * V + i) (omega arith))
-        (fact-of 1 (opposite_fact (fact_at group i)) (omega arith)
-        (opposite-in L (fact_at group i)
-        (inside (fact_at group i) (Contains-get_or group i (Zero 0) lt))))))
+        (failing_clauses net 1 (fact_at group i)) (further-of (2 * V + i) (omega arith))
+        (failing-of 1 (fact_at group i) (omega arith)
+        (inside (fact_at group i) (Contains-get_or group i (Zero 0) lt)))))
         (some-of (2 * V) (length group) room)
 
   -- ---- step queries
@@ -296,6 +326,15 @@ pub in-range : (safe : SafeNet) (asked : Asked) → IsSafe safe → CanAsk safe 
     AreClauses (variables_of safe asked) (clauses_of safe asked)
 in-range safe asked good can =
     (query-of (variables_of safe asked) safe asked good can (omega arith)).are
+
+-- the clause of literals of latches that are listed
+pub any-literals : (n : ℕ) (net : Net) (j : ℕ) (ls : List ℕ) (i : ℕ) (clause shown : Clause) →
+    IsNet net → shown ≡ clause → clause ≡ map (literal_in net j) (take i ls) →
+    suc j * variables net ≤ n → All (Below (length net.latches)) ls → AreLiterals n shown
+any-literals n net j ls i clause shown good e f room all =
+    let P : Clause → Type 0 = AreLiterals n in
+    subst P (sym (e ∙ f)) (any-of n net good j (take i ls) room
+    (All-take (Below (length net.latches)) i ls all))
 
 -- the clause of further variables that are listed
 pub some-literals : (n d m i : ℕ) (clause shown : Clause) → shown ≡ clause →

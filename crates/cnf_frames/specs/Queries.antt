@@ -1,7 +1,7 @@
 -- The clauses of a query about paths of a safe net.
 -- The variables of the net, V with the constant, have numbers in each frame: variable v in frame j
 -- has the number j * V + v + 1. Further variables are numbered after those of all frames.
-use Rattle.std.specs.Prelude.{◌≡◌, ℕ, zero, suc, ◌+◌, ◌-◌, ◌*◌, ◌/◌, ◌<◌, ◌≤◌, cond, List, ◌++◌, take, drop, length, ℤ, pos, negsuc, neg_ℤ}
+use Rattle.std.specs.Prelude.{◌≡◌, ℕ, zero, suc, ◌+◌, ◌-◌, ◌*◌, ◌/◌, ◌%◌, ◌<◌, ◌≤◌, cond, List, [], ◌∷◌, ◌++◌, map, take, drop, length, ℤ, pos, negsuc, neg_ℤ}
 use Rattle.hy_base.specs.declared.limit.Kind.{Kind}
 use Rattle.hy_base.specs.declared.limit.Kind.TheVariants.{CnfVariables, CnfLiterals}
 use Rattle.hy_base.specs.Limits.{most}
@@ -10,13 +10,13 @@ use Rattle.chain_check.specs.Clauses.{Clause}
 use Rattle.chain_check.specs.FewClauses.{for_each, further, alone, and_clauses, next_clauses, same_clauses, differ_clauses, guarded, some_further, literals_in}
 use Rattle.live_safe.specs.declared.safe_net.SafeNet.{SafeNet}
 use Rattle.cnf_frames.specs.declared.facts.Fact.{Fact}
-use Rattle.cnf_frames.specs.declared.facts.Fact.TheVariants.{Zero, One, Same, Differ}
+use Rattle.cnf_frames.specs.declared.facts.Fact.TheVariants.{Zero, One, Same, Differ, AnyOf}
 use Rattle.cnf_frames.specs.declared.queries.Asked.{Asked}
 use Rattle.cnf_frames.specs.declared.queries.Asked.TheVariants.{Base, Step, Keep}
 use Rattle.cnf_frames.specs.declared.queries.Query.{Query}
 use Rattle.cnf_frames.specs.declared.queries.FrameError.{FrameError}
 use Rattle.cnf_frames.specs.declared.queries.FrameError.TheVariants.{Limit, Memory}
-use Rattle.cnf_frames.specs.Facts.{fact_at, opposite_fact}
+use Rattle.cnf_frames.specs.Facts.{fact_at}
 
 -- a literal of the net in frame j
 abbrev pub in_frame : ℕ → ℕ → ℕ → ℤ
@@ -30,6 +30,10 @@ latch_literal net i = 2 * latch_variable net i
 -- latch i in frame j
 abbrev pub latch_in : Net → ℕ → ℕ → ℤ
 latch_in net j i = in_frame (variables net) j (latch_literal net i)
+
+-- a literal of latches, by their places, in frame j
+abbrev pub literal_in : Net → ℕ → ℕ → ℤ
+literal_in net j l = in_frame (variables net) j (latch_literal net (l / 2) + l % 2)
 
 -- and i in frame j
 abbrev pub gate_clauses : Net → ℕ → ℕ → List Clause
@@ -83,6 +87,15 @@ fact_clauses net j (Zero a) = alone (neg_ℤ (latch_in net j a))
 fact_clauses net j (One a) = alone (latch_in net j a)
 fact_clauses net j (Same a b) = same_clauses (latch_in net j a) (latch_in net j b)
 fact_clauses net j (Differ a b) = differ_clauses (latch_in net j a) (latch_in net j b)
+fact_clauses net j (AnyOf ls) = map (literal_in net j) ls ∷ []
+
+-- The fact fails in frame j.
+abbrev pub failing_clauses : Net → ℕ → Fact → List Clause
+failing_clauses net j (Zero a) = alone (latch_in net j a)
+failing_clauses net j (One a) = alone (neg_ℤ (latch_in net j a))
+failing_clauses net j (Same a b) = differ_clauses (latch_in net j a) (latch_in net j b)
+failing_clauses net j (Differ a b) = same_clauses (latch_in net j a) (latch_in net j b)
+failing_clauses net j (AnyOf ls) = map (λ l. neg_ℤ (literal_in net j l) ∷ []) ls
 
 abbrev pub facts_clauses : Net → ℕ → List Fact → List Clause
 facts_clauses net j facts =
@@ -136,7 +149,7 @@ groups facts = (length facts + 63) / 64
 -- where further variable i is true, the fact at this place of the group fails in frame 1
 abbrev pub fails_clauses : Net → List Fact → ℕ → List Clause
 fails_clauses net group i =
-    guarded (further (2 * variables net + i)) (fact_clauses net 1 (opposite_fact (fact_at group i)))
+    guarded (further (2 * variables net + i)) (failing_clauses net 1 (fact_at group i))
 
 -- a step from a state with all facts to one where a fact of the group fails
 abbrev pub keep_clauses : Net → List Fact → List Fact → List Clause

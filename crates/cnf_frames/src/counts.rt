@@ -54,48 +54,57 @@ fn frames_literals(net: &Net, k: u64) -> u128
     (k as u128 + 1) * gates + k as u128 * step
 }
 
+/// The number, or one past the limit of literals where it is larger.
+fn capped(literals: u128) -> u128
+    ensures { result ≡ counts.capped literals }
+{
+    literals.min(Kind::CnfLiterals.most() as u128 + 1)
+}
+
 /// How many literals the clauses of a fact have.
-fn fact_literals(fact: Fact) -> u128
-    ensures count { result ≡ counts.fact_literals fact }
-    ensures few { result ≤ 4 }
+fn fact_literals(fact: &Fact) -> u128
+    ensures count { result ≡ counts.fact_literals fact.now }
+    ensures few { result < 2 ^ 64 }
 {
     match fact {
         Fact::Zero(_) | Fact::One(_) => 1,
         Fact::Same(_, _) | Fact::Differ(_, _) => 4,
+        Fact::AnyOf(literals) => literals.len() as u128,
     }
 }
 
-/// How many literals the clauses of facts have.
+/// How many literals the clauses of facts have, as far as limits ask.
 fn facts_literals(facts: &[Fact]) -> u128
-    ensures count { result ≡ counts.facts_literals facts.now }
+    ensures count { result ≡ counts.capped (counts.facts_literals facts.now) }
     ensures small { result < 2 ^ 67 }
 {
     let mut literals = 0;
     for fact in facts {
-        literals += fact_literals(*fact);
+        literals = capped(literals + fact_literals(fact));
     }
     literals
 }
 
 /// How many literals the clauses have that say where a fact fails.
-fn one_failing(fact: Fact) -> u128
-    ensures count { result ≡ counts.one_failing fact }
-    ensures few { result ≤ 6 }
+fn one_failing(fact: &Fact) -> u128
+    ensures count { result ≡ counts.one_failing fact.now }
+    ensures few { result < 2 ^ 65 }
 {
     match fact {
         Fact::Zero(_) | Fact::One(_) => 2,
         Fact::Same(_, _) | Fact::Differ(_, _) => 6,
+        Fact::AnyOf(literals) => 2 * literals.len() as u128,
     }
 }
 
-/// How many literals the clauses have that say where facts fail.
+/// How many literals the clauses have that say where facts fail, as far as limits ask.
 fn failing_literals(facts: &[Fact]) -> u128
-    ensures count { result ≡ counts.failing_literals facts.now }
+    ensures count { result ≡ counts.capped (counts.failing_literals facts.now) }
     ensures small { result < 2 ^ 67 }
 {
     let mut literals = 0;
     for fact in facts {
-        literals += one_failing(*fact);
+        literals = capped(literals + one_failing(fact));
     }
     literals
 }
@@ -118,7 +127,7 @@ pub fn step_literals(net: &Net, facts: &[Fact], k: u32) -> u128
 
 /// How many literals the clauses have that say that the states up to `k` are good and have all facts.
 fn good_literals(facts: &[Fact], k: u32) -> u128
-    ensures count { result ≡ (k + 1) * (counts.facts_literals facts.now + 1) }
+    ensures count { result ≡ (k + 1) * (counts.capped (counts.facts_literals facts.now) + 1) }
     ensures small { result < 2 ^ 110 }
 {
     (k as u128 + 1) * (facts_literals(facts) + 1)

@@ -1,9 +1,9 @@
 //! The text of a proof by induction.
 
-ghost use Rattle.std.specs.Prelude.{◌≡◌, ◌++◌, codes, decimal, IfOk, OnOk};
-ghost use Rattle.std.specs.List.{flat_map};
+ghost use Rattle.std.specs.Prelude.{◌≡◌, ◌++◌, ◌∷◌, codes, decimal, IfOk, OnOk};
+ghost use Rattle.std.specs.List.{flat_map, list_any};
 ghost use Rattle.chain_check.specs.LogTexts.{log_text};
-ghost use Rattle.cnf_frames.specs.ProofTexts.{fact_text, proof_text};
+ghost use Rattle.cnf_frames.specs.ProofTexts.{fact_text, is_clause, kind_text, proof_text};
 
 use crate::facts::Fact;
 use crate::inductions::{InductionProof, LogList};
@@ -19,14 +19,16 @@ pub fn print_proof(alloc: Global, proof: &InductionProof) -> M<Text>
     ensures { IfOk result (λ text. text ≡ proof_text proof.now) }
 {
     let mut text = Text::new(alloc);
-    text.extend(b"proof induction ")?;
+    text.extend(b"proof ")?;
+    text.extend(kind(proof.inv.as_slice()))?;
+    text.extend(b" ")?;
     push_number(&mut text, proof.depth)?;
     text.extend(b" ")?;
     let mut buffer = Buffer::new();
     text.extend(buffer.format(proof.inv.len()).as_bytes())?;
     text.extend(b"\n")?;
     for fact in proof.inv.as_slice() {
-        push_fact(&mut text, *fact)?;
+        push_fact(&mut text, fact)?;
     }
     push_logs(alloc, &mut text, &proof.keep)?;
     push_logs(alloc, &mut text, &proof.base)?;
@@ -35,16 +37,53 @@ pub fn print_proof(alloc: Global, proof: &InductionProof) -> M<Text>
     Ok(text)
 }
 
+/// The word of a proof with these facts.
+fn kind(facts: &[Fact]) -> &'static [u8]
+    ensures { result.now ≡ kind_text facts.now }
+{
+    if has_clause(facts) {
+        b"clauses"
+    } else {
+        b"induction"
+    }
+}
+
+/// Whether some fact is of literals.
+fn has_clause(facts: &[Fact]) -> bool
+    ensures { result ≡ list_any is_clause facts.now }
+{
+    for fact in facts {
+        if let Fact::AnyOf(_) = fact {
+            return true;
+        }
+    }
+    false
+}
+
 /// Adds the line of a fact.
-fn push_fact(text: &mut Text, fact: Fact) -> M<()>
-    ensures { OnOk result (text.new ≡ text.old ++ fact_text fact) }
+fn push_fact(text: &mut Text, fact: &Fact) -> M<()>
+    ensures { OnOk result (text.new ≡ text.old ++ fact_text fact.now) }
 {
     match fact {
-        Fact::Zero(a) => push_line(text, b"f 0 ", a),
-        Fact::One(a) => push_line(text, b"f 1 ", a),
-        Fact::Same(a, b) => push_pair(text, b"f = ", a, b),
-        Fact::Differ(a, b) => push_pair(text, b"f ! ", a, b),
+        Fact::Zero(a) => push_line(text, b"f 0 ", *a),
+        Fact::One(a) => push_line(text, b"f 1 ", *a),
+        Fact::Same(a, b) => push_pair(text, b"f = ", *a, *b),
+        Fact::Differ(a, b) => push_pair(text, b"f ! ", *a, *b),
+        Fact::AnyOf(literals) => push_literals(text, literals.as_slice()),
     }
+}
+
+/// Adds a line with literals.
+fn push_literals(text: &mut Text, literals: &[u32]) -> M<()>
+    ensures { OnOk result (text.new ≡ text.old ++ codes "f |"
+        ++ flat_map (λ l. 32 ∷ decimal l) literals.now ++ codes "\n") }
+{
+    text.extend(b"f |")?;
+    for l in literals {
+        text.extend(b" ")?;
+        push_number(text, *l)?;
+    }
+    text.extend(b"\n")
 }
 
 /// Adds a line with a number.

@@ -96,7 +96,7 @@ pub fn step_query(alloc: Global, safe: &SafeNet, inv: &Inv, k: u32) -> Result<Qu
     let variables = admit(step_variables(net, k), step_literals(net, facts, k))?;
     let mut cnf = Cnf::new(alloc, variables)?;
     add_frames(&mut cnf, net, k + 1)?;
-    add_goods(&mut cnf, safe, facts, k)?;
+    add_goods(alloc, &mut cnf, safe, facts, k)?;
     add_alone(&mut cnf, number_of(net, k + 1, safe.bad))?;
     add_all_apart(alloc, &mut cnf, net, k)?;
     Ok(Query {
@@ -140,7 +140,7 @@ pub fn keep_query(alloc: Global, safe: &SafeNet, inv: &Inv, group: u32) -> Resul
     let variables = admit(keep_variables(net, some), keep_literals(net, facts, some))?;
     let mut cnf = Cnf::new(alloc, variables)?;
     add_frames(&mut cnf, net, 1)?;
-    add_facts(&mut cnf, net, 0, facts)?;
+    add_facts(alloc, &mut cnf, net, 0, facts)?;
     add_failings(alloc, &mut cnf, net, some)?;
     Ok(Query {
         cnf,
@@ -153,7 +153,7 @@ pub fn keep_query(alloc: Global, safe: &SafeNet, inv: &Inv, group: u32) -> Resul
 
 /// Adds that the states of the frames up to `k` are good and have all facts.
 #[tactic(auto, using(crate::proofs::Adding::loops))]
-fn add_goods(cnf: &mut Cnf, safe: &SafeNet, facts: &[Fact], k: u32) -> M<()>
+fn add_goods(alloc: Global, cnf: &mut Cnf, safe: &SafeNet, facts: &[Fact], k: u32) -> M<()>
     requires safe { IsSafe safe.now }
     requires room { suc k * variables safe.now.net ≤ cnf.old.variables }
     requires inside { AllIn (length safe.now.net.latches) facts.now }
@@ -162,7 +162,7 @@ fn add_goods(cnf: &mut Cnf, safe: &SafeNet, facts: &[Fact], k: u32) -> M<()>
         ++ for_each (good_clauses safe.now facts.now) (suc k)) }
 {
     for frame in 0..k + 1 {
-        add_facts(cnf, &safe.net, frame, facts)?;
+        add_facts(alloc, cnf, &safe.net, frame, facts)?;
         let bad = number_of(&safe.net, frame, safe.bad);
         add_alone(cnf, opposite(bad))?;
     }

@@ -1,47 +1,64 @@
 //! The clauses of facts, and of states that differ.
 
-ghost use Rattle.std.specs.Prelude.{◌≡◌, suc, ◌+◌, ◌*◌, ◌<◌, ◌≤◌, ◌++◌, length, OnOk};
-ghost use Rattle.aig_net.specs.Nets.{variables};
+ghost use Rattle.std.specs.Prelude.{◌≡◌, suc, ◌+◌, ◌*◌, ◌<◌, ◌≤◌, [], ◌∷◌, ◌++◌, map, length, neg_ℤ, All, OnOk};
+ghost use Rattle.aig_net.specs.Nets.{Below, variables};
 ghost use Rattle.chain_check.specs.Clauses.{IsLiteral};
-ghost use Rattle.cnf_frames.specs.Facts.{AllIn, IsIn, opposite_fact};
-ghost use Rattle.cnf_frames.specs.Queries.{apart_clauses, apart_from, fact_clauses, facts_clauses, fails_clauses, latch_differs, pair_start};
+ghost use Rattle.cnf_frames.specs.Facts.{AllIn, IsIn};
+ghost use Rattle.cnf_frames.specs.Queries.{apart_clauses, apart_from, fact_clauses, facts_clauses, failing_clauses, fails_clauses, latch_differs, literal_in, pair_start};
 ghost use Rattle.chain_check.specs.FewClauses.{for_each, guarded, some_further};
 
 use crate::facts::Fact;
 use crate::writing::{
     add, add_alone, add_alone_where, add_differ, add_differ_where, add_same, add_same_where,
-    further_number, latch_number, opposite,
+    further_number, latch_literal_number, latch_number, opposite,
 };
 use aig_net::Net;
 use chain_check::{Cnf, Literal};
 use hy_base::{List, M};
 use std::alloc::Global;
 
-/// Adds that a fact holds in a frame.
-fn add_fact(cnf: &mut Cnf, net: &Net, frame: u32, fact: Fact) -> M<()>
+/// Adds that some of the literals of latches is true in a frame.
+fn add_any(alloc: Global, cnf: &mut Cnf, net: &Net, frame: u32, literals: &[u32]) -> M<()>
     requires room { suc frame * variables net.now ≤ cnf.old.variables }
-    requires inside { IsIn (length net.now.latches) fact }
+    requires inside { All (Below (length net.now.latches)) literals.now }
     ensures variables { cnf.new.variables ≡ cnf.old.variables }
     ensures added { OnOk result (cnf.new.clauses ≡ cnf.old.clauses
-        ++ fact_clauses net.now frame fact) }
+        ++ map (literal_in net.now frame) literals.now ∷ []) }
+{
+    net.variables(); // what each net keeps
+    let mut clause = List::new(alloc);
+    for l in literals {
+        clause.push(latch_literal_number(net, frame, *l).number())?;
+    }
+    add(cnf, clause.as_slice())
+}
+
+/// Adds that a fact holds in a frame.
+fn add_fact(alloc: Global, cnf: &mut Cnf, net: &Net, frame: u32, fact: &Fact) -> M<()>
+    requires room { suc frame * variables net.now ≤ cnf.old.variables }
+    requires inside { IsIn (length net.now.latches) fact.now }
+    ensures variables { cnf.new.variables ≡ cnf.old.variables }
+    ensures added { OnOk result (cnf.new.clauses ≡ cnf.old.clauses
+        ++ fact_clauses net.now frame fact.now) }
 {
     match fact {
-        Fact::Zero(a) => add_alone(cnf, opposite(latch_number(net, frame, a))),
-        Fact::One(a) => add_alone(cnf, latch_number(net, frame, a)),
+        Fact::Zero(a) => add_alone(cnf, opposite(latch_number(net, frame, *a))),
+        Fact::One(a) => add_alone(cnf, latch_number(net, frame, *a)),
         Fact::Same(a, b) => {
-            let x = latch_number(net, frame, a);
-            add_same(cnf, x, latch_number(net, frame, b))
+            let x = latch_number(net, frame, *a);
+            add_same(cnf, x, latch_number(net, frame, *b))
         }
         Fact::Differ(a, b) => {
-            let x = latch_number(net, frame, a);
-            add_differ(cnf, x, latch_number(net, frame, b))
+            let x = latch_number(net, frame, *a);
+            add_differ(cnf, x, latch_number(net, frame, *b))
         }
+        Fact::AnyOf(literals) => add_any(alloc, cnf, net, frame, literals.as_slice()),
     }
 }
 
 /// Adds that all facts hold in a frame.
 #[tactic(auto, using(crate::proofs::Adding::loops))]
-pub fn add_facts(cnf: &mut Cnf, net: &Net, frame: u32, facts: &[Fact]) -> M<()>
+pub fn add_facts(alloc: Global, cnf: &mut Cnf, net: &Net, frame: u32, facts: &[Fact]) -> M<()>
     requires room { suc frame * variables net.now ≤ cnf.old.variables }
     requires inside { AllIn (length net.now.latches) facts.now }
     ensures variables { cnf.new.variables ≡ cnf.old.variables }
@@ -49,31 +66,48 @@ pub fn add_facts(cnf: &mut Cnf, net: &Net, frame: u32, facts: &[Fact]) -> M<()>
         ++ facts_clauses net.now frame facts.now) }
 {
     for fact in facts {
-        add_fact(cnf, net, frame, *fact)?;
+        add_fact(alloc, cnf, net, frame, fact)?;
+    }
+    Ok(())
+}
+
+/// Adds that where `d` is true none of the literals of latches is true in frame 1.
+fn add_none(cnf: &mut Cnf, net: &Net, d: Literal, literals: &[u32]) -> M<()>
+    requires room { 2 * variables net.now ≤ cnf.old.variables }
+    requires inside { All (Below (length net.now.latches)) literals.now }
+    requires d { IsLiteral cnf.old.variables d }
+    ensures variables { cnf.new.variables ≡ cnf.old.variables }
+    ensures added { OnOk result (cnf.new.clauses ≡ cnf.old.clauses
+        ++ guarded d (map (λ l. neg_ℤ (literal_in net.now 1 l) ∷ []) literals.now)) }
+{
+    for l in literals {
+        let literal = latch_literal_number(net, 1, *l);
+        add_alone_where(cnf, d, opposite(literal))?;
     }
     Ok(())
 }
 
 /// Adds that where `d` is true a fact fails in frame 1.
-fn add_failing(cnf: &mut Cnf, net: &Net, d: Literal, fact: Fact) -> M<()>
+fn add_failing(cnf: &mut Cnf, net: &Net, d: Literal, fact: &Fact) -> M<()>
     requires room { 2 * variables net.now ≤ cnf.old.variables }
-    requires inside { IsIn (length net.now.latches) fact }
+    requires inside { IsIn (length net.now.latches) fact.now }
     requires d { IsLiteral cnf.old.variables d }
     ensures variables { cnf.new.variables ≡ cnf.old.variables }
     ensures added { OnOk result (cnf.new.clauses ≡ cnf.old.clauses
-        ++ guarded d (fact_clauses net.now 1 (opposite_fact fact))) }
+        ++ guarded d (failing_clauses net.now 1 fact.now)) }
 {
     match fact {
-        Fact::Zero(a) => add_alone_where(cnf, d, latch_number(net, 1, a)),
-        Fact::One(a) => add_alone_where(cnf, d, opposite(latch_number(net, 1, a))),
+        Fact::Zero(a) => add_alone_where(cnf, d, latch_number(net, 1, *a)),
+        Fact::One(a) => add_alone_where(cnf, d, opposite(latch_number(net, 1, *a))),
         Fact::Same(a, b) => {
-            let x = latch_number(net, 1, a);
-            add_differ_where(cnf, d, x, latch_number(net, 1, b))
+            let x = latch_number(net, 1, *a);
+            add_differ_where(cnf, d, x, latch_number(net, 1, *b))
         }
         Fact::Differ(a, b) => {
-            let x = latch_number(net, 1, a);
-            add_same_where(cnf, d, x, latch_number(net, 1, b))
+            let x = latch_number(net, 1, *a);
+            add_same_where(cnf, d, x, latch_number(net, 1, *b))
         }
+        Fact::AnyOf(literals) => add_none(cnf, net, d, literals.as_slice()),
     }
 }
 
@@ -90,7 +124,7 @@ pub fn add_failings(alloc: Global, cnf: &mut Cnf, net: &Net, group: &[Fact]) -> 
     let first = 2 * net.variables();
     for (i, fact) in group.iter().enumerate() {
         let d = further_number(first + i as u32);
-        add_failing(cnf, net, d, *fact)?;
+        add_failing(cnf, net, d, fact)?;
     }
     add_some(alloc, cnf, first, group.len() as u32)
 }

@@ -3,7 +3,7 @@
 ghost use Rattle.std.specs.Prelude.{◌≡◌, suc, ◌+◌, ◌-◌, ◌*◌, ◌<◌, ◌≤◌, ◌^◌, ◌∷◌, ◌++◌, [], neg_ℤ, unsigned_abs, length, OnOk};
 ghost use Rattle.aig_net.specs.Nets.{Below, variables};
 ghost use Rattle.chain_check.specs.Clauses.{AreLiterals, IsLiteral};
-ghost use Rattle.cnf_frames.specs.Queries.{in_frame, latch_in};
+ghost use Rattle.cnf_frames.specs.Queries.{in_frame, latch_in, literal_in};
 ghost use Rattle.chain_check.specs.FewClauses.{alone, and_clauses, differ_clauses, further, guarded, next_clauses, same_clauses};
 
 use aig_net::Net;
@@ -33,6 +33,17 @@ pub fn latch_number(net: &Net, frame: u32, latch: u32) -> Literal
 {
     net.variables(); // what each net keeps
     number_of(net, frame, 2 * (1 + net.inputs() + latch))
+}
+
+/// The number of a literal of latches in a frame.
+pub fn latch_literal_number(net: &Net, frame: u32, l: u32) -> Literal
+    requires latch { Below (length net.now.latches) l }
+    requires room { suc frame * variables net.now < 2 ^ 31 }
+    ensures number { result ≡ literal_in net.now frame l }
+    ensures right { IsLiteral (suc frame * variables net.now) result }
+{
+    net.variables(); // what each net keeps
+    number_of(net, frame, 2 * (1 + net.inputs() + l / 2) + l % 2)
 }
 
 /// The number of a further variable, counted from 0.

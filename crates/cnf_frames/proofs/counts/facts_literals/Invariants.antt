@@ -1,10 +1,9 @@
-use Rattle.std.proofs.Common.{◌≡◌, ◌*◌, ◌≤◌}
-use Rattle.cnf_frames.specs.Counts.{sum_for, fact_literals}
+use Rattle.std.proofs.Common.{◌≡◌}
+use Rattle.cnf_frames.specs.Counts.{capped, sum_for, fact_literals}
 use Rattle.cnf_frames.specs.Facts.{fact_at}
 use Rattle.cnf_frames.proofs.counts.facts_literals.Given as goal
 
 -- those so far are counted
 abbrev pub invariant-loop-fact : goal.invariant-loop-fact
 invariant-loop-fact l =
-    (l.literals ≡ sum_for (λ i. fact_literals (fact_at l.facts i)) l.fact-index)
-    × (l.literals ≤ 4 * l.fact-index)
+    l.literals ≡ capped (sum_for (λ i. fact_literals (fact_at l.facts i)) l.fact-index)

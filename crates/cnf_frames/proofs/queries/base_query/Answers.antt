@@ -4,7 +4,7 @@ use Rattle.cnf_frames.specs.declared.queries.Asked.TheVariants.{Base}
 use Rattle.cnf_frames.specs.Queries.{clauses_of, variables_of}
 use Rattle.chain_check.specs.FewClauses.{literals_in}
 use Rattle.cnf_frames.proofs.Counting.{base-counted}
-use Rattle.cnf_frames.proofs.Querying.{refused-as, within-as, base-made}
+use Rattle.cnf_frames.proofs.Querying.{like-same, refused-as, within-as, base-made}
 use Rattle.cnf_frames.proofs.queries.base_query.Goals as goal
 
 pub returns-in_err-variables-clause-refused : goal.returns-in_err-variables-clause-refused
@@ -14,7 +14,8 @@ returns-in_err-variables-clause-refused c =
     (refused-as c.base_variables.result c.base_literals.result
     (variables_of c.args.safe.now (Base c.args.k))
     (literals_in (clauses_of c.args.safe.now (Base c.args.k))) c.in_err-variables.field-0.0
-    c.base_variables.ensures (c.base_literals.ensures ∙ base-counted c.args.safe.now c.args.k)
+    c.base_variables.ensures
+    (like-same _ _ (c.base_literals.ensures ∙ base-counted c.args.safe.now c.args.k))
     c.in_err-variables.ensures.refused)
 
 pub returns-clause-query : goal.returns-clause-query
@@ -29,6 +30,6 @@ returns-clause-query c = record {
       ∙ c.in_ok-variables.ensures.variables ∙ c.base_variables.ensures;
   within = within-as c.args.safe.now (Base c.args.k) c.base_variables.result
       c.base_literals.result c.base_variables.ensures
-      (c.base_literals.ensures ∙ base-counted c.args.safe.now c.args.k)
+      (like-same _ _ (c.base_literals.ensures ∙ base-counted c.args.safe.now c.args.k))
       c.in_ok-variables.ensures.within;
 }

@@ -9,7 +9,7 @@ use Rattle.cnf_frames.specs.Queries.{clauses_of, variables_of, facts_clauses, fa
 use Rattle.chain_check.specs.FewClauses.{literals_in, for_each, some_further}
 use Rattle.cnf_frames.proofs.Counting.{keep-counted}
 use Rattle.cnf_frames.proofs.Groups.{group-in}
-use Rattle.cnf_frames.proofs.Querying.{refused-as, within-as, keep-made}
+use Rattle.cnf_frames.proofs.Querying.{like-after, refused-as, within-as, keep-made}
 use Rattle.cnf_frames.proofs.queries.keep_query.Goals as goal
 
 pub returns-in_err-variables-clause-refused : goal.returns-in_err-variables-clause-refused
@@ -23,11 +23,11 @@ returns-in_err-variables-clause-refused c =
     (literals_in (clauses_of c.args.safe.now (Keep c.args.inv.now c.args.group)))
     c.in_err-variables.field-0.0
     (c.keep_variables.ensures ∙ ap (λ g. 2 * variables c.args.safe.now.net + length g) some)
-    (c.keep_literals.ensures
+    (like-after _ _ _ (c.keep_literals.ensures
     ∙ ap (λ f. keep_literals c.args.safe.now.net f c.group_slice-some.result.now)
     c.as_slice-facts.ensures
-    ∙ ap (keep_literals c.args.safe.now.net c.args.inv.now) some
-    ∙ keep-counted c.args.safe.now c.args.inv.now c.args.group)
+    ∙ ap (keep_literals c.args.safe.now.net c.args.inv.now) some)
+    (keep-counted c.args.safe.now c.args.inv.now c.args.group))
     c.in_err-variables.ensures.refused)
 
 pub add_failings-requires-clause-inside : goal.add_failings-requires-clause-inside
@@ -43,11 +43,11 @@ returns-clause-query c =
     ∙ ap (λ f. group_of f c.args.group) c.as_slice-facts.ensures in
     let count = c.keep_variables.ensures
     ∙ ap (λ g. 2 * variables c.args.safe.now.net + length g) some in
-    let literals = c.keep_literals.ensures
+    let literals = like-after _ _ _ (c.keep_literals.ensures
     ∙ ap (λ f. keep_literals c.args.safe.now.net f c.group_slice-some.result.now)
     c.as_slice-facts.ensures
-    ∙ ap (keep_literals c.args.safe.now.net c.args.inv.now) some
-    ∙ keep-counted c.args.safe.now c.args.inv.now c.args.group in
+    ∙ ap (keep_literals c.args.safe.now.net c.args.inv.now) some)
+    (keep-counted c.args.safe.now c.args.inv.now c.args.group) in
     record {
       same = ap (λ inv. Keep inv c.args.group) c.in_ok-copy.ensures;
       clauses = keep-made c.args.safe.now c.args.inv.now c.args.group c.in_ok-cnf.cnf.clauses

@@ -5,7 +5,7 @@ use Rattle.cnf_frames.specs.Counts.{step_literals}
 use Rattle.cnf_frames.specs.Queries.{clauses_of, variables_of, good_clauses}
 use Rattle.chain_check.specs.FewClauses.{literals_in, for_each}
 use Rattle.cnf_frames.proofs.Counting.{step-counted}
-use Rattle.cnf_frames.proofs.Querying.{refused-as, within-as, step-made, step-variables, step-start}
+use Rattle.cnf_frames.proofs.Querying.{like-after, refused-as, within-as, step-made, step-variables, step-start}
 use Rattle.cnf_frames.proofs.queries.step_query.Goals as goal
 
 pub returns-in_err-variables-clause-refused : goal.returns-in_err-variables-clause-refused
@@ -17,8 +17,9 @@ returns-in_err-variables-clause-refused c =
     (literals_in (clauses_of c.args.safe.now (Step c.args.inv.now c.args.k)))
     c.in_err-variables.field-0.0
     (step-variables c.args.safe.now c.args.inv.now c.args.k _ c.step_variables.ensures)
-    (c.step_literals.ensures ∙ ap (λ f. step_literals c.args.safe.now.net f c.args.k)
-    c.as_slice-facts.ensures ∙ step-counted c.args.safe.now c.args.inv.now c.args.k)
+    (like-after _ _ _ (c.step_literals.ensures
+    ∙ ap (λ f. step_literals c.args.safe.now.net f c.args.k) c.as_slice-facts.ensures)
+    (step-counted c.args.safe.now c.args.inv.now c.args.k))
     c.in_err-variables.ensures.refused)
 
 pub add_all_apart-requires : goal.add_all_apart-requires
@@ -32,9 +33,9 @@ pub returns-clause-query : goal.returns-clause-query
 returns-clause-query c =
     let variables = step-variables c.args.safe.now c.args.inv.now c.args.k
     c.step_variables.result c.step_variables.ensures in
-    let literals = c.step_literals.ensures
-    ∙ ap (λ f. step_literals c.args.safe.now.net f c.args.k) c.as_slice-facts.ensures
-    ∙ step-counted c.args.safe.now c.args.inv.now c.args.k in
+    let literals = like-after _ _ _ (c.step_literals.ensures
+    ∙ ap (λ f. step_literals c.args.safe.now.net f c.args.k) c.as_slice-facts.ensures)
+    (step-counted c.args.safe.now c.args.inv.now c.args.k) in
     let goods = c.in_ok-add_goods.ensures.added
     ∙ ap (λ f. c.add_frames.new.cnf.clauses
     ++ for_each (good_clauses c.args.safe.now f) (suc c.args.k)) c.as_slice-facts.ensures in
