@@ -19,7 +19,7 @@ use Rattle.cnf_frames.specs.declared.queries.Asked.TheVariants.{Keep}
 use Rattle.cnf_frames.specs.declared.queries.Query.{Query}
 use Rattle.cnf_frames.specs.declared.queries.FrameError.{FrameError}
 use Rattle.cnf_frames.specs.declared.queries.FrameError.TheVariants.{Limit, Memory}
-use Rattle.cnf_frames.specs.Facts.{AllHold, AllIn, IsSafe, fact_at, HoldsIn}
+use Rattle.cnf_frames.specs.Facts.{AllHold, IsSafe, fact_at, HoldsIn}
 use Rattle.cnf_frames.specs.Queries.{IsQuery, IsRefusal, IsWithin, clauses_of, group_of, groups, variables_of}
 use Rattle.cnf_frames.specs.QueryPaths.{IsKeepPath, word_of}
 use Rattle.cnf_frames.specs.Proofs.{AreKeepsWithin, AreKept, IsRefuted, log_at}
@@ -28,11 +28,11 @@ use Rattle.cnf_frames.proofs.Concluding.{kept-inductive}
 use Rattle.cnf_frames.proofs.Groups.{of-group}
 use Rattle.cnf_frames.proofs.Surviving.{survives}
 use Rattle.invar_find.specs.declared.kept.SpentGroup.{SpentGroup}
-use Rattle.invar_find.specs.Kepts.{AreStarting, IsKept, IsSpentGroup, IsStopped}
+use Rattle.invar_find.specs.Kepts.{AreStarting, IsKeptOf, IsSpentGroup, IsStoppedAt}
 use Rattle.invar_find.specs.Parts.{AreThose, IsOutside, IsSublist}
 use Rattle.invar_find.specs.Searches.{IsSearching}
 use Rattle.invar_find.proofs.Sublists.{sublist-among, sublist-length, sublist-shorter, sublist-trans, those-all}
-use Rattle.invar_find.proofs.Starting.{candidate-in, holds-alike}
+use Rattle.invar_find.proofs.Starting.{holds-alike}
 use Rattle.invar_find.proofs.Settled.{AreSettled}
 
 -- ---- groups
@@ -44,22 +44,18 @@ group-some facts g lt =
     let b = length-drop (64 * g) facts in
     Contains-get_or (group_of facts g) 0 _ (omega (arith, a, b, lt))
 
-pub all-in : (safe : SafeNet) (facts : List Fact) → AreStarting safe facts →
-    AllIn (length safe.net.latches) facts
-all-in safe facts starting f has =
-    candidate-in (length safe.net.latches) f (sublist-among _ _ starting.sublist f has)
-
-part-starting : (safe : SafeNet) (facts left : List Fact) → AreStarting safe facts →
-    IsSublist left facts → AreStarting safe left
-part-starting safe facts left starting part = record {
+part-starting : (safe : SafeNet) (tried facts left : List Fact) → AreStarting safe tried facts →
+    IsSublist left facts → AreStarting safe tried left
+part-starting safe tried facts left starting part = record {
   sublist = sublist-trans part starting.sublist;
+  inside = λ f has. starting.inside f (sublist-among _ _ part f has);
   starts = λ v start f has. starting.starts v start f (sublist-among _ _ part f has);
 }
 
-part-spent : (safe : SafeNet) (conflicts : ℕ) (facts left : List Fact) (s : SpentGroup) →
-    IsSublist left facts → IsSpentGroup safe conflicts facts s →
-    IsSpentGroup safe conflicts left s
-part-spent safe conflicts facts left s part was = record {
+part-spent : (safe : SafeNet) (tried : List Fact) (conflicts : ℕ) (facts left : List Fact)
+    (s : SpentGroup) → IsSublist left facts → IsSpentGroup safe tried conflicts facts s →
+    IsSpentGroup safe tried conflicts left s
+part-spent safe tried conflicts facts left s part was = record {
   starting = was.starting;
   among = λ f has. was.among f (sublist-among _ _ part f has);
   group = was.group;
@@ -69,91 +65,91 @@ part-spent safe conflicts facts left s part was = record {
 -- ---- facts that a step breaks
 
 -- A step from a state with all facts.
-step-left : (safe : SafeNet) (conflicts : ℕ) (facts left : List Fact) (gone : List SpentGroup)
-    (state : List Bool) (word : Word) → IsSearching safe conflicts facts gone →
+step-left : (safe : SafeNet) (tried : List Fact) (conflicts : ℕ) (facts left : List Fact) (gone : List SpentGroup)
+    (state : List Bool) (word : Word) → IsSearching safe tried conflicts facts gone →
     IsPath safe.net 1 word → AllHold safe.net facts (word 0) →
     ((j : ℕ) → j < length safe.net.latches → row state j ≡ word 1 (latch_variable safe.net j)) →
-    AreThose (HoldsIn (row state)) facts left → IsSearching safe conflicts left gone
-step-left safe conflicts facts left gone state word search along known same those = record {
-  starting = part-starting safe facts left search.starting those.sublist;
+    AreThose (HoldsIn (row state)) facts left → IsSearching safe tried conflicts left gone
+step-left safe tried conflicts facts left gone state word search along known same those = record {
+  starting = part-starting safe tried facts left search.starting those.sublist;
   unspent = λ f has. search.unspent f (sublist-among _ _ those.sublist f has);
   greatest = λ some inductive opens f has.
       let among = search.greatest some inductive opens in
       those.whole f (among f has)
       ((holds-alike safe.net (word 1) (length safe.net.latches) (row state) same f
-      (all-in safe facts search.starting f (among f has))).1
+      (search.starting.inside f (among f has))).1
       (survives safe.net facts some inductive among word along known f has));
-  spent = λ s has. part-spent safe conflicts facts left s those.sublist (search.spent s has);
+  spent = λ s has. part-spent safe tried conflicts facts left s those.sublist (search.spent s has);
   few =
       let less = sublist-length those.sublist in
       let few = search.few in
       omega (arith, less, few);
 }
 
-pub broken-left : (safe : SafeNet) (conflicts group : ℕ) (facts left : List Fact)
+pub broken-left : (safe : SafeNet) (tried : List Fact) (conflicts group : ℕ) (facts left : List Fact)
     (gone : List SpentGroup) (state : List Bool) (word : Word) →
-    IsSearching safe conflicts facts gone →
+    IsSearching safe tried conflicts facts gone →
     IsKeepPath safe.net facts (group_of facts group) word →
     ((j : ℕ) → j < length safe.net.latches → row state j ≡ word 1 (latch_variable safe.net j)) →
     AreThose (HoldsIn (row state)) facts left →
-    IsSearching safe conflicts left gone × (length left < length facts)
-broken-left safe conflicts group facts left gone state word search path same those = (
-  step-left safe conflicts facts left gone state word search path.along path.known same those,
+    IsSearching safe tried conflicts left gone × (length left < length facts)
+broken-left safe tried conflicts group facts left gone state word search path same those = (
+  step-left safe tried conflicts facts left gone state word search path.along path.known same those,
   let (f, among, fails) = path.fails in
       let here = of-group facts group f among in
       sublist-shorter left facts f those.sublist here (λ has. fails
       ((holds-alike safe.net (word 1) (length safe.net.latches) (row state) same f
-      (all-in safe facts search.starting f here)).0 (those.right f has))),
+      (search.starting.inside f here)).0 (those.right f has))),
 )
 
 -- An assignment of a group's query is such a step.
-pub satisfied-left : (safe : SafeNet) (conflicts group : ℕ) (facts left : List Fact)
+pub satisfied-left : (safe : SafeNet) (tried : List Fact) (conflicts group : ℕ) (facts left : List Fact)
     (gone : List SpentGroup) (state values : List Bool) (query : Query) → IsSafe safe →
-    IsSearching safe conflicts facts gone → IsQuery safe (Keep facts group) query →
+    IsSearching safe tried conflicts facts gone → IsQuery safe (Keep facts group) query →
     IsOutcome query.cnf.variables query.cnf.clauses conflicts (Satisfied values) →
     ((j : ℕ) → j < length safe.net.latches →
     row state j ≡ word_of safe values 1 (latch_variable safe.net j)) →
     AreThose (HoldsIn (row state)) facts left →
-    IsSearching safe conflicts left gone × (length left < length facts)
-satisfied-left safe conflicts group facts left gone state values query is search right outcome same
+    IsSearching safe tried conflicts left gone × (length left < length facts)
+satisfied-left safe tried conflicts group facts left gone state values query is search right outcome same
     those =
     let C : List Clause → Type 0 = SatisfiesAll values in
-    broken-left safe conflicts group facts left gone state (word_of safe values) search
+    broken-left safe tried conflicts group facts left gone state (word_of safe values) search
     (answered safe (Keep facts group) values is (subst C right.clauses outcome.1)) same those
 
 -- An assignment of a query of other facts is such a step where all facts hold before it.
-pub sifted-left : (safe : SafeNet) (conflicts group : ℕ) (basis facts known left : List Fact)
+pub sifted-left : (safe : SafeNet) (tried : List Fact) (conflicts group : ℕ) (basis facts known left : List Fact)
     (gone : List SpentGroup) (before state values : List Bool) (query : Query) → IsSafe safe →
-    IsSearching safe conflicts facts gone → IsQuery safe (Keep basis group) query →
+    IsSearching safe tried conflicts facts gone → IsQuery safe (Keep basis group) query →
     IsOutcome query.cnf.variables query.cnf.clauses conflicts (Satisfied values) →
     ((j : ℕ) → j < length safe.net.latches →
     row before j ≡ word_of safe values 0 (latch_variable safe.net j)) →
     AreThose (HoldsIn (row before)) facts known → length facts ≤ length known →
     ((j : ℕ) → j < length safe.net.latches →
     row state j ≡ word_of safe values 1 (latch_variable safe.net j)) →
-    AreThose (HoldsIn (row state)) facts left → IsSearching safe conflicts left gone
-sifted-left safe conflicts group basis facts known left gone before state values query is search
+    AreThose (HoldsIn (row state)) facts left → IsSearching safe tried conflicts left gone
+sifted-left safe tried conflicts group basis facts known left gone before state values query is search
     right outcome first holds le same those =
     let C : List Clause → Type 0 = SatisfiesAll values in
     let path : IsKeepPath safe.net basis (group_of basis group) (word_of safe values) =
     answered safe (Keep basis group) values is (subst C right.clauses outcome.1) in
-    step-left safe conflicts facts left gone state (word_of safe values) search path.along
+    step-left safe tried conflicts facts left gone state (word_of safe values) search path.along
     (λ f has. (holds-alike safe.net (word_of safe values 0) (length safe.net.latches) (row before)
-    first f (all-in safe facts search.starting f has)).0
+    first f (search.starting.inside f has)).0
     (those-all (HoldsIn (row before)) facts known holds le f has)) same those
 
 -- ---- groups that were spent
 
-pub spent-left : (safe : SafeNet) (conflicts group : ℕ) (facts left : List Fact)
-    (gone more : List SpentGroup) (log : List Learned) → IsSearching safe conflicts facts gone →
+pub spent-left : (safe : SafeNet) (tried : List Fact) (conflicts group : ℕ) (facts left : List Fact)
+    (gone more : List SpentGroup) (log : List Learned) → IsSearching safe tried conflicts facts gone →
     group < groups facts → IsOutcome (variables_of safe (Keep facts group))
     (clauses_of safe (Keep facts group)) conflicts (SpentOutcome log) →
     AreThose (IsOutside facts group) facts left →
     more ≡ gone ++ (record { facts = facts; group = group; log = log }) ∷ [] →
-    IsSearching safe conflicts left more × (length left < length facts)
-spent-left safe conflicts group facts left gone more log search within outcome those e =
+    IsSearching safe tried conflicts left more × (length left < length facts)
+spent-left safe tried conflicts group facts left gone more log search within outcome those e =
     let S : List SpentGroup → Type 0 = λ more.
-    IsSearching safe conflicts left more × (length left < length facts) in
+    IsSearching safe tried conflicts left more × (length left < length facts) in
     subst S (sym e) (now, fewer)
   where
     fewer : length left < length facts
@@ -162,10 +158,10 @@ spent-left safe conflicts group facts left gone more log search within outcome t
         sublist-shorter left facts _ those.sublist (of-group facts group _ f)
         (λ has. those.right _ has f)
 
-    now : IsSearching safe conflicts left
+    now : IsSearching safe tried conflicts left
         (gone ++ (record { facts = facts; group = group; log = log }) ∷ [])
     now = record {
-      starting = part-starting safe facts left search.starting those.sublist;
+      starting = part-starting safe tried facts left search.starting those.sublist;
       unspent = λ f has (s, among, member). elim (Contains-push_cases gone _ s among) [
         | inl before ↦
             search.unspent f (sublist-among _ _ those.sublist f has) (s, before, member)
@@ -182,9 +178,9 @@ spent-left safe conflicts group facts left gone more log search within outcome t
           (λ member. (opens f has).unspent (_, Contains-push gone _, member));
       spent = λ s among. elim (Contains-push_cases gone _ s among) [
         | inl before ↦
-            part-spent safe conflicts facts left s those.sublist (search.spent s before)
+            part-spent safe tried conflicts facts left s those.sublist (search.spent s before)
         | inr same ↦
-            let P : SpentGroup → Type 0 = IsSpentGroup safe conflicts left in
+            let P : SpentGroup → Type 0 = IsSpentGroup safe tried conflicts left in
             subst P same (record {
               starting = search.starting;
               among = sublist-among _ _ those.sublist;
@@ -198,33 +194,33 @@ spent-left safe conflicts group facts left gone more log search within outcome t
           omega (arith, less, few);
     }
 
-pub spent-pushed : (safe : SafeNet) (conflicts group : ℕ) (facts asked left now : List Fact)
+pub spent-pushed : (safe : SafeNet) (tried : List Fact) (conflicts group : ℕ) (facts asked left now : List Fact)
     (gone more : List SpentGroup) (log : List Learned) (query : Query) →
-    IsSearching safe conflicts facts gone → group < groups facts →
+    IsSearching safe tried conflicts facts gone → group < groups facts →
     IsQuery safe (Keep facts group) query →
     IsOutcome query.cnf.variables query.cnf.clauses conflicts (SpentOutcome log) →
     AreThose (IsOutside facts group) facts left → asked ≡ facts → now ≡ left →
     more ≡ gone ++ (record { facts = asked; group = group; log = log }) ∷ [] →
-    IsSearching safe conflicts now more × (length now < length facts)
-spent-pushed safe conflicts group facts asked left now gone more log query search within right
+    IsSearching safe tried conflicts now more × (length now < length facts)
+spent-pushed safe tried conflicts group facts asked left now gone more log query search within right
     outcome those same after e =
     let V : ℕ → Type 0 = λ n. IsOutcome n query.cnf.clauses conflicts (SpentOutcome log) in
     let C : List Clause → Type 0 = λ clauses.
     IsOutcome (variables_of safe (Keep facts group)) clauses conflicts (SpentOutcome log) in
     let N : List Fact → Type 0 = λ now.
-    IsSearching safe conflicts now more × (length now < length facts) in
-    subst N (sym after) (spent-left safe conflicts group facts left gone more log search within
+    IsSearching safe tried conflicts now more × (length now < length facts) in
+    subst N (sym after) (spent-left safe tried conflicts group facts left gone more log search within
     (subst C right.clauses (subst V right.variables outcome)) those
     (e ∙ ap (λ facts. gone ++ (record { facts = facts; group = group; log = log }) ∷ []) same))
 
 -- ---- a query that is past a limit
 
-pub stopped : (safe : SafeNet) (facts : List Fact) (group : ℕ) (e : FrameError) →
-    AreStarting safe facts → group < groups facts → IsRefusal safe (Keep facts group) e →
-    IsStopped safe e
-stopped safe facts group (Limit limit) starting within (past, most) =
+pub stopped : (safe : SafeNet) (tried facts : List Fact) (group : ℕ) (e : FrameError) →
+    AreStarting safe tried facts → group < groups facts → IsRefusal safe (Keep facts group) e →
+    IsStoppedAt safe tried e
+stopped safe tried facts group (Limit limit) starting within (past, most) =
     (facts, group, starting, within, past, most)
-stopped safe facts group Memory starting within refused = tt
+stopped safe tried facts group Memory starting within refused = tt
 
 -- ---- groups that no step breaks
 
@@ -277,13 +273,14 @@ settled-more safe facts group logs more log settled lt refuted within e =
               (settled.each g (omega arith))
         ]
 
-pub kept : (safe : SafeNet) (conflicts : ℕ) (facts : List Fact) (logs : List (List Learned))
-    (gone : List SpentGroup) → IsSafe safe → IsSearching safe conflicts facts gone →
+pub kept : (safe : SafeNet) (tried : List Fact) (conflicts : ℕ) (facts : List Fact)
+    (logs : List (List Learned)) (gone : List SpentGroup) → IsSafe safe →
+    IsSearching safe tried conflicts facts gone →
     AreKept safe facts logs × AreKeepsWithin safe facts →
-    IsKept safe conflicts (record { inv = facts; logs = logs; spent = gone })
-kept safe conflicts facts logs gone is search (logged, within) = record {
-  inside = all-in safe facts search.starting;
-  inductive = kept-inductive safe facts logs is (all-in safe facts search.starting)
+    IsKeptOf safe tried conflicts (record { inv = facts; logs = logs; spent = gone })
+kept safe tried conflicts facts logs gone is search (logged, within) = record {
+  inside = search.starting.inside;
+  inductive = kept-inductive safe facts logs is search.starting.inside
       search.starting.starts logged;
   starting = search.starting;
   unspent = search.unspent;

@@ -1,18 +1,21 @@
 -- The candidates, and those that are true at the start.
 use Rattle.std.proofs.Common.{◌≡◌, ℕ, zero, suc, ◌+◌, ◌*◌, ◌<◌, ◌≤◌, ◌^◌, min, Bool, false, List, [], ◌∷◌, ◌++◌, length, inl, inr, refl, sym, ◌∙◌, subst, arith, length-append}
 use Rattle.std.specs.Prelude.{Contains, ◌↔◌, Result, Ok, Err, IfOk}
-use Rattle.std.proofs.lemmas.List.Elements.{Contains-append_cases}
+use Rattle.std.proofs.lemmas.List.Elements.{Contains-append_cases, Contains-get_or}
+use Rattle.std.proofs.lemmas.List.Folds.{list_any_none}
 use Rattle.hy_base.proofs.Members.{contains-none, contains-cases}
 use Rattle.aig_net.specs.declared.parts.Reset.{Reset}
 use Rattle.aig_net.specs.Nets.{Net, Valuation, IsStart, ResetTo, latch_variable}
 use Rattle.hy_base.specs.Rows.{row}
 use Rattle.live_safe.specs.declared.safe_net.SafeNet.{SafeNet}
 use Rattle.cnf_frames.specs.declared.facts.Fact.{Fact}
-use Rattle.cnf_frames.specs.declared.facts.Fact.TheVariants.{Zero, One, Same, Differ}
+use Rattle.cnf_frames.specs.declared.facts.Fact.TheVariants.{Zero, One, Same, Differ, AnyOf}
 use Rattle.cnf_frames.specs.Facts.{FactHolds, AllIn, IsIn, IsSafe, HoldsIn}
+use Rattle.cnf_frames.specs.ProofTexts.{AreSimple, is_clause}
+use Rattle.cnf_frames.proofs.DistinctChosen.{any-alike}
 use Rattle.chain_check.specs.FewClauses.{for_each}
 use Rattle.invar_find.specs.Candidates.{candidates, pairs_with, single_facts}
-use Rattle.invar_find.specs.Parts.{AreThose}
+use Rattle.invar_find.specs.Parts.{AreThose, IsSublist}
 use Rattle.invar_find.specs.Searches.{IsSearching}
 use Rattle.invar_find.proofs.Sublists.{sublist-among, sublist-length}
 
@@ -60,6 +63,24 @@ candidate-in n f has =
           (omega arith, omega arith))) f pair
     ]
 
+candidate-simple : (n : ℕ) (f : Fact) → Contains (candidates n) f → is_clause f ≡ false
+candidate-simple n f has =
+    let P : Fact → Type 0 = λ f. is_clause f ≡ false in
+    elim (Contains-append_cases (single_facts n) (for_each pairs_with (min n 512)) f has) [
+      | inl single ↦
+          for_each-all P (λ j. Zero j ∷ One j ∷ []) n
+          (λ j lt. two-all P (Zero j) (One j) refl refl) f single
+      | inr pair ↦
+          for_each-all P pairs_with (min n 512)
+          (λ j lt. for_each-all P (λ i. Same i j ∷ Differ i j ∷ []) j
+          (λ i less. two-all P (Same i j) (Differ i j) refl refl)) f pair
+    ]
+
+pub candidates-simple : (n : ℕ) (facts : List Fact) → IsSublist facts (candidates n) → AreSimple facts
+candidates-simple n facts part =
+    list_any_none is_clause facts (λ k d lt.
+    candidate-simple n _ (sublist-among _ _ part _ (Contains-get_or facts k d lt)))
+
 length-for_each : (g : ℕ → List Fact) (m n : ℕ) → ((i : ℕ) → i < n → length (g i) ≤ m) →
     length (for_each g n) ≤ n * m
 length-for_each g m zero each = omega arith
@@ -71,7 +92,7 @@ length-for_each g m (suc n) each =
     length-append _ _ in
     omega (arith, before, here, e)
 
-candidates-few : (n : ℕ) → n < 2 ^ 31 → length (candidates n) < 2 ^ 37
+pub candidates-few : (n : ℕ) → n < 2 ^ 31 → length (candidates n) < 2 ^ 37
 candidates-few n few =
     let single : length (single_facts n) ≤ n * 2 =
     length-for_each (λ j. Zero j ∷ One j ∷ []) 2 n (λ i lt. omega arith) in
@@ -95,6 +116,9 @@ holds-alike net v n state same (Same i j) (li, lj) =
     (λ h. sym (same i li) ∙ h ∙ same j lj, λ h. same i li ∙ h ∙ sym (same j lj))
 holds-alike net v n state same (Differ i j) (li, lj) =
     (λ h e. h (same i li ∙ e ∙ sym (same j lj)), λ h e. h (sym (same i li) ∙ e ∙ same j lj))
+holds-alike net v n state same (AnyOf ls) (some, all) =
+    let e = any-alike n state (λ j. v (latch_variable net j)) same ls all in
+    (λ h. sym e ∙ h, λ h. e ∙ h)
 
 -- ---- the start
 
@@ -104,34 +128,30 @@ start-false safe is v start j lt =
     let P : Reset → Type 0 = λ r. ResetTo r (v (latch_variable safe.net j)) in
     subst P (is.zero j) (start j lt)
 
-pub started : (safe : SafeNet) (conflicts : ℕ) (all facts : List Fact) (state : List Bool) →
-    IsSafe safe → length safe.net.latches < 2 ^ 31 → all ≡ candidates (length safe.net.latches) →
+pub started : (safe : SafeNet) (conflicts : ℕ) (tried facts : List Fact) (state : List Bool) →
+    IsSafe safe → AllIn (length safe.net.latches) tried → length tried < 2 ^ 37 →
     ((j : ℕ) → j < length safe.net.latches → row state j ≡ false) →
-    AreThose (HoldsIn (row state)) all facts → IsSearching safe conflicts facts []
-started safe conflicts all facts state is room e zeros given =
-    let T : List Fact → Type 0 = λ all. AreThose (HoldsIn (row state)) all facts in
-    let those : T (candidates (length safe.net.latches)) = subst T e given in
-    record {
-      starting = record {
-        sublist = those.sublist;
-        starts = λ v start f has.
-            (holds-alike safe.net v (length safe.net.latches) (row state)
-            (λ j lt. zeros j lt ∙ sym (start-false safe is v start j lt)) f
-            (candidate-in (length safe.net.latches) f (sublist-among _ _ those.sublist f has))).0
-            (those.right f has);
-      };
-      unspent = λ f has (s, among, _). contains-none s among;
-      greatest = λ some inductive opens f has.
-          let here = (opens f has).candidate in
-          let v : Valuation = λ _. false in
-          those.whole f here
-          ((holds-alike safe.net v (length safe.net.latches) (row state) zeros f
-          (candidate-in (length safe.net.latches) f here)).1
-          (inductive.starts v (λ j lt. let P : Reset → Type 0 = λ r. ResetTo r false in
-          subst P (sym (is.zero j)) refl) f has));
-      spent = λ s among. absurd (contains-none s among);
-      few =
-          let less = sublist-length those.sublist in
-          let few = candidates-few (length safe.net.latches) room in
-          omega (arith, less, few);
-    }
+    AreThose (HoldsIn (row state)) tried facts → IsSearching safe tried conflicts facts []
+started safe conflicts tried facts state is inside room zeros those = record {
+  starting = record {
+    sublist = those.sublist;
+    inside = λ f has. inside f (sublist-among _ _ those.sublist f has);
+    starts = λ v start f has.
+        (holds-alike safe.net v (length safe.net.latches) (row state)
+        (λ j lt. zeros j lt ∙ sym (start-false safe is v start j lt)) f
+        (inside f (sublist-among _ _ those.sublist f has))).0
+        (those.right f has);
+  };
+  unspent = λ f has (s, among, _). contains-none s among;
+  greatest = λ some inductive opens f has.
+      let here = (opens f has).candidate in
+      let v : Valuation = λ _. false in
+      those.whole f here
+      ((holds-alike safe.net v (length safe.net.latches) (row state) zeros f (inside f here)).1
+      (inductive.starts v (λ j lt. let P : Reset → Type 0 = λ r. ResetTo r false in
+      subst P (sym (is.zero j)) refl) f has));
+  spent = λ s among. absurd (contains-none s among);
+  few =
+      let less = sublist-length those.sublist in
+      omega (arith, less, room);
+}

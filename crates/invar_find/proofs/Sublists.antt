@@ -1,12 +1,11 @@
 -- Sublists, and those facts for which something holds.
-use Rattle.std.proofs.Common.{◌≡◌, ℕ, ◌+◌, ◌<◌, ◌≤◌, List, [], ◌∷◌, ◌++◌, length, inl, inr, sym, ◌∙◌, subst, arith, take}
+use Rattle.std.proofs.Common.{◌≡◌, ℕ, ◌+◌, ◌<◌, ◌≤◌, List, [], ◌∷◌, ◌++◌, length, inl, inr, sym, ◌∙◌, ap, subst, arith, get_or, take}
 use Rattle.std.specs.Prelude.{Contains}
 use Rattle.std.proofs.lemmas.List.{append-nil, take_all, take_more}
-use Rattle.std.proofs.lemmas.List.Elements.{Contains-append_left, Contains-append_right, Contains-get_or, Contains-push, Contains-push_cases}
+use Rattle.std.proofs.lemmas.List.Elements.{Contains-append_left, Contains-append_right, Contains-push, Contains-push_cases}
 use Rattle.hy_base.proofs.Members.{contains-none, contains-cases}
 use Rattle.cnf_frames.specs.declared.facts.Fact.{Fact}
-use Rattle.cnf_frames.specs.declared.facts.Fact.TheVariants.{Zero}
-use Rattle.cnf_frames.specs.Facts.{AllIn, IsIn, fact_at}
+use Rattle.cnf_frames.specs.Facts.{AllIn, IsIn}
 use Rattle.invar_find.specs.Parts.{IsSublist, none, leaves, takes, AreThose}
 
 pub sublist-refl : (facts : List Fact) → IsSublist facts facts
@@ -120,23 +119,27 @@ those-all P all some those le f has =
 
 -- ---- along a list
 
-pub those-taken : (P : Fact → Type 0) (all some left : List Fact) (i : ℕ) →
-    AreThose P (take i all) some → i < length all → P (fact_at all i) →
-    left ≡ some ++ fact_at all i ∷ [] → AreThose P (take (i + 1) all) left
-those-taken P all some left i those lt holds e =
-    let A : List Fact → Type 0 = λ all. AreThose P all left in
-    let L : List Fact → Type 0 = AreThose P (take i all ++ fact_at all i ∷ []) in
-    subst A (sym (take_more all i (Zero 0) lt))
-    (subst L (sym e) (those-more P (take i all) some (fact_at all i) those holds))
+more-taken : (all : List Fact) (i : ℕ) (f : Fact) → i < length all → f ≡ get_or all i f →
+    take (i + 1) all ≡ take i all ++ f ∷ []
+more-taken all i f lt at = take_more all i f lt ∙ ap (λ g. take i all ++ g ∷ []) (sym at)
 
-pub those-left : (P : Fact → Type 0) (all some left : List Fact) (i : ℕ) →
-    AreThose P (take i all) some → i < length all → ¬ P (fact_at all i) → left ≡ some →
-    AreThose P (take (i + 1) all) left
-those-left P all some left i those lt fails e =
+pub those-taken : (P : Fact → Type 0) (all some left : List Fact) (i : ℕ) (f : Fact) →
+    AreThose P (take i all) some → i < length all → f ≡ get_or all i f → P f →
+    left ≡ some ++ f ∷ [] → AreThose P (take (i + 1) all) left
+those-taken P all some left i f those lt at holds e =
     let A : List Fact → Type 0 = λ all. AreThose P all left in
-    let L : List Fact → Type 0 = AreThose P (take i all ++ fact_at all i ∷ []) in
-    subst A (sym (take_more all i (Zero 0) lt))
-    (subst L (sym e) (those-less P (take i all) some (fact_at all i) those fails))
+    let L : List Fact → Type 0 = AreThose P (take i all ++ f ∷ []) in
+    subst A (sym (more-taken all i f lt at))
+    (subst L (sym e) (those-more P (take i all) some f those holds))
+
+pub those-left : (P : Fact → Type 0) (all some left : List Fact) (i : ℕ) (f : Fact) →
+    AreThose P (take i all) some → i < length all → f ≡ get_or all i f → ¬ P f → left ≡ some →
+    AreThose P (take (i + 1) all) left
+those-left P all some left i f those lt at fails e =
+    let A : List Fact → Type 0 = λ all. AreThose P all left in
+    let L : List Fact → Type 0 = AreThose P (take i all ++ f ∷ []) in
+    subst A (sym (more-taken all i f lt at))
+    (subst L (sym e) (those-less P (take i all) some f those fails))
 
 pub those-whole : (P : Fact → Type 0) (all items some : List Fact) (n : ℕ) →
     AreThose P (take n items) some → items ≡ all → length items ≤ n → AreThose P all some
@@ -144,15 +147,15 @@ those-whole P all items some n those e le =
     let A : List Fact → Type 0 = λ all. AreThose P all some in
     subst A (take_all n items le ∙ e) those
 
-pub in-more : (n : ℕ) (facts items basis left : List Fact) (i : ℕ) → AllIn n facts →
-    items ≡ facts → AllIn n basis → i < length items → left ≡ basis ++ fact_at items i ∷ [] →
-    AllIn n left
-in-more n facts items basis left i inside e before lt made f has =
+pub in-more : (n : ℕ) (facts items basis left : List Fact) (i : ℕ) (g : Fact) → AllIn n facts →
+    items ≡ facts → AllIn n basis → i < length items → g ≡ get_or items i g →
+    left ≡ basis ++ g ∷ [] → AllIn n left
+in-more n facts items basis left i g inside e before lt at made f has =
     let M : List Fact → Type 0 = λ left. Contains left f in
-    elim (Contains-push_cases basis (fact_at items i) f (subst M made has)) [
+    elim (Contains-push_cases basis g f (subst M made has)) [
       | inl old ↦ before f old
       | inr same ↦
-          let C : List Fact → Type 0 = λ facts. Contains facts (fact_at items i) in
+          let C : List Fact → Type 0 = λ facts. Contains facts g in
           let P : Fact → Type 0 = IsIn n in
-          subst P same (inside (fact_at items i) (subst C e (Contains-get_or items i _ lt)))
+          subst P same (inside g (subst C e (i, lt, sym at)))
     ]

@@ -1,4 +1,4 @@
--- The greatest inductive part of the candidates.
+-- The greatest inductive part of candidates.
 use Rattle.std.specs.Prelude.{◌≡◌, ℕ, ◌<◌, List, length, Contains}
 use Rattle.hy_base.specs.Limits.{most}
 use Rattle.aig_net.specs.Nets.{Valuation, IsStart}
@@ -12,20 +12,22 @@ use Rattle.cnf_frames.specs.declared.queries.FrameError.TheVariants.{Limit, Memo
 use Rattle.cnf_frames.specs.Facts.{AllHold, AllIn, AreAmong, IsInductive}
 use Rattle.cnf_frames.specs.Queries.{IsPast, clauses_of, group_of, groups, variables_of}
 use Rattle.cnf_frames.specs.Proofs.{AreKeepsWithin, AreKept}
+use Rattle.cnf_frames.specs.ProofTexts.{AreSimple}
 use Rattle.invar_find.specs.declared.kept.SpentGroup.{SpentGroup}
 use Rattle.invar_find.specs.declared.kept.Kept.{Kept}
 use Rattle.invar_find.specs.Candidates.{candidates}
 use Rattle.invar_find.specs.Parts.{IsSublist}
 
--- some of the candidates, all true at the start
-pub record AreStarting (safe : SafeNet) (facts : List Fact) : Type 0 where
-  pub sublist : IsSublist facts (candidates (length safe.net.latches))
+-- some of the candidates, about latches of the net, all true at the start
+pub record AreStarting (safe : SafeNet) (tried facts : List Fact) : Type 0 where
+  pub sublist : IsSublist facts tried
+  pub inside : AllIn (length safe.net.latches) facts
   pub starts : (v : Valuation) → IsStart safe.net v → AllHold safe.net facts v
 
 -- The conflicts were spent on the query of a group, whose facts have all those among them.
-pub record IsSpentGroup (safe : SafeNet) (conflicts : ℕ) (facts : List Fact)
+pub record IsSpentGroup (safe : SafeNet) (tried : List Fact) (conflicts : ℕ) (facts : List Fact)
     (s : SpentGroup) : Type 0 where
-  pub starting : AreStarting safe s.facts
+  pub starting : AreStarting safe tried s.facts
   pub among : AreAmong facts s.facts
   pub group : s.group < groups s.facts
   pub spent : IsOutcome (variables_of safe (Keep s.facts s.group))
@@ -37,29 +39,40 @@ IsSpentFact spent f =
     (s : SpentGroup) × Contains spent s × Contains (group_of s.facts s.group) f
 
 -- a candidate in no spent group
-pub record IsOpenCandidate (safe : SafeNet) (spent : List SpentGroup) (f : Fact) : Type 0 where
-  pub candidate : Contains (candidates (length safe.net.latches)) f
+pub record IsOpenCandidate (tried : List Fact) (spent : List SpentGroup) (f : Fact) : Type 0 where
+  pub candidate : Contains tried f
   pub unspent : ¬ IsSpentFact spent f
 
 -- Each inductive list of candidates in no spent group is among the facts.
-abbrev pub HasAll : SafeNet → List SpentGroup → List Fact → Type 0
-HasAll safe spent facts =
+abbrev pub HasAll : SafeNet → List Fact → List SpentGroup → List Fact → Type 0
+HasAll safe tried spent facts =
     (some : List Fact) → IsInductive safe.net some →
-    ((f : Fact) → Contains some f → IsOpenCandidate safe spent f) → AreAmong some facts
+    ((f : Fact) → Contains some f → IsOpenCandidate tried spent f) → AreAmong some facts
 
-pub record IsKept (safe : SafeNet) (conflicts : ℕ) (kept : Kept) : Type 0 where
+-- what is kept of these candidates
+pub record IsKeptOf (safe : SafeNet) (tried : List Fact) (conflicts : ℕ) (kept : Kept) : Type 0 where
   pub inside : AllIn (length safe.net.latches) kept.inv
   pub inductive : IsInductive safe.net kept.inv
-  pub starting : AreStarting safe kept.inv
+  pub starting : AreStarting safe tried kept.inv
   pub unspent : (f : Fact) → Contains kept.inv f → ¬ IsSpentFact kept.spent f
-  pub greatest : HasAll safe kept.spent kept.inv
+  pub greatest : HasAll safe tried kept.spent kept.inv
   pub logs : AreKept safe kept.inv kept.logs
   pub within : AreKeepsWithin safe kept.inv
-  pub spent : (s : SpentGroup) → Contains kept.spent s → IsSpentGroup safe conflicts kept.inv s
+  pub spent : (s : SpentGroup) → Contains kept.spent s → IsSpentGroup safe tried conflicts kept.inv s
 
--- The query of some candidates that are true at the start is past the limit.
-abbrev pub IsStopped : SafeNet → FrameError → Type 0
-IsStopped safe (Limit limit) =
-    (facts : List Fact) × (group : ℕ) × AreStarting safe facts × (group < groups facts)
+-- The query of some of these candidates that are true at the start is past the limit.
+abbrev pub IsStoppedAt : SafeNet → List Fact → FrameError → Type 0
+IsStoppedAt safe tried (Limit limit) =
+    (facts : List Fact) × (group : ℕ) × AreStarting safe tried facts × (group < groups facts)
     × IsPast safe (Keep facts group) limit.kind × (limit.limit ≡ most limit.kind)
-IsStopped safe Memory = Unit {0}
+IsStoppedAt safe tried Memory = Unit {0}
+
+-- ---- of the simple candidates
+
+-- what is kept, of which nothing is a clause
+pub record IsKept (safe : SafeNet) (conflicts : ℕ) (kept : Kept) : Type 0 where
+  pub part : IsKeptOf safe (candidates (length safe.net.latches)) conflicts kept
+  pub simple : AreSimple kept.inv
+
+abbrev pub IsStopped : SafeNet → FrameError → Type 0
+IsStopped safe = IsStoppedAt safe (candidates (length safe.net.latches))

@@ -6,10 +6,10 @@ use Rattle.invar_find.specs.declared.kept.SpentGroup.{SpentGroup}
 use Rattle.invar_find.specs.Kepts.{AreStarting, HasAll, IsSpentFact, IsSpentGroup}
 
 -- the facts that are left, and the groups that were spent
-pub record IsSearching (safe : SafeNet) (conflicts : ℕ) (facts : List Fact)
+pub record IsSearching (safe : SafeNet) (tried : List Fact) (conflicts : ℕ) (facts : List Fact)
     (gone : List SpentGroup) : Type 0 where
-  pub starting : AreStarting safe facts
+  pub starting : AreStarting safe tried facts
   pub unspent : (f : Fact) → Contains facts f → ¬ IsSpentFact gone f
-  pub greatest : HasAll safe gone facts
-  pub spent : (s : SpentGroup) → Contains gone s → IsSpentGroup safe conflicts facts s
+  pub greatest : HasAll safe tried gone facts
+  pub spent : (s : SpentGroup) → Contains gone s → IsSpentGroup safe tried conflicts facts s
   pub few : length facts < 2 ^ 37

@@ -1,17 +1,18 @@
 //! The search for the greatest inductive part of the candidates.
 
-ghost use Rattle.std.specs.Prelude.{◌≡◌, ◌<◌, ◌≤◌, ◌^◌, ℕ, [], length, MatchOption, OnOk, IfOk, IfErr};
+ghost use Rattle.std.specs.Prelude.{◌≡◌, ◌<◌, ◌≤◌, ◌^◌, [], length, MatchOption, OnOk, IfOk, IfErr};
 ghost use Rattle.cnf_frames.specs.declared.queries.Asked.TheVariants.{Keep};
-ghost use Rattle.cnf_frames.specs.Facts.{IsSafe};
+ghost use Rattle.cnf_frames.specs.Facts.{AllIn, IsSafe};
 ghost use Rattle.cnf_frames.specs.Queries.{IsWithin, groups};
 ghost use Rattle.cnf_frames.specs.Proofs.{AreKeepsWithin, AreKept, IsRefuted};
-ghost use Rattle.invar_find.specs.Kepts.{IsKept, IsStopped};
+ghost use Rattle.invar_find.specs.Kepts.{IsKept, IsKeptOf, IsStopped, IsStoppedAt};
 ghost use Rattle.invar_find.specs.Searches.{IsSearching};
 
 use crate::candidates::candidates;
 use crate::kept::{Kept, SpentGroup, SpentList};
 use crate::left::{held, outside, state_after};
 use crate::sifting::sift;
+use crate::trial::Trial;
 use chain_check::Log;
 use cnf_frames::{FrameError, Inv, LogList, keep_query};
 use hy_base::{List, M};
@@ -21,42 +22,45 @@ use std::alloc::Global;
 use std::mem;
 
 /// The candidates that are true at the start.
-fn starting(alloc: Global, safe: &SafeNet) -> M<Inv>
-    requires { IsSafe safe.now }
-    ensures { IfOk result (λ facts. (conflicts : ℕ) → IsSearching safe.now conflicts facts []) }
+fn starting(alloc: Global, trial: &Trial<'_>) -> M<Inv>
+    requires safe { IsSafe trial.now.safe.now }
+    requires inside { AllIn (length trial.now.safe.now.net.latches) trial.now.candidates.now }
+    requires few { length trial.now.candidates.now < 2 ^ 37 }
+    ensures { IfOk result (λ facts. IsSearching trial.now.safe.now trial.now.candidates.now
+        trial.now.conflicts facts []) }
 {
-    safe.net.variables(); // what each net keeps
-    let latches = safe.net.latches().len();
-    let all = candidates(alloc, latches as u32)?;
+    let latches = trial.safe.net.latches().len();
     let zeros = List::filled(alloc, false, latches)?;
-    held(alloc, zeros.as_slice(), &all)
+    held(alloc, zeros.as_slice(), trial.candidates)
 }
 
 /// Asks whether a step breaks a fact of the group: a refutation, or none where facts were left out,
 /// all that some step breaks, or the group, on whose query the conflicts were spent.
 fn ask_group(
     alloc: Global,
-    safe: &SafeNet,
+    trial: &Trial<'_>,
     facts: &mut Inv,
     spent: &mut SpentList,
     group: u32,
-    conflicts: u32,
 ) -> Result<Option<Log>, FrameError>
-    requires safe { IsSafe safe.now }
-    requires searching { IsSearching safe.now conflicts facts.old spent.old }
+    requires safe { IsSafe trial.now.safe.now }
+    requires searching { IsSearching trial.now.safe.now trial.now.candidates.now
+        trial.now.conflicts facts.old spent.old }
     requires group { group < groups facts.old }
-    requires conflicts { conflicts < 2 ^ 31 }
-    ensures searching { OnOk result (IsSearching safe.now conflicts facts.new spent.new) }
+    requires conflicts { trial.now.conflicts < 2 ^ 31 }
+    ensures searching { OnOk result (IsSearching trial.now.safe.now trial.now.candidates.now
+        trial.now.conflicts facts.new spent.new) }
     ensures reply { IfOk result (λ found. MatchOption found (length facts.new < length facts.old)
-        (λ log. (facts.new ≡ facts.old) × IsRefuted safe.now (Keep facts.old group) log
-        × IsWithin safe.now (Keep facts.old group))) }
-    ensures refused { IfErr result (IsStopped safe.now) }
+        (λ log. (facts.new ≡ facts.old)
+        × IsRefuted trial.now.safe.now (Keep facts.old group) log
+        × IsWithin trial.now.safe.now (Keep facts.old group))) }
+    ensures refused { IfErr result (IsStoppedAt trial.now.safe.now trial.now.candidates.now) }
 {
-    let query = keep_query(alloc, safe, facts, group)?;
-    match solve(alloc, &query.cnf, conflicts)? {
+    let query = keep_query(alloc, trial.safe, facts, group)?;
+    match solve(alloc, &query.cnf, trial.conflicts)? {
         Outcome::Refuted(log) => Ok(Some(log)),
         Outcome::Satisfied(values) => {
-            *facts = held(alloc, state_after(safe, values.as_slice()), facts)?;
+            *facts = held(alloc, state_after(trial.safe, values.as_slice()), facts)?;
             Ok(None)
         }
         Outcome::Spent(log) => {
@@ -76,24 +80,26 @@ fn ask_group(
 /// none were.
 fn ask_all(
     alloc: Global,
-    safe: &SafeNet,
+    trial: &Trial<'_>,
     facts: &mut Inv,
     spent: &mut SpentList,
-    conflicts: u32,
 ) -> Result<LogList, FrameError>
-    requires safe { IsSafe safe.now }
-    requires searching { IsSearching safe.now conflicts facts.old spent.old }
-    requires conflicts { conflicts < 2 ^ 31 }
-    ensures searching { OnOk result (IsSearching safe.now conflicts facts.new spent.new) }
+    requires safe { IsSafe trial.now.safe.now }
+    requires searching { IsSearching trial.now.safe.now trial.now.candidates.now
+        trial.now.conflicts facts.old spent.old }
+    requires conflicts { trial.now.conflicts < 2 ^ 31 }
+    ensures searching { OnOk result (IsSearching trial.now.safe.now trial.now.candidates.now
+        trial.now.conflicts facts.new spent.new) }
     ensures fewer { OnOk result (length facts.new ≤ length facts.old) }
     ensures kept { IfOk result (λ logs. length facts.new ≡ length facts.old →
-        AreKept safe.now facts.new logs × AreKeepsWithin safe.now facts.new) }
-    ensures refused { IfErr result (IsStopped safe.now) }
+        AreKept trial.now.safe.now facts.new logs
+        × AreKeepsWithin trial.now.safe.now facts.new) }
+    ensures refused { IfErr result (IsStoppedAt trial.now.safe.now trial.now.candidates.now) }
 {
     let mut logs = List::new(alloc);
     let mut group = 0;
     'groups: while 64 * (group as usize) < facts.len() {
-        if let Some(log) = ask_group(alloc, safe, facts, spent, group, conflicts)? {
+        if let Some(log) = ask_group(alloc, trial, facts, spent, group)? {
             logs.push(log)?;
             group += 1;
         }
@@ -101,12 +107,52 @@ fn ask_all(
     Ok(logs)
 }
 
-/// Inductive facts: of the candidates (for each latch that it is 0, and that it is 1, and for each
-/// two of the first 512 latches that they are equal, and that they differ) those of the greatest
-/// inductive list, but for groups on whose query `conflicts` clauses were learned in vain. First
-/// come queries over clauses linear in the net, some for each latch at most, until they leave no
-/// more facts out. Each round then asks one query for each 64 facts, over clauses linear in the net
-/// and in all facts; a further round is needed only where one left facts out.
+/// Inductive facts: of the candidates those of the greatest inductive list, but for groups on whose
+/// query `conflicts` clauses were learned in vain. First come queries over clauses linear in the
+/// net, some for each latch at most, until they leave no more facts out. Each round then asks one
+/// query for each 64 facts, over clauses linear in the net and in all facts; a further round is
+/// needed only where one left facts out.
+///
+/// # Errors
+///
+/// `Limit` where a query has too many variables or literals.
+pub fn invariants_of(
+    alloc: Global,
+    safe: &SafeNet,
+    candidates: &Inv,
+    conflicts: u32,
+) -> Result<Kept, FrameError>
+    requires safe { IsSafe safe.now }
+    requires inside { AllIn (length safe.now.net.latches) candidates.now }
+    requires few { length candidates.now < 2 ^ 37 }
+    requires conflicts { conflicts < 2 ^ 31 }
+    ensures kept { IfOk result (IsKeptOf safe.now candidates.now conflicts) }
+    ensures refused { IfErr result (IsStoppedAt safe.now candidates.now) }
+{
+    let trial = Trial {
+        safe,
+        candidates,
+        conflicts,
+    };
+    let mut facts = starting(alloc, &trial)?;
+    sift(alloc, &trial, &mut facts)?;
+    let mut spent = List::new(alloc);
+    'rounds: loop {
+        let before = facts.len();
+        let logs = ask_all(alloc, &trial, &mut facts, &mut spent)?;
+        if facts.len() == before {
+            return Ok(Kept {
+                inv: facts,
+                logs,
+                spent,
+            });
+        }
+    }
+}
+
+/// Inductive facts of the simple candidates: for each latch that it is 0, and that it is 1, and for
+/// each two of the first 512 latches that they are equal, and that they differ. As `invariants_of`
+/// finds them.
 ///
 /// # Errors
 ///
@@ -117,18 +163,7 @@ pub fn invariants(alloc: Global, safe: &SafeNet, conflicts: u32) -> Result<Kept,
     ensures kept { IfOk result (IsKept safe.now conflicts) }
     ensures refused { IfErr result (IsStopped safe.now) }
 {
-    let mut facts = starting(alloc, safe)?;
-    sift(alloc, safe, &mut facts, conflicts)?;
-    let mut spent = List::new(alloc);
-    'rounds: loop {
-        let before = facts.len();
-        let logs = ask_all(alloc, safe, &mut facts, &mut spent, conflicts)?;
-        if facts.len() == before {
-            return Ok(Kept {
-                inv: facts,
-                logs,
-                spent,
-            });
-        }
-    }
+    safe.net.variables(); // what each net keeps
+    let all = candidates(alloc, safe.net.latches().len() as u32)?;
+    invariants_of(alloc, safe, &all, conflicts)
 }

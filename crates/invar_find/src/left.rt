@@ -1,16 +1,16 @@
 //! What is left of facts.
 
-ghost use Rattle.std.specs.Prelude.{◌≡◌, ◌*◌, ◌+◌, ◌<◌, ◌≤◌, ◌↔◌, ℕ, Contains, length, IsTrue, IfOk};
-ghost use Rattle.aig_net.specs.Nets.{latch_variable, variables};
+ghost use Rattle.std.specs.Prelude.{◌≡◌, ◌*◌, ◌+◌, ◌<◌, ◌≤◌, ◌↔◌, [], ◌∷◌, ◌++◌, ℕ, All, Contains, length, IsTrue, IfOk, OnOk};
+ghost use Rattle.aig_net.specs.Nets.{Below, latch_variable, literal_value, variables};
 ghost use Rattle.hy_base.specs.Rows.{row};
 ghost use Rattle.live_safe.specs.declared.safe_net.SafeNet.{SafeNet};
-ghost use Rattle.cnf_frames.specs.Facts.{AllIn, IsIn, IsSafe, HoldsIn};
+ghost use Rattle.cnf_frames.specs.Facts.{AllIn, HoldsIn, IsIn, IsSafe, any_true};
 ghost use Rattle.cnf_frames.specs.Queries.{group_of};
 ghost use Rattle.cnf_frames.specs.QueryPaths.{word_of};
 ghost use Rattle.invar_find.specs.Parts.{AreThose, IsOutside};
 
 use cnf_frames::{Fact, Inv};
-use hy_base::{List, M};
+use hy_base::{List, M, Remake};
 use live_safe::SafeNet;
 use std::alloc::Global;
 
@@ -37,17 +37,48 @@ pub fn state_before<'a>(safe: &SafeNet, values: &'a [bool]) -> &'a [bool]
     &values[first..first + safe.net.latches().len()]
 }
 
+/// Whether a literal of latches is true in a state.
+fn is_true(state: &[bool], l: u32) -> bool
+    requires { Below (length state.now) l }
+    ensures { result ≡ literal_value (row state.now) l }
+{
+    let latch = state[(l / 2) as usize];
+    if l % 2 == 0 { latch } else { !latch }
+}
+
+/// Whether some of the literals of latches is true in a state.
+fn is_any_true(state: &[bool], literals: &[u32]) -> bool
+    requires { All (Below (length state.now)) literals.now }
+    ensures { result ≡ any_true (row state.now) literals.now }
+{
+    for l in literals {
+        if is_true(state, *l) {
+            return true;
+        }
+    }
+    false
+}
+
 /// Whether the fact holds in a state.
-fn holds(state: &[bool], fact: Fact) -> bool
-    requires { IsIn (length state.now) fact }
-    ensures { IsTrue result ↔ HoldsIn (row state.now) fact }
+fn holds(state: &[bool], fact: &Fact) -> bool
+    requires { IsIn (length state.now) fact.now }
+    ensures { IsTrue result ↔ HoldsIn (row state.now) fact.now }
 {
     match fact {
-        Fact::Zero(j) => !state[j as usize],
-        Fact::One(j) => state[j as usize],
-        Fact::Same(i, j) => state[i as usize] == state[j as usize],
-        Fact::Differ(i, j) => state[i as usize] != state[j as usize],
+        Fact::Zero(j) => !state[*j as usize],
+        Fact::One(j) => state[*j as usize],
+        Fact::Same(i, j) => state[*i as usize] == state[*j as usize],
+        Fact::Differ(i, j) => state[*i as usize] != state[*j as usize],
+        Fact::AnyOf(literals) => is_any_true(state, literals.as_slice()),
     }
+}
+
+/// Adds an equal fact last.
+pub fn push_copy(alloc: Global, facts: &mut Inv, fact: &Fact) -> M<()>
+    ensures { OnOk result (facts.new ≡ facts.old ++ fact.now ∷ []) }
+{
+    let copy = fact.remake(alloc)?;
+    facts.push(copy)
 }
 
 /// The facts that hold in a state, in time linear in the facts.
@@ -57,18 +88,51 @@ pub fn held(alloc: Global, state: &[bool], facts: &Inv) -> M<Inv>
 {
     let mut left = List::new(alloc);
     for fact in facts.as_slice() {
-        if holds(state, *fact) {
-            left.push(*fact)?;
+        if holds(state, fact) {
+            push_copy(alloc, &mut left, fact)?;
         }
     }
     Ok(left)
 }
 
-/// Whether the fact is one of these.
-fn is_among(facts: &[Fact], fact: Fact) -> bool
-    ensures { IsTrue result ↔ Contains facts.now fact }
+/// Whether both facts are the same.
+fn is_same(fact: &Fact, other: &Fact) -> bool
+    ensures { IsTrue result ↔ (fact.now ≡ other.now) }
 {
-    facts.contains(&fact)
+    match fact {
+        Fact::Zero(j) => match other {
+            Fact::Zero(n) => j == n,
+            _ => false,
+        },
+        Fact::One(j) => match other {
+            Fact::One(n) => j == n,
+            _ => false,
+        },
+        Fact::Same(i, j) => match other {
+            Fact::Same(m, n) => i == m && j == n,
+            _ => false,
+        },
+        Fact::Differ(i, j) => match other {
+            Fact::Differ(m, n) => i == m && j == n,
+            _ => false,
+        },
+        Fact::AnyOf(ls) => match other {
+            Fact::AnyOf(ms) => ls.as_slice() == ms.as_slice(),
+            _ => false,
+        },
+    }
+}
+
+/// Whether the fact is one of these.
+fn is_among(facts: &[Fact], fact: &Fact) -> bool
+    ensures { IsTrue result ↔ Contains facts.now fact.now }
+{
+    for other in facts {
+        if is_same(other, fact) {
+            return true;
+        }
+    }
+    false
 }
 
 /// The facts of a group.
@@ -88,8 +152,8 @@ pub fn outside(alloc: Global, facts: &Inv, group: u32) -> M<Inv>
     let members = members(facts, group);
     let mut left = List::new(alloc);
     for fact in facts.as_slice() {
-        if !is_among(members, *fact) {
-            left.push(*fact)?;
+        if !is_among(members, fact) {
+            push_copy(alloc, &mut left, fact)?;
         }
     }
     Ok(left)

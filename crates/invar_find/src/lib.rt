@@ -1,4 +1,4 @@
-//! Facts that all states of a safe net have: the greatest inductive part of simple candidates.
+//! Facts that all states of a safe net have: the greatest inductive part of candidates.
 #![tactic(auto)]
 
 mod candidates;
@@ -6,6 +6,7 @@ mod finding;
 mod kept;
 mod left;
 mod sifting;
+mod trial;
 
-pub use finding::invariants;
+pub use finding::{invariants, invariants_of};
 pub use kept::{Kept, SpentGroup, SpentList};

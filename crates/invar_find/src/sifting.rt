@@ -6,24 +6,28 @@ ghost use Rattle.cnf_frames.specs.Facts.{AllIn, IsSafe};
 ghost use Rattle.cnf_frames.specs.Queries.{groups};
 ghost use Rattle.invar_find.specs.Searches.{IsSearching};
 
-use crate::left::{held, state_after, state_before};
+use crate::left::{held, push_copy, state_after, state_before};
+use crate::trial::Trial;
 use cnf_frames::{Fact, FrameError, Inv, keep_query};
 use hy_base::{List, M, Memory};
-use live_safe::SafeNet;
 use sat_core::{Outcome, solve};
 use std::alloc::Global;
 use std::mem;
 
-/// The last latch that a fact names.
-fn last_latch(fact: Fact) -> u32 {
+/// The last latch that a fact names, 0 where it names none.
+fn last_latch(fact: &Fact) -> u32 {
     match fact {
-        Fact::Zero(j) | Fact::One(j) => j,
-        Fact::Same(_, j) | Fact::Differ(_, j) => j,
+        Fact::Zero(j) | Fact::One(j) => *j,
+        Fact::Same(_, j) | Fact::Differ(_, j) => *j,
+        Fact::AnyOf(literals) => match literals.as_slice() {
+            [.., l] => *l / 2,
+            [] => 0,
+        },
     }
 }
 
 /// Marks the last latch that a fact names. Whether it is there and was not marked yet.
-fn mark_last(marks: &mut [bool], fact: Fact) -> bool {
+fn mark_last(marks: &mut [bool], fact: &Fact) -> bool {
     match marks.get_mut(last_latch(fact) as usize) {
         Some(mark) => !mem::replace(mark, true),
         None => false,
@@ -40,8 +44,8 @@ fn basis_of(alloc: Global, facts: &Inv, latches: usize) -> M<Inv>
     let mut marks = vec![in alloc; false; latches]?;
     let mut basis = List::new(alloc);
     for fact in facts.as_slice() {
-        if mark_last(marks.as_mut_slice(), *fact) {
-            basis.push(*fact)?;
+        if mark_last(marks.as_mut_slice(), fact) {
+            push_copy(alloc, &mut basis, fact)?;
         }
     }
     Ok(basis)
@@ -62,33 +66,34 @@ enum Sifted {
 /// where it goes from a state that has all facts.
 fn sift_group(
     alloc: Global,
-    safe: &SafeNet,
+    trial: &Trial<'_>,
     facts: &mut Inv,
     basis: &Inv,
     group: u32,
-    conflicts: u32,
 ) -> M<Sifted>
-    requires safe { IsSafe safe.now }
-    requires searching { IsSearching safe.now conflicts facts.old [] }
-    requires inside { AllIn (length safe.now.net.latches) basis.now }
+    requires safe { IsSafe trial.now.safe.now }
+    requires searching { IsSearching trial.now.safe.now trial.now.candidates.now
+        trial.now.conflicts facts.old [] }
+    requires inside { AllIn (length trial.now.safe.now.net.latches) basis.now }
     requires group { group < groups basis.now }
-    requires conflicts { conflicts < 2 ^ 31 }
-    ensures { OnOk result (IsSearching safe.now conflicts facts.new []) }
+    requires conflicts { trial.now.conflicts < 2 ^ 31 }
+    ensures { OnOk result (IsSearching trial.now.safe.now trial.now.candidates.now
+        trial.now.conflicts facts.new []) }
 {
-    let query = match keep_query(alloc, safe, basis, group) {
+    let query = match keep_query(alloc, trial.safe, basis, group) {
         Ok(query) => query,
         Err(FrameError::Limit(_)) => return Ok(Sifted::Past),
         Err(FrameError::Memory) => return Err(Memory),
     };
-    let Outcome::Satisfied(values) = solve(alloc, &query.cnf, conflicts)? else {
+    let Outcome::Satisfied(values) = solve(alloc, &query.cnf, trial.conflicts)? else {
         return Ok(Sifted::Same);
     };
     let before = facts.len();
-    let known = held(alloc, state_before(safe, values.as_slice()), facts)?;
+    let known = held(alloc, state_before(trial.safe, values.as_slice()), facts)?;
     if known.len() < before {
         return Ok(Sifted::Same);
     }
-    *facts = held(alloc, state_after(safe, values.as_slice()), facts)?;
+    *facts = held(alloc, state_after(trial.safe, values.as_slice()), facts)?;
     Ok(Sifted::Fewer)
 }
 
@@ -96,24 +101,25 @@ fn sift_group(
 /// left out. None where a query is past a limit, since the others are as large.
 fn sift_between(
     alloc: Global,
-    safe: &SafeNet,
+    trial: &Trial<'_>,
     facts: &mut Inv,
     basis: &Inv,
     first: u32,
     end: u32,
-    conflicts: u32,
 ) -> M<Option<u32>>
-    requires safe { IsSafe safe.now }
-    requires searching { IsSearching safe.now conflicts facts.old [] }
-    requires inside { AllIn (length safe.now.net.latches) basis.now }
-    requires conflicts { conflicts < 2 ^ 31 }
-    ensures { OnOk result (IsSearching safe.now conflicts facts.new []) }
+    requires safe { IsSafe trial.now.safe.now }
+    requires searching { IsSearching trial.now.safe.now trial.now.candidates.now
+        trial.now.conflicts facts.old [] }
+    requires inside { AllIn (length trial.now.safe.now.net.latches) basis.now }
+    requires conflicts { trial.now.conflicts < 2 ^ 31 }
+    ensures { OnOk result (IsSearching trial.now.safe.now trial.now.candidates.now
+        trial.now.conflicts facts.new []) }
 {
     for group in first..end {
         if basis.len() <= 64 * (group as usize) {
             return Ok(None);
         }
-        match sift_group(alloc, safe, facts, basis, group, conflicts)? {
+        match sift_group(alloc, trial, facts, basis, group)? {
             Sifted::Fewer => return Ok(Some(group)),
             Sifted::Same => {}
             Sifted::Past => return Ok(None),
@@ -124,24 +130,20 @@ fn sift_between(
 
 /// Asks for the groups of a basis, from group `from` on and then before it: the first where facts
 /// were left out.
-fn sift_once(
-    alloc: Global,
-    safe: &SafeNet,
-    facts: &mut Inv,
-    from: u32,
-    conflicts: u32,
-) -> M<Option<u32>>
-    requires safe { IsSafe safe.now }
-    requires searching { IsSearching safe.now conflicts facts.old [] }
-    requires conflicts { conflicts < 2 ^ 31 }
-    ensures { OnOk result (IsSearching safe.now conflicts facts.new []) }
+fn sift_once(alloc: Global, trial: &Trial<'_>, facts: &mut Inv, from: u32) -> M<Option<u32>>
+    requires safe { IsSafe trial.now.safe.now }
+    requires searching { IsSearching trial.now.safe.now trial.now.candidates.now
+        trial.now.conflicts facts.old [] }
+    requires conflicts { trial.now.conflicts < 2 ^ 31 }
+    ensures { OnOk result (IsSearching trial.now.safe.now trial.now.candidates.now
+        trial.now.conflicts facts.new []) }
 {
-    safe.net.variables(); // what each net keeps
-    let latches = safe.net.latches().len();
+    trial.safe.net.variables(); // what each net keeps
+    let latches = trial.safe.net.latches().len();
     let basis = basis_of(alloc, facts, latches)?;
-    match sift_between(alloc, safe, facts, &basis, from, latches as u32, conflicts)? {
+    match sift_between(alloc, trial, facts, &basis, from, latches as u32)? {
         Some(group) => Ok(Some(group)),
-        None => sift_between(alloc, safe, facts, &basis, 0, from, conflicts),
+        None => sift_between(alloc, trial, facts, &basis, 0, from),
     }
 }
 
@@ -149,15 +151,17 @@ fn sift_once(
 /// steps: mostly all of them. Each query has a basis of the facts, with one fact a latch at most,
 /// and as many steps as latches are enough, since after each there is one class more of latches
 /// that are equal.
-pub fn sift(alloc: Global, safe: &SafeNet, facts: &mut Inv, conflicts: u32) -> M<()>
-    requires safe { IsSafe safe.now }
-    requires searching { IsSearching safe.now conflicts facts.old [] }
-    requires conflicts { conflicts < 2 ^ 31 }
-    ensures { OnOk result (IsSearching safe.now conflicts facts.new []) }
+pub fn sift(alloc: Global, trial: &Trial<'_>, facts: &mut Inv) -> M<()>
+    requires safe { IsSafe trial.now.safe.now }
+    requires searching { IsSearching trial.now.safe.now trial.now.candidates.now
+        trial.now.conflicts facts.old [] }
+    requires conflicts { trial.now.conflicts < 2 ^ 31 }
+    ensures { OnOk result (IsSearching trial.now.safe.now trial.now.candidates.now
+        trial.now.conflicts facts.new []) }
 {
     let mut from = 0;
-    for _step in 0..safe.net.latches().len() {
-        match sift_once(alloc, safe, facts, from, conflicts)? {
+    for _step in 0..trial.safe.net.latches().len() {
+        match sift_once(alloc, trial, facts, from)? {
             Some(group) => from = group,
             None => return Ok(()),
         }

@@ -14,8 +14,8 @@ groups-preserved-in-Some c =
     let R : Option (List Learned) → Type 0 = λ found. MatchOption found
     (length c.ask_group.new.facts < length c.groups.facts) (λ log.
     (c.ask_group.new.facts ≡ c.groups.facts)
-    × IsRefuted c.args.safe.now (Keep c.groups.facts c.groups.group) log
-    × IsWithin c.args.safe.now (Keep c.groups.facts c.groups.group)) in
+    × IsRefuted c.args.trial.now.safe.now (Keep c.groups.facts c.groups.group) log
+    × IsWithin c.args.trial.now.safe.now (Keep c.groups.facts c.groups.group)) in
     let reply = subst R c.in-Some.is c.in_ok-log.ensures.reply in
     let same : length c.ask_group.new.facts ≡ length c.groups.facts = ap length reply.0 in
     let test : 64 * c.groups.group < length c.groups.facts = omega (arith, c.len.ensures) in
@@ -24,8 +24,8 @@ groups-preserved-in-Some c =
       fewer = let before = c.groups.invariant.fewer in omega (arith, before, same);
       settled = λ e.
           let S : List Fact → Type 0 = λ facts.
-          AreSettled c.args.safe.now facts (c.groups.group + 1) c.push.new.self in
-          subst S (sym reply.0) (settled-more c.args.safe.now c.groups.facts c.groups.group
+          AreSettled c.args.trial.now.safe.now facts (c.groups.group + 1) c.push.new.self in
+          subst S (sym reply.0) (settled-more c.args.trial.now.safe.now c.groups.facts c.groups.group
           c.groups.logs c.push.new.self c.in-Some.log (c.groups.invariant.settled (sym same ∙ e))
           test reply.1 reply.2 c.in_ok-push.ensures.added);
       small = let few = c.groups.invariant.searching.few in omega (arith, few, test);

@@ -5,9 +5,9 @@ use Rattle.invar_find.proofs.finding.ask_all.Given as goal
 
 abbrev pub invariant-groups : goal.invariant-groups
 invariant-groups l = record {
-  searching : IsSearching l.safe l.conflicts l.facts l.spent;
+  searching : IsSearching l.trial.safe.now l.trial.candidates.now l.trial.conflicts l.facts l.spent;
   fewer : length l.facts ≤ length l.fn.facts;
-  settled : length l.facts ≡ length l.fn.facts → AreSettled l.safe l.facts l.group l.logs;
+  settled : length l.facts ≡ length l.fn.facts → AreSettled l.trial.safe.now l.facts l.group l.logs;
   small : 64 * l.group ≤ 2 ^ 37 + 64;
 }
 

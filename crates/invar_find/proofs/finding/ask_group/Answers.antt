@@ -5,72 +5,72 @@ use Rattle.cnf_frames.specs.Facts.{AllIn}
 use Rattle.cnf_frames.specs.QueryPaths.{word_of}
 use Rattle.sat_core.specs.declared.solving.Outcome.{Outcome}
 use Rattle.sat_core.specs.Outcomes.{IsOutcome}
-use Rattle.invar_find.proofs.Searching.{all-in, stopped, satisfied-left, spent-pushed}
+use Rattle.invar_find.proofs.Searching.{stopped, satisfied-left, spent-pushed}
 use Rattle.invar_find.proofs.finding.ask_group.Goals as goal
 
 pub keep_query-requires-clause-inside : goal.keep_query-requires-clause-inside
 keep_query-requires-clause-inside c =
-    all-in c.args.safe.now c.args.facts.now c.requires.searching.starting
+    c.requires.searching.starting.inside
 
 pub returns-in_err-query-clause-refused : goal.returns-in_err-query-clause-refused
 returns-in_err-query-clause-refused c =
     let p = err_from_is_err_and c.from_residual.result c.from_residual.ensures.1 in
     rw (p.1, p.2)
-    (stopped c.args.safe.now c.args.facts.now c.args.group c.in_err-query.field-0.0
+    (stopped c.args.trial.now.safe.now c.args.trial.now.candidates.now c.args.facts.now c.args.group c.in_err-query.field-0.0
     c.requires.searching.starting c.requires.group c.in_err-query.ensures.refused)
 
 pub held-requires : goal.held-requires
 held-requires c =
     let N : ℕ → Type 0 = λ n. AllIn n c.args.facts.now in
     subst N (sym c.state_after.ensures.many)
-    (all-in c.args.safe.now c.args.facts.now c.requires.searching.starting)
+    c.requires.searching.starting.inside
 
 pub returns-in-Satisfied-clause-searching : goal.returns-in-Satisfied-clause-searching
 returns-in-Satisfied-clause-searching c =
-    (satisfied-left c.args.safe.now c.args.conflicts c.args.group c.args.facts.now _
+    (satisfied-left c.args.trial.now.safe.now c.args.trial.now.candidates.now c.args.trial.now.conflicts c.args.group c.args.facts.now _
     c.args.spent.now c.state_after.result.now c.in-Satisfied.values c.in_ok-query.query
     c.requires.safe c.requires.searching c.in_ok-query.ensures.query
     (let P : Outcome → Type 0 = IsOutcome c.in_ok-query.query.cnf.variables
-    c.in_ok-query.query.cnf.clauses c.args.conflicts in
+    c.in_ok-query.query.cnf.clauses c.args.trial.now.conflicts in
     subst P c.in-Satisfied.is c.in_ok-log.ensures)
     (λ j lt. c.state_after.ensures.state j lt
-    ∙ ap (λ values. word_of c.args.safe.now values 1 (latch_variable c.args.safe.now.net j))
+    ∙ ap (λ values. word_of c.args.trial.now.safe.now values 1 (latch_variable c.args.trial.now.safe.now.net j))
     c.as_slice.ensures)
     c.in_ok-facts-in-Satisfied.ensures).0
 
 pub returns-in-Satisfied-clause-reply : goal.returns-in-Satisfied-clause-reply
 returns-in-Satisfied-clause-reply c =
-    (satisfied-left c.args.safe.now c.args.conflicts c.args.group c.args.facts.now _
+    (satisfied-left c.args.trial.now.safe.now c.args.trial.now.candidates.now c.args.trial.now.conflicts c.args.group c.args.facts.now _
     c.args.spent.now c.state_after.result.now c.in-Satisfied.values c.in_ok-query.query
     c.requires.safe c.requires.searching c.in_ok-query.ensures.query
     (let P : Outcome → Type 0 = IsOutcome c.in_ok-query.query.cnf.variables
-    c.in_ok-query.query.cnf.clauses c.args.conflicts in
+    c.in_ok-query.query.cnf.clauses c.args.trial.now.conflicts in
     subst P c.in-Satisfied.is c.in_ok-log.ensures)
     (λ j lt. c.state_after.ensures.state j lt
-    ∙ ap (λ values. word_of c.args.safe.now values 1 (latch_variable c.args.safe.now.net j))
+    ∙ ap (λ values. word_of c.args.trial.now.safe.now values 1 (latch_variable c.args.trial.now.safe.now.net j))
     c.as_slice.ensures)
     c.in_ok-facts-in-Satisfied.ensures).1
 
 pub returns-clause-searching : goal.returns-clause-searching
 returns-clause-searching c =
-    (spent-pushed c.args.safe.now c.args.conflicts c.args.group c.args.facts.now
+    (spent-pushed c.args.trial.now.safe.now c.args.trial.now.candidates.now c.args.trial.now.conflicts c.args.group c.args.facts.now
     c.replace-asked.result c.in_ok-left-in-Spent.left c.replace-asked.new.dest c.args.spent.now
     c.push.new.self c.in-Spent.log c.in_ok-query.query c.requires.searching c.requires.group
     c.in_ok-query.ensures.query
     (let P : Outcome → Type 0 = IsOutcome c.in_ok-query.query.cnf.variables
-    c.in_ok-query.query.cnf.clauses c.args.conflicts in
+    c.in_ok-query.query.cnf.clauses c.args.trial.now.conflicts in
     subst P c.in-Spent.is c.in_ok-log.ensures)
     c.in_ok-left-in-Spent.ensures c.replace-asked.ensures.value c.replace-asked.ensures.after
     c.in_ok-push-in-Spent.ensures.added).0
 
 pub returns-clause-reply : goal.returns-clause-reply
 returns-clause-reply c =
-    (spent-pushed c.args.safe.now c.args.conflicts c.args.group c.args.facts.now
+    (spent-pushed c.args.trial.now.safe.now c.args.trial.now.candidates.now c.args.trial.now.conflicts c.args.group c.args.facts.now
     c.replace-asked.result c.in_ok-left-in-Spent.left c.replace-asked.new.dest c.args.spent.now
     c.push.new.self c.in-Spent.log c.in_ok-query.query c.requires.searching c.requires.group
     c.in_ok-query.ensures.query
     (let P : Outcome → Type 0 = IsOutcome c.in_ok-query.query.cnf.variables
-    c.in_ok-query.query.cnf.clauses c.args.conflicts in
+    c.in_ok-query.query.cnf.clauses c.args.trial.now.conflicts in
     subst P c.in-Spent.is c.in_ok-log.ensures)
     c.in_ok-left-in-Spent.ensures c.replace-asked.ensures.value c.replace-asked.ensures.after
     c.in_ok-push-in-Spent.ensures.added).1

@@ -1,11 +1,10 @@
 use Rattle.std.proofs.Common.{◌≡◌, true, false, List, [], sym, refl, subst, ◌∙◌}
 use Rattle.cnf_frames.specs.declared.facts.Fact.{Fact}
-use Rattle.cnf_frames.specs.Facts.{fact_at}
 use Rattle.std.specs.Prelude.{Contains}
 use Rattle.invar_find.specs.Parts.{AreThose, IsOutside}
 use Rattle.invar_find.proofs.Sublists.{those-none, those-taken, those-left}
 use Rattle.invar_find.proofs.left.outside.Goals as goal
-use Rattle.invar_find.proofs.left.outside.Goals.{then-not-is_among+in_ok-push, else-not-is_among}
+use Rattle.invar_find.proofs.left.outside.Goals.{then-not-is_among+in_ok-push_copy, else-not-is_among}
 
 pub loop-fact-init : goal.loop-fact-init
 loop-fact-init c =
@@ -15,19 +14,19 @@ loop-fact-init c =
 pub loop-fact-preserved : goal.loop-fact-preserved
 loop-fact-preserved c =
     elim c.if-not-is_among.branch [
-      | then-not-is_among+in_ok-push w ↦
+      | then-not-is_among+in_ok-push_copy w ↦
           those-taken (IsOutside c.args.facts.now c.args.group) c.as_slice-fact-items.result.now
-          c.loop-fact.left _ c.loop-fact.fact-index c.loop-fact.invariant c.loop-fact-test.true
+          c.loop-fact.left _ c.loop-fact.fact-index c.fact-item.result c.loop-fact.invariant
+          c.loop-fact-test.true c.fact-item.is
           (λ member.
-          let G : List Fact → Type 0 = λ group. Contains group (fact_at
-          c.as_slice-fact-items.result.now c.loop-fact.fact-index) in
+          let G : List Fact → Type 0 = λ group. Contains group c.fact-item.result in
           let clash : false ≡ true = w.if-not-is_among.ensures.1
           (subst G (sym c.members-members.ensures) member) in (cc))
-          (w.left-is ∙ w.in_ok-push.ensures.added)
+          (w.left-is ∙ w.in_ok-push_copy.ensures)
       | else-not-is_among w ↦
           those-left (IsOutside c.args.facts.now c.args.group) c.as_slice-fact-items.result.now
-          c.loop-fact.left _ c.loop-fact.fact-index c.loop-fact.invariant c.loop-fact-test.true
-          (λ out. out (let G : List Fact → Type 0 = λ group. Contains group (fact_at
-          c.as_slice-fact-items.result.now c.loop-fact.fact-index) in
+          c.loop-fact.left _ c.loop-fact.fact-index c.fact-item.result c.loop-fact.invariant
+          c.loop-fact-test.true c.fact-item.is
+          (λ out. out (let G : List Fact → Type 0 = λ group. Contains group c.fact-item.result in
           subst G c.members-members.ensures (w.if-not-is_among.ensures.0 refl))) w.left-is
     ]

@@ -4,37 +4,37 @@ use Rattle.cnf_frames.specs.Facts.{AllIn}
 use Rattle.cnf_frames.specs.QueryPaths.{word_of}
 use Rattle.sat_core.specs.declared.solving.Outcome.{Outcome}
 use Rattle.sat_core.specs.Outcomes.{IsOutcome}
-use Rattle.invar_find.proofs.Searching.{all-in, sifted-left}
+use Rattle.invar_find.proofs.Searching.{sifted-left}
 use Rattle.invar_find.proofs.sifting.sift_group.Goals as goal
 
 pub held-requires : goal.held-requires
 held-requires c =
     let N : ℕ → Type 0 = λ n. AllIn n c.args.facts.now in
     subst N (sym c.state_before.ensures.many)
-    (all-in c.args.safe.now c.args.facts.now c.requires.searching.starting)
+    c.requires.searching.starting.inside
 
 pub held-requires-2 : goal.held-requires-2
 held-requires-2 c =
     let N : ℕ → Type 0 = λ n. AllIn n c.args.facts.now in
     subst N (sym c.state_after.ensures.many)
-    (all-in c.args.safe.now c.args.facts.now c.requires.searching.starting)
+    c.requires.searching.starting.inside
 
 pub returns : goal.returns
 returns c =
-    sifted-left c.args.safe.now c.args.conflicts c.args.group c.args.basis.now c.args.facts.now
+    sifted-left c.args.trial.now.safe.now c.args.trial.now.candidates.now c.args.trial.now.conflicts c.args.group c.args.basis.now c.args.facts.now
     c.in_ok-known.known _ [] c.state_before.result.now c.state_after.result.now
     c.in-Satisfied.values c.in-Ok.query c.requires.safe c.requires.searching
     c.in-Ok.ensures.query
     (let P : Outcome → Type 0 = IsOutcome c.in-Ok.query.cnf.variables
-    c.in-Ok.query.cnf.clauses c.args.conflicts in
+    c.in-Ok.query.cnf.clauses c.args.trial.now.conflicts in
     subst P c.in-Satisfied.is c.in_ok-values.ensures)
     (λ j lt. c.state_before.ensures.state j lt
-    ∙ ap (λ values. word_of c.args.safe.now values 0 (latch_variable c.args.safe.now.net j))
+    ∙ ap (λ values. word_of c.args.trial.now.safe.now values 0 (latch_variable c.args.trial.now.safe.now.net j))
     c.as_slice.ensures)
     c.in_ok-known.ensures
     (let a = c.len.ensures in let b = c.len-before.ensures in let less = c.if-len-before.false in
     omega (arith, a, b, less))
     (λ j lt. c.state_after.ensures.state j lt
-    ∙ ap (λ values. word_of c.args.safe.now values 1 (latch_variable c.args.safe.now.net j))
+    ∙ ap (λ values. word_of c.args.trial.now.safe.now values 1 (latch_variable c.args.trial.now.safe.now.net j))
     c.as_slice-2.ensures)
     c.in_ok-facts.ensures
