@@ -35,7 +35,7 @@ fn step_clauses(alloc: Global, safe: &SafeNet, inv: &Inv, count: u32) -> M<Cnf>
 {
     let mut cnf = Cnf::new(alloc, count)?;
     add_frames(&mut cnf, &safe.net, 1)?;
-    add_facts(&mut cnf, &safe.net, 0, inv.as_slice())?;
+    add_facts(alloc, &mut cnf, &safe.net, 0, inv.as_slice())?;
     Ok(cnf)
 }
 

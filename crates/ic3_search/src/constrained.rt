@@ -32,10 +32,10 @@ fn constrained_variables(alloc: Global, net: &Net) -> M<Vec<bool>> {
 }
 
 /// Marks the earlier of two latches by which the later one is known, where that is marked.
-fn mark_earlier(marks: &mut [bool], fact: Fact) {
+fn mark_earlier(marks: &mut [bool], fact: &Fact) {
     if let Fact::Same(a, b) | Fact::Differ(a, b) = fact
-        && marks.get(a.max(b) as usize) == Some(&true)
-        && let Some(earlier) = marks.get_mut(a.min(b) as usize)
+        && marks.get((*a).max(*b) as usize) == Some(&true)
+        && let Some(earlier) = marks.get_mut((*a).min(*b) as usize)
     {
         *earlier = true;
     }
@@ -52,7 +52,7 @@ pub(crate) fn constrained_latches(alloc: Global, net: &Net, facts: &[Fact]) -> M
         marks.push(variables.get(first + latch) == Some(&true))?;
     }
     for fact in facts {
-        mark_earlier(marks.as_mut_slice(), *fact);
+        mark_earlier(marks.as_mut_slice(), fact);
     }
     Ok(marks)
 }

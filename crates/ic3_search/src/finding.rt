@@ -3,9 +3,9 @@
 ghost use Rattle.std.specs.Prelude.{◌≡◌, ◌*◌, ◌≤◌, ◌^◌, length, IsTrue, IfOk, All};
 ghost use Rattle.aig_net.specs.Nets.{variables};
 ghost use Rattle.cnf_frames.specs.Facts.{AllIn, IsSafe};
-ghost use Rattle.ic3_search.specs.LatchClauses.{IsLatchClause};
+ghost use Rattle.ic3_search.specs.LatchClauses.{IsLatchFact};
 
-use crate::clauses::{LatchClauseList, clauses_of};
+use crate::clauses::clauses_of;
 use crate::cubes::Cube;
 use crate::engine::{Engine, LEVELS, Step};
 use crate::reducing::reduced;
@@ -78,19 +78,20 @@ fn cubes(alloc: Global, safe: &SafeNet, inv: &Inv, calls: u32) -> M<Vec<Cube>>
     }
 }
 
-/// Clauses over the latches of a safe net, all true at the start. Where all facts hold and are
-/// kept, each step keeps the clauses too, and no state with all of them has a step to a bad one: so
-/// it is meant, and the caller asks. There is no clause where none were found, since a path reaches
-/// `bad`, since the `calls` of the solver were used up, or since a query about one step is past the
-/// limits of queries.
+/// Clauses over the latches of a safe net, each ascending and true at the start. Where all facts
+/// hold and are kept, each step keeps the clauses too, and no state with all of them has a step to a
+/// bad one: so it is meant, and the caller asks. There is no clause where none were found, since a
+/// path reaches `bad`, since the `calls` of the solver were used up, or since a query about one step
+/// is past the limits of queries.
 ///
 /// It calls the solver `calls` times at most, and each call learns 1,000 clauses at most. Between
 /// two calls it takes time linear in the literals of the clauses that are known, and mostly less.
-pub fn find_clauses(alloc: Global, safe: &SafeNet, inv: &Inv, calls: u32) -> M<LatchClauseList>
+pub fn find_clauses(alloc: Global, safe: &SafeNet, inv: &Inv, calls: u32) -> M<Inv>
     requires safe { IsSafe safe.now }
     requires inside { AllIn (length safe.now.net.latches) inv.now }
-    ensures { IfOk result (λ clauses.
-        All (IsLatchClause (length safe.now.net.latches)) clauses) }
+    ensures clauses { IfOk result (λ clauses.
+        All (IsLatchFact (length safe.now.net.latches)) clauses) }
+    ensures inside { IfOk result (AllIn (length safe.now.net.latches)) }
 {
     if !fits(safe, inv) {
         return Ok(List::new(alloc));

@@ -77,10 +77,11 @@ fn table(alloc: Global, net: &Net, frame: u32) -> M<Table>
 }
 
 /// The latch whose value is known by the fact, and by an earlier latch if it names two.
-fn known_latch(fact: Fact) -> u32 {
+fn known_latch(fact: &Fact) -> Option<u32> {
     match fact {
-        Fact::Zero(a) | Fact::One(a) => a,
-        Fact::Same(a, b) | Fact::Differ(a, b) => a.max(b),
+        Fact::Zero(a) | Fact::One(a) => Some(*a),
+        Fact::Same(a, b) | Fact::Differ(a, b) => Some((*a).max(*b)),
+        Fact::AnyOf(_) => None,
     }
 }
 
@@ -88,7 +89,9 @@ fn known_latch(fact: Fact) -> u32 {
 fn open_latches(alloc: Global, latches: usize, facts: &[Fact]) -> M<Vec<bool>> {
     let mut open = vec![in alloc; true; latches]?;
     for fact in facts {
-        if let Some(is_open) = open.get_mut(known_latch(*fact) as usize) {
+        if let Some(latch) = known_latch(fact)
+            && let Some(is_open) = open.get_mut(latch as usize)
+        {
             *is_open = false;
         }
     }

@@ -15,5 +15,4 @@ mod obligations;
 mod pushing;
 mod reducing;
 
-pub use clauses::{LatchClause, LatchClauseList};
 pub use finding::find_clauses;
