@@ -1,5 +1,5 @@
 -- What verdicts on the safe net of a formula say of the formula.
-use Rattle.std.proofs.Common.{◌≡◌, ℕ, ◌≤◌, Bool, true, false, not, List, [], length, Option, Some, None, refl, sym, subst}
+use Rattle.std.proofs.Common.{◌≡◌, Bool, true, false, not, List, [], length, Option, Some, None, refl, sym, subst}
 use Rattle.hy_bits.specs.Letter.{Letter}
 use Rattle.hy_formula.specs.Lassos as letters
 use Rattle.hy_formula.specs.Normals.{Signed}
@@ -12,7 +12,7 @@ use Rattle.live_safe.specs.declared.safe_net.Path.{Path}
 use Rattle.live_safe.specs.declared.safe_net.SafeNet.{SafeNet}
 use Rattle.cnf_frames.specs.declared.inductions.InductionProof.{InductionProof}
 use Rattle.cnf_frames.specs.declared.queries.Asked.TheVariants.{Base}
-use Rattle.cnf_frames.specs.Proofs.{AreQueriesWithin, IsInductionProof}
+use Rattle.cnf_frames.specs.ProofTexts.{AreSimple}
 use Rattle.k_induct.specs.declared.verdict.SafeProof.{SafeProof}
 use Rattle.k_induct.specs.Replies.{IsAnswer}
 use Rattle.k_induct.specs.Verdicts.{IsSafeProof}
@@ -23,38 +23,22 @@ use Rattle.formula_nets.specs.Posed.{checked_safe, is_existential}
 use Rattle.formula_nets.specs.Witnesses.{AreWitnesses}
 use Rattle.mc_core.specs.declared.ask.Ask.{Ask}
 use Rattle.mc_core.specs.declared.checked.Checked.{Checked}
-use Rattle.mc_core.specs.Answers.{IsChecked, IsEvidence, IsUsable, answered}
+use Rattle.mc_core.specs.Answers.{IsChecked, IsEvidence, IsProved, IsUsable, answered, whole_proof}
 
-pub induction-proof : (safe : SafeNet) (kept : Kept) (depth : ℕ) (proof : SafeProof) →
-    IsUsable safe kept → IsSafeProof safe kept.inv depth proof →
-    IsInductionProof safe (record {
-      inv = kept.inv;
-      depth = proof.depth;
-      keep = kept.logs;
-      base = proof.base;
-      step = proof.step;
-    })
-induction-proof safe kept depth proof usable is = record {
-  inside = usable.inside;
-  starts = usable.inductive.starts;
-  keeps = usable.logs;
-  bases = is.base;
-  step = is.step;
-}
-
-pub queries-within : (safe : SafeNet) (kept : Kept) (depth : ℕ) (proof : SafeProof) →
-    IsUsable safe kept → IsSafeProof safe kept.inv depth proof →
-    AreQueriesWithin safe (record {
-      inv = kept.inv;
-      depth = proof.depth;
-      keep = kept.logs;
-      base = proof.base;
-      step = proof.step;
-    })
-queries-within safe kept depth proof usable is = record {
-  keeps = usable.within;
-  bases = is.base_within;
-  step = is.step_within;
+pub proved : (safe : SafeNet) (ask : Ask) (kept : Kept) (proof : SafeProof) →
+    IsUsable safe kept → (ask.calls ≡ 0 → AreSimple kept.inv) →
+    IsSafeProof safe kept.inv ask.depth proof → IsProved safe ask (whole_proof kept proof)
+proved safe ask kept proof usable simple is = record {
+  right = record {
+    inside = usable.inside;
+    starts = usable.inductive.starts;
+    keeps = usable.logs;
+    bases = is.base;
+    step = is.step;
+  };
+  low = is.within;
+  within = record { keeps = usable.within; bases = is.base_within; step = is.step_within };
+  simple = simple;
 }
 
 -- The path answers the query, so it goes to bad.
@@ -65,7 +49,7 @@ goes-to-bad _ path (word, bad, shows, _) =
 
 module _ (net : Net) (signals : List Signal) (prefix : List Quant) (body : Tree) (ask : Ask) where
   abbrev Evidence : Bool → List (letters.Lasso Letter) → List Run → Option InductionProof → Type 0
-  Evidence = λ b. IsEvidence b net signals prefix body ask.depth
+  Evidence = λ b. IsEvidence b net signals prefix body ask
 
   abbrev Sat : Type 0
   Sat = Satisfies net signals prefix body
@@ -81,14 +65,12 @@ module _ (net : Net) (signals : List Signal) (prefix : List Quant) (body : Tree)
       (holds, subst E e is)
 
   pub proof-answer : (proof : InductionProof) → Signed (not (is_existential prefix)) Sat →
-      IsInductionProof (checked_safe net signals prefix body) proof → proof.depth ≤ ask.depth →
-      AreQueriesWithin (checked_safe net signals prefix body) proof → (checked : Checked) →
+      IsProved (checked_safe net signals prefix body) ask proof → (checked : Checked) →
       checked ≡ answered (not (is_existential prefix)) [] [] (Some proof) →
       IsChecked net signals prefix body ask checked
-  proof-answer proof decided is within asked checked made =
+  proof-answer proof decided is checked made =
       let C : Checked → Type 0 = IsChecked net signals prefix body ask in
-      subst C (sym made) (by-proof (is_existential prefix) refl decided proof
-      (refl, refl, (is, within, asked)))
+      subst C (sym made) (by-proof (is_existential prefix) refl decided proof (refl, refl, is))
 
   by-path : (b : Bool) → b ≡ is_existential prefix → Signed b Sat →
       (traces : List (letters.Lasso Letter)) (runs : List Run) →

@@ -21,9 +21,11 @@ use Rattle.cnf_frames.specs.declared.inductions.InductionProof.{InductionProof}
 use Rattle.cnf_frames.specs.declared.queries.FrameError.TheVariants as frame
 use Rattle.cnf_frames.specs.Facts.{AllIn, IsInductive}
 use Rattle.cnf_frames.specs.Proofs.{AreKeepsWithin, AreKept, AreQueriesWithin, IsInductionProof}
+use Rattle.cnf_frames.specs.ProofTexts.{AreSimple}
 use Rattle.formula_nets.specs.Posed.{IsPosed, IsTaken, checked_safe, is_existential, members}
 use Rattle.formula_nets.specs.Witnesses.{AreWitnesses}
 use Rattle.k_induct.specs.Verdicts.{IsDeep, IsStopped, IsVerdict}
+use Rattle.k_induct.specs.declared.verdict.SafeProof.{SafeProof}
 use Rattle.k_induct.specs.declared.verdict.Verdict.TheVariants as verdict
 use Rattle.invar_find.specs.declared.kept.Kept.{Kept}
 use Rattle.invar_find.specs.Kepts as kepts
@@ -35,20 +37,27 @@ use Rattle.mc_core.specs.declared.mc_error.McError.TheVariants.{Prefix, Limit, C
 
 -- ---- what an answer carries
 
--- a proof by induction of no more than so many steps, each of whose queries is within its limits
-abbrev pub IsProof : SafeNet → ℕ → Option InductionProof → Type 0
-IsProof safe depth None = ⊥
-IsProof safe depth (Some proof) = IsInductionProof safe proof × (proof.depth ≤ depth)
-    × AreQueriesWithin safe proof
+-- A proof by induction of no more steps than were asked for, each of whose queries is within its limits; none of its
+-- facts is a clause where no search for clauses was asked for.
+pub record IsProved (safe : SafeNet) (ask : Ask) (proof : InductionProof) : Type 0 where
+  pub right : IsInductionProof safe proof
+  pub low : proof.depth ≤ ask.depth
+  pub within : AreQueriesWithin safe proof
+  pub simple : ask.calls ≡ 0 → AreSimple proof.inv
+
+-- such a proof, if there is one
+abbrev pub IsProof : SafeNet → Ask → Option InductionProof → Type 0
+IsProof safe ask None = ⊥
+IsProof safe ask (Some proof) = IsProved safe ask proof
 
 -- Runs and no proof, where the value is true, and else a proof and no runs.
-abbrev pub IsEvidence : Bool → Net → List Signal → List Quant → Tree → ℕ →
+abbrev pub IsEvidence : Bool → Net → List Signal → List Quant → Tree → Ask →
     List (letters.Lasso Letter) → List Run → Option InductionProof → Type 0
-IsEvidence true net signals prefix body depth traces runs proof =
+IsEvidence true net signals prefix body ask traces runs proof =
     AreWitnesses net signals (length prefix) body (is_existential prefix) traces runs
     × (proof ≡ None)
-IsEvidence false net signals prefix body depth traces runs proof =
-    (traces ≡ []) × (runs ≡ []) × IsProof (checked_safe net signals prefix body) depth proof
+IsEvidence false net signals prefix body ask traces runs proof =
+    (traces ≡ []) × (runs ≡ []) × IsProof (checked_safe net signals prefix body) ask proof
 
 -- The facts that are used: none where they are not asked for.
 abbrev pub IsKept : Bool → SafeNet → ℕ → Kept → Type 0
@@ -60,10 +69,10 @@ IsKept false safe conflicts kept = kepts.IsKept safe conflicts kept
 abbrev pub IsChecked : Net → List Signal → List Quant → Tree → Ask → Checked → Type 0
 IsChecked net signals prefix body ask (Holds traces runs proof) =
     Satisfies net signals prefix body
-    × IsEvidence (is_existential prefix) net signals prefix body ask.depth traces runs proof
+    × IsEvidence (is_existential prefix) net signals prefix body ask traces runs proof
 IsChecked net signals prefix body ask (Violated traces runs proof) =
     (¬ Satisfies net signals prefix body)
-    × IsEvidence (not (is_existential prefix)) net signals prefix body ask.depth traces runs proof
+    × IsEvidence (not (is_existential prefix)) net signals prefix body ask traces runs proof
 IsChecked net signals prefix body ask (UnknownDepth depth kept path) =
     (depth ≡ ask.depth)
     × IsKept ask.plain (checked_safe net signals prefix body) ask.conflicts kept
@@ -106,6 +115,16 @@ pub record IsUsable (safe : SafeNet) (kept : Kept) : Type 0 where
   pub inductive : IsInductive safe.net kept.inv
   pub logs : AreKept safe kept.inv kept.logs
   pub within : AreKeepsWithin safe kept.inv
+
+-- the proof of which these are the facts, and this is what stands behind them
+abbrev pub whole_proof : Kept → SafeProof → InductionProof
+whole_proof kept proof = record {
+  inv = kept.inv;
+  depth = proof.depth;
+  keep = kept.logs;
+  base = proof.base;
+  step = proof.step;
+}
 
 -- ---- refusals, in this order: the class, the closure, the names, and what the work meets
 

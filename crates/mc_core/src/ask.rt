@@ -9,4 +9,7 @@ pub struct Ask {
     pub conflicts: u32,
     /// Whether no facts about states are looked for.
     pub plain: bool,
+    /// The most calls of the solver in a search for clauses over latches; 0 where there is no such
+    /// search.
+    pub calls: u32,
 }

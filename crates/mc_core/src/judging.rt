@@ -5,19 +5,18 @@ ghost use Rattle.hy_formula.specs.Trees.{tree_of, vars_below};
 ghost use Rattle.cnf_frames.specs.Facts.{IsSafe};
 ghost use Rattle.wit_lasso.specs.FormulaNets.{AreOwn};
 ghost use Rattle.formula_nets.specs.Posed.{IsTaken, checked_safe, is_existential};
-ghost use Rattle.mc_core.specs.Answers.{IsChecked, IsKept, IsUsable, IsWorkRefusal, answered};
+ghost use Rattle.mc_core.specs.Answers.{IsChecked, IsWorkRefusal, answered};
 
 use crate::ask::Ask;
 use crate::checked::Checked;
+use crate::deciding::{Decision, decide};
 use crate::mc_error::McError;
 use aig_net::{Net, RunList, Signals};
-use cnf_frames::{FrameError, InductionProof};
+use cnf_frames::InductionProof;
 use formula_nets::{find_witnesses, paths_decide};
 use hy_base::List;
 use hy_formula::Formula;
 use hy_lasso::LassoList;
-use invar_find::{Kept, invariants};
-use k_induct::{Verdict, prove};
 use live_safe::SafeNet;
 use std::alloc::Global;
 
@@ -46,45 +45,29 @@ pub fn judge(
     net.variables(); // what each net keeps
     formula.prefix.len(); // and each prefix
     paths_decide(); // what paths of the safe net say
-    let kept = facts_for(alloc, safe, ask)?;
-    match prove(alloc, safe, &kept.inv, ask.depth, ask.conflicts) {
-        Ok(Verdict::Safe(proof)) => {
-            let proof = InductionProof {
-                inv: kept.inv,
-                depth: proof.depth,
-                keep: kept.logs,
-                base: proof.base,
-                step: proof.step,
-            };
-            Ok(answer(
-                !existential,
-                List::new(alloc),
-                List::new(alloc),
-                Some(proof),
-            ))
-        }
-        Ok(Verdict::Path(path)) => {
+    match decide(alloc, safe, ask)? {
+        Decision::Safe(proof) => Ok(answer(
+            !existential,
+            List::new(alloc),
+            List::new(alloc),
+            Some(proof),
+        )),
+        Decision::Path(path) => {
             let found = find_witnesses(alloc, net, formula, signals, safe, &path)?;
             Ok(answer(existential, found.traces, found.runs, None))
         }
-        Ok(Verdict::Depth(path)) => Ok(Checked::UnknownDepth {
+        Decision::Depth { kept, path } => Ok(Checked::UnknownDepth {
             depth: ask.depth,
             kept,
             path,
         }),
-        Ok(Verdict::Spent { k, step, log }) => Ok(Checked::UnknownConflicts {
+        Decision::Spent { k, step, kept, log } => Ok(Checked::UnknownConflicts {
             conflicts: ask.conflicts,
             k,
             step,
             kept,
             log,
         }),
-        Err(FrameError::Limit(limit)) => Err(McError::CnfLimit {
-            kind: limit.kind,
-            limit: limit.limit,
-            kept,
-        }),
-        Err(FrameError::Memory) => Err(McError::Memory),
     }
 }
 
@@ -104,27 +87,5 @@ fn answer(holds: bool, traces: LassoList, runs: RunList, proof: Option<Induction
             runs,
             proof,
         }
-    }
-}
-
-/// The facts that are used: none where they are not asked for.
-fn facts_for(alloc: Global, safe: &SafeNet, ask: &Ask) -> Result<Kept, McError>
-    requires good { IsSafe safe.now }
-    requires conflicts { ask.now.conflicts < 2 ^ 31 }
-    ensures kept { IfOk result (IsKept ask.now.plain safe.now ask.now.conflicts) }
-    ensures usable { IfOk result (IsUsable safe.now) }
-    ensures refused { IfErr result (IsWorkRefusal safe.now ask.now) }
-{
-    if ask.plain {
-        return Ok(Kept {
-            inv: List::new(alloc),
-            logs: List::new(alloc),
-            spent: List::new(alloc),
-        });
-    }
-    match invariants(alloc, safe, ask.conflicts) {
-        Ok(kept) => Ok(kept),
-        Err(FrameError::Limit(limit)) => Err(McError::Limit(limit)),
-        Err(FrameError::Memory) => Err(McError::Memory),
     }
 }

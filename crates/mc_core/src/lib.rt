@@ -4,9 +4,11 @@
 mod ask;
 mod checked;
 mod checking;
+mod deciding;
 mod judging;
 mod laws;
 mod mc_error;
+mod proving;
 
 pub use ask::Ask;
 pub use checked::Checked;

@@ -1,76 +1,63 @@
-use Rattle.std.proofs.Common.{ℕ, ◌<◌, not, List, [], length, Some, None, ap, ◌∙◌, subst, arith}
+use Rattle.std.proofs.Common.{◌<◌, not, List, [], length, Some, None, ap, ◌∙◌, subst, arith}
 use Rattle.hy_bits.specs.Letter.{Letter}
 use Rattle.hy_formula.specs.Lassos as letters
 use Rattle.hy_formula.specs.Trees.{tree_of}
 use Rattle.aig_net.specs.declared.run.Run.{Run}
-use Rattle.aig_net.specs.Executions.{Word}
 use Rattle.live_safe.specs.declared.safe_net.SafeNet.{SafeNet}
 use Rattle.live_safe.specs.Paths.{IsBadPath}
-use Rattle.cnf_frames.specs.declared.inductions.InductionProof.{InductionProof}
-use Rattle.cnf_frames.specs.Proofs.{AreQueriesWithin, IsInductionProof}
-use Rattle.k_induct.specs.Verdicts.{IsSafeProof, IsShortest}
+use Rattle.k_induct.specs.Verdicts.{IsShortest}
 use Rattle.formula_nets.specs.Posed.{is_existential}
-use Rattle.mc_core.specs.Answers.{answered}
-use Rattle.mc_core.proofs.Verdicts.{goes-to-bad, induction-proof, path-answer, proof-answer, queries-within}
+use Rattle.mc_core.specs.Answers.{IsProved, answered}
+use Rattle.mc_core.specs.Decisions.{HasNoBadPath, IsDecision}
+use Rattle.mc_core.specs.declared.deciding.Decision.{Decision}
+use Rattle.mc_core.proofs.Verdicts.{goes-to-bad, path-answer, proof-answer}
 use Rattle.mc_core.proofs.judging.judge.Goals as goal
 
-pub returns-in-Ok-Safe-clause-checked : goal.returns-in-Ok-Safe-clause-checked
-returns-in-Ok-Safe-clause-checked c =
-    let prefix = c.args.formula.now.prefix in
+pub returns-in-Safe-clause-checked : goal.returns-in-Safe-clause-checked
+returns-in-Safe-clause-checked c =
     let some : 0 < length c.args.formula.now.prefix =
     (let a = c.len.ensures.len in let b = c.len.ensures.some in omega (arith, a, b)) in
-    let is : IsSafeProof c.args.safe.now c.in_ok-kept.kept.inv c.args.ask.now.depth
-    c.in-Ok-Safe.proof = rw c.in-Ok-Safe.field-0-is at c.in-Ok-Safe.ensures.verdict in
-    let proof : InductionProof = record {
-      inv = c.in_ok-kept.kept.inv;
-      depth = c.in-Ok-Safe.proof.depth;
-      keep = c.in_ok-kept.kept.logs;
-      base = c.in-Ok-Safe.proof.base;
-      step = c.in-Ok-Safe.proof.step;
-    } in
-    let N : SafeNet → Type 0 = λ s. (k : ℕ) (word : Word) → ¬ IsBadPath s k word in
-    let I : SafeNet → Type 0 = λ s. IsInductionProof s proof in
-    let Q : SafeNet → Type 0 = λ s. AreQueriesWithin s proof in
-    proof-answer c.args.net.now c.args.signals.now prefix (tree_of c.args.formula.now.body)
-    c.args.ask.now proof
-    (c.paths_decide.ensures.none c.args.net.now c.args.signals.now prefix
+    let D : Decision → Type 0 = IsDecision c.args.safe.now c.args.ask.now in
+    let (is, good) = subst D c.in-Safe.is c.in_ok-proof.ensures.decided in
+    let N : SafeNet → Type 0 = HasNoBadPath in
+    let P : SafeNet → Type 0 = λ s. IsProved s c.args.ask.now c.in-Safe.proof in
+    proof-answer c.args.net.now c.args.signals.now c.args.formula.now.prefix
+    (tree_of c.args.formula.now.body) c.args.ask.now c.in-Safe.proof
+    (c.paths_decide.ensures.none c.args.net.now c.args.signals.now c.args.formula.now.prefix
     (tree_of c.args.formula.now.body) c.variables.ensures.net c.requires.own some c.requires.small
-    c.requires.taken (subst N c.requires.safe is.good))
-    (subst I c.requires.safe (induction-proof c.args.safe.now c.in_ok-kept.kept
-    c.args.ask.now.depth c.in-Ok-Safe.proof c.in_ok-kept.ensures.usable is))
-    is.within
-    (subst Q c.requires.safe (queries-within c.args.safe.now c.in_ok-kept.kept
-    c.args.ask.now.depth c.in-Ok-Safe.proof c.in_ok-kept.ensures.usable is))
-    c.answer.result
+    c.requires.taken (subst N c.requires.safe good))
+    (subst P c.requires.safe is) c.answer.result
     (c.answer.ensures
-    ∙ ap (λ b. answered (not b) c.new.result c.new-in-Ok-Safe.result (Some proof)) c.requires.kind
-    ∙ ap (λ (t : List (letters.Lasso Letter)). answered (not (is_existential prefix)) t
-    c.new-in-Ok-Safe.result (Some proof)) c.new.ensures
-    ∙ ap (λ (r : List Run). answered (not (is_existential prefix)) [] r (Some proof))
-    c.new-in-Ok-Safe.ensures)
+    ∙ ap (λ b. answered (not b) c.new.result c.new-in-Safe.result (Some c.in-Safe.proof)) c.requires.kind
+    ∙ ap (λ (t : List (letters.Lasso Letter)). answered (not (is_existential c.args.formula.now.prefix)) t
+    c.new-in-Safe.result (Some c.in-Safe.proof)) c.new.ensures
+    ∙ ap (λ (r : List Run). answered (not (is_existential c.args.formula.now.prefix)) [] r
+    (Some c.in-Safe.proof)) c.new-in-Safe.ensures)
 
 pub find_witnesses-requires-clause-path : goal.find_witnesses-requires-clause-path
 find_witnesses-requires-clause-path c =
-    let is : IsShortest c.args.safe.now c.args.ask.now.depth c.in-Ok-Path.path =
-    rw c.in-Ok-Path.field-0-is at c.in-Ok-Path.ensures.verdict in
-    goes-to-bad c.args.safe.now c.in-Ok-Path.path is.bad
+    let D : Decision → Type 0 = IsDecision c.args.safe.now c.args.ask.now in
+    let is : IsShortest c.args.safe.now c.args.ask.now.depth c.in-Path.path =
+    subst D c.in-Path.is c.in_ok-proof.ensures.decided in
+    goes-to-bad c.args.safe.now c.in-Path.path is.bad
 
-pub returns-in_ok-found-in-Ok-Path-clause-checked : goal.returns-in_ok-found-in-Ok-Path-clause-checked
-returns-in_ok-found-in-Ok-Path-clause-checked c =
+pub returns-in_ok-found-in-Path-clause-checked : goal.returns-in_ok-found-in-Path-clause-checked
+returns-in_ok-found-in-Path-clause-checked c =
     let some : 0 < length c.args.formula.now.prefix =
     (let a = c.len.ensures.len in let b = c.len.ensures.some in omega (arith, a, b)) in
-    let is : IsShortest c.args.safe.now c.args.ask.now.depth c.in-Ok-Path.path =
-    rw c.in-Ok-Path.field-0-is at c.in-Ok-Path.ensures.verdict in
+    let D : Decision → Type 0 = IsDecision c.args.safe.now c.args.ask.now in
+    let is : IsShortest c.args.safe.now c.args.ask.now.depth c.in-Path.path =
+    subst D c.in-Path.is c.in_ok-proof.ensures.decided in
     let (word, bad, _, _) = is.bad in
-    let P : SafeNet → Type 0 = λ s. IsBadPath s (length c.in-Ok-Path.path.inputs) word in
+    let P : SafeNet → Type 0 = λ s. IsBadPath s (length c.in-Path.path.inputs) word in
     path-answer c.args.net.now c.args.signals.now c.args.formula.now.prefix
     (tree_of c.args.formula.now.body) c.args.ask.now
     (c.paths_decide.ensures.some c.args.net.now c.args.signals.now c.args.formula.now.prefix
     (tree_of c.args.formula.now.body) c.variables.ensures.net c.requires.own some c.requires.small
-    c.requires.taken (length c.in-Ok-Path.path.inputs) word (subst P c.requires.safe bad))
-    c.in_ok-found-in-Ok-Path.found.traces
-    c.in_ok-found-in-Ok-Path.found.runs c.in_ok-found-in-Ok-Path.ensures
-    c.answer-in-Ok-Path.result
-    (c.answer-in-Ok-Path.ensures
-    ∙ ap (λ b. answered b c.in_ok-found-in-Ok-Path.found.traces
-    c.in_ok-found-in-Ok-Path.found.runs None) c.requires.kind)
+    c.requires.taken (length c.in-Path.path.inputs) word (subst P c.requires.safe bad))
+    c.in_ok-found-in-Path.found.traces
+    c.in_ok-found-in-Path.found.runs c.in_ok-found-in-Path.ensures
+    c.answer-in-Path.result
+    (c.answer-in-Path.ensures
+    ∙ ap (λ b. answered b c.in_ok-found-in-Path.found.traces
+    c.in_ok-found-in-Path.found.runs None) c.requires.kind)

@@ -1,4 +1,4 @@
-use Rattle.std.proofs.Common.{◌≡◌, ℕ, ◌<◌, Bool, true, false, not, List, [], length, Option, Some, None, sym, ◌∙◌, arith}
+use Rattle.std.proofs.Common.{◌<◌, Bool, true, false, not, List, length, Option, Some, None, sym, ◌∙◌, arith}
 use Rattle.hy_bits.specs.Letter.{Letter}
 use Rattle.hy_formula.specs.Lassos as letters
 use Rattle.hy_formula.specs.Trees.{Tree}
@@ -17,21 +17,21 @@ use Rattle.mc_core.proofs.laws.one_evidence.Goals as goal
 
 module _ (net : Net) (signals : List Signal) (prefix : List Quant) (body : Tree)
     (some : 0 < length prefix) where
-  one-of : (b : Bool) (depth : ℕ) (traces : List (letters.Lasso Letter)) (runs : List Run)
+  one-of : (b : Bool) (ask : Ask) (traces : List (letters.Lasso Letter)) (runs : List Run)
       (proof : Option InductionProof)
-      → IsEvidence b net signals prefix body depth traces runs proof → IsOneOf traces runs proof
-  one-of true depth traces runs None (shown, none) =
+      → IsEvidence b net signals prefix body ask traces runs proof → IsOneOf traces runs proof
+  one-of true ask traces runs None (shown, none) =
       (omega (arith, shown.many_runs, some), shown.many_traces ∙ sym shown.many_runs)
-  one-of true depth traces runs (Some proof) (shown, none) = absurd (cc)
-  one-of false depth traces runs None (no_traces, no_runs, none) = absurd none
-  one-of false depth traces runs (Some proof) (no_traces, no_runs, is) = (no_traces, no_runs)
+  one-of true ask traces runs (Some proof) (shown, none) = absurd (cc)
+  one-of false ask traces runs None (no_traces, no_runs, none) = absurd none
+  one-of false ask traces runs (Some proof) (no_traces, no_runs, is) = (no_traces, no_runs)
 
   one-evidence : (ask : Ask) (checked : Checked) → IsChecked net signals prefix body ask checked
       → HasOneEvidence checked
   one-evidence ask (Holds traces runs proof) (holds, evidence) =
-      one-of (is_existential prefix) ask.depth traces runs proof evidence
+      one-of (is_existential prefix) ask traces runs proof evidence
   one-evidence ask (Violated traces runs proof) (fails, evidence) =
-      one-of (not (is_existential prefix)) ask.depth traces runs proof evidence
+      one-of (not (is_existential prefix)) ask traces runs proof evidence
   one-evidence ask (UnknownDepth depth kept path) is = tt
   one-evidence ask (UnknownConflicts conflicts k step kept log) is = tt
 

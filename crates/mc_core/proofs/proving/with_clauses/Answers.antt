@@ -1,0 +1,13 @@
+use Rattle.std.proofs.Common.{length, [], ◌∷◌, ◌++◌, ap, ◌∙◌}
+use Rattle.cnf_frames.specs.declared.facts.Fact.{Fact}
+use Rattle.invar_find.proofs.Sublists.{in-more}
+use Rattle.mc_core.proofs.proving.with_clauses.Goals as goal
+
+pub loop-clause-preserved : goal.loop-clause-preserved
+loop-clause-preserved c =
+    in-more (length c.args.safe.now.net.latches) c.in_ok-clauses.clauses
+    c.as_slice-clause-items.result.now c.loop-clause.candidates _ c.loop-clause.clause-index
+    c.clause-item.result c.in_ok-clauses.ensures.inside c.as_slice-clause-items.ensures
+    c.loop-clause.invariant c.loop-clause-test.true c.clause-item.is
+    (c.in_ok-push.ensures.added
+    ∙ ap (λ (f : Fact). c.loop-clause.candidates ++ f ∷ []) c.in_ok-remake.ensures)
