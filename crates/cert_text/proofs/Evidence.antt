@@ -1,5 +1,5 @@
 -- The lines of rank proofs, logs and proofs by induction, as they are wanted and as they are said.
-use Rattle.std.proofs.Common.{◌≡◌, ℕ, zero, suc, ◌+◌, ◌/◌, List, [], ◌∷◌, ◌++◌, length, take, drop, refl, sym, ◌∙◌, ap, subst, arith, append_assoc, length-append}
+use Rattle.std.proofs.Common.{◌≡◌, ℕ, zero, suc, ◌+◌, ◌/◌, Bool, List, [], ◌∷◌, ◌++◌, length, take, drop, refl, sym, ◌∙◌, ap, subst, arith, append_assoc, length-append}
 use Rattle.std.proofs.lemmas.List.{take-append-drop, length-take-le, length-drop}
 use Rattle.chain_check.specs.declared.logs.Learned.{Learned}
 use Rattle.cnf_frames.specs.declared.inductions.InductionProof.{InductionProof}
@@ -135,17 +135,19 @@ deal g b logs many =
     }
 
 -- What stands behind the head of a proof by induction.
-abbrev pub FillInduction : ℕ → ℕ → List Line → Type 0
-FillInduction k f lines = Many (Speaks SaysFact) f (FillLogs (logs_of k f)) lines
+abbrev pub FillInduction : Bool → ℕ → ℕ → List Line → Type 0
+FillInduction clauses k f lines =
+    Many (Speaks (SaysFact clauses)) f (FillLogs (logs_of k f)) lines
 
 pub record IsInductionSaid (lines : List Line) : Type 0 where
   pub proof : InductionProof
   pub said : SayInductionProof lines proof
 
-pub induction_said : (k f : ℕ) (line : Line) (lines : List Line) → SaysInductionHead line k f
-    → FillInduction k f lines → IsInductionSaid (line ∷ lines)
-induction_said k f line lines counts fill =
-    let facts = many_said SaysFact (FillLogs (logs_of k f)) f lines fill in
+pub induction_said : (clauses : Bool) (k f : ℕ) (line : Line) (lines : List Line)
+    → SaysInductionHead clauses line k f → FillInduction clauses k f lines
+    → IsInductionSaid (line ∷ lines)
+induction_said clauses k f line lines counts fill =
+    let facts = many_said (SaysFact clauses) (FillLogs (logs_of k f)) f lines fill in
     let logs = logs_said (logs_of k f) facts.rest facts.behind in
     let split : logs_of k f ≡ (f + 63) / 64 + (suc k + 1) = omega arith in
     let dealt = deal ((f + 63) / 64) (suc k) logs.logs (logs.many ∙ split) in
@@ -159,11 +161,12 @@ induction_said k f line lines counts fill =
     record {
       proof = proof;
       said = record {
+        clauses = clauses;
         head = line;
         facts = facts.front;
         logs = facts.rest;
         parts = ap (λ l. line ∷ l) facts.parts;
-        counts = subst (SaysInductionHead line k) (sym facts.many) counts;
+        counts = subst (SaysInductionHead clauses line k) (sym facts.many) counts;
         states = facts.said;
         refuted = subst (SayLogs facts.rest) dealt.parts logs.said;
         keeps = dealt.keeps ∙ ap (λ n. (n + 63) / 64) (sym facts.many);
@@ -172,9 +175,9 @@ induction_said k f line lines counts fill =
     }
 
 pub said_induction : (lines : List Line) (proof : InductionProof) → SayInductionProof lines proof
-    → (line : Line) × (rest : List Line) × (lines ≡ line ∷ rest)
-    × SaysInductionHead line proof.depth (length proof.inv)
-    × FillInduction proof.depth (length proof.inv) rest
+    → (clauses : Bool) × (line : Line) × (rest : List Line) × (lines ≡ line ∷ rest)
+    × SaysInductionHead clauses line proof.depth (length proof.inv)
+    × FillInduction clauses proof.depth (length proof.inv) rest
 said_induction lines proof said =
     let many : length (proof.keep ++ proof.base ++ proof.step ∷ [])
     ≡ logs_of proof.depth (length proof.inv) = omega (
@@ -186,10 +189,11 @@ said_induction lines proof said =
     ) in
     let P : ℕ → Type 0 = λ n. FillLogs n said.logs in
     let logs = subst P many (said_logs said.logs _ said.refuted) in (
+      said.clauses,
       said.head,
       said.facts ++ said.logs,
       said.parts,
       said.counts,
-      said_many SaysFact (FillLogs (logs_of proof.depth (length proof.inv))) said.facts said.logs
+      said_many (SaysFact said.clauses) (FillLogs (logs_of proof.depth (length proof.inv))) said.facts said.logs
           proof.inv said.states logs,
     )

@@ -1,5 +1,5 @@
 -- Each want is filled by some lines, none of which has a line feed.
-use Rattle.std.proofs.Common.{◌≡◌, ℕ, zero, suc, true, List, [], ◌∷◌, inl, inr, refl, sym, arith, None}
+use Rattle.std.proofs.Common.{◌≡◌, ℕ, zero, suc, Bool, true, List, [], ◌∷◌, inl, inr, refl, sym, arith, None}
 use Rattle.std.specs.Prelude.{codes}
 use Rattle.std.specs.List.{list_all}
 use Rattle.std.proofs.lemmas.Fmt.{decimal_digit}
@@ -41,8 +41,8 @@ reason = (None, refl)
 rank_head : SaysRankHead (codes "proof rank 0 0") 0 0
 rank_head = (codes "0", codes "0", refl, zero_said, zero_said)
 
-fact : Speaks SaysFact (codes "f 0 0")
-fact = (Zero 0, (codes "0", refl, zero_said))
+fact : (clauses : Bool) → Speaks (SaysFact clauses) (codes "f 0 0")
+fact clauses = (Zero 0, (codes "0", refl, zero_said))
 
 log_head : SaysLogHead (codes "log 0") 0
 log_head = (codes "0", refl, zero_said)
@@ -154,8 +154,9 @@ fillable (Branches b r n) =
     fill_many (Speaks SaysBranch) (Many (Speaks SaysReason) r (FillRanks n)) (codes "b 0 - -") refl
     branch (fill_reasons r n) b
 fillable (Reasons r n) = fill_reasons r n
-fillable (Facts f n) =
-    fill_many (Speaks SaysFact) (FillLogs n) (codes "f 0 0") refl fact (fill_logs n) f
+fillable (Facts clauses f n) =
+    fill_many (Speaks (SaysFact clauses)) (FillLogs n) (codes "f 0 0") refl (fact clauses)
+    (fill_logs n) f
 fillable (Logs n) = fill_logs n
 fillable (LearnedClauses k n) =
     fill_many (Speaks SaysLearned) (FillLogs n) (codes "c 0 0") refl learned (fill_logs n) k

@@ -1,13 +1,13 @@
 -- Lines behind their first words.
-use Rattle.std.proofs.Common.{◌≡◌, ◌≢◌, ℕ, ◌↔◌, ◌⊎◌, Bool, List, [], ◌∷◌, get_or, inl, inr, sym, ◌∙◌, ap, subst, arith, Option, Some, None}
+use Rattle.std.proofs.Common.{◌≡◌, ◌≢◌, ℕ, ◌↔◌, ◌⊎◌, Bool, true, false, List, [], ◌∷◌, get_or, inl, inr, sym, ◌∙◌, ap, subst, arith, Option, Some, None}
 use Rattle.std.specs.Prelude.{MatchOption, IsTrue, codes}
 use Rattle.cnf_frames.specs.declared.facts.Fact.{Fact}
-use Rattle.cnf_frames.specs.declared.facts.Fact.TheVariants.{Zero, One, Same, Differ}
+use Rattle.cnf_frames.specs.declared.facts.Fact.TheVariants.{Zero, One, Same, Differ, AnyOf}
 use Rattle.cert_text.specs.Lines.{Line, words_of, Speaks}
 use Rattle.hy_text.specs.Numbers.{SaysNumber}
 use Rattle.cert_text.specs.Numbers.{SaysMembers, SaysOne, SaysTwo}
 use Rattle.cert_text.specs.RankLines.{SaysBranch, SaysReason}
-use Rattle.cert_text.specs.InductionLines.{SaysFact}
+use Rattle.cert_text.specs.InductionLines.{SaysInductionHead, SaysSimple}
 use Rattle.cert_text.proofs.Lists.{tails}
 
 -- ---- one word and what stands behind it
@@ -76,6 +76,13 @@ no_second_two one two line middle cut none m n says =
     let (x, y, parts, number, also) = (two_behind one (two ∷ []) line middle m n cut).1 says in
     none x (y ∷ []) parts
 
+-- no head of a proof of either kind
+pub no_head : (line : Line) → ((k f : ℕ) → ¬ SaysInductionHead false line k f)
+    → ((k f : ℕ) → ¬ SaysInductionHead true line k f) → (clauses : Bool) (k f : ℕ)
+    → ¬ SaysInductionHead clauses line k f
+no_head line one two true = two
+no_head line one two false = one
+
 -- ---- reasons
 
 pub reason_said : (line rest : Line) → words_of line ≡ codes "u" ∷ words_of rest
@@ -117,7 +124,7 @@ latches-of line sign latches other words fact e = let both = sym fact.parts ∙ 
 -- no number behind a sign of facts about one latch
 pub no_latch : (line sign latches : List ℕ) → IsFactLine line sign latches
     → (sign ≡ codes "0") ⊎ (sign ≡ codes "1") → ((a : ℕ) → ¬ SaysOne [] latches a)
-    → ¬ Speaks SaysFact line
+    → ¬ Speaks SaysSimple line
 no_latch line sign latches fact which none (said, says) = latch said says
   where
     not_two : {other : List ℕ} → (get_or other 0 0 ≡ 48 → ⊥) → (get_or other 0 0 ≡ 49 → ⊥)
@@ -127,7 +134,7 @@ no_latch line sign latches fact which none (said, says) = latch said says
       | inr e ↦ one_not (ap (λ w. get_or w 0 0) (sym is ∙ e))
     ]
 
-    latch : (said : Fact) → ¬ SaysFact line said
+    latch : (said : Fact) → ¬ SaysSimple line said
     latch (Zero a) (x, words, says) =
         none a (x, latches-of line sign latches (codes "0") (x ∷ []) fact words, says)
     latch (One a) (x, words, says) =
@@ -138,11 +145,12 @@ no_latch line sign latches fact which none (said, says) = latch said says
     latch (Differ a b) (x, y, words, says, also) =
         not_two (λ e. omega (arith, e)) (λ e. omega (arith, e))
         (sign-of line sign latches (codes "!") (x ∷ y ∷ []) fact words)
+    latch (AnyOf ls) says = says
 
 -- no two numbers behind a sign of facts about two latches
 pub no_latches : (line sign latches : List ℕ) → IsFactLine line sign latches
     → (sign ≡ codes "=") ⊎ (sign ≡ codes "!") → ((a b : ℕ) → ¬ SaysTwo [] latches a b)
-    → ¬ Speaks SaysFact line
+    → ¬ Speaks SaysSimple line
 no_latches line sign latches fact which none (said, says) = latch said says
   where
     not_one : {other : List ℕ} → (get_or other 0 0 ≡ 61 → ⊥) → (get_or other 0 0 ≡ 33 → ⊥)
@@ -152,7 +160,7 @@ no_latches line sign latches fact which none (said, says) = latch said says
       | inr e ↦ differ_not (ap (λ w. get_or w 0 0) (sym is ∙ e))
     ]
 
-    latch : (said : Fact) → ¬ SaysFact line said
+    latch : (said : Fact) → ¬ SaysSimple line said
     latch (Zero a) (x, words, says) =
         not_one (λ e. omega (arith, e)) (λ e. omega (arith, e))
         (sign-of line sign latches (codes "0") (x ∷ []) fact words)
@@ -163,10 +171,11 @@ no_latches line sign latches fact which none (said, says) = latch said says
         none a b (x, y, latches-of line sign latches (codes "=") (x ∷ y ∷ []) fact words, says, also)
     latch (Differ a b) (x, y, words, says, also) =
         none a b (x, y, latches-of line sign latches (codes "!") (x ∷ y ∷ []) fact words, says, also)
+    latch (AnyOf ls) says = says
 
--- no fact
+-- no fact about one latch or two
 pub no_fact : (line sign latches : List ℕ) → IsFactLine line sign latches → sign ≢ codes "0"
-    → sign ≢ codes "1" → sign ≢ codes "=" → sign ≢ codes "!" → ¬ Speaks SaysFact line
+    → sign ≢ codes "1" → sign ≢ codes "=" → sign ≢ codes "!" → ¬ Speaks SaysSimple line
 no_fact line sign latches fact zero_not one_not same_not differ_not (Zero a, (x, words, says)) =
     zero_not (sign-of line sign latches (codes "0") (x ∷ []) fact words)
 no_fact line sign latches fact zero_not one_not same_not differ_not (One a, (x, words, says)) =
@@ -193,16 +202,18 @@ no_fact line sign latches fact zero_not one_not same_not differ_not (
   ),
 ) =
     differ_not (sign-of line sign latches (codes "!") (x ∷ y ∷ []) fact words)
+no_fact line sign latches fact zero_not one_not same_not differ_not (AnyOf ls, says) = says
 
 -- no line of more than two words that begins with the word of facts
 pub no_fact_words : (line : Line)
     → ((next : List ℕ) (more : List (List ℕ)) → words_of line ≢ codes "f" ∷ next ∷ more)
-    → ¬ Speaks SaysFact line
+    → ¬ Speaks SaysSimple line
 no_fact_words line none (Zero a, (x, words, says)) = none (codes "0") (x ∷ []) words
 no_fact_words line none (One a, (x, words, says)) = none (codes "1") (x ∷ []) words
 no_fact_words line none (Same a b, (x, y, words, says, also)) = none (codes "=") (x ∷ y ∷ []) words
 no_fact_words line none (Differ a b, (x, y, words, says, also)) =
     none (codes "!") (x ∷ y ∷ []) words
+no_fact_words line none (AnyOf ls, says) = says
 
 -- ---- branches
 

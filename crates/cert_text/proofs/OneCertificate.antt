@@ -13,14 +13,14 @@ use Rattle.hy_lasso.proofs.ReadingLassos.{one_lasso}
 use Rattle.cert_text.specs.declared.question.Question.{Question}
 use Rattle.cert_text.specs.Lines.{Line, Say, Speaks}
 use Rattle.cert_text.specs.RankLines.{SaysRankHead, SaysBranch, SaysReason, SayRankProof}
-use Rattle.cert_text.specs.InductionLines.{SaysInductionHead, SaysFact, SaysLogHead, SaysLearned, SayLogs, SayInductionProof}
+use Rattle.cert_text.specs.InductionLines.{kind_word, SaysInductionHead, SaysFact, SaysLogHead, SaysLearned, SayLogs, SayInductionProof}
 use Rattle.cert_text.specs.RunLines.{SaysRun, SaysRunsHead, SayRuns}
 use Rattle.cert_text.specs.Certificates.{Side, first, second, Certificate, model, ranks, both, induction, runs, SayLassos, holds_line, side_line, Spells, satisfiable, unsatisfiable, not_implied, implied, not_equivalent, equivalent, proved, shown}
 use Rattle.cert_text.specs.Texts.{IsText}
 use Rattle.cert_text.proofs.Lists.{heads, tails, parts_same}
 use Rattle.cert_text.proofs.OneReading.{SaysOnce, say_once, say_long, one_branch, one_reason, one_fact, one_entry, one_run}
 use Rattle.cert_text.proofs.Verdicts.{side_long}
-use Rattle.cert_text.proofs.Stepping.{same_one, same_two, proof_no_lasso}
+use Rattle.cert_text.proofs.Stepping.{same_one, same_two, same_head, proof_no_lasso}
 
 -- so many lines of one kind, and others behind them
 said_same : {A : Type 0} (Says : Line → A → Type 0) → SaysOnce Says
@@ -81,12 +81,13 @@ pub one_induction : (lines : List Line) (p q : InductionProof) → SayInductionP
     → SayInductionProof lines q → p ≡ q
 one_induction lines p q one two =
     let whole = sym one.parts ∙ two.parts in
-    let P : Line → Type 0 = λ l. SaysInductionHead l p.depth (length p.inv) in
-    let (depth, many) = same_two (codes "proof") (codes "induction") two.head _ _ _ _
+    let P : Line → Type 0 = λ l. SaysInductionHead one.clauses l p.depth (length p.inv) in
+    let (kind, depth, many) = same_head one.clauses two.clauses two.head _ _ _ _
     (subst P (heads whole) one.counts) two.counts in
-    let (facts, behind) = said_same SaysFact one_fact one.facts one.logs two.facts two.logs p.inv
-    q.inv
-    (tails whole) many one.states two.states in
+    let R : Bool → Type 0 = λ b. Say (SaysFact b) one.facts p.inv in
+    let (facts, behind) = said_same (SaysFact two.clauses) (one_fact two.clauses) one.facts
+    one.logs two.facts two.logs p.inv q.inv (tails whole) many (subst R kind one.states)
+    two.states in
     let keeps : length p.keep ≡ length q.keep = one.keeps ∙ ap groups facts ∙ sym two.keeps in
     let bases : length p.base ≡ length q.base = one.bases ∙ ap suc depth ∙ sym two.bases in
     let Q : List Line → Type 0 = λ l. SayLogs l (p.keep ++ p.base ++ p.step ∷ []) in
@@ -166,9 +167,9 @@ no_mixture lines [] rest p (x ∷ xs) one e (said, some) = absurd said
 no_mixture lines (line ∷ front) rest p [] one e (said, some) = absurd said
 no_mixture lines (line ∷ front) rest p (x ∷ xs) one e ((says, said), some) =
     let same = heads (sym one.parts ∙ e) in
-    let P : Line → Type 0 = λ l. SaysInductionHead l p.depth (length p.inv) in
+    let P : Line → Type 0 = λ l. SaysInductionHead one.clauses l p.depth (length p.inv) in
     let (k, f, words, depth, facts) = subst P same one.counts in
-    proof_no_lasso line (codes "induction" ∷ k ∷ f ∷ []) words (x, says)
+    proof_no_lasso line (kind_word one.clauses ∷ k ∷ f ∷ []) words (x, says)
 
 -- ---- certificates
 

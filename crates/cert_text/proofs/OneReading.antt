@@ -1,17 +1,19 @@
 -- A line says one value of its kind.
-use Rattle.std.proofs.Common.{◌≡◌, ◌≢◌, ℕ, suc, ◌^◌, ◌<◌, Bool, true, false, List, [], ◌∷◌, ◌++◌, length, get_or, map, refl, sym, ◌∙◌, ap, subst, arith, Some, None}
+use Rattle.std.proofs.Common.{◌≡◌, ◌≢◌, ℕ, suc, ◌^◌, ◌<◌, ◌⊎◌, Bool, true, false, List, [], ◌∷◌, ◌++◌, length, get_or, map, inl, inr, refl, sym, ◌∙◌, ap, subst, arith, Some, None}
 use Rattle.std.specs.Prelude.{codes, ℤ, pos, negsuc, unsigned_abs}
 use lib.Signed.{mag}
 use Rattle.std.proofs.lemmas.Fmt.{signed_decimal_injective}
 use Rattle.aig_net.specs.RunTexts.{digit}
-use Rattle.cnf_frames.specs.declared.facts.Fact.TheVariants.{Zero, One, Same, Differ}
+use Rattle.cnf_frames.specs.declared.facts.Fact.{Fact}
+use Rattle.cnf_frames.specs.declared.facts.Fact.TheVariants.{Zero, One, Same, Differ, AnyOf}
 use Rattle.hy_text.specs.Cuts.{cut_at}
 use Rattle.cert_text.specs.Lines.{Line, words_of, Say}
 use Rattle.hy_text.specs.Numbers.{SaysNumber}
 use Rattle.cert_text.specs.Numbers.{SaysCount, SaysLiteral, SaysMembers, SayEnded}
 use Rattle.cert_text.specs.RankLines.{SaysBranch, SaysReason}
-use Rattle.cert_text.specs.InductionLines.{SaysFact, SaysLearned}
+use Rattle.cert_text.specs.InductionLines.{SaysSimple, SaysLiterals, SaysFact, SaysLearned}
 use Rattle.cert_text.specs.RunLines.{SaysRow, SaysStem, SaysCycle, SaysRun}
+use Rattle.cert_text.proofs.Lists.{tails}
 use Rattle.cert_text.proofs.NumbersRead.{same_number, minus_apart, zero_no_count, zero_no_literal}
 use Rattle.cert_text.proofs.Stepping.{same_second, same_two}
 
@@ -111,29 +113,69 @@ signs line s t ws vs one two =
     let same : s ≡ t = cc in
     ap (λ w. get_or w 0 0) same
 
-pub one_fact : SaysOnce SaysFact
-one_fact line (Zero a) (Zero b) one two = ap Zero (same_second (codes "f") (codes "0") line a b one two)
-one_fact line (One a) (One b) one two = ap One (same_second (codes "f") (codes "1") line a b one two)
-one_fact line (Same a b) (Same p q) one two =
+one_simple : SaysOnce SaysSimple
+one_simple line (Zero a) (Zero b) one two = ap Zero (same_second (codes "f") (codes "0") line a b one two)
+one_simple line (One a) (One b) one two = ap One (same_second (codes "f") (codes "1") line a b one two)
+one_simple line (Same a b) (Same p q) one two =
     let (first, second) = same_two (codes "f") (codes "=") line a b p q one two in
     λ i. Same (first i) (second i)
-one_fact line (Differ a b) (Differ p q) one two =
+one_simple line (Differ a b) (Differ p q) one two =
     let (first, second) = same_two (codes "f") (codes "!") line a b p q one two in
     λ i. Differ (first i) (second i)
-one_fact line (Zero a) (One b) one two = absurd (omega (arith, signs line _ _ _ _ one.1 two.1))
-one_fact line (Zero a) (Same p q) one two = absurd (omega (arith, signs line _ _ _ _ one.1 two.2))
-one_fact line (Zero a) (Differ p q) one two = absurd (omega (arith, signs line _ _ _ _ one.1 two.2))
-one_fact line (One a) (Zero b) one two = absurd (omega (arith, signs line _ _ _ _ one.1 two.1))
-one_fact line (One a) (Same p q) one two = absurd (omega (arith, signs line _ _ _ _ one.1 two.2))
-one_fact line (One a) (Differ p q) one two = absurd (omega (arith, signs line _ _ _ _ one.1 two.2))
-one_fact line (Same a b) (Zero p) one two = absurd (omega (arith, signs line _ _ _ _ one.2 two.1))
-one_fact line (Same a b) (One p) one two = absurd (omega (arith, signs line _ _ _ _ one.2 two.1))
-one_fact line (Same a b) (Differ p q) one two =
+one_simple line (Zero a) (One b) one two = absurd (omega (arith, signs line _ _ _ _ one.1 two.1))
+one_simple line (Zero a) (Same p q) one two = absurd (omega (arith, signs line _ _ _ _ one.1 two.2))
+one_simple line (Zero a) (Differ p q) one two = absurd (omega (arith, signs line _ _ _ _ one.1 two.2))
+one_simple line (One a) (Zero b) one two = absurd (omega (arith, signs line _ _ _ _ one.1 two.1))
+one_simple line (One a) (Same p q) one two = absurd (omega (arith, signs line _ _ _ _ one.1 two.2))
+one_simple line (One a) (Differ p q) one two = absurd (omega (arith, signs line _ _ _ _ one.1 two.2))
+one_simple line (Same a b) (Zero p) one two = absurd (omega (arith, signs line _ _ _ _ one.2 two.1))
+one_simple line (Same a b) (One p) one two = absurd (omega (arith, signs line _ _ _ _ one.2 two.1))
+one_simple line (Same a b) (Differ p q) one two =
     absurd (omega (arith, signs line _ _ _ _ one.2 two.2))
-one_fact line (Differ a b) (Zero p) one two = absurd (omega (arith, signs line _ _ _ _ one.2 two.1))
-one_fact line (Differ a b) (One p) one two = absurd (omega (arith, signs line _ _ _ _ one.2 two.1))
-one_fact line (Differ a b) (Same p q) one two =
+one_simple line (Differ a b) (Zero p) one two = absurd (omega (arith, signs line _ _ _ _ one.2 two.1))
+one_simple line (Differ a b) (One p) one two = absurd (omega (arith, signs line _ _ _ _ one.2 two.1))
+one_simple line (Differ a b) (Same p q) one two =
     absurd (omega (arith, signs line _ _ _ _ one.2 two.2))
+one_simple line (Zero a) (AnyOf ls) one two = absurd two
+one_simple line (One a) (AnyOf ls) one two = absurd two
+one_simple line (Same a b) (AnyOf ls) one two = absurd two
+one_simple line (Differ a b) (AnyOf ls) one two = absurd two
+one_simple line (AnyOf ls) g one two = absurd one
+
+-- A clause is no fact about one latch or two.
+no-simple : (line : Line) (fact : Fact) (ls : List ℕ) → SaysSimple line fact
+    → ¬ SaysLiterals line ls
+no-simple line (Zero a) ls one two = absurd (omega (arith, signs line _ _ _ _ one.1 two.1))
+no-simple line (One a) ls one two = absurd (omega (arith, signs line _ _ _ _ one.1 two.1))
+no-simple line (Same a b) ls one two = absurd (omega (arith, signs line _ _ _ _ one.2 two.1))
+no-simple line (Differ a b) ls one two = absurd (omega (arith, signs line _ _ _ _ one.2 two.1))
+no-simple line (AnyOf ms) ls one two = one
+
+one-clause : SaysOnce SaysLiterals
+one-clause line ls ms (words, parts, said, some) (others, too, also, more) =
+    let same : words ≡ others = tails (tails (sym parts ∙ too)) in
+    let P : List (List ℕ) → Type 0 = λ l. Say SaysNumber l ls in
+    say_once SaysNumber same_number others ls ms (subst P same said) also
+
+-- The fact is simple, or a clause.
+sorts : (clauses : Bool) (line : Line) (fact : Fact) → SaysFact clauses line fact
+    → SaysSimple line fact ⊎ ((ls : List ℕ) × (fact ≡ AnyOf ls) × SaysLiterals line ls)
+sorts clauses line (Zero a) says = inl says
+sorts clauses line (One a) says = inl says
+sorts clauses line (Same a b) says = inl says
+sorts clauses line (Differ a b) says = inl says
+sorts clauses line (AnyOf ls) (taken, says) = inr (ls, refl, says)
+
+pub one_fact : (clauses : Bool) → SaysOnce (SaysFact clauses)
+one_fact clauses line f g one two = of (sorts clauses line f one) (sorts clauses line g two)
+  where
+    of : SaysSimple line f ⊎ ((ls : List ℕ) × (f ≡ AnyOf ls) × SaysLiterals line ls)
+        → SaysSimple line g ⊎ ((ls : List ℕ) × (g ≡ AnyOf ls) × SaysLiterals line ls) → f ≡ g
+    of (inl says) (inl also) = one_simple line f g says also
+    of (inl says) (inr (ms, is, also)) = absurd (no-simple line f ms says also)
+    of (inr (ls, is, says)) (inl also) = absurd (no-simple line g ls also says)
+    of (inr (ls, is, says)) (inr (ms, too, also)) =
+        is ∙ ap AnyOf (one-clause line ls ms says also) ∙ sym too
 
 -- ---- learned clauses
 

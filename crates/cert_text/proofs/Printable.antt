@@ -1,10 +1,10 @@
 -- Evidence that is right, and whose text is no longer than a file may be, can be printed.
-use Rattle.std.proofs.Common.{◌≡◌, ℕ, zero, suc, ◌+◌, ◌^◌, ◌<◌, ◌≤◌, List, [], ◌∷◌, ◌++◌, length, map, get_or, inl, inr, refl, ap, arith, Option, Some, None, length-append}
+use Rattle.std.proofs.Common.{◌≡◌, ℕ, zero, suc, ◌+◌, ◌*◌, ◌^◌, ◌<◌, ◌≤◌, List, [], ◌∷◌, ◌++◌, length, map, get_or, inl, inr, refl, ap, arith, Option, Some, None, length-append}
 use Rattle.std.specs.Prelude.{codes, decimal, ℤ}
 use Rattle.std.specs.Fmt.{signed_decimal}
 use Rattle.std.specs.List.{All, Contains, flat_map}
 use Rattle.std.specs.Option.{ForSome}
-use Rattle.std.proofs.lemmas.List.Elements.{All-nil, All-cons, All-contains, All-from_get_or, Contains-get_or}
+use Rattle.std.proofs.lemmas.List.Elements.{All-nil, All-cons, All-head, All-tail, All-contains, All-from_get_or, Contains-get_or}
 use Rattle.std.proofs.lemmas.Option.{slice_get_within}
 use Rattle.hy_base.specs.declared.reading.TheConstants.{BYTES_LIMIT}
 use Rattle.hy_base.proofs.Members.{map-of, contains-none, contains-cases}
@@ -19,6 +19,7 @@ use Rattle.rank_proofs.specs.Proofs.{ranked_of, plain_proof, IsAscending}
 use Rattle.rank_proofs.specs.ProofTexts.{numbers_text, branch_text, reason_text, proof_text}
 use Rattle.rank_proofs.specs.declared.rank_proof.RankProof.{RankProof}
 use Rattle.rank_proofs.specs.declared.rank_proof.ProofBranch.{ProofBranch}
+use Rattle.aig_net.specs.Nets.{Below}
 use Rattle.aig_net.specs.RunTexts.{row_text, rows_text, run_text, runs_text}
 use Rattle.aig_net.specs.declared.run.Run.{Run}
 use Rattle.live_safe.specs.declared.safe_net.SafeNet.{SafeNet}
@@ -28,12 +29,12 @@ use Rattle.chain_check.specs.LogTexts.{entry_text, log_text}
 use Rattle.chain_check.specs.Logs.{IsPassed}
 use Rattle.chain_check.specs.declared.logs.Learned.{Learned}
 use Rattle.cnf_frames.specs.Facts.{IsIn}
-use Rattle.cnf_frames.specs.ProofTexts.{fact_text, proof_text as induction_text}
+use Rattle.cnf_frames.specs.ProofTexts.{fact_text, kind_text, proof_text as induction_text}
 use Rattle.cnf_frames.specs.Proofs.{IsRefuted, IsInductionProof, AreQueriesWithin}
 use Rattle.cnf_frames.specs.Queries.{IsWithin, clauses_of, variables_of, groups}
 use Rattle.cnf_frames.specs.QueryPaths.{CanAsk}
 use Rattle.cnf_frames.specs.declared.facts.Fact.{Fact}
-use Rattle.cnf_frames.specs.declared.facts.Fact.TheVariants.{Zero, One, Same, Differ}
+use Rattle.cnf_frames.specs.declared.facts.Fact.TheVariants.{Zero, One, Same, Differ, AnyOf}
 use Rattle.cnf_frames.specs.declared.inductions.InductionProof.{InductionProof}
 use Rattle.cnf_frames.specs.declared.queries.Asked.{Asked}
 use Rattle.cnf_frames.specs.declared.queries.Asked.TheVariants.{Base, Step, Keep}
@@ -199,12 +200,20 @@ fact_some (Zero a) = line_some (codes "f 0 " ++ decimal a)
 fact_some (One a) = line_some (codes "f 1 " ++ decimal a)
 fact_some (Same a b) = line_some (codes "f = " ++ decimal a ++ codes " " ++ decimal b)
 fact_some (Differ a b) = line_some (codes "f ! " ++ decimal a ++ codes " " ++ decimal b)
+fact_some (AnyOf ls) = line_some (codes "f |" ++ flat_map (λ l. 32 ∷ decimal l) ls)
 
-fact_below : (n : ℕ) (fact : Fact) → n < 10 ^ 10 → IsIn n fact → IsPrintableFact fact
+literals_below : (n : ℕ) (ls : List ℕ) → n < 5 * 10 ^ 9 → All (Below n) ls → All IsBelow ls
+literals_below n [] few all = All-nil IsBelow
+literals_below n (l ∷ ls) few all =
+    All-cons IsBelow l ls (omega (arith, few, All-head (Below n) l ls all))
+    (literals_below n ls few (All-tail (Below n) l ls all))
+
+fact_below : (n : ℕ) (fact : Fact) → n < 5 * 10 ^ 9 → IsIn n fact → IsPrintableFact fact
 fact_below n (Zero a) few is = omega (arith, few, is)
 fact_below n (One a) few is = omega (arith, few, is)
 fact_below n (Same a b) few (one, two) = (omega (arith, few, one), omega (arith, few, two))
 fact_below n (Differ a b) few (one, two) = (omega (arith, few, one), omega (arith, few, two))
+fact_below n (AnyOf ls) few (some, all) = (literals_below n ls few all, some)
 
 logs_below : (logs : List (List Learned))
     → ((i : ℕ) → i < length logs → length (log_text (get_or logs i [])) ≤ BYTES_LIMIT
@@ -217,8 +226,8 @@ pub printable_induction : (safe : SafeNet) (proof : InductionProof) → IsInduct
     → AreQueriesWithin safe proof → 0 < length safe.net.latches
     → length (induction_text proof) ≤ BYTES_LIMIT → IsPrintableInduction proof
 printable_induction safe proof is within some short =
-    let head = codes "proof induction " ++ decimal proof.depth ++ codes " "
-    ++ decimal (length proof.inv) ++ codes "\n" in
+    let head = codes "proof " ++ kind_text proof.inv ++ codes " " ++ decimal proof.depth
+    ++ codes " " ++ decimal (length proof.inv) ++ codes "\n" in
     let facts = flat_map fact_text proof.inv in
     let keeps = flat_map log_text proof.keep in
     let bases = flat_map log_text proof.base in
@@ -227,7 +236,7 @@ printable_induction safe proof is within some short =
     let three = length-append (head ++ facts) keeps in
     let four = length-append head facts in
     let first : IsWithin safe (Base 0) = within.bases 0 (omega arith) in
-    let few : length safe.net.latches < 10 ^ 10 = omega (arith, first.few_variables) in
+    let few : length safe.net.latches < 5 * 10 ^ 9 = omega (arith, first.few_variables) in
     record {
       depth = omega (
         arith,

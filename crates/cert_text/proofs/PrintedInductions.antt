@@ -1,24 +1,26 @@
 -- Proofs by induction that were printed are texts.
-use Rattle.std.proofs.Common.{◌≡◌, ℕ, ◌<◌, Bool, List, [], ◌∷◌, ◌++◌, length, map, refl, sym, ◌∙◌, ap, subst, arith, append_assoc, append-nil}
-use Rattle.std.specs.Prelude.{decimal, codes}
+use Rattle.std.proofs.Common.{◌≡◌, ℕ, ◌<◌, Bool, true, false, List, [], ◌∷◌, ◌++◌, length, map, refl, sym, ◌∙◌, ap, subst, arith, append_assoc, append-nil}
+use Rattle.std.specs.Prelude.{nat_le, decimal, codes, IsTrue}
 use Rattle.std.specs.Fmt.{signed_decimal}
-use Rattle.std.specs.List.{All, flat_map, join_with_byte}
+use Rattle.std.specs.List.{All, list_all, list_any, flat_map, join_with_byte}
+use Rattle.std.proofs.lemmas.Bool.{or_left, or_right}
 use Rattle.std.proofs.lemmas.Grind.{flat_map-append}
 use Rattle.std.proofs.lemmas.List.Elements.{All-head, All-tail, All-nil, All-cons, All-append}
 use Rattle.chain_check.specs.declared.logs.Learned.{Learned}
 use Rattle.chain_check.specs.LogTexts.{entry_text, log_text}
-use Rattle.cnf_frames.specs.ProofTexts.{fact_text, proof_text}
+use Rattle.cnf_frames.specs.ProofTexts.{fact_text, is_clause, kind_text, proof_text}
 use Rattle.cnf_frames.specs.declared.facts.Fact.{Fact}
-use Rattle.cnf_frames.specs.declared.facts.Fact.TheVariants.{Zero, One, Same, Differ}
+use Rattle.cnf_frames.specs.declared.facts.Fact.TheVariants.{Zero, One, Same, Differ, AnyOf}
 use Rattle.cnf_frames.specs.declared.inductions.InductionProof.{InductionProof}
 use Rattle.hy_formula.proofs.Each.{each-append}
 use Rattle.cert_text.specs.declared.question.Question.TheVariants.{Circuit}
-use Rattle.cert_text.specs.Lines.{Line}
+use Rattle.hy_text.specs.Numbers.{SaysNumber}
+use Rattle.cert_text.specs.Lines.{Line, Say}
 use Rattle.cert_text.specs.Numbers.{SaysCount, SaysLiteral}
-use Rattle.cert_text.specs.InductionLines.{SaysFact, SaysLearned, SayLogs, SayInductionProof}
+use Rattle.cert_text.specs.InductionLines.{kind_word, SaysFact, SaysLearned, SayLogs, SayInductionProof}
 use Rattle.cert_text.specs.Certificates.{induction, holds_line, proved}
 use Rattle.cert_text.specs.Texts.{IsText, ended}
-use Rattle.cert_text.specs.Printed.{IsPrintableFact, IsPrintableLiteral, IsPrintableCount, IsPrintableEntry, IsPrintableLog, IsPrintableInduction}
+use Rattle.cert_text.specs.Printed.{IsBelow, IsPrintableFact, IsPrintableLiteral, IsPrintableCount, IsPrintableEntry, IsPrintableLog, IsPrintableInduction}
 use Rattle.cert_text.proofs.Joining.{Lacks, EachLacks, IsFree, AreFree, split_joined, decimal_lacks, signed_lacks, lacks_feed}
 use Rattle.cert_text.proofs.OneFault.{ended_both}
 use Rattle.cert_text.proofs.PrintedLines.{word_lacks, words_lack, joined_spaced, free_words, spelled_number, holds_free, texts_end, free_lines_of, say_lines_of, lines_text}
@@ -30,15 +32,24 @@ fact_words (Zero a) = codes "f" ∷ codes "0" ∷ decimal a ∷ []
 fact_words (One a) = codes "f" ∷ codes "1" ∷ decimal a ∷ []
 fact_words (Same a b) = codes "f" ∷ codes "=" ∷ decimal a ∷ decimal b ∷ []
 fact_words (Differ a b) = codes "f" ∷ codes "!" ∷ decimal a ∷ decimal b ∷ []
+fact_words (AnyOf ls) = codes "f" ∷ codes "|" ∷ map decimal ls
 
 abbrev fact_line : Fact → Line
 fact_line fact = join_with_byte 32 (fact_words fact)
+
+spaced_numbers : (ls : List ℕ) → flat_map (λ w. 32 ∷ w) (map decimal ls)
+    ≡ flat_map (λ l. 32 ∷ decimal l) ls
+spaced_numbers [] = refl
+spaced_numbers (l ∷ ls) = ap (λ t. (32 ∷ decimal l) ++ t) (spaced_numbers ls)
 
 fact_ends : (fact : Fact) → fact_text fact ≡ fact_line fact ++ 10 ∷ []
 fact_ends (Zero a) = simp append_assoc
 fact_ends (One a) = simp append_assoc
 fact_ends (Same a b) = simp append_assoc
 fact_ends (Differ a b) = simp append_assoc
+fact_ends (AnyOf ls) =
+    ap (λ t. (codes "f |" ++ t) ++ 10 ∷ []) (sym (spaced_numbers ls))
+    ∙ ap (λ t. t ++ 10 ∷ []) (sym (joined_spaced (codes "f") (codes "|" ∷ map decimal ls)))
 
 fact_lacks : (byte : ℕ) (fact : Fact) → byte < 33 → IsPrintableFact fact
     → EachLacks byte (fact_words fact)
@@ -72,23 +83,28 @@ fact_lacks byte (Differ a b) low (one, two) =
         ),
       ),
     )
+fact_lacks byte (AnyOf ls) low (all, some) =
+    let literals = words_lack decimal IsBelow byte
+    (λ l below. decimal_lacks byte l (omega arith) below) ls all in
+    (word_lacks byte (codes "f") low refl, (word_lacks byte (codes "|") low refl, literals))
 
 fact_free : (fact : Fact) → IsPrintableFact fact → Lacks 10 (fact_line fact)
 fact_free fact is = free_words (fact_words fact) (fact_lacks 10 fact (omega arith) is)
 
-fact_says : (fact : Fact) → IsPrintableFact fact → SaysFact (fact_line fact) fact
-fact_says (Zero a) is = (
+fact_says : (clauses : Bool) (fact : Fact) → (IsTrue (is_clause fact) → IsTrue clauses)
+    → IsPrintableFact fact → SaysFact clauses (fact_line fact) fact
+fact_says clauses (Zero a) taken is = (
   decimal a,
   split_joined 32 (codes "f") (codes "0" ∷ decimal a ∷ []) (fact_lacks 32 (Zero a) (omega arith)
       is),
   spelled_number a is,
 )
-fact_says (One a) is = (
+fact_says clauses (One a) taken is = (
   decimal a,
   split_joined 32 (codes "f") (codes "1" ∷ decimal a ∷ []) (fact_lacks 32 (One a) (omega arith) is),
   spelled_number a is,
 )
-fact_says (Same a b) (one, two) = (
+fact_says clauses (Same a b) taken (one, two) = (
   decimal a,
   decimal b,
   split_joined 32 (codes "f") (codes "=" ∷ decimal a ∷ decimal b ∷ [])
@@ -96,13 +112,35 @@ fact_says (Same a b) (one, two) = (
   spelled_number a one,
   spelled_number b two,
 )
-fact_says (Differ a b) (one, two) = (
+fact_says clauses (Differ a b) taken (one, two) = (
   decimal a,
   decimal b,
   split_joined 32 (codes "f") (codes "!" ∷ decimal a ∷ decimal b ∷ [])
       (fact_lacks 32 (Differ a b) (omega arith) (one, two)),
   spelled_number a one,
   spelled_number b two,
+)
+fact_says clauses (AnyOf ls) taken (all, some) = (
+  taken refl,
+  (
+    map decimal ls,
+    split_joined 32 (codes "f") (codes "|" ∷ map decimal ls)
+        (fact_lacks 32 (AnyOf ls) (omega arith) (all, some)),
+    say_lines_of decimal IsBelow SaysNumber spelled_number ls all,
+    some,
+  ),
+)
+
+facts_say : (clauses : Bool) (facts : List Fact)
+    → (IsTrue (list_any is_clause facts) → IsTrue clauses) → All IsPrintableFact facts
+    → Say (SaysFact clauses) (map fact_line facts) facts
+facts_say clauses [] taken all = tt
+facts_say clauses (fact ∷ facts) taken all = (
+  fact_says clauses fact (λ is. taken (or_left (is_clause fact) (list_any is_clause facts) is))
+      (All-head IsPrintableFact fact facts all),
+  facts_say clauses facts
+      (λ is. taken (or_right (is_clause fact) (list_any is_clause facts) is))
+      (All-tail IsPrintableFact fact facts all),
 )
 
 -- ---- learned clauses
@@ -263,9 +301,14 @@ logs_say (log ∷ logs) all =
 
 -- ---- proofs
 
+-- whether some fact is a clause
+abbrev has_clauses : InductionProof → Bool
+has_clauses proof = list_any is_clause proof.inv
+
 abbrev induction_words : InductionProof → List (List ℕ)
 induction_words proof =
-    codes "proof" ∷ codes "induction" ∷ decimal proof.depth ∷ decimal (length proof.inv) ∷ []
+    codes "proof" ∷ kind_word (has_clauses proof) ∷ decimal proof.depth
+    ∷ decimal (length proof.inv) ∷ []
 
 abbrev logs_of : InductionProof → List (List Learned)
 logs_of proof = proof.keep ++ proof.base ++ proof.step ∷ []
@@ -275,12 +318,17 @@ induction_lines proof =
     join_with_byte 32 (induction_words proof)
     ∷ (map fact_line proof.inv ++ flat_map log_lines (logs_of proof))
 
+kind_above : (clauses : Bool) → list_all (nat_le 33) (kind_word clauses) ≡ true
+kind_above true = refl
+kind_above false = refl
+
 induction_lacks : (byte : ℕ) (proof : InductionProof) → byte < 33 → IsPrintableInduction proof
     → EachLacks byte (induction_words proof)
 induction_lacks byte proof low is =
     let depth = decimal_lacks byte proof.depth (omega arith) is.depth in
     let facts = decimal_lacks byte (length proof.inv) (omega arith) is.facts in
-    let kind = word_lacks byte (codes "induction") low refl in
+    let kind = word_lacks byte (kind_word (has_clauses proof)) low
+    (kind_above (has_clauses proof)) in
     (word_lacks byte (codes "proof") low refl, (kind, (depth, (facts, tt))))
 
 all_logs : (proof : InductionProof) → IsPrintableInduction proof
@@ -300,12 +348,18 @@ logs_texts proof =
     ∙ append_assoc (flat_map log_text proof.keep) (flat_map log_text proof.base)
     (log_text proof.step)
 
+head_ends : (kind depth facts : List ℕ)
+    → codes "proof " ++ kind ++ codes " " ++ depth ++ codes " " ++ facts ++ codes "\n"
+    ≡ join_with_byte 32 (codes "proof" ∷ kind ∷ depth ∷ facts ∷ []) ++ 10 ∷ []
+head_ends kind depth facts = simp append_assoc
+
 induction_ends : (proof : InductionProof) → proof_text proof ≡ ended (induction_lines proof)
 induction_ends proof =
     let head = join_with_byte 32 (induction_words proof) in
     let facts = flat_map fact_text proof.inv in
-    let front : codes "proof induction " ++ decimal proof.depth ++ codes " "
-    ++ decimal (length proof.inv) ++ codes "\n" ≡ head ++ 10 ∷ [] = simp append_assoc in
+    let front : codes "proof " ++ kind_text proof.inv ++ codes " " ++ decimal proof.depth
+    ++ codes " " ++ decimal (length proof.inv) ++ codes "\n" ≡ head ++ 10 ∷ [] =
+    head_ends (kind_text proof.inv) (decimal proof.depth) (decimal (length proof.inv)) in
     let keep = flat_map log_text proof.keep in
     let base = flat_map log_text proof.base in
     let step = log_text proof.step in
@@ -333,6 +387,7 @@ induction_free proof is = (
 induction_said : (proof : InductionProof) → IsPrintableInduction proof
     → SayInductionProof (induction_lines proof) proof
 induction_said proof is = record {
+  clauses = has_clauses proof;
   head = join_with_byte 32 (induction_words proof);
   facts = map fact_line proof.inv;
   logs = flat_map log_lines (logs_of proof);
@@ -341,12 +396,12 @@ induction_said proof is = record {
     decimal proof.depth,
     decimal (length proof.inv),
     split_joined 32 (codes "proof")
-        (codes "induction" ∷ decimal proof.depth ∷ decimal (length proof.inv) ∷ [])
+        (kind_word (has_clauses proof) ∷ decimal proof.depth ∷ decimal (length proof.inv) ∷ [])
         (induction_lacks 32 proof (omega arith) is),
     spelled_number proof.depth is.depth,
     spelled_number (length proof.inv) is.facts,
   );
-  states = say_lines_of fact_line IsPrintableFact SaysFact fact_says proof.inv is.each_fact;
+  states = facts_say (has_clauses proof) proof.inv (λ is. is) is.each_fact;
   refuted = logs_say (logs_of proof) (all_logs proof is);
   keeps = is.keeps;
   bases = is.bases;

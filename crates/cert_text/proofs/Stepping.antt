@@ -1,5 +1,5 @@
 -- What the heads of proofs, logs and runs leave wanted.
-use Rattle.std.proofs.Common.{◌≡◌, ◌≢◌, ℕ, zero, suc, ◌-◌, ◌↔◌, Bool, true, false, cond, nat_eq, List, [], ◌∷◌, get_or, inl, inr, refl, sym, ap, subst, arith}
+use Rattle.std.proofs.Common.{◌≡◌, ◌≢◌, ℕ, zero, suc, ◌-◌, ◌↔◌, Bool, true, false, cond, nat_eq, List, [], ◌∷◌, get_or, inl, inr, refl, sym, ◌∙◌, ap, subst, arith}
 use Rattle.std.specs.Prelude.{codes}
 use Rattle.std.specs.List.{onto_first}
 use Rattle.hy_text.specs.Bytes.{past_blanks}
@@ -14,6 +14,7 @@ use Rattle.cert_text.specs.InductionLines.{SaysInductionHead, SaysLogHead, SaysL
 use Rattle.cert_text.specs.RunLines.{SaysRunsHead, SaysRun}
 use Rattle.cert_text.specs.Wants.{Ends, Many, FillRanks, FillLogs, FillShown, FillEvidence}
 use Rattle.cert_text.proofs.Evidence.{FillInduction}
+use Rattle.cert_text.proofs.Lists.{heads, tails}
 use Rattle.cert_text.proofs.NumbersRead.{same_number}
 
 -- ---- one number, two numbers
@@ -43,6 +44,22 @@ same_two one two line m n p q (x, y, words, says, second) (v, w, others, also, l
       same_number w n q (subst Q second_same
           second) last,
     )
+
+-- the kind, the depth and the count of a proof by induction
+pub same_head : (c d : Bool) (line : Line) (k f p q : ℕ) → SaysInductionHead c line k f
+    → SaysInductionHead d line p q → (c ≡ d) × (k ≡ p) × (f ≡ q)
+same_head true true line k f p q one two =
+    let (depth, count) = same_two (codes "proof") (codes "clauses") line k f p q one two in
+    (refl, depth, count)
+same_head false false line k f p q one two =
+    let (depth, count) = same_two (codes "proof") (codes "induction") line k f p q one two in
+    (refl, depth, count)
+same_head true false line k f p q (x, y, words, says, more) (v, w, others, also, last) =
+    let same : codes "clauses" ≡ codes "induction" = heads (tails (sym words ∙ others)) in
+    absurd (omega (arith, ap (λ w. get_or w 0 0) same))
+same_head false true line k f p q (x, y, words, says, more) (v, w, others, also, last) =
+    let same : codes "induction" ≡ codes "clauses" = heads (tails (sym words ∙ others)) in
+    absurd (omega (arith, ap (λ w. get_or w 0 0) same))
 
 -- ---- no head is a lasso
 
@@ -120,17 +137,20 @@ log_step (suc n) k line rest some says =
       λ fill. (k, says, subst P (sym less) fill),
     )
 
-pub induction_step : (k f : ℕ) (line : Line) (rest : List Line) → SaysInductionHead line k f
-    → FillEvidence (line ∷ rest) ↔ FillInduction k f rest
-induction_step k f line rest says = (
+pub induction_step : (clauses : Bool) (k f : ℕ) (line : Line) (rest : List Line)
+    → SaysInductionHead clauses line k f
+    → FillEvidence (line ∷ rest) ↔ FillInduction clauses k f rest
+induction_step clauses k f line rest says = (
   λ fill. elim fill [
-    | inl (p, q, also, fill) ↦
-        let (one, two) = same_two (codes "proof") (codes "induction") line p q k f also says in
-        let Q : ℕ → Type 0 = λ m. FillInduction m q rest in
-        subst (λ (m : ℕ). FillInduction k m rest) two (subst Q one fill)
+    | inl (d, p, q, also, fill) ↦
+        let (kind, one, two) = same_head d clauses line p q k f also says in
+        let P : Bool → Type 0 = λ b. FillInduction b p q rest in
+        let Q : ℕ → Type 0 = λ m. FillInduction clauses m q rest in
+        let R : ℕ → Type 0 = λ m. FillInduction clauses k m rest in
+        subst R two (subst Q one (subst P kind fill))
     | inr (speaks, fill) ↦ absurd (proof_no_lasso line _ says.2 speaks)
   ],
-  λ fill. inl (k, f, says, fill),
+  λ fill. inl (clauses, k, f, says, fill),
 )
 
 pub runs_step : (n : ℕ) (line : Line) (rest : List Line) → SaysRunsHead line n
@@ -159,20 +179,20 @@ no_log (suc n) line rest some none (k, says, fill) = none k says
 -- ---- lassos, where no head stands
 
 pub lasso_evidence : (line : Line) (rest : List Line)
-    → ((k f : ℕ) → ¬ SaysInductionHead line k f) → Speaks SaysLasso line
+    → ((c : Bool) (k f : ℕ) → ¬ SaysInductionHead c line k f) → Speaks SaysLasso line
     → FillEvidence (line ∷ rest) ↔ FillShown rest
 lasso_evidence line rest none says = (
   λ fill. elim fill [
-    | inl (k, f, head, fill) ↦ absurd (none k f head)
+    | inl (c, k, f, head, fill) ↦ absurd (none c k f head)
     | inr (_, fill) ↦ fill
   ],
   λ fill. inr (says, fill),
 )
 
-pub no_evidence : (line : Line) (rest : List Line) → ((k f : ℕ) → ¬ SaysInductionHead line k f)
-    → ¬ Speaks SaysLasso line → ¬ FillEvidence (line ∷ rest)
+pub no_evidence : (line : Line) (rest : List Line)
+    → ((c : Bool) (k f : ℕ) → ¬ SaysInductionHead c line k f) → ¬ Speaks SaysLasso line → ¬ FillEvidence (line ∷ rest)
 no_evidence line rest none silent fill = elim fill [
-  | inl (k, f, head, fill) ↦ none k f head
+  | inl (c, k, f, head, fill) ↦ none c k f head
   | inr (says, fill) ↦ silent says
 ]
 

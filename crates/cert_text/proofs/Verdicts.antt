@@ -230,11 +230,11 @@ pub circuit_spelled : (line : Line) (rest : List Line) → IsSpelled Circuit (li
 circuit_spelled line rest (c, proved {holds} {proof} more e said) =
     let same : line ≡ holds_line holds = cc in
     let behind : more ≡ rest = cc in
-    let (head, lines, parts, counts, fill) = said_induction more proof said in (
+    let (clauses, head, lines, parts, counts, fill) = said_induction more proof said in (
       holds,
       same,
       subst FillEvidence (sym parts ∙ behind)
-          (inl (proof.depth, length proof.inv, counts, fill)),
+          (inl (clauses, proof.depth, length proof.inv, counts, fill)),
     )
 circuit_spelled line rest (c, shown {holds} {lassos} {tuple} front more e said also) =
     let same : line ≡ holds_line holds = cc in
@@ -252,8 +252,8 @@ circuit_spelled line rest (c, shown {holds} {lassos} {tuple} front more e said a
 spelled_circuit : (holds : Bool) (line : Line) (rest : List Line) → line ≡ holds_line holds
     → FillEvidence rest → IsSpelled Circuit (line ∷ rest)
 spelled_circuit holds line [] is none = absurd none
-spelled_circuit holds line (head ∷ rest) is (inl (k, f, counts, fill)) =
-    let one = induction_said k f head rest counts fill in
+spelled_circuit holds line (head ∷ rest) is (inl (clauses, k, f, counts, fill)) =
+    let one = induction_said clauses k f head rest counts fill in
     (induction holds one.proof, proved (head ∷ rest) (ap (λ l. l ∷ head ∷ rest) is) one.said)
 spelled_circuit holds line (head ∷ rest) is (inr ((lasso, says), fill)) =
     let more = shown_said rest fill in

@@ -22,6 +22,10 @@ IsClauseFound text (Some rest) =
 abbrev pub IsChain : List ℕ → Type 0
 IsChain text = (chain : List ℕ) × SayEnded SaysCount (words_of text) chain []
 
+-- The text is numbers, one at least, with a space between each two.
+abbrev pub SaysNumbers : List ℕ → List ℕ → Type 0
+SaysNumbers text = Say SaysNumber (words_of text)
+
 -- The text is ascending numbers, one at least, with commas between them.
 abbrev pub SaysAscending : List ℕ → List ℕ → Type 0
 SaysAscending text numbers =

@@ -5,7 +5,7 @@ use Rattle.std.specs.List.Sorted.{IsStrictlyIncreasing}
 use Rattle.aig_net.specs.declared.run.Run.{Run}
 use Rattle.chain_check.specs.declared.logs.Learned.{Learned}
 use Rattle.cnf_frames.specs.declared.facts.Fact.{Fact}
-use Rattle.cnf_frames.specs.declared.facts.Fact.TheVariants.{Zero, One, Same, Differ}
+use Rattle.cnf_frames.specs.declared.facts.Fact.TheVariants.{Zero, One, Same, Differ, AnyOf}
 use Rattle.cnf_frames.specs.declared.inductions.InductionProof.{InductionProof}
 use Rattle.cnf_frames.specs.Queries.{groups}
 use Rattle.rank_proofs.specs.declared.rank_proof.RankProof.{RankProof}
@@ -40,6 +40,7 @@ IsPrintableFact (Zero a) = IsBelow a
 IsPrintableFact (One a) = IsBelow a
 IsPrintableFact (Same a b) = IsBelow a × IsBelow b
 IsPrintableFact (Differ a b) = IsBelow a × IsBelow b
+IsPrintableFact (AnyOf ls) = All IsBelow ls × (0 < length ls)
 
 abbrev pub IsPrintableLiteral : ℤ → Type 0
 IsPrintableLiteral l = (0 < unsigned_abs l) × IsBelow (unsigned_abs l)

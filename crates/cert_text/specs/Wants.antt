@@ -1,5 +1,5 @@
 -- What is still wanted of a certificate text behind its first lines, and which lines fill it.
-use Rattle.std.specs.Prelude.{◌≡◌, ℕ, zero, suc, ◌+◌, ◌/◌, ◌⊎◌, ◌↔◌, List, [], ◌∷◌, Option, Some, None}
+use Rattle.std.specs.Prelude.{◌≡◌, ℕ, zero, suc, ◌+◌, ◌/◌, ◌⊎◌, ◌↔◌, Bool, List, [], ◌∷◌, Option, Some, None}
 use Rattle.hy_formula.specs.Quantifiers.{Each}
 use Rattle.hy_lasso.specs.LassoLines.{SaysLasso}
 use Rattle.cert_text.specs.declared.want.Want.{Want}
@@ -54,8 +54,8 @@ FillShown (line ∷ lines) =
 abbrev pub FillEvidence : List Line → Type 0
 FillEvidence [] = ⊥
 FillEvidence (line ∷ lines) =
-    ((k f : ℕ) × SaysInductionHead line k f
-    × Many (Speaks SaysFact) f (FillLogs (logs_of k f)) lines)
+    ((clauses : Bool) × (k f : ℕ) × SaysInductionHead clauses line k f
+    × Many (Speaks (SaysFact clauses)) f (FillLogs (logs_of k f)) lines)
     ⊎ (Speaks SaysLasso line × FillShown lines)
 
 -- lassos, one at least
@@ -74,7 +74,7 @@ Fills (RankHeads n) lines = FillRanks n lines
 Fills (Branches b r n) lines =
     Many (Speaks SaysBranch) b (Many (Speaks SaysReason) r (FillRanks n)) lines
 Fills (Reasons r n) lines = Many (Speaks SaysReason) r (FillRanks n) lines
-Fills (Facts f n) lines = Many (Speaks SaysFact) f (FillLogs n) lines
+Fills (Facts clauses f n) lines = Many (Speaks (SaysFact clauses)) f (FillLogs n) lines
 Fills (Logs n) lines = FillLogs n lines
 Fills (LearnedClauses c n) lines = Many (Speaks SaysLearned) c (FillLogs n) lines
 Fills (Runs n) lines = Many (Speaks SaysRun) n Ends lines

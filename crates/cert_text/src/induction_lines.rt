@@ -1,32 +1,51 @@
 //! The lines of proofs by induction.
 
-ghost use Rattle.std.specs.Prelude.{◌↔◌, ◌<◌, ◌^◌, ℕ, MatchOption, IfSome, IsTrue};
-ghost use Rattle.cert_text.specs.FactLines.{IsFactRead};
+ghost use Rattle.std.specs.Prelude.{◌↔◌, ◌<◌, ◌^◌, ◌∷◌, [], ℕ, Bool, codes, MatchOption, IfSome, IsTrue};
+ghost use Rattle.cert_text.specs.FactLines.{AreLiteralsFound, IsFactRead};
 ghost use Rattle.cert_text.specs.Lines.{Speaks};
-ghost use Rattle.cert_text.specs.InductionLines.{SaysInductionHead, SaysFact, SaysLogHead, SaysLearned};
+ghost use Rattle.cert_text.specs.InductionLines.{SaysInductionHead, SaysFact, SaysLiterals, SaysLogHead, SaysLearned};
 ghost use Rattle.cert_text.specs.LineParts.{IsClauseFound, IsChain};
+ghost use Rattle.cert_text.specs.Numbers.{SaysTwo};
 
 use crate::fact_line::FactLine;
-use crate::numbers::{is_count, is_literal, one_number, two_numbers};
+use crate::numbers::{are_numbers, is_count, is_literal, one_number, two_numbers};
 use crate::words::{equals, past_word};
 use hy_text::cut;
 
-/// The depth of a proof that begins with the line, and how many facts it has.
-pub fn induction_head(line: &[u8]) -> Option<(u64, u64)>
-    ensures said { MatchOption result ((k f : ℕ) → ¬ SaysInductionHead line.now k f)
-        (λ counts. SaysInductionHead line.now counts.0 counts.1) }
+/// Whether the facts of a proof that begins with the line may be clauses, its depth, and how many
+/// facts it has.
+pub fn induction_head(line: &[u8]) -> Option<(bool, u64, u64)>
+    ensures said { MatchOption result
+        ((clauses : Bool) (k f : ℕ) → ¬ SaysInductionHead clauses line.now k f)
+        (λ head. SaysInductionHead head.0 line.now head.1 head.2) }
+    ensures short { IfSome result (λ head. (head.1 < 10 ^ 10) × (head.2 < 10 ^ 10)) }
+{
+    if let Some((depth, facts)) = counts_of(line, b"induction") {
+        return Some((false, depth, facts));
+    }
+    match counts_of(line, b"clauses") {
+        Some((depth, facts)) => Some((true, depth, facts)),
+        None => None,
+    }
+}
+
+/// The depth of a proof of this kind that begins with the line, and how many facts it has.
+fn counts_of(line: &[u8], kind: &[u8]) -> Option<(u64, u64)>
+    ensures said { MatchOption result
+        ((k f : ℕ) → ¬ SaysTwo (codes "proof" ∷ kind.now ∷ []) line.now k f)
+        (λ counts. SaysTwo (codes "proof" ∷ kind.now ∷ []) line.now counts.0 counts.1) }
     ensures short { IfSome result (λ counts. (counts.0 < 10 ^ 10) × (counts.1 < 10 ^ 10)) }
 {
     let Some(rest) = past_word(line, b"proof") else {
         return None;
     };
-    let Some(counts) = past_word(rest, b"induction") else {
+    let Some(counts) = past_word(rest, kind) else {
         return None;
     };
     two_numbers(counts)
 }
 
-/// The fact that the line says.
+/// The fact about one latch or two that the line says.
 pub fn read_fact(line: &[u8]) -> Option<FactLine>
     ensures { IsFactRead line.now result }
 {
@@ -63,14 +82,34 @@ pub fn read_fact(line: &[u8]) -> Option<FactLine>
     None
 }
 
-/// Whether the line says a fact.
-pub fn is_fact(line: &[u8]) -> bool
-    ensures { IsTrue result ↔ Speaks SaysFact line.now }
+/// What stands behind the sign of a clause of latches, which are its literals.
+pub fn literals_of(line: &[u8]) -> Option<&[u8]>
+    ensures { AreLiteralsFound line.now result }
 {
-    match read_fact(line) {
-        Some(_) => true,
+    let Some(fact) = past_word(line, b"f") else {
+        return None;
+    };
+    past_word(fact, b"|")
+}
+
+/// Whether the line says a clause of latches.
+fn are_literals(line: &[u8]) -> bool
+    ensures { IsTrue result ↔ Speaks SaysLiterals line.now }
+{
+    match literals_of(line) {
+        Some(literals) => are_numbers(literals),
         None => false,
     }
+}
+
+/// Whether the line says a fact, which may be a clause or not.
+pub fn is_fact(clauses: bool, line: &[u8]) -> bool
+    ensures { IsTrue result ↔ Speaks (SaysFact clauses) line.now }
+{
+    if let Some(_) = read_fact(line) {
+        return true;
+    }
+    clauses && are_literals(line)
 }
 
 /// How many clauses a log has that begins with the line.

@@ -1,7 +1,7 @@
 //! Lines of numbers, literals, and ascending lists of numbers.
 
 ghost use Rattle.std.specs.Prelude.{◌↔◌, ◌<◌, ◌≤◌, ◌^◌, ℕ, [], MatchOption, IfSome, IsTrue};
-ghost use Rattle.cert_text.specs.LineParts.{SaysAscending};
+ghost use Rattle.cert_text.specs.LineParts.{SaysAscending, SaysNumbers};
 ghost use Rattle.cert_text.specs.Lines.{Speaks};
 ghost use Rattle.hy_text.specs.Numbers.{SaysNumber};
 ghost use Rattle.cert_text.specs.Numbers.{SaysCount, SaysLiteral, SaysMembers, SaysOne, SaysTwo};
@@ -77,6 +77,20 @@ pub fn is_literal(word: &[u8]) -> bool
         Some(variable) => is_count(variable),
         None => is_count(word),
     }
+}
+
+/// Whether each word of the text says a number. In time linear in the text.
+pub fn are_numbers(text: &[u8]) -> bool
+    ensures { IsTrue result ↔ Speaks SaysNumbers text.now }
+{
+    let mut left = text;
+    while let Some((word, rest)) = cut(left, b' ') {
+        if !is_number(word) {
+            return false;
+        }
+        left = rest;
+    }
+    is_number(left)
 }
 
 /// Whether the word says ascending numbers, maybe none. In time linear in the word.

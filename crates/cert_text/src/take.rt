@@ -25,7 +25,7 @@ pub fn take(want: Want, line: &[u8], names: &NameTable) -> Option<Want>
         Want::RankHeads(proofs) => take_rank_head(proofs, line),
         Want::Branches(branches, reasons, proofs) => take_branch(branches, reasons, proofs, line),
         Want::Reasons(reasons, proofs) => take_reason(reasons, proofs, line),
-        Want::Facts(facts, logs) => take_fact(facts, logs, line),
+        Want::Facts(clauses, facts, logs) => take_fact(clauses, facts, logs, line),
         Want::Logs(logs) => take_log_head(logs, line),
         Want::LearnedClauses(clauses, logs) => take_learned(clauses, logs, line),
         Want::Runs(runs) => take_run(runs, line),
@@ -120,8 +120,8 @@ fn take_lasso(line: &[u8], names: &NameTable) -> Option<Want>
 fn take_evidence(line: &[u8], names: &NameTable) -> Option<Want>
     ensures { IsTaken Want.Evidence line.now result }
 {
-    if let Some((depth, facts)) = induction_head(line) {
-        return Some(Want::Facts(facts, (facts + 63) / 64 + (depth + 2)));
+    if let Some((clauses, depth, facts)) = induction_head(line) {
+        return Some(Want::Facts(clauses, facts, (facts + 63) / 64 + (depth + 2)));
     }
     if is_lasso(line, names) {
         Some(Want::MoreEvidence)
@@ -186,14 +186,14 @@ fn take_reason(reasons: u64, proofs: u64, line: &[u8]) -> Option<Want>
 }
 
 /// A fact, or what stands behind the last one.
-fn take_fact(facts: u64, logs: u64, line: &[u8]) -> Option<Want>
-    ensures { IsTaken (Want.Facts facts logs) line.now result }
+fn take_fact(clauses: bool, facts: u64, logs: u64, line: &[u8]) -> Option<Want>
+    ensures { IsTaken (Want.Facts clauses facts logs) line.now result }
 {
     if facts == 0 {
         return take_log_head(logs, line);
     }
-    if is_fact(line) {
-        Some(Want::Facts(facts - 1, logs))
+    if is_fact(clauses, line) {
+        Some(Want::Facts(clauses, facts - 1, logs))
     } else {
         None
     }

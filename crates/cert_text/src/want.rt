@@ -25,8 +25,8 @@ pub enum Want {
     Branches(u64, u64, u64),
     /// So many reasons, then so many rank proofs.
     Reasons(u64, u64),
-    /// So many facts, then so many logs.
-    Facts(u64, u64),
+    /// So many facts, which may be clauses or not, then so many logs.
+    Facts(bool, u64, u64),
     /// So many logs.
     Logs(u64),
     /// So many learned clauses, then so many logs.
@@ -47,7 +47,7 @@ impl Want {
                 branches == 0 && reasons == 0 && proofs == 0
             }
             Want::Reasons(reasons, proofs) => reasons == 0 && proofs == 0,
-            Want::Facts(facts, logs) => facts == 0 && logs == 0,
+            Want::Facts(_, facts, logs) => facts == 0 && logs == 0,
             Want::Logs(logs) => logs == 0,
             Want::LearnedClauses(clauses, logs) => clauses == 0 && logs == 0,
             Want::Runs(runs) => runs == 0,

@@ -1,5 +1,5 @@
 -- The parts of a certificate text: its first line, the lines of its lassos, and those behind them.
-use Rattle.std.proofs.Common.{◌≡◌, ◌≢◌, ℕ, zero, suc, ◌<◌, List, [], ◌∷◌, ◌++◌, length, append_assoc, append-nil, refl, sym, ap, ◌∙◌, subst, arith}
+use Rattle.std.proofs.Common.{◌≡◌, ◌≢◌, ℕ, zero, suc, ◌<◌, Bool, List, [], ◌∷◌, ◌++◌, length, append_assoc, append-nil, refl, sym, ap, ◌∙◌, subst, arith}
 use Rattle.std.specs.Prelude.{codes}
 use Rattle.std.proofs.lemmas.List.{length-map}
 use Rattle.hy_bits.specs.Letter.{Letter}
@@ -140,7 +140,8 @@ RanksEnd = (line : Line) (b r : ℕ) (said : Spelled) → SaysRankHead line b r 
 
 abbrev pub InductionEnds : Type 0
 InductionEnds =
-    (line : Line) (k f : ℕ) (said : Spelled) → SaysInductionHead line k f → ¬ SaysLasso line said
+    (clauses : Bool) (line : Line) (k f : ℕ) (said : Spelled) → SaysInductionHead clauses line k f
+    → ¬ SaysLasso line said
 
 abbrev pub RunsEnd : Type 0
 RunsEnd = (line : Line) (n : ℕ) (said : Spelled) → SaysRunsHead line n → ¬ SaysLasso line said
@@ -180,7 +181,7 @@ module _ (ranks-end : RanksEnd) (induction-ends : InductionEnds) (runs-end : Run
     line = shows.head;
     more = (shows.facts ++ shows.logs) ++ [] ∷ [];
     parts = ap (λ l. l ++ [] ∷ []) shows.parts;
-    silent = λ said. induction-ends shows.head _ _ said shows.counts;
+    silent = λ said. induction-ends shows.clauses shows.head _ _ said shows.counts;
   }
   behind (runs holds lassos tuple) back shows = record {
     line = shows.head;

@@ -1,4 +1,5 @@
 pub mod Ending
+pub mod Latches
 pub mod Places
 pub mod Shortness
 pub mod Starting

@@ -1,6 +1,6 @@
 -- A text of a proof by induction as a whole.
 use Rattle.std.proofs.Common.{◌≡◌, ℕ, ◌<◌, ◌≤◌, ◌↔◌, Bool, List, [], ◌∷◌, ◌++◌, length, sym, ◌∙◌, ap, subst, arith}
-use Rattle.std.specs.Prelude.{IsTrue, codes}
+use Rattle.std.specs.Prelude.{IsTrue}
 use Rattle.hy_text.specs.Lines.{lines_of}
 use Rattle.chain_check.specs.declared.logs.Learned.{Learned}
 use Rattle.live_safe.specs.declared.safe_net.SafeNet.{SafeNet}
@@ -8,10 +8,10 @@ use Rattle.cnf_frames.specs.declared.facts.Fact.{Fact}
 use Rattle.cnf_frames.specs.declared.inductions.InductionProof.{InductionProof}
 use Rattle.cnf_frames.specs.declared.queries.FrameError.{FrameError}
 use Rattle.cnf_frames.specs.Facts.{IsSafe}
-use Rattle.cert_text.specs.Lines.{Line}
+use Rattle.cert_text.specs.Lines.{Line, Say}
 use Rattle.cert_text.specs.InductionLines.{SaysInductionHead, SaysFact, SayInductionProof}
 use Rattle.cert_text.proofs.Lists.{heads, tails}
-use Rattle.cert_text.proofs.Stepping.{same_two}
+use Rattle.cert_text.proofs.Stepping.{same_head}
 use Rattle.induction_judge.specs.Asking.{places, AreRefuted}
 use Rattle.induction_judge.specs.Good.{most_depth, IsGoodInduction, IsRefusedOf}
 use Rattle.induction_judge.specs.Reading.{AreLines, AreSaid, AreStartFacts, AreLogs}
@@ -21,33 +21,36 @@ use Rattle.induction_judge.proofs.Starting.{facts_start, start_facts}
 -- ---- the lines
 
 -- The first line gives these counts, and the others begin with the facts.
-pub record IsHeaded (line : Line) (text : List ℕ) (depth count : ℕ) (proof : InductionProof) : Type 0
+pub record IsHeaded (clauses : Bool) (line : Line) (text : List ℕ) (depth count : ℕ)
+    (proof : InductionProof) : Type 0
   where
     pub depth_is : depth ≡ proof.depth
     pub count_is : count ≡ length proof.inv
     pub rest : List Line
-    pub facts : AreSaid SaysFact text count proof.inv rest
+    pub facts : AreSaid (SaysFact clauses) text count proof.inv rest
     pub logs_said : (left : List ℕ) → AreLines left rest
         → AreLogs left (proof.keep ++ proof.base ++ proof.step ∷ [])
 
 pub head_says : (text rest : List ℕ) (line : Line) (lines : List Line) (proof : InductionProof)
     → lines_of text ≡ line ∷ lines_of rest → AreLines text lines → SayInductionProof lines proof
-    → SaysInductionHead line proof.depth (length proof.inv)
+    → (kind : Bool) × SaysInductionHead kind line proof.depth (length proof.inv)
 head_says text rest line lines proof cut parts said =
     let both : line ∷ lines_of rest ≡ said.head ∷ ((said.facts ++ said.logs) ++ [] ∷ []) =
     sym cut ∙ parts ∙ ap (λ l. l ++ [] ∷ []) said.parts in
-    let P : Line → Type 0 = λ l. SaysInductionHead l proof.depth (length proof.inv) in
-    subst P (sym (heads both)) said.counts
+    let P : Line → Type 0 = λ l. SaysInductionHead said.clauses l proof.depth (length proof.inv) in
+    (said.clauses, subst P (sym (heads both)) said.counts)
 
-pub headed : (text rest : List ℕ) (line : Line) (depth count : ℕ) (lines : List Line)
-    (proof : InductionProof) → lines_of text ≡ line ∷ lines_of rest
-    → SaysInductionHead line depth count → AreLines text lines → SayInductionProof lines proof
-    → IsHeaded line rest depth count proof
-headed text rest line depth count lines proof cut says parts said =
+pub headed : (clauses : Bool) (text rest : List ℕ) (line : Line) (depth count : ℕ)
+    (lines : List Line) (proof : InductionProof) → lines_of text ≡ line ∷ lines_of rest
+    → SaysInductionHead clauses line depth count → AreLines text lines
+    → SayInductionProof lines proof → IsHeaded clauses line rest depth count proof
+headed clauses text rest line depth count lines proof cut says parts said =
     let both : line ∷ lines_of rest ≡ said.head ∷ ((said.facts ++ said.logs) ++ [] ∷ []) =
     sym cut ∙ parts ∙ ap (λ l. l ++ [] ∷ []) said.parts in
-    let (one, two) = same_two (codes "proof") (codes "induction") line depth count proof.depth
-    (length proof.inv) says (head_says text rest line lines proof cut parts said) in
+    let P : Line → Type 0 = λ l. SaysInductionHead said.clauses l proof.depth (length proof.inv) in
+    let (kind, one, two) = same_head clauses said.clauses line depth count proof.depth
+    (length proof.inv) says (subst P (sym (heads both)) said.counts) in
+    let Q : Bool → Type 0 = λ b. Say (SaysFact b) said.facts proof.inv in
     record {
       depth_is = one;
       count_is = two;
@@ -55,7 +58,7 @@ headed text rest line depth count lines proof cut says parts said =
       facts = record {
         front = said.facts;
         parts = tails both;
-        said = said.states;
+        said = subst Q (sym kind) said.states;
         many = sym two;
       };
       logs_said = λ left are. record { lines = said.logs; parts = are; said = said.refuted };
@@ -69,46 +72,46 @@ good_starts safe proof is (right, _) =
     start_facts safe is proof.inv right.inside right.starts
 
 -- Facts of the lines are no good.
-pub bad_facts : (safe : SafeNet) (latches : ℕ) (line : Line) (text : List ℕ) (depth count : ℕ)
-    (proof : InductionProof) → IsSafe safe → latches ≡ length safe.net.latches
-    → ((facts : List Fact) (rest : List Line) → AreSaid SaysFact text count facts rest
-    → ¬ AreStartFacts latches facts) → IsHeaded line text depth count proof
+pub bad_facts : (clauses : Bool) (safe : SafeNet) (latches : ℕ) (line : Line) (text : List ℕ)
+    (depth count : ℕ) (proof : InductionProof) → IsSafe safe → latches ≡ length safe.net.latches
+    → ((facts : List Fact) (rest : List Line) → AreSaid (SaysFact clauses) text count facts rest
+    → ¬ AreStartFacts latches facts) → IsHeaded clauses line text depth count proof
     → ¬ IsGoodInduction safe proof
-bad_facts safe latches line text depth count proof is many bad head good =
+bad_facts clauses safe latches line text depth count proof is many bad head good =
     let P : ℕ → Type 0 = λ n. AreStartFacts n proof.inv in
     bad proof.inv head.rest head.facts (subst P (sym many) (good_starts safe proof is good))
 
 -- The depth is no good.
-pub too_deep : (safe : SafeNet) (line : Line) (text : List ℕ) (depth count : ℕ)
-    (proof : InductionProof) → most_depth < depth → IsHeaded line text depth count proof
+pub too_deep : (clauses : Bool) (safe : SafeNet) (line : Line) (text : List ℕ) (depth count : ℕ)
+    (proof : InductionProof) → most_depth < depth → IsHeaded clauses line text depth count proof
     → ¬ IsGoodInduction safe proof
-too_deep safe line text depth count proof deep head (_, few) = omega (arith, head.depth_is, few)
+too_deep clauses safe line text depth count proof deep head (_, few) = omega (arith, head.depth_is, few)
 
 abbrev pub all_logs : InductionProof → List (List Learned)
 all_logs proof = proof.keep ++ proof.base ++ proof.step ∷ []
 
 -- All that was read for a whole text.
-pub record IsReadSo (safe : SafeNet) (text left : List ℕ) (depth count : ℕ) (taken : List Fact)
-    : Type 0 where
+pub record IsReadSo (clauses : Bool) (safe : SafeNet) (text left : List ℕ) (depth count : ℕ)
+    (taken : List Fact) : Type 0 where
   pub is : IsSafe safe
   pub few : depth ≤ most_depth
   pub starts : AreStartFacts (length safe.net.latches) taken
-  pub read : (facts : List Fact) (rest : List Line) → AreSaid SaysFact text count facts rest
+  pub read : (facts : List Fact) (rest : List Line) → AreSaid (SaysFact clauses) text count facts rest
       → (taken ≡ facts) × AreLines left rest
 
-pub read_so : (safe : SafeNet) (latches : ℕ) (text left : List ℕ) (depth count : ℕ)
+pub read_so : (clauses : Bool) (safe : SafeNet) (latches : ℕ) (text left : List ℕ) (depth count : ℕ)
     (taken : List Fact) → IsSafe safe → latches ≡ length safe.net.latches → depth ≤ most_depth
     → AreStartFacts latches taken
-    → ((facts : List Fact) (rest : List Line) → AreSaid SaysFact text count facts rest
-    → (taken ≡ facts) × AreLines left rest) → IsReadSo safe text left depth count taken
-read_so safe latches text left depth count taken is many few starts read =
+    → ((facts : List Fact) (rest : List Line) → AreSaid (SaysFact clauses) text count facts rest
+    → (taken ≡ facts) × AreLines left rest) → IsReadSo clauses safe text left depth count taken
+read_so clauses safe latches text left depth count taken is many few starts read =
     let P : ℕ → Type 0 = λ n. AreStartFacts n taken in
     record { is = is; few = few; starts = subst P many starts; read = read }
 
-facts-are : (safe : SafeNet) (line : Line) (text left : List ℕ) (depth count : ℕ)
-    (taken : List Fact) (proof : InductionProof) → IsReadSo safe text left depth count taken
-    → IsHeaded line text depth count proof → taken ≡ proof.inv
-facts-are safe line text left depth count taken proof so head =
+facts-are : (clauses : Bool) (safe : SafeNet) (line : Line) (text left : List ℕ) (depth count : ℕ)
+    (taken : List Fact) (proof : InductionProof) → IsReadSo clauses safe text left depth count taken
+    → IsHeaded clauses line text depth count proof → taken ≡ proof.inv
+facts-are clauses safe line text left depth count taken proof so head =
     (so.read proof.inv head.rest head.facts).0
 
 -- what is claimed of the logs, and what follows for the text
@@ -128,15 +131,15 @@ IsRefusedText safe text e =
     → SayInductionProof lines proof → IsRefusedOf safe proof.inv proof.depth e
 
 -- The logs decide.
-pub judged : (safe : SafeNet) (line : Line) (text left : List ℕ) (depth count : ℕ)
-    (taken : List Fact) (all : Bool) → IsReadSo safe text left depth count taken
-    → IsClaim safe taken depth left all → (lines : List Line) (proof : InductionProof) → IsHeaded line text depth count proof
+pub judged : (clauses : Bool) (safe : SafeNet) (line : Line) (text left : List ℕ) (depth count : ℕ)
+    (taken : List Fact) (all : Bool) → IsReadSo clauses safe text left depth count taken
+    → IsClaim safe taken depth left all → (lines : List Line) (proof : InductionProof) → IsHeaded clauses line text depth count proof
     → SayInductionProof lines proof → IsTrue all ↔ IsGoodInduction safe proof
-judged safe line text left depth count taken all so claim lines proof head said =
+judged clauses safe line text left depth count taken all so claim lines proof head said =
     (λ yes. good (same.0 yes), λ good. same.1 (refuted good))
   where
     facts_same : taken ≡ proof.inv
-    facts_same = facts-are safe line text left depth count taken proof so head
+    facts_same = facts-are clauses safe line text left depth count taken proof so head
 
     whole_many : length (all_logs proof) ≡ places proof.inv proof.depth
     whole_many = many safe proof.inv proof.depth proof.keep proof.base proof.step said.keeps said.bases
@@ -182,11 +185,11 @@ judged safe line text left depth count taken all so claim lines proof head said 
         })
 
 -- The refusals are those of the proof.
-pub refused : (safe : SafeNet) (line : Line) (text left : List ℕ) (depth count : ℕ)
-    (taken : List Fact) (e : FrameError) → IsReadSo safe text left depth count taken
+pub refused : (clauses : Bool) (safe : SafeNet) (line : Line) (text left : List ℕ) (depth count : ℕ)
+    (taken : List Fact) (e : FrameError) → IsReadSo clauses safe text left depth count taken
     → IsRefusedOf safe taken depth e → (proof : InductionProof)
-    → IsHeaded line text depth count proof → IsRefusedOf safe proof.inv proof.depth e
-refused safe line text left depth count taken e so is proof head =
+    → IsHeaded clauses line text depth count proof → IsRefusedOf safe proof.inv proof.depth e
+refused clauses safe line text left depth count taken e so is proof head =
     let P : List Fact → Type 0 = λ fs. IsRefusedOf safe fs depth e in
     let Q : ℕ → Type 0 = λ d. IsRefusedOf safe proof.inv d e in
-    subst Q head.depth_is (subst P (facts-are safe line text left depth count taken proof so head) is)
+    subst Q head.depth_is (subst P (facts-are clauses safe line text left depth count taken proof so head) is)

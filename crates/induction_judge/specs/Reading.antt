@@ -1,14 +1,17 @@
 -- What the readers of the lines of a proof by induction answer, for all that the lines may say.
-use Rattle.std.specs.Prelude.{◌≡◌, ℕ, false, List, [], ◌∷◌, ◌++◌, length, Contains, Option, Some, None}
+use Rattle.std.specs.Prelude.{◌≡◌, ℕ, Bool, false, List, [], ◌∷◌, ◌++◌, length, Contains, Option, Some, None}
 use denote.Ref.{Bor}
 use Rattle.chain_check.specs.declared.logs.Learned.{Learned}
 use Rattle.chain_check.specs.Clauses.{Clause}
 use Rattle.chain_check.specs.Logs.{IsRefutation}
+use Rattle.aig_net.specs.Nets.{Below}
 use Rattle.cnf_frames.specs.declared.facts.Fact.{Fact}
+use Rattle.cnf_frames.specs.declared.facts.Fact.TheVariants.{AnyOf}
 use Rattle.cnf_frames.specs.Facts.{HoldsIn, IsIn}
 use Rattle.hy_text.specs.Lines.{lines_of}
-use Rattle.cert_text.specs.Lines.{Line, Say}
-use Rattle.cert_text.specs.InductionLines.{SaysFact, SaysLogHead, SaysLearned, SayLogs}
+use Rattle.hy_text.specs.Numbers.{SaysNumber}
+use Rattle.cert_text.specs.Lines.{Line, words_of, Say}
+use Rattle.cert_text.specs.InductionLines.{SaysLiterals, SaysFact, SaysLogHead, SaysLearned, SayLogs}
 
 -- These are the lines of the text, each with its line feed.
 abbrev pub AreLines : List ℕ → List Line → Type 0
@@ -36,19 +39,36 @@ abbrev pub IsStartOf : ℕ → Fact → Option Fact → Type 0
 IsStartOf latches fact None = ¬ IsStartFact latches fact
 IsStartOf latches fact (Some taken) = (taken ≡ fact) × IsStartFact latches taken
 
+-- The word is a literal of a latch, of which there are so many.
+abbrev pub SaysLatch : ℕ → List ℕ → ℕ → Type 0
+SaysLatch latches word l = SaysNumber word l × Below latches l
+
+-- So is each word of the text.
+abbrev pub SaysLatches : ℕ → List ℕ → List ℕ → Type 0
+SaysLatches latches text = Say (SaysLatch latches) (words_of text)
+
+-- The line says the clause, which is one that is true at the start; or it says none such.
+abbrev pub IsClauseTaken : ℕ → Line → Option Fact → Type 0
+IsClauseTaken latches line None =
+    (ls : List ℕ) → SaysLiterals line ls → ¬ IsStartFact latches (AnyOf ls)
+IsClauseTaken latches line (Some fact) =
+    (ls : List ℕ) × (fact ≡ AnyOf ls) × SaysLiterals line ls × IsStartFact latches (AnyOf ls)
+
 -- The line says the fact, which is one that is true at the start; or it says none such.
-abbrev pub IsFactTaken : ℕ → Line → Option Fact → Type 0
-IsFactTaken latches line None = (fact : Fact) → SaysFact line fact → ¬ IsStartFact latches fact
-IsFactTaken latches line (Some fact) = SaysFact line fact × IsStartFact latches fact
+abbrev pub IsFactTaken : Bool → ℕ → Line → Option Fact → Type 0
+IsFactTaken clauses latches line None =
+    (fact : Fact) → SaysFact clauses line fact → ¬ IsStartFact latches fact
+IsFactTaken clauses latches line (Some fact) =
+    SaysFact clauses line fact × IsStartFact latches fact
 
 -- The facts that n lines say are those taken, with this text behind them, and all of them are true at
 -- the start; or they are not.
-abbrev pub AreFactsTaken : ℕ → List ℕ → ℕ → Option (Bor (List ℕ)) → List Fact → Type 0
-AreFactsTaken latches text n None taken =
-    (facts : List Fact) (rest : List Line) → AreSaid SaysFact text n facts rest
+abbrev pub AreFactsTaken : Bool → ℕ → List ℕ → ℕ → Option (Bor (List ℕ)) → List Fact → Type 0
+AreFactsTaken clauses latches text n None taken =
+    (facts : List Fact) (rest : List Line) → AreSaid (SaysFact clauses) text n facts rest
     → ¬ AreStartFacts latches facts
-AreFactsTaken latches text n (Some left) taken =
-    (facts : List Fact) (rest : List Line) → AreSaid SaysFact text n facts rest
+AreFactsTaken clauses latches text n (Some left) taken =
+    (facts : List Fact) (rest : List Line) → AreSaid (SaysFact clauses) text n facts rest
     → (taken ≡ facts) × AreLines left.now rest
 
 -- ---- logs

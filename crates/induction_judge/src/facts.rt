@@ -4,22 +4,28 @@ ghost use Rattle.std.specs.Prelude.{◌≡◌, ◌≤◌, ◌<◌, ◌^◌, [], 
 ghost use Rattle.cert_text.specs.FactLines.{fact_of};
 ghost use Rattle.induction_judge.specs.Reading.{AreFactsTaken, AreStartFacts, IsFactTaken, IsStartOf};
 
+use crate::clauses::start_clause;
 use cert_text::{FactLine, read_fact};
 use cnf_frames::{Fact, Inv};
 use hy_base::M;
 use hy_text::split_line;
+use std::alloc::Global;
 
-/// Takes the facts of so many lines, where each names latches, of which there are `latches`, and is
-/// true where all of them are 0; gives what stands behind the lines. In time linear in the lines; no
-/// count of the text takes memory.
+/// Takes the facts of so many lines, which may be clauses or not, where each names latches, of which
+/// there are `latches`, and is true where all of them are 0; gives what stands behind the lines. In
+/// time linear in the lines; no count of the text takes memory.
 pub fn take_facts<'a>(
+    alloc: Global,
+    clauses: bool,
     latches: u32,
     count: u64,
     text: &'a [u8],
     facts: &mut Inv,
 ) -> M<Option<&'a [u8]>>
-    requires { facts.old ≡ [] }
-    ensures taken { IfOk result (λ left. AreFactsTaken latches text.now count left facts.new) }
+    requires empty { facts.old ≡ [] }
+    requires room { latches < 2 ^ 31 }
+    ensures taken { IfOk result (λ left.
+        AreFactsTaken clauses latches text.now count left facts.new) }
     ensures starts { AreStartFacts latches facts.new }
     ensures few { length facts.new ≤ count }
     ensures shorter { IfOk result (λ left.
@@ -31,7 +37,7 @@ pub fn take_facts<'a>(
         let Some(rest) = rest else {
             return Ok(None);
         };
-        let Some(fact) = start_fact(latches, line) else {
+        let Some(fact) = start_fact(alloc, clauses, latches, line)? else {
             return Ok(None);
         };
         facts.push(fact)?;
@@ -40,13 +46,18 @@ pub fn take_facts<'a>(
     Ok(Some(left))
 }
 
-/// The fact that the line says, where it is true at the start.
-fn start_fact(latches: u32, line: &[u8]) -> Option<Fact>
-    ensures { IsFactTaken latches line.now result }
+/// The fact that the line says, where it is true at the start. In time linear in the line.
+fn start_fact(alloc: Global, clauses: bool, latches: u32, line: &[u8]) -> M<Option<Fact>>
+    requires { latches < 2 ^ 31 }
+    ensures { IfOk result (IsFactTaken clauses latches line.now) }
 {
-    match read_fact(line) {
-        Some(fact) => at_start(latches, fact),
-        None => None,
+    if let Some(fact) = read_fact(line) {
+        return Ok(at_start(latches, fact));
+    }
+    if clauses {
+        start_clause(alloc, latches, line)
+    } else {
+        Ok(None)
     }
 }
 

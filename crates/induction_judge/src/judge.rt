@@ -1,6 +1,6 @@
 //! The judge of proofs by induction.
 
-ghost use Rattle.std.specs.Prelude.{◌≡◌, ◌↔◌, ◌≤◌, ◌∷◌, ◌++◌, [], List, length, IfOk, IfErr, IsTrue};
+ghost use Rattle.std.specs.Prelude.{◌≡◌, ◌↔◌, ◌≤◌, ◌<◌, ◌^◌, ◌∷◌, ◌++◌, [], List, length, IfOk, IfErr, IsTrue};
 ghost use Rattle.hy_base.specs.declared.reading.TheConstants.{BYTES_LIMIT};
 ghost use Rattle.hy_text.specs.Lines.{lines_of};
 ghost use Rattle.cert_text.specs.InductionLines.{SayInductionProof};
@@ -45,14 +45,15 @@ pub fn judge_induction(alloc: Global, safe: &SafeNet, text: &[u8]) -> Result<boo
     let Some(rest) = rest else {
         return Ok(false);
     };
-    let Some((depth, count)) = induction_head(line) else {
+    let Some((clauses, depth, count)) = induction_head(line) else {
         return Ok(false);
     };
     if depth > MOST_DEPTH {
         return Ok(false);
     }
     let mut facts = Inv::new(alloc);
-    let Some(logs) = take_facts(latches_of(&safe.net), count, rest, &mut facts)? else {
+    let latches = latches_of(&safe.net);
+    let Some(logs) = take_facts(alloc, clauses, latches, count, rest, &mut facts)? else {
         return Ok(false);
     };
     are_refuted(alloc, safe, &facts, depth as u32, logs)
@@ -60,7 +61,8 @@ pub fn judge_induction(alloc: Global, safe: &SafeNet, text: &[u8]) -> Result<boo
 
 /// How many latches the net has.
 fn latches_of(net: &Net) -> u32
-    ensures { result ≡ length net.now.latches }
+    ensures count { result ≡ length net.now.latches }
+    ensures few { result < 2 ^ 31 }
 {
     net.variables(); // what each net keeps
     net.latches().len() as u32

@@ -2,6 +2,7 @@
 //! made again, and its log is checked line by line.
 #![tactic(auto)]
 
+mod clauses;
 mod facts;
 mod judge;
 mod logs;

@@ -1,6 +1,6 @@
 //! Laws of the lassos in a certificate text.
 
-ghost use Rattle.std.specs.Prelude.{ℕ, List, []};
+ghost use Rattle.std.specs.Prelude.{ℕ, Bool, List, []};
 ghost use Rattle.hy_lasso.specs.LassoLines.{Spelled, SaysLasso};
 ghost use Rattle.cert_text.specs.InductionLines.{SaysInductionHead};
 ghost use Rattle.cert_text.specs.Lines.{Line};
@@ -12,8 +12,8 @@ ghost use Rattle.cert_text.specs.RunLines.{SaysRunsHead};
 pub fn lassos_end()
     ensures ranks { (line : Line) (b r : ℕ) (said : Spelled) → SaysRankHead line b r
         → ¬ SaysLasso line said }
-    ensures induction { (line : Line) (k f : ℕ) (said : Spelled) → SaysInductionHead line k f
-        → ¬ SaysLasso line said }
+    ensures induction { (clauses : Bool) (line : Line) (k f : ℕ) (said : Spelled)
+        → SaysInductionHead clauses line k f → ¬ SaysLasso line said }
     ensures runs { (line : Line) (n : ℕ) (said : Spelled) → SaysRunsHead line n
         → ¬ SaysLasso line said }
     ensures empty { (said : Spelled) → ¬ SaysLasso [] said }

@@ -7,7 +7,7 @@ use Rattle.induction_judge.proofs.facts.take_facts.Given as goal
 -- What the lines say are the facts taken and those that the lines left say.
 abbrev pub invariant-loop-i : goal.invariant-loop-i
 invariant-loop-i l = record {
-  left : AreLeft SaysFact l.text l.count l.left (l.count - l._i) l.facts;
+  left : AreLeft (SaysFact l.clauses) l.text l.count l.left (l.count - l._i) l.facts;
   starts : AreStartFacts l.latches l.facts;
   few : length l.facts ≡ l._i;
   shorter : length l.left ≤ length l.text;

@@ -13,12 +13,13 @@ pub returns-in_default-induction_head-clause-judged :
     goal.returns-in_default-induction_head-clause-judged
 returns-in_default-induction_head-clause-judged c = λ lines proof parts said. (
   λ (yes : false ≡ true). absurd (cc),
-  λ good. absurd
-      (c.in_default-induction_head.ensures.said _ _
-      (head_says c.args.text.now c.in-Some.rest.now c.split_line.result.0.now lines proof
+  λ good.
+      let (kind, says) = head_says c.args.text.now c.in-Some.rest.now c.split_line.result.0.now
+      lines proof
       (c.split_line.ensures.lines
       ∙ ap (λ o. c.split_line.result.0.now ∷ left_lines (option_copied o)) c.in-Some.is)
-      parts said)),
+      parts said in
+      absurd (c.in_default-induction_head.ensures.said kind _ _ says),
 )
 
 pub returns-then-depth-gt-MOST_DEPTH-clause-judged :
@@ -26,10 +27,10 @@ pub returns-then-depth-gt-MOST_DEPTH-clause-judged :
 returns-then-depth-gt-MOST_DEPTH-clause-judged c = λ lines proof parts said. (
   λ (yes : false ≡ true). absurd (cc),
   λ good. absurd
-      (too_deep c.args.safe.now c.split_line.result.0.now c.in-Some.rest.now
+      (too_deep c.in-Some-induction_head.clauses c.args.safe.now c.split_line.result.0.now c.in-Some.rest.now
       c.in-Some-induction_head.depth c.in-Some-induction_head.count proof
       (omega (arith, c.if-depth-gt-MOST_DEPTH.true))
-      (headed c.args.text.now c.in-Some.rest.now c.split_line.result.0.now
+      (headed c.in-Some-induction_head.clauses c.args.text.now c.in-Some.rest.now c.split_line.result.0.now
       c.in-Some-induction_head.depth c.in-Some-induction_head.count lines proof
       (c.split_line.ensures.lines
       ∙ ap (λ o. c.split_line.result.0.now ∷ left_lines (option_copied o)) c.in-Some.is)
@@ -46,13 +47,13 @@ returns-in_default-2-clause-judged c = λ lines proof parts said. (
   λ (yes : false ≡ true). absurd (cc),
   λ good.
       let P : Option (Bor (List ℕ)) → Type 0 =
-      λ o. AreFactsTaken c.latches_of.result c.in-Some.rest.now c.in-Some-induction_head.count o
+      λ o. AreFactsTaken c.in-Some-induction_head.clauses c.latches_of-latches.result c.in-Some.rest.now c.in-Some-induction_head.count o
       c.take_facts.new.facts in
       absurd
-      (bad_facts c.args.safe.now c.latches_of.result c.split_line.result.0.now
+      (bad_facts c.in-Some-induction_head.clauses c.args.safe.now c.latches_of-latches.result c.split_line.result.0.now
       c.in-Some.rest.now c.in-Some-induction_head.depth c.in-Some-induction_head.count proof
-      c.requires.safe c.latches_of.ensures (subst P c.in_default-2.is c.in_ok-logs.ensures.taken)
-      (headed c.args.text.now c.in-Some.rest.now c.split_line.result.0.now
+      c.requires.safe c.latches_of-latches.ensures.count (subst P c.in_default-2.is c.in_ok-logs.ensures.taken)
+      (headed c.in-Some-induction_head.clauses c.args.text.now c.in-Some.rest.now c.split_line.result.0.now
       c.in-Some-induction_head.depth c.in-Some-induction_head.count lines proof
       (c.split_line.ensures.lines
       ∙ ap (λ o. c.split_line.result.0.now ∷ left_lines (option_copied o)) c.in-Some.is)
@@ -62,20 +63,20 @@ returns-in_default-2-clause-judged c = λ lines proof parts said. (
 pub returns-clause-judged : goal.returns-clause-judged
 returns-clause-judged c =
     let P : Option (Bor (List ℕ)) → Type 0 =
-    λ o. AreFactsTaken c.latches_of.result c.in-Some.rest.now c.in-Some-induction_head.count o
+    λ o. AreFactsTaken c.in-Some-induction_head.clauses c.latches_of-latches.result c.in-Some.rest.now c.in-Some-induction_head.count o
     c.take_facts.new.facts in
-    let so = read_so c.args.safe.now c.latches_of.result c.in-Some.rest.now c.in-Some-2.logs.now
+    let so = read_so c.in-Some-induction_head.clauses c.args.safe.now c.latches_of-latches.result c.in-Some.rest.now c.in-Some-2.logs.now
     c.in-Some-induction_head.depth c.in-Some-induction_head.count c.take_facts.new.facts
-    c.requires.safe c.latches_of.ensures (omega (arith, c.if-depth-gt-MOST_DEPTH.false))
+    c.requires.safe c.latches_of-latches.ensures.count (omega (arith, c.if-depth-gt-MOST_DEPTH.false))
     c.in_ok-logs.ensures.starts (subst P c.in-Some-2.is c.in_ok-logs.ensures.taken) in
     IfOk-weaker c.are_refuted.result
     (IsClaim c.args.safe.now c.take_facts.new.facts c.in-Some-induction_head.depth
     c.in-Some-2.logs.now) (IsJudged c.args.safe.now c.args.text.now)
     (λ all claim lines proof parts said.
-    judged c.args.safe.now c.split_line.result.0.now c.in-Some.rest.now c.in-Some-2.logs.now
+    judged c.in-Some-induction_head.clauses c.args.safe.now c.split_line.result.0.now c.in-Some.rest.now c.in-Some-2.logs.now
     c.in-Some-induction_head.depth c.in-Some-induction_head.count c.take_facts.new.facts all so
     claim lines proof
-    (headed c.args.text.now c.in-Some.rest.now c.split_line.result.0.now
+    (headed c.in-Some-induction_head.clauses c.args.text.now c.in-Some.rest.now c.split_line.result.0.now
     c.in-Some-induction_head.depth c.in-Some-induction_head.count lines proof
     (c.split_line.ensures.lines
     ∙ ap (λ o. c.split_line.result.0.now ∷ left_lines (option_copied o)) c.in-Some.is)
@@ -85,20 +86,20 @@ returns-clause-judged c =
 pub returns-clause-refused : goal.returns-clause-refused
 returns-clause-refused c =
     let P : Option (Bor (List ℕ)) → Type 0 =
-    λ o. AreFactsTaken c.latches_of.result c.in-Some.rest.now c.in-Some-induction_head.count o
+    λ o. AreFactsTaken c.in-Some-induction_head.clauses c.latches_of-latches.result c.in-Some.rest.now c.in-Some-induction_head.count o
     c.take_facts.new.facts in
-    let so = read_so c.args.safe.now c.latches_of.result c.in-Some.rest.now c.in-Some-2.logs.now
+    let so = read_so c.in-Some-induction_head.clauses c.args.safe.now c.latches_of-latches.result c.in-Some.rest.now c.in-Some-2.logs.now
     c.in-Some-induction_head.depth c.in-Some-induction_head.count c.take_facts.new.facts
-    c.requires.safe c.latches_of.ensures (omega (arith, c.if-depth-gt-MOST_DEPTH.false))
+    c.requires.safe c.latches_of-latches.ensures.count (omega (arith, c.if-depth-gt-MOST_DEPTH.false))
     c.in_ok-logs.ensures.starts (subst P c.in-Some-2.is c.in_ok-logs.ensures.taken) in
     IfErr-weaker c.are_refuted.result
     (IsRefusedOf c.args.safe.now c.take_facts.new.facts c.in-Some-induction_head.depth)
     (IsRefusedText c.args.safe.now c.args.text.now)
     (λ e is lines proof parts said.
-    refused c.args.safe.now c.split_line.result.0.now c.in-Some.rest.now c.in-Some-2.logs.now
+    refused c.in-Some-induction_head.clauses c.args.safe.now c.split_line.result.0.now c.in-Some.rest.now c.in-Some-2.logs.now
     c.in-Some-induction_head.depth c.in-Some-induction_head.count c.take_facts.new.facts e so is
     proof
-    (headed c.args.text.now c.in-Some.rest.now c.split_line.result.0.now
+    (headed c.in-Some-induction_head.clauses c.args.text.now c.in-Some.rest.now c.split_line.result.0.now
     c.in-Some-induction_head.depth c.in-Some-induction_head.count lines proof
     (c.split_line.ensures.lines
     ∙ ap (λ o. c.split_line.result.0.now ∷ left_lines (option_copied o)) c.in-Some.is)
