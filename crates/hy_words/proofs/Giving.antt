@@ -12,7 +12,7 @@ use Rattle.hy_words.specs.Words.{Text, Item, is_value, is_filled, given_in}
 use Rattle.hy_words.proofs.BoundTexts.{bound-value}
 use Rattle.bound_search.specs.declared.bound.Bound.{Bound}
 use Rattle.bound_search.specs.Bounds.{IsBound}
-use Rattle.hy_words.specs.Commands.{IsNumberOr, IsRule, Asks, Finds, Checks, is_given, bound_text}
+use Rattle.hy_words.specs.Commands.{IsNumberOr, IsRule, usual_depth, Asks, Finds, Checks, is_given, bound_text}
 use Rattle.hy_words.specs.Found.{listed, listed_slice, found_value, found_files, Tells, IsFit, AreFilled}
 use Rattle.clap.specs.Matches.{found_of, first_value}
 use Rattle.clap.specs.declared.parser.matches.ArgMatches.{ArgMatches}
@@ -144,30 +144,36 @@ asks_as items formula a b c x y z n p e f g asks = record {
 
 -- What matches give asks for a check of a circuit.
 pub checks_of : (items : List Item) (m : ArgMatches) → Tells McHyper items m → AreFilled items → (circuit formula : Text)
-    → found_files m ≡ circuit ∷ formula ∷ [] → (depth conflicts strategy : Option (Bor Text))
-    → option_map (λ s. s.now) depth ≡ first_value (found_of m) (codes "depth") → (d : ℕ) → IsNumberOr 64 (listed_slice depth) 0 100000 d
+    → found_files m ≡ circuit ∷ formula ∷ [] → (calls depth conflicts strategy : Option (Bor Text))
+    → option_map (λ s. s.now) calls ≡ first_value (found_of m) (codes "ic3") → (k : ℕ) → IsNumberOr 0 (listed_slice calls) 1 1000000 k
+    → option_map (λ s. s.now) depth ≡ first_value (found_of m) (codes "depth") → (usual d : ℕ) → usual ≡ usual_depth k → IsNumberOr usual (listed_slice depth) 0 100000 d
     → option_map (λ s. s.now) conflicts ≡ first_value (found_of m) (codes "conflicts") → (n : ℕ) → IsNumberOr 100000 (listed_slice conflicts) 0 1000000000 n
     → (found_value m (codes "strategy") ≡ listed_slice strategy) × IsTrue (list_all is_value (listed_slice strategy))
     → (by : List Text) → listed_slice strategy ≡ by
     → (plain : Bool) → (first_value (found_of m) (codes "plain") ≡ Some (codes "true") → plain ≡ true) → (first_value (found_of m) (codes "plain") ≡ Some (codes "false") → plain ≡ false)
     → (flag : Bool) → (first_value (found_of m) (codes "proof") ≡ Some (codes "true") → flag ≡ true) → (first_value (found_of m) (codes "proof") ≡ Some (codes "false") → flag ≡ false)
-    → (proof : Bool) → flag ≡ proof → IsFit McHyper items × Checks items circuit formula by d n plain proof
-checks_of items m tells filled circuit formula file depth conflicts strategy at_d d deep at_n n budget (at_s, is) by given plain plain_true plain_false flag flag_true flag_false proof shown =
-    let (at_depth, (at_conflicts, (at_strategy, nil))) = tells.options in
+    → (proof : Bool) → flag ≡ proof → (plain ≡ true → k ≡ 0) → IsFit McHyper items × Checks items circuit formula by d n k plain proof
+checks_of items m tells filled circuit formula file calls depth conflicts strategy at_k k seeks at_d usual d same deep at_n n budget (at_s, is) by given plain plain_true plain_false flag flag_true flag_false proof shown apart =
+    let (at_depth, (at_conflicts, (at_calls, (at_strategy, nil)))) = tells.options in
     let one = seen (given_in (codes "depth") items) depth _ at_depth at_d in
     let two = seen (given_in (codes "conflicts") items) conflicts _ at_conflicts at_n in
-    let three = at_strategy ∙ at_s in
-    let depth_is = number_values 64 depth 0 100000 d (omega arith) deep in
+    let three = seen (given_in (codes "ic3") items) calls _ at_calls at_k in
+    let four = at_strategy ∙ at_s in
+    let depth_is = number_values usual depth 0 100000 d (omega arith) deep in
     let number_is = number_values 100000 conflicts 0 1000000000 n (omega arith) budget in
-    let P : List Text → Type 0 = λ vs. IsNumberOr 64 vs 0 100000 d in
-    let Q : List Text → Type 0 = λ vs. IsNumberOr 100000 vs 0 1000000000 n in (
-      (filled, rw (one, two, three, depth_is, number_is, is) refl),
+    let calls_is = number_values 0 calls 1 1000000 k (omega arith) seeks in
+    let P : ℕ → List Text → Type 0 = λ u vs. IsNumberOr u vs 0 100000 d in
+    let Q : List Text → Type 0 = λ vs. IsNumberOr 100000 vs 0 1000000000 n in
+    let R : List Text → Type 0 = λ vs. IsNumberOr 0 vs 1 1000000 k in (
+      (filled, rw (one, two, three, four, depth_is, number_is, calls_is, is) refl),
       record {
         files = tells.files ∙ file;
-        by = three ∙ given;
-        deep = subst P (sym one) deep;
+        by = four ∙ given;
+        seeks = subst R (sym three) seeks;
+        deep = subst (P (usual_depth k)) (sym one) (subst (λ u. P u (listed_slice depth)) same deep);
         budget = subst Q (sym two) budget;
         bare = flag_read _ _ plain tells.flags.0 plain_true plain_false;
+        apart = apart;
         proves = sym shown ∙ flag_read _ _ flag tells.flags.1.0 flag_true flag_false;
       },
     )

@@ -1,5 +1,5 @@
 -- Items that give the same order the same command.
-use Rattle.std.proofs.Common.{◌≡◌, ℕ, ◌<◌, ◌^◌, ◌⊎◌, inl, inr, codes, true≢false, false, Bool, List, [], ◌∷◌, refl, sym, ap, subst, ◌∙◌, arith}
+use Rattle.std.proofs.Common.{◌≡◌, ℕ, ◌<◌, ◌^◌, ◌⊎◌, inl, inr, codes, true≢false, false, Bool, List, [], ◌∷◌, length, refl, sym, ap, subst, ◌∙◌, arith}
 use Rattle.std.specs.Str.{bytes_eq}
 use Rattle.std.proofs.lemmas.Fmt.{decimal_injective}
 use Rattle.hy_finite.specs.declared.lengths.Lengths.{Lengths}
@@ -7,8 +7,8 @@ use Rattle.hy_finite.specs.declared.lengths.Lengths.TheVariants.{Min, Pad}
 use Rattle.bound_search.specs.declared.bound.Bound.{Bound}
 use Rattle.hy_words.specs.declared.tool.Tool.{Tool}
 use Rattle.hy_words.specs.declared.tool.Tool.TheVariants.{EaHyper, RvHyper, McHyper}
-use Rattle.hy_words.specs.Words.{Text, Item, given_in}
-use Rattle.hy_words.specs.Commands.{Command, monitor, monitor_made, judge, decide, imply, compare, find, check, check_by_strategy, IsNumber, IsNumberOr, IsRule, bound_text, Asks, Finds, Monitors, Checks, Orders, IsCommand}
+use Rattle.hy_words.specs.Words.{Text, Item, files_in, given_in}
+use Rattle.hy_words.specs.Commands.{Command, monitor, monitor_made, judge, decide, imply, compare, find, check, check_by_strategy, IsNumber, IsNumberOr, IsDepth, IsRule, usual_depth, bound_text, Asks, Finds, Monitors, Checks, Orders, IsCommand}
 use Rattle.hy_words.proofs.BoundTexts.{same-bound}
 use Rattle.hy_words.proofs.Telling.{Same, same_items}
 
@@ -70,8 +70,8 @@ decision_of items (compare f g n b) asks =
 decision_of items (find f b n) finds = inr (record { formula = f; bound = b; conflicts = n; finds = finds; is = refl })
 decision_of items (monitor s t l d) e = absurd e
 decision_of items (monitor_made s n l d) e = absurd e
-decision_of items (check c f d n p q) e = absurd e
-decision_of items (check_by_strategy c f s d n p) e = absurd e
+decision_of items (check c f d n k p q) e = absurd e
+decision_of items (check_by_strategy c f s d n k p) e = absurd e
 
 module _ (items others : List Item) (same : Same EaHyper items others) where
   one_question : (a b : Command) → IsQuestion items a → IsQuestion others b → a ≡ b
@@ -145,8 +145,8 @@ monitoring_of items (decide f n b) e = absurd e
 monitoring_of items (imply f g n b) e = absurd e
 monitoring_of items (compare f g n b) e = absurd e
 monitoring_of items (find f b n) e = absurd e
-monitoring_of items (check c f d n p q) e = absurd e
-monitoring_of items (check_by_strategy c f s d n p) e = absurd e
+monitoring_of items (check c f d n k p q) e = absurd e
+monitoring_of items (check_by_strategy c f s d n k p) e = absurd e
 
 module _ (items others : List Item) (same : Same RvHyper items others) where
   lengths_are : given_in (codes "lengths") items ≡ given_in (codes "lengths") others
@@ -186,10 +186,10 @@ one_monitoring items others same a b one two =
 -- ---- mchyper
 
 -- the command that a check is, by the strategy, if any
-abbrev checked : Text → Text → List Text → ℕ → ℕ → Bool → Bool → Command
-checked circuit formula [] depth conflicts plain proof = check circuit formula depth conflicts plain proof
-checked circuit formula (strategy ∷ _) depth conflicts plain proof =
-    check_by_strategy circuit formula strategy depth conflicts plain
+abbrev checked : Text → Text → List Text → ℕ → ℕ → ℕ → Bool → Bool → Command
+checked circuit formula [] depth conflicts calls plain proof = check circuit formula depth conflicts calls plain proof
+checked circuit formula (strategy ∷ _) depth conflicts calls plain proof =
+    check_by_strategy circuit formula strategy depth conflicts calls plain
 
 -- The command checks a circuit.
 record IsCheck (items : List Item) (command : Command) : Type 0 where
@@ -198,16 +198,17 @@ record IsCheck (items : List Item) (command : Command) : Type 0 where
   strategy : List Text
   depth : ℕ
   conflicts : ℕ
+  calls : ℕ
   plain : Bool
   proof : Bool
-  checks : Checks items circuit formula strategy depth conflicts plain proof
-  is : command ≡ checked circuit formula strategy depth conflicts plain proof
+  checks : Checks items circuit formula strategy depth conflicts calls plain proof
+  is : command ≡ checked circuit formula strategy depth conflicts calls plain proof
 
 checking_of : (items : List Item) (command : Command) → Orders McHyper items command → IsCheck items command
-checking_of items (check c f d n p q) checks =
-    record { circuit = c; formula = f; strategy = []; depth = d; conflicts = n; plain = p; proof = q; checks = checks; is = refl }
-checking_of items (check_by_strategy c f s d n p) checks =
-    record { circuit = c; formula = f; strategy = s ∷ []; depth = d; conflicts = n; plain = p; proof = false; checks = checks; is = refl }
+checking_of items (check c f d n k p q) checks =
+    record { circuit = c; formula = f; strategy = []; depth = d; conflicts = n; calls = k; plain = p; proof = q; checks = checks; is = refl }
+checking_of items (check_by_strategy c f s d n k p) checks =
+    record { circuit = c; formula = f; strategy = s ∷ []; depth = d; conflicts = n; calls = k; plain = p; proof = false; checks = checks; is = refl }
 checking_of items (judge f l) e = absurd e
 checking_of items (decide f n b) e = absurd e
 checking_of items (imply f g n b) e = absurd e
@@ -216,23 +217,30 @@ checking_of items (find f b n) e = absurd e
 checking_of items (monitor s t l r) e = absurd e
 checking_of items (monitor_made s n l r) e = absurd e
 
+-- A check has two files.
+pub checks_two : (items : List Item) (command : Command) → Orders McHyper items command → length (files_in items) ≡ 2
+checks_two items command orders = ap length (checking_of items command orders).checks.files
+
 one_checking : (items others : List Item) → Same McHyper items others → (a b : Command) → Orders McHyper items a → Orders McHyper others b → a ≡ b
 one_checking items others same a b one two =
     let x = checking_of items a one in
     let y = checking_of others b two in
-    let (depths, (budgets, (strategies, nil))) = same.options in
+    let (depths, (budgets, (searches, (strategies, nil)))) = same.options in
     let (plains, (proofs, none)) = same.flags in
     let files : x.circuit ∷ x.formula ∷ [] ≡ y.circuit ∷ y.formula ∷ [] = sym x.checks.files ∙ same.files ∙ y.checks.files in
     let circuit : x.circuit ≡ y.circuit = cc in
     let formula : x.formula ≡ y.formula = cc in
     let strategy : x.strategy ≡ y.strategy = sym x.checks.by ∙ strategies ∙ y.checks.by in
-    let depth : x.depth ≡ y.depth = same-number-or 64 (given_in (codes "depth") others) 0 100000 x.depth y.depth (omega arith)
-    (subst (λ vs. IsNumberOr 64 vs 0 100000 x.depth) depths x.checks.deep) y.checks.deep in
+    let calls : x.calls ≡ y.calls = same-number-or 0 (given_in (codes "ic3") others) 1 1000000 x.calls y.calls (omega arith)
+    (subst (λ vs. IsNumberOr 0 vs 1 1000000 x.calls) searches x.checks.seeks) y.checks.seeks in
+    let deep = subst (λ k. IsDepth k (given_in (codes "depth") items) x.depth) calls x.checks.deep in
+    let depth : x.depth ≡ y.depth = same-number-or (usual_depth y.calls) (given_in (codes "depth") others) 0 100000 x.depth y.depth (omega arith)
+    (subst (λ vs. IsDepth y.calls vs x.depth) depths deep) y.checks.deep in
     let conflicts : x.conflicts ≡ y.conflicts = same-number-or 100000 (given_in (codes "conflicts") others) 0 1000000000 x.conflicts y.conflicts (omega arith)
     (subst (λ vs. IsNumberOr 100000 vs 0 1000000000 x.conflicts) budgets x.checks.budget) y.checks.budget in
     let plain : x.plain ≡ y.plain = x.checks.bare ∙ plains ∙ sym y.checks.bare in
     let proof : x.proof ≡ y.proof = x.checks.proves ∙ proofs ∙ sym y.checks.proves in
-    x.is ∙ (λ i. checked (circuit i) (formula i) (strategy i) (depth i) (conflicts i) (plain i) (proof i)) ∙ sym y.is
+    x.is ∙ (λ i. checked (circuit i) (formula i) (strategy i) (depth i) (conflicts i) (calls i) (plain i) (proof i)) ∙ sym y.is
 
 one_order : (tool : Tool) (items others : List Item) → Same tool items others → (a b : Command) → Orders tool items a → Orders tool others b → a ≡ b
 one_order EaHyper = one_decision

@@ -57,12 +57,12 @@ fine RvHyper = record {
   option_joined = λ name v there. one_of (options_of RvHyper) name there (λ n. Rattle.clap.specs.Lexer.long_of (dashed (n ++ 61 ∷ v)) ≡ Some (n, Some v)) (refl, (refl, tt));
 }
 fine McHyper = record {
-  apart = λ name there. one_of (options_of McHyper) name there (λ n. has (flags_of McHyper) n ≡ false) (refl, (refl, (refl, tt)));
+  apart = λ name there. one_of (options_of McHyper) name there (λ n. has (flags_of McHyper) n ≡ false) (refl, (refl, (refl, (refl, tt))));
   free = refl;
   clear = refl;
   flag_alone = λ name there. one_of (flags_of McHyper) name there (λ n. Rattle.clap.specs.Lexer.long_of (dashed n) ≡ Some (n, None)) (refl, (refl, tt));
-  option_alone = λ name there. one_of (options_of McHyper) name there (λ n. Rattle.clap.specs.Lexer.long_of (dashed n) ≡ Some (n, None)) (refl, (refl, (refl, tt)));
-  option_joined = λ name v there. one_of (options_of McHyper) name there (λ n. Rattle.clap.specs.Lexer.long_of (dashed (n ++ 61 ∷ v)) ≡ Some (n, Some v)) (refl, (refl, (refl, tt)));
+  option_alone = λ name there. one_of (options_of McHyper) name there (λ n. Rattle.clap.specs.Lexer.long_of (dashed n) ≡ Some (n, None)) (refl, (refl, (refl, (refl, tt))));
+  option_joined = λ name v there. one_of (options_of McHyper) name there (λ n. Rattle.clap.specs.Lexer.long_of (dashed (n ++ 61 ∷ v)) ≡ Some (n, Some v)) (refl, (refl, (refl, (refl, tt))));
 }
 
 -- ---- defaults

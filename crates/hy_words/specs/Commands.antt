@@ -1,5 +1,5 @@
 -- Which words are a command of which tool. A command has the names of its files in the order in which they are read.
-use Rattle.std.specs.Prelude.{◌≡◌, ◌≤◌, ◌==◌, ℕ, Bool, false, not, List, [], ◌∷◌, ◌++◌, length, codes, decimal}
+use Rattle.std.specs.Prelude.{◌≡◌, ◌≤◌, ◌==◌, ℕ, Bool, true, false, not, if◌then◌else◌, List, [], ◌∷◌, ◌++◌, length, codes, decimal}
 use Rattle.hy_formula.specs.Quantifiers.{Each}
 use Rattle.hy_finite.specs.declared.lengths.Lengths.{Lengths}
 use Rattle.hy_finite.specs.declared.lengths.Lengths.TheVariants.{Min, Pad}
@@ -25,9 +25,9 @@ pub data Command : Type 0 where
   -- Find a list of lassos within a bound that satisfies a formula.
   find : (formula : Text) (bound : Bound) (conflicts : ℕ) → Command
   -- Check a formula on the executions of a circuit.
-  check : (circuit formula : Text) (depth conflicts : ℕ) (plain proof : Bool) → Command
+  check : (circuit formula : Text) (depth conflicts calls : ℕ) (plain proof : Bool) → Command
   -- Check a formula on the executions of a circuit by a strategy, which is a circuit, too.
-  check_by_strategy : (circuit formula strategy : Text) (depth conflicts : ℕ) (plain : Bool) → Command
+  check_by_strategy : (circuit formula strategy : Text) (depth conflicts calls : ℕ) (plain : Bool) → Command
 
 -- The text is this number, in digits without a sign and without a leading zero, and within the range.
 abbrev pub IsNumber : Text → ℕ → ℕ → ℕ → Type 0
@@ -42,9 +42,18 @@ IsNumberOr usual (value ∷ _) least most n = IsNumber value least most n
 abbrev pub AreStates : List Text → ℕ → Type 0
 AreStates given n = IsNumberOr 100000 given 1 4194304 n
 
--- What the option is given is a depth, from 0 to 100,000; or it is 64.
-abbrev pub IsDepth : List Text → ℕ → Type 0
-IsDepth given n = IsNumberOr 64 given 0 100000 n
+-- What the option is given is a number of calls of the solver in a search for clauses, from 1 to 1,000,000; or there is no
+-- such search, and it is 0.
+abbrev pub AreCalls : List Text → ℕ → Type 0
+AreCalls given n = IsNumberOr 0 given 1 1000000 n
+
+-- the depth where none is given: 64, and 10 beside a search for clauses
+abbrev pub usual_depth : ℕ → ℕ
+usual_depth calls = if calls == 0 then 64 else 10
+
+-- What the option is given is a depth, from 0 to 100,000; or it is the usual one beside so many calls.
+abbrev pub IsDepth : ℕ → List Text → ℕ → Type 0
+IsDepth calls given n = IsNumberOr (usual_depth calls) given 0 100000 n
 
 -- What the option is given is a number of conflicts of a query, from 0 to 1,000,000,000; or it is 100,000.
 abbrev pub AreConflicts : List Text → ℕ → Type 0
@@ -96,13 +105,16 @@ pub record Monitors (items : List Item) (names made : List Text) (lengths : Leng
   pub rule : IsRule (given_in (codes "lengths") items) lengths
   pub drops : drop ≡ is_given (given_in (codes "drop") items)
 
--- The items ask for a check of a circuit: these are the files, and the strategy, if any.
-pub record Checks (items : List Item) (circuit formula : Text) (strategy : List Text) (depth conflicts : ℕ) (plain proof : Bool) : Type 0 where
+-- The items ask for a check of a circuit: these are the files, and the strategy, if any. Without facts there is no search
+-- for clauses.
+pub record Checks (items : List Item) (circuit formula : Text) (strategy : List Text) (depth conflicts calls : ℕ) (plain proof : Bool) : Type 0 where
   pub files : files_in items ≡ circuit ∷ formula ∷ []
   pub by : given_in (codes "strategy") items ≡ strategy
-  pub deep : IsDepth (given_in (codes "depth") items) depth
+  pub seeks : AreCalls (given_in (codes "ic3") items) calls
+  pub deep : IsDepth calls (given_in (codes "depth") items) depth
   pub budget : AreConflicts (given_in (codes "conflicts") items) conflicts
   pub bare : plain ≡ is_given (given_in (codes "plain") items)
+  pub apart : plain ≡ true → calls ≡ 0
   pub proves : proof ≡ is_given (given_in (codes "proof") items)
 
 -- The items stand for the command of the tool.
@@ -116,10 +128,10 @@ Orders EaHyper items (decide formula states proof) = Asks items formula [] [] []
 Orders EaHyper items (imply first second states proof) = Asks items first [] (second ∷ []) [] states proof
 Orders EaHyper items (compare first second states proof) = Asks items first [] [] (second ∷ []) states proof
 Orders EaHyper items (find formula bound conflicts) = Finds items formula bound conflicts
-Orders McHyper items (check circuit formula depth conflicts plain proof) =
-    Checks items circuit formula [] depth conflicts plain proof
-Orders McHyper items (check_by_strategy circuit formula strategy depth conflicts plain) =
-    Checks items circuit formula (strategy ∷ []) depth conflicts plain false
+Orders McHyper items (check circuit formula depth conflicts calls plain proof) =
+    Checks items circuit formula [] depth conflicts calls plain proof
+Orders McHyper items (check_by_strategy circuit formula strategy depth conflicts calls plain) =
+    Checks items circuit formula (strategy ∷ []) depth conflicts calls plain false
 Orders _ _ _ = ⊥
 
 -- The words stand for this command of the tool.

@@ -11,7 +11,7 @@ said_by (Decide formula states proof) = decide formula.now states proof
 said_by (Imply first second states proof) = imply first.now second.now states proof
 said_by (Compare first second states proof) = compare first.now second.now states proof
 said_by (Find formula bound conflicts) = find formula.now bound conflicts
-said_by (Check circuit formula depth conflicts plain proof) =
-    check circuit.now formula.now depth conflicts plain proof
-said_by (CheckByStrategy circuit formula strategy depth conflicts plain) =
-    check_by_strategy circuit.now formula.now strategy.now depth conflicts plain
+said_by (Check circuit formula depth conflicts calls plain proof) =
+    check circuit.now formula.now depth conflicts calls plain proof
+said_by (CheckByStrategy circuit formula strategy depth conflicts calls plain) =
+    check_by_strategy circuit.now formula.now strategy.now depth conflicts calls plain

@@ -4,8 +4,8 @@
 --     eahyper    --bound T,S,L [--conflicts N] FORMULA
 --     rvhyper    [--drop] [--lengths min|pad] SPECS TRACES
 --     rvhyper    [--drop] [--lengths min|pad] --make N SPECS
---     mchyper    [--depth K] [--conflicts N] [--plain] [--proof] CIRCUIT FORMULA
---     mchyper    [--depth K] [--conflicts N] [--plain] --strategy FILE CIRCUIT FORMULA
+--     mchyper    [--depth K] [--conflicts N] [--plain | --ic3 N] [--proof] CIRCUIT FORMULA
+--     mchyper    [--depth K] [--conflicts N] [--plain | --ic3 N] --strategy FILE CIRCUIT FORMULA
 --
 -- Flags and options stand anywhere among the names of files, but not behind a word `--`, behind which every word is the
 -- name of a file. The value of an option is the word behind it, or stands behind an equals sign in the same word.
@@ -34,7 +34,7 @@ abbrev pub options_of : Tool → List Text
 options_of EaHyper =
     codes "on" ∷ codes "implies" ∷ codes "equivalent" ∷ codes "states" ∷ codes "bound" ∷ codes "conflicts" ∷ []
 options_of RvHyper = codes "lengths" ∷ codes "make" ∷ []
-options_of McHyper = codes "depth" ∷ codes "conflicts" ∷ codes "strategy" ∷ []
+options_of McHyper = codes "depth" ∷ codes "conflicts" ∷ codes "ic3" ∷ codes "strategy" ∷ []
 
 -- whether the name is one of these
 abbrev pub has : List Text → Text → Bool

@@ -70,23 +70,26 @@ pub enum Command<'a> {
     },
     /// Checks a formula on the executions of a circuit, by paths of at most `depth` steps, up to
     /// 100,000, and queries of at most `conflicts` conflicts, up to 1,000,000,000; without facts
-    /// where `plain`.
+    /// where `plain`. Where `calls` is not 0, a search for clauses over latches may make so many
+    /// calls of the solver, up to 1,000,000; there `plain` is false.
     Check {
         circuit: &'a str,
         formula: &'a str,
         depth: u32,
         conflicts: u32,
+        calls: u32,
         plain: bool,
         proof: bool,
     },
     /// Checks a formula on the executions of a circuit by a strategy, which is a circuit, too; by as
-    /// long paths and as large queries as `Check`.
+    /// long paths, queries and searches as `Check`.
     CheckByStrategy {
         circuit: &'a str,
         formula: &'a str,
         strategy: &'a str,
         depth: u32,
         conflicts: u32,
+        calls: u32,
         plain: bool,
     },
 }
@@ -98,17 +101,18 @@ pub enum Command<'a> {
 /// eahyper    --bound T,S,L [--conflicts N] FORMULA
 /// rvhyper    [--drop] [--lengths min|pad] SPECS TRACES
 /// rvhyper    [--drop] [--lengths min|pad] --make N SPECS
-/// mchyper    [--depth K] [--conflicts N] [--plain] [--proof] CIRCUIT FORMULA
-/// mchyper    [--depth K] [--conflicts N] [--plain] --strategy FILE CIRCUIT FORMULA
+/// mchyper    [--depth K] [--conflicts N] [--plain | --ic3 N] [--proof] CIRCUIT FORMULA
+/// mchyper    [--depth K] [--conflicts N] [--plain | --ic3 N] --strategy FILE CIRCUIT FORMULA
 /// ```
 /// Flags and options stand anywhere among the names of files, each at most once, and not behind a
 /// word `--`, behind which every word is the name of a file. A value is the word behind its option,
 /// or stands behind an equals sign in the same word; it is not empty, and begins with a dash only
-/// where it is one. The numbers of states, of made traces, of steps and of conflicts are in the
-/// ranges that `Command` gives, and 100,000, none, 64 and 100,000 where they are not given; beside
-/// `--on` neither `--states` nor `--proof` changes anything. A bound is the most lassos, from 1 to 4,
-/// letters of a stem, from 0 to 8, and letters of a cycle, from 1 to 4; beside `--bound` stands
-/// nothing but `--conflicts`, and that only there. Beside `--strategy` there is no `--proof`.
+/// where it is one. The numbers of states, of made traces, of steps, of conflicts and of calls are in
+/// the ranges that `Command` gives, and 100,000, none, 64, 100,000 and 0 where they are not given, but
+/// 10 steps beside `--ic3`; beside `--on` neither `--states` nor `--proof` changes anything. A bound
+/// is the most lassos, from 1 to 4, letters of a stem, from 0 to 8, and letters of a cycle, from 1 to
+/// 4; beside `--bound` stands nothing but `--conflicts`, and that only there. Beside `--strategy`
+/// there is no `--proof`, and beside `--ic3` no `--plain`.
 ///
 /// `Memory` where memory ran out.
 pub fn command_of<'a>(alloc: Global, tool: Tool, words: &'a [String]) -> M<Option<Command<'a>>>

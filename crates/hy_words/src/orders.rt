@@ -13,7 +13,9 @@ ghost use Rattle.hy_words.specs.declared.tool.Tool.TheVariants.{EaHyper, RvHyper
 use crate::command::Command;
 use crate::parser::FILES;
 use crate::tool::Tool;
-use crate::value::{are_filled, bound_in, is_value_or_none, number_in, number_or, rule_of};
+use crate::value::{
+    are_filled, bound_in, is_value_or_none, number_in, number_or, rule_of, usual_depth,
+};
 use bound_search::Bound;
 use clap::ArgMatches;
 
@@ -176,17 +178,22 @@ fn checking<'a>(files: &[&'a str], matches: &ArgMatches<'a>) -> Option<Command<'
     let &[circuit, formula] = files else {
         return None;
     };
-    let depth = number_or(64, matches.get_str("depth"), 0, 100_000)?;
+    let calls = number_or(0, matches.get_str("ic3"), 1, 1_000_000)?;
+    let depth = number_or(usual_depth(calls), matches.get_str("depth"), 0, 100_000)?;
     let conflicts = number_or(100_000, matches.get_str("conflicts"), 0, 1_000_000_000)?;
     let strategy = value_in(matches, "strategy")?;
     let plain = has_flag(matches, "plain");
     let proof = has_flag(matches, "proof");
+    if plain && calls > 0 {
+        return None;
+    }
     match (strategy, proof) {
         (None, _) => Some(Command::Check {
             circuit,
             formula,
             depth,
             conflicts,
+            calls,
             plain,
             proof,
         }),
@@ -196,6 +203,7 @@ fn checking<'a>(files: &[&'a str], matches: &ArgMatches<'a>) -> Option<Command<'
             strategy,
             depth,
             conflicts,
+            calls,
             plain,
         }),
         (Some(_), true) => None,

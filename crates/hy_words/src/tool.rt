@@ -39,6 +39,6 @@ pub fn options_of<'a>(tool: Tool) -> &'a [&'a str]
             "conflicts",
         ],
         Tool::RvHyper => &["lengths", "make"],
-        Tool::McHyper => &["depth", "conflicts", "strategy"],
+        Tool::McHyper => &["depth", "conflicts", "ic3", "strategy"],
     }
 }

@@ -4,7 +4,7 @@ ghost use Rattle.std.specs.Prelude.{◌≡◌, ◌≢◌, ◌+◌, ◌<◌, ◌�
 ghost use Rattle.std.specs.List.{list_all};
 ghost use Rattle.bound_search.specs.Bounds.{IsBound};
 ghost use Rattle.hy_words.specs.Words.{is_filled, is_value};
-ghost use Rattle.hy_words.specs.Commands.{IsNumber, IsNumberOr, IsRule, bound_text};
+ghost use Rattle.hy_words.specs.Commands.{IsNumber, IsNumberOr, IsRule, bound_text, usual_depth};
 ghost use Rattle.hy_words.specs.Found.{listed_slice};
 
 use bound_search::Bound;
@@ -61,6 +61,13 @@ pub fn number_in(text: &str, least: u32, most: u32) -> Option<u32>
         return None;
     }
     Some(n)
+}
+
+/// The depth where none is given: 64, and 10 beside a search for clauses, which has calls.
+pub fn usual_depth(calls: u32) -> u32
+    ensures { result ≡ usual_depth calls }
+{
+    if calls == 0 { 64 } else { 10 }
 }
 
 /// The bound that a text is, if it is one: the most lassos, from 1 to 4, letters of a stem, from 0
