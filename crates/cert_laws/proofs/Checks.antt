@@ -149,20 +149,19 @@ module _ (names : List (List ℕ)) (table : IsTable names) (net : Net) (signals 
       }
 
   -- Evidence of whichever kind is good where the verdict is one that wants this kind.
-  evidence-good : (holds b : Bool) (depth : ℕ) (traces : List (Lasso Letter)) (tuple : List Run)
+  evidence-good : (holds b : Bool) (ask : Ask) (traces : List (Lasso Letter)) (tuple : List Run)
       (proof : Option InductionProof)
-      → IsEvidence b net signals f.prefix f.body depth traces tuple proof
+      → IsEvidence b net signals f.prefix f.body ask traces tuple proof
       → (b ≡ true → WantsRuns f holds) → (b ≡ false → WantsInduction f holds)
-      → depth ≤ most_depth → IsShort (shown_text holds traces (evidence_text tuple proof))
+      → ask.depth ≤ most_depth → IsShort (shown_text holds traces (evidence_text tuple proof))
       → IsGoodFor (shown_text holds traces (evidence_text tuple proof))
-  evidence-good holds true depth traces tuple None (good, none) shows proves deep short =
+  evidence-good holds true ask traces tuple None (good, none) shows proves deep short =
       runs-good holds traces tuple good (shows refl) short
-  evidence-good holds true depth traces tuple (Some proof) (good, none) shows proves deep short =
+  evidence-good holds true ask traces tuple (Some proof) (good, none) shows proves deep short =
       absurd (true≢false (ap is_some none))
-  evidence-good holds false depth traces tuple None (none, empty, is) shows proves deep short =
+  evidence-good holds false ask traces tuple None (none, empty, is) shows proves deep short =
       absurd is
-  evidence-good holds false depth traces tuple (Some proof) (none, empty, is) shows proves deep short =
-      let (right, low, within) = is in
+  evidence-good holds false ask traces tuple (Some proof) (none, empty, is) shows proves deep short =
       let P : List (Lasso Letter) → Type 0 = λ ls.
       IsShort (shown_text holds ls (proof_text proof))
       → IsGoodFor (shown_text holds ls (proof_text proof)) in
@@ -170,7 +169,8 @@ module _ (names : List (List ℕ)) (table : IsTable names) (net : Net) (signals 
       let Q : List ℕ → Type 0 = λ line.
       IsShort (line ++ proof_text proof) → IsGoodFor (line ++ proof_text proof) in
       subst P (sym none) (subst Q (sym (append-nil front))
-      (induction-good holds proof right within (omega (arith, low, deep)) (proves refl))) short
+      (induction-good holds proof is.right is.within
+      (let low = is.low in omega (arith, low, deep)) (proves refl))) short
 
   module _ (ask : Ask) (deep : ask.depth ≤ most_depth) (traces : List (Lasso Letter))
       (tuple : List Run) (proof : Option InductionProof) where
@@ -178,7 +178,7 @@ module _ (names : List (List ℕ)) (table : IsTable names) (net : Net) (signals 
         → IsShort (printed names (answers.Checked (checks.Holds traces tuple proof)))
         → IsGoodFor (printed names (answers.Checked (checks.Holds traces tuple proof)))
     holds-good (says, evidence) short =
-        evidence-good true (is_existential f.prefix) ask.depth traces tuple proof evidence
+        evidence-good true (is_existential f.prefix) ask traces tuple proof evidence
         (λ e. sym e) (λ e. sym (ap not e)) deep short
 
     pub violated-good : IsChecked net signals f.prefix f.body ask
@@ -186,7 +186,7 @@ module _ (names : List (List ℕ)) (table : IsTable names) (net : Net) (signals 
         → IsShort (printed names (answers.Checked (checks.Violated traces tuple proof)))
         → IsGoodFor (printed names (answers.Checked (checks.Violated traces tuple proof)))
     violated-good (says, evidence) short =
-        evidence-good false (not (is_existential f.prefix)) ask.depth traces tuple proof evidence
+        evidence-good false (not (is_existential f.prefix)) ask traces tuple proof evidence
         (turned (is_existential f.prefix)) (λ e. sym e) deep short
       where
         turned : (b : Bool) → not b ≡ true → false ≡ b

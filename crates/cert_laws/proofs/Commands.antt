@@ -1,5 +1,5 @@
 -- What is printed of the verdicts of commands is good evidence for what they claim.
-use Rattle.std.proofs.Common.{ℕ, ◌≤◌, Bool, List, [], ◌∷◌, subst, arith}
+use Rattle.std.proofs.Common.{ℕ, ◌≤◌, ◌==◌, Bool, true, false, cond, List, [], ◌∷◌, subst, arith}
 use Rattle.std.specs.Prelude.{codes, length}
 use Rattle.hy_formula.specs.Formulas.{Plain}
 use Rattle.aig_net.specs.declared.signals.Signal.{Signal}
@@ -8,7 +8,7 @@ use Rattle.formula_nets.specs.Posed.{IsPosed}
 use Rattle.mc_core.specs.declared.ask.Ask.{Ask}
 use Rattle.mc_core.specs.declared.checked.Checked.TheVariants.{Holds, Violated, UnknownDepth, UnknownConflicts}
 use Rattle.hy_answer.specs.declared.answer.Answer.{Answer}
-use Rattle.hy_words.specs.Commands.{Command, IsDepth, decide, imply, compare, check}
+use Rattle.hy_words.specs.Commands.{Command, IsDepth, usual_depth, decide, imply, compare, check}
 use Rattle.hy_words.specs.declared.tool.Tool.TheVariants.{EaHyper, McHyper, RvHyper}
 use Rattle.hy_words.specs.Words.{Text, given_in}
 use Rattle.hy_top.specs.Checking.{Checks, ComesBy, HasPair, facts_stop, found, paths_stop}
@@ -31,19 +31,26 @@ use Rattle.cert_laws.proofs.Files.{AreOver, texts-over}
 
 -- ---- the depth of a check
 
-depth-low : (given : List Text) (n : ℕ) → IsDepth given n → n ≤ most_depth
-depth-low [] n e = omega (arith, e)
-depth-low (value ∷ more) n (is, least, most) = most
+usual-low : (calls : ℕ) → usual_depth calls ≤ most_depth
+usual-low calls = by (calls == 0)
+  where
+    by : (b : Bool) → cond b 64 10 ≤ most_depth
+    by true = omega arith
+    by false = omega arith
+
+depth-low : (calls : ℕ) (given : List Text) (n : ℕ) → IsDepth calls given n → n ≤ most_depth
+depth-low calls [] n e = let low = usual-low calls in omega (arith, e, low)
+depth-low calls (value ∷ more) n (is, least, most) = most
 
 -- Words say no greater depth.
-said-depth : (net text : Text) (depth conflicts : ℕ) (plain proof : Bool)
-    → IsSaid (check net text depth conflicts plain proof) → depth ≤ most_depth
-said-depth net text depth conflicts plain proof (EaHyper, words, (items, says, proper, never)) =
+said-depth : (net text : Text) (depth conflicts calls : ℕ) (plain proof : Bool)
+    → IsSaid (check net text depth conflicts calls plain proof) → depth ≤ most_depth
+said-depth net text depth conflicts calls plain proof (EaHyper, words, (items, says, proper, never)) =
     absurd never
-said-depth net text depth conflicts plain proof (RvHyper, words, (items, says, proper, never)) =
+said-depth net text depth conflicts calls plain proof (RvHyper, words, (items, says, proper, never)) =
     absurd never
-said-depth net text depth conflicts plain proof (McHyper, words, (items, says, proper, asks)) =
-    depth-low (given_in (codes "depth") items) depth asks.deep
+said-depth net text depth conflicts calls plain proof (McHyper, words, (items, says, proper, asks)) =
+    depth-low calls (given_in (codes "depth") items) depth asks.deep
 
 -- ---- questions about formulas
 
@@ -156,13 +163,14 @@ module _ (given : Given) (names : List (List ℕ)) (a : Answer) where
       (determined questions.equivalence states order given (f ∷ g ∷ []) names a has comes)
   of-comparison one two states proof _ said has comes = absurd has
 
-  of-check : (file text : Text) (depth conflicts : ℕ) (plain proof : Bool) (claim : Claim)
-      → IsShown (check file text depth conflicts plain proof) claim
-  of-check file text depth conflicts plain proof (circuit net f) said pair comes =
-      let ask : Ask = record { depth = depth; conflicts = conflicts; plain = plain } in
-      check-shown ask (order_of (check file text depth conflicts plain proof)) given names net f a
-      (said-depth file text depth conflicts plain proof said) pair comes
-  of-check file text depth conflicts plain proof _ said has comes = absurd has
+  of-check : (file text : Text) (depth conflicts calls : ℕ) (plain proof : Bool) (claim : Claim)
+      → IsShown (check file text depth conflicts calls plain proof) claim
+  of-check file text depth conflicts calls plain proof (circuit net f) said pair comes =
+      let ask : Ask =
+      record { depth = depth; conflicts = conflicts; plain = plain; calls = calls } in
+      check-shown ask (order_of (check file text depth conflicts calls plain proof)) given names
+      net f a (said-depth file text depth conflicts calls plain proof said) pair comes
+  of-check file text depth conflicts calls plain proof _ said has comes = absurd has
 
   pub command-shown : (command : Command) (claim : Claim) → IsShown command claim
   command-shown (decide file states proof) claim said asks comes =
@@ -171,6 +179,6 @@ module _ (given : Given) (names : List (List ℕ)) (a : Answer) where
       of-implication one two states proof claim said asks comes
   command-shown (compare one two states proof) claim said asks comes =
       of-comparison one two states proof claim said asks comes
-  command-shown (check file text depth conflicts plain proof) claim said asks comes =
-      of-check file text depth conflicts plain proof claim said asks comes
+  command-shown (check file text depth conflicts calls plain proof) claim said asks comes =
+      of-check file text depth conflicts calls plain proof claim said asks comes
   command-shown _ claim said asks comes = absurd asks

@@ -105,7 +105,7 @@ shown-printed (imply first second states proof) shows names a =
     ap (λ b. out_text (record { kept = false; proof = b }) names a) shows
 shown-printed (compare first second states proof) shows names a =
     ap (λ b. out_text (record { kept = false; proof = b }) names a) shows
-shown-printed (check net formula depth conflicts plain proof) shows names a =
+shown-printed (check net formula depth conflicts calls plain proof) shows names a =
     ap (λ b. out_text (record { kept = false; proof = b }) names a) shows
 shown-printed _ shows names a = absurd (true≢false (sym shows))
 
@@ -156,7 +156,7 @@ shown-asks : (command : Command) → (order_of command).extras.proof ≡ true
 shown-asks (decide formula states proof) shows = tt
 shown-asks (imply first second states proof) shows = tt
 shown-asks (compare first second states proof) shows = tt
-shown-asks (check net formula depth conflicts plain proof) shows = tt
+shown-asks (check net formula depth conflicts calls plain proof) shows = tt
 shown-asks _ shows = absurd (true≢false (sym shows))
 
 -- ---- runs

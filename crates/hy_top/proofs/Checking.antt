@@ -118,7 +118,7 @@ stand-for-one net names body signals are name there =
 
 module _ {S : Type 0} (g : Ghosts S) (old mid new : S) (file formula : List ℕ) (ask : Ask) (proof : Bool) (net : Net) (first : TakesCircuit g old mid file net) where
   abbrev pub order : Order
-  order = order_of (check file formula ask.depth ask.conflicts ask.plain proof)
+  order = order_of (check file formula ask.depth ask.conflicts ask.calls ask.plain proof)
 
   abbrev pub as_text : Takes g old mid file 4 [] circuit [] []
   as_text = record { bytes = first.bytes; read = first.read; is = ((net, first.is), refl, refl) }

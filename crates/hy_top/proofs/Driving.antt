@@ -47,7 +47,7 @@ use Rattle.hy_top.proofs.StrategyOnce.{forall-exists, not-forall-exists, not-mis
 
 module _ {S : Type 0} (g : Ghosts S) (old mid : S) (file formula strategy : List ℕ) (ask : Ask) (net : Net) (first : TakesCircuit g old mid file net) where
   abbrev pub order : Order
-  order = order_of (check_by_strategy file formula strategy ask.depth ask.conflicts ask.plain)
+  order = order_of (check_by_strategy file formula strategy ask.depth ask.conflicts ask.calls ask.plain)
 
   abbrev as_text : Takes g old mid file 4 [] circuit [] []
   as_text = record { bytes = first.bytes; read = first.read; is = ((net, first.is), refl, refl) }

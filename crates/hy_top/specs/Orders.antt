@@ -115,19 +115,19 @@ order_of (find formula bound conflicts) = record {
   extras = record { kept = false; proof = false };
   task = finding bound conflicts;
 }
-order_of (check net formula depth conflicts plain proof) = record {
+order_of (check net formula depth conflicts calls plain proof) = record {
   files = file net circuit ∷ file formula one_formula ∷ [];
   quantifiers = 4;
   takes = by_class is_of_one_kind;
   extras = record { kept = false; proof = proof };
-  task = checking (record { depth = depth; conflicts = conflicts; plain = plain });
+  task = checking (record { depth = depth; conflicts = conflicts; plain = plain; calls = calls });
 }
-order_of (check_by_strategy net formula strategy depth conflicts plain) = record {
+order_of (check_by_strategy net formula strategy depth conflicts calls plain) = record {
   files = file net circuit ∷ file formula one_formula ∷ file strategy circuit ∷ [];
   quantifiers = 4;
   takes = is_forall_exists;
   extras = record { kept = false; proof = false };
-  task = driving (record { depth = depth; conflicts = conflicts; plain = plain });
+  task = driving (record { depth = depth; conflicts = conflicts; plain = plain; calls = calls });
 }
 
 -- ---- what a row says of its files

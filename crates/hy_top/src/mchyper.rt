@@ -39,7 +39,7 @@ pub fn check<S: Shelf>(
     requires conflicts { ask.now.conflicts < 2 ^ 31 }
     ensures keeps { KeepsShelf S.Shelf shelf.old shelf.new }
     ensures follows { (proof : Bool) → let order = order_of (check files.entry.0.now
-        files.entry.1.now ask.now.depth ask.now.conflicts ask.now.plain proof) in
+        files.entry.1.now ask.now.depth ask.now.conflicts ask.now.calls ask.now.plain proof) in
         Follows S.Shelf shelf.old shelf.new order result
         (out_text order.extras names.new result) }
 {
@@ -100,7 +100,8 @@ pub fn check_by_strategy<S: Shelf>(
     requires conflicts { ask.now.conflicts < 2 ^ 31 }
     ensures keeps { KeepsShelf S.Shelf shelf.old shelf.new }
     ensures follows { let order = order_of (check_by_strategy files.entry.0.now
-        files.entry.1.now files.entry.2.now ask.now.depth ask.now.conflicts ask.now.plain) in
+        files.entry.1.now files.entry.2.now ask.now.depth ask.now.conflicts ask.now.calls
+        ask.now.plain) in
         Follows S.Shelf shelf.old shelf.new order result
         (out_text order.extras names.new result) }
 {

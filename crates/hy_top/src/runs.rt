@@ -170,6 +170,7 @@ fn due_to<'a, S: Shelf>(
             formula,
             depth,
             conflicts,
+            calls,
             plain,
             proof,
         } => {
@@ -177,6 +178,7 @@ fn due_to<'a, S: Shelf>(
                 depth,
                 conflicts,
                 plain,
+                calls,
             };
             Due {
                 answer: mchyper::check(alloc, shelf, (circuit, formula), &ask, names),
@@ -190,12 +192,14 @@ fn due_to<'a, S: Shelf>(
             strategy,
             depth,
             conflicts,
+            calls,
             plain,
         } => {
             let ask = Ask {
                 depth,
                 conflicts,
                 plain,
+                calls,
             };
             let files = (circuit, formula, strategy);
             Due {

@@ -7,7 +7,7 @@ use Rattle.hy_top.proofs.mchyper.check.Goals as goal
 
 pub returns-in-Err-clause-follows : goal.returns-in-Err-clause-follows
 returns-in-Err-clause-follows g c proof =
-    ends_first g.S.Shelf (order_of (check c.args.files.0.now c.args.files.1.now c.args.ask.now.depth c.args.ask.now.conflicts c.args.ask.now.plain proof)) _ _ _ _ _ refl
+    ends_first g.S.Shelf (order_of (check c.args.files.0.now c.args.files.1.now c.args.ask.now.depth c.args.ask.now.conflicts c.args.ask.now.calls c.args.ask.now.plain proof)) _ _ _ _ _ refl
     (c.in-Err.fault, c.in-Err.ensures.failed 4 [], c.fault_answer.ensures)
 
 pub check_formula-requires-clause-quantifiers : goal.check_formula-requires-clause-quantifiers

@@ -8,7 +8,7 @@ use Rattle.hy_top.proofs.mchyper.check_by_strategy.Goals as goal
 
 pub returns-in-Err-clause-follows : goal.returns-in-Err-clause-follows
 returns-in-Err-clause-follows g c =
-    ends_first g.S.Shelf (order_of (check_by_strategy c.args.files.0.now c.args.files.1.now c.args.files.2.now c.args.ask.now.depth c.args.ask.now.conflicts c.args.ask.now.plain))
+    ends_first g.S.Shelf (order_of (check_by_strategy c.args.files.0.now c.args.files.1.now c.args.files.2.now c.args.ask.now.depth c.args.ask.now.conflicts c.args.ask.now.calls c.args.ask.now.plain))
     _ _ _ _ _ refl (c.in-Err.fault, c.in-Err.ensures.failed 4 [], c.fault_answer.ensures)
 
 pub returns-in-Err-formula_in-clause-follows : goal.returns-in-Err-formula_in-clause-follows
