@@ -85,14 +85,23 @@ class Cone:
     def step(self, depth):
         return self.refuted((depth + 1) * self.frame + self.last + 1)
 
-    def proof(self, depth, before=(), count=0, step=None):
-        """a proof of this depth with the fact that nothing has started; in the last log more clauses stand before"""
-        yield f"holds\nproof induction {depth} 1\nf 0 1\nlog 1\n{self.keep()}"
+    def proof(self, depth, before=(), count=0, step=None, clause=None):
+        """a proof of this depth with the fact that nothing has started, maybe as a clause; in the last log more clauses
+        stand before"""
+        yield f"holds\nproof {'clauses' if clause else 'induction'} {depth} 1\n"
+        yield from clause or ["f 0 1\n"]
+        yield f"log 1\n{self.keep()}"
         for steps in range(depth + 1):
             yield f"log 1\n{self.base(steps)}"
         yield f"log {count + 1}\n"
         yield from before
         yield from step or [self.step(depth)]
+
+    def long_fact(self, count):
+        """the fact as a clause that says it so many times"""
+        yield "f |"
+        yield from times(" 3", count)
+        yield "\n"
 
     def long_chain(self, count):
         """the refutation of the step query at no depth, with the constant's clause so many times more"""
@@ -165,6 +174,8 @@ def logs():
         0, wide.long_clause(2000000), 1), "accepted", None
     yield "log, a last clause that is not empty", "mc", [wide.circuit, asked], wide.proof(
         0, wide.clauses(1000000), 1000000, ["c -1 0 1 0\n"]), "rejected", None
+    yield "proof with a clause of 5,000,000 literals", "mc", [small.circuit, asked], small.proof(
+        0, clause=small.long_fact(5000000)), "accepted", None
     yield "proof of depth 300", "mc", [small.circuit, asked], small.proof(300), "accepted", 10
     yield "proof of depth 1,000", "mc", [small.circuit, asked], small.proof(1000), "accepted", 10
     yield "proof of depth 100,000", "mc", [small.circuit, asked], small.proof(

@@ -502,6 +502,9 @@ def certificates():
         0, itertools.chain(["c -1 "], times("2 ", count), ["0 1 0\n"]), 1), 0, "accepted")
     yield certified("facts", "mc", [net.circuit, always], Text(
         "holds\nproof induction 0 9999999999\n", "f 0 0\n"), 2, f"error E14 out: line {fitting(6, 35) + 3}")
+    count = fitting(2, 8192)
+    yield certified("a clause of latches", "mc", [net.circuit, always], net.proof(0, clause=net.long_fact(count)), 0,
+                    "accepted")
     count = 65000
     yield certified("runs of 1,000 inputs", "mc", [inputs(1000), ["forall p. G !i_p"]], itertools.chain(
         ["violated\n"], times("{};", count), ["{i}|{}\nproof runs 1\n- "], times("0" * 1000 + ";", count),

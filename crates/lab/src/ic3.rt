@@ -9,7 +9,7 @@ use crate::posed::safe_net_of;
 use crate::query::{number_of, refusal};
 use anyhow::{Result, bail};
 use cnf_frames::{Fact, Inv};
-use ic3_search::{LatchClause, find_clauses};
+use ic3_search::find_clauses;
 use invar_find::invariants;
 use live_safe::SafeNet;
 use std::process::ExitCode;
@@ -39,11 +39,8 @@ fn search(rt: &HostRuntime, safe: &SafeNet, calls: u32) -> Result<ExitCode>
 {
     let facts = facts_in(rt, safe)?;
     let clauses = find_clauses(rt.alloc(), safe, &facts, calls)?;
-    for fact in facts.as_slice() {
-        print_fact(rt, *fact)?;
-    }
-    for clause in clauses.as_slice() {
-        print_clause(rt, clause)?;
+    for fact in facts.as_slice().iter().chain(clauses.as_slice()) {
+        print_fact(rt, fact)?;
     }
     Ok(ExitCode::from(0))
 }
@@ -59,20 +56,21 @@ fn facts_in(rt: &HostRuntime, safe: &SafeNet) -> Result<Inv>
     }
 }
 
-fn print_fact(rt: &HostRuntime, fact: Fact) -> Result<()> {
+/// Prints a fact as a line of a certificate.
+fn print_fact(rt: &HostRuntime, fact: &Fact) -> Result<()> {
     match fact {
         Fact::Zero(a) => println!(rt; "f 0 {a}")?,
         Fact::One(a) => println!(rt; "f 1 {a}")?,
         Fact::Same(a, b) => println!(rt; "f = {a} {b}")?,
         Fact::Differ(a, b) => println!(rt; "f ! {a} {b}")?,
+        Fact::AnyOf(literals) => print_literals(rt, literals.as_slice())?,
     }
     Ok(())
 }
 
-/// Prints `f |` and the literals of a clause: 2A says that latch A is 1, 2A + 1 that it is 0.
-fn print_clause(rt: &HostRuntime, clause: &LatchClause) -> Result<()> {
+fn print_literals(rt: &HostRuntime, literals: &[u32]) -> Result<()> {
     let mut text = String::from_str(rt.alloc(), "f |")?;
-    for literal in clause.as_slice() {
+    for literal in literals {
         write!(text, " {literal}")?;
     }
     println!(rt; "{text}")?;
