@@ -19,7 +19,7 @@ use Rattle.cnf_frames.specs.declared.queries.Asked.TheVariants.{Keep}
 use Rattle.cnf_frames.specs.declared.queries.Query.{Query}
 use Rattle.cnf_frames.specs.declared.queries.FrameError.{FrameError}
 use Rattle.cnf_frames.specs.declared.queries.FrameError.TheVariants.{Limit, Memory}
-use Rattle.cnf_frames.specs.Facts.{AllHold, IsSafe, fact_at, HoldsIn}
+use Rattle.cnf_frames.specs.Facts.{AllHold, AreAmong, IsInductive, IsSafe, fact_at, HoldsIn}
 use Rattle.cnf_frames.specs.Queries.{IsQuery, IsRefusal, IsWithin, clauses_of, group_of, groups, variables_of}
 use Rattle.cnf_frames.specs.QueryPaths.{IsKeepPath, word_of}
 use Rattle.cnf_frames.specs.Proofs.{AreKeepsWithin, AreKept, IsRefuted, log_at}
@@ -30,7 +30,7 @@ use Rattle.cnf_frames.proofs.Surviving.{survives}
 use Rattle.invar_find.specs.declared.kept.SpentGroup.{SpentGroup}
 use Rattle.invar_find.specs.Kepts.{AreStarting, IsKeptOf, IsSpentGroup, IsStoppedAt}
 use Rattle.invar_find.specs.Parts.{AreThose, IsOutside, IsSublist}
-use Rattle.invar_find.specs.Searches.{IsSearching}
+use Rattle.invar_find.specs.Searches.{AllHoldIn, IsSearching}
 use Rattle.invar_find.proofs.Sublists.{sublist-among, sublist-length, sublist-shorter, sublist-trans, those-all}
 use Rattle.invar_find.proofs.Starting.{holds-alike}
 use Rattle.invar_find.proofs.Settled.{AreSettled}
@@ -64,27 +64,36 @@ part-spent safe tried conflicts facts left s part was = record {
 
 -- ---- facts that a step breaks
 
--- A step from a state with all facts.
-step-left : (safe : SafeNet) (tried : List Fact) (conflicts : ℕ) (facts left : List Fact) (gone : List SpentGroup)
-    (state : List Bool) (word : Word) → IsSearching safe tried conflicts facts gone →
-    IsPath safe.net 1 word → AllHold safe.net facts (word 0) →
-    ((j : ℕ) → j < length safe.net.latches → row state j ≡ word 1 (latch_variable safe.net j)) →
+-- Facts that hold in a state that has each inductive list among the facts.
+pub held-left : (safe : SafeNet) (tried : List Fact) (conflicts : ℕ) (facts left : List Fact) (gone : List SpentGroup)
+    (state : List Bool) → IsSearching safe tried conflicts facts gone →
+    ((some : List Fact) → IsInductive safe.net some → AreAmong some facts →
+    AllHoldIn (row state) some) →
     AreThose (HoldsIn (row state)) facts left → IsSearching safe tried conflicts left gone
-step-left safe tried conflicts facts left gone state word search along known same those = record {
+held-left safe tried conflicts facts left gone state search survive those = record {
   starting = part-starting safe tried facts left search.starting those.sublist;
   unspent = λ f has. search.unspent f (sublist-among _ _ those.sublist f has);
   greatest = λ some inductive opens f has.
       let among = search.greatest some inductive opens in
-      those.whole f (among f has)
-      ((holds-alike safe.net (word 1) (length safe.net.latches) (row state) same f
-      (search.starting.inside f (among f has))).1
-      (survives safe.net facts some inductive among word along known f has));
+      those.whole f (among f has) (survive some inductive among f has);
   spent = λ s has. part-spent safe tried conflicts facts left s those.sublist (search.spent s has);
   few =
       let less = sublist-length those.sublist in
       let few = search.few in
       omega (arith, less, few);
 }
+
+-- A step from a state with all facts.
+step-left : (safe : SafeNet) (tried : List Fact) (conflicts : ℕ) (facts left : List Fact) (gone : List SpentGroup)
+    (state : List Bool) (word : Word) → IsSearching safe tried conflicts facts gone →
+    IsPath safe.net 1 word → AllHold safe.net facts (word 0) →
+    ((j : ℕ) → j < length safe.net.latches → row state j ≡ word 1 (latch_variable safe.net j)) →
+    AreThose (HoldsIn (row state)) facts left → IsSearching safe tried conflicts left gone
+step-left safe tried conflicts facts left gone state word search along known same =
+    held-left safe tried conflicts facts left gone state search (λ some inductive among f has.
+    (holds-alike safe.net (word 1) (length safe.net.latches) (row state) same f
+    (search.starting.inside f (among f has))).1
+    (survives safe.net facts some inductive among word along known f has))
 
 pub broken-left : (safe : SafeNet) (tried : List Fact) (conflicts group : ℕ) (facts left : List Fact)
     (gone : List SpentGroup) (state : List Bool) (word : Word) →

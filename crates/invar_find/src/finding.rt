@@ -10,9 +10,10 @@ ghost use Rattle.invar_find.specs.Searches.{IsSearching};
 
 use crate::candidates::candidates;
 use crate::kept::{Kept, SpentGroup, SpentList};
-use crate::left::{held, outside, state_after};
+use crate::left::{held, inputs_of, outside, state_after};
 use crate::sifting::sift;
 use crate::trial::Trial;
+use crate::walking::walk;
 use chain_check::Log;
 use cnf_frames::{FrameError, Inv, LogList, keep_query};
 use hy_base::{List, M};
@@ -60,7 +61,10 @@ fn ask_group(
     match solve(alloc, &query.cnf, trial.conflicts)? {
         Outcome::Refuted(log) => Ok(Some(log)),
         Outcome::Satisfied(values) => {
-            *facts = held(alloc, state_after(trial.safe, values.as_slice()), facts)?;
+            let after = state_after(trial.safe, values.as_slice());
+            *facts = held(alloc, after, facts)?;
+            let inputs = inputs_of(trial.safe, values.as_slice());
+            walk(alloc, trial, facts, after, inputs)?;
             Ok(None)
         }
         Outcome::Spent(log) => {
@@ -111,7 +115,8 @@ fn ask_all(
 /// query `conflicts` clauses were learned in vain. First come queries over clauses linear in the
 /// net, some for each latch at most, until they leave no more facts out. Each round then asks one
 /// query for each 64 facts, over clauses linear in the net and in all facts; a further round is
-/// needed only where one left facts out.
+/// needed only where one left facts out. From where a query leads goes a walk, each step in time
+/// linear in the net and the facts, as long as it leaves facts out.
 ///
 /// # Errors
 ///

@@ -37,6 +37,15 @@ pub fn state_before<'a>(safe: &SafeNet, values: &'a [bool]) -> &'a [bool]
     &values[first..first + safe.net.latches().len()]
 }
 
+/// The inputs of the step of an assignment.
+pub fn inputs_of<'a>(safe: &SafeNet, values: &'a [bool]) -> &'a [bool]
+    requires { 2 * variables safe.now.net ≤ length values.now }
+    ensures { length result.now ≡ safe.now.net.inputs }
+{
+    safe.net.variables(); // what each net keeps
+    &values[1..1 + safe.net.inputs() as usize]
+}
+
 /// Whether a literal of latches is true in a state.
 fn is_true(state: &[bool], l: u32) -> bool
     requires { Below (length state.now) l }

@@ -7,6 +7,7 @@ mod kept;
 mod left;
 mod sifting;
 mod trial;
+mod walking;
 
 pub use finding::{invariants, invariants_of};
 pub use kept::{Kept, SpentGroup, SpentList};

@@ -6,8 +6,9 @@ ghost use Rattle.cnf_frames.specs.Facts.{AllIn, IsSafe};
 ghost use Rattle.cnf_frames.specs.Queries.{groups};
 ghost use Rattle.invar_find.specs.Searches.{IsSearching};
 
-use crate::left::{held, push_copy, state_after, state_before};
+use crate::left::{held, inputs_of, push_copy, state_after, state_before};
 use crate::trial::Trial;
+use crate::walking::{walk, walk_scattered};
 use cnf_frames::{Fact, FrameError, Inv, keep_query};
 use hy_base::{List, M, Memory};
 use sat_core::{Outcome, solve};
@@ -62,8 +63,9 @@ enum Sifted {
     Past,
 }
 
-/// Asks whether a step breaks a fact of a group of the basis. Left out are all that the step breaks,
-/// where it goes from a state that has all facts.
+/// Asks whether a step breaks a fact of a group of the basis. Where it goes from a state that has all
+/// facts, those are left out that it breaks, or that walks break from where it leads and from states
+/// like the one before it.
 fn sift_group(
     alloc: Global,
     trial: &Trial<'_>,
@@ -89,11 +91,16 @@ fn sift_group(
         return Ok(Sifted::Same);
     };
     let before = facts.len();
-    let known = held(alloc, state_before(trial.safe, values.as_slice()), facts)?;
+    let state = state_before(trial.safe, values.as_slice());
+    let known = held(alloc, state, facts)?;
     if known.len() < before {
         return Ok(Sifted::Same);
     }
-    *facts = held(alloc, state_after(trial.safe, values.as_slice()), facts)?;
+    let after = state_after(trial.safe, values.as_slice());
+    *facts = held(alloc, after, facts)?;
+    let inputs = inputs_of(trial.safe, values.as_slice());
+    walk(alloc, trial, facts, after, inputs)?;
+    walk_scattered(alloc, trial, facts, state, inputs)?;
     Ok(Sifted::Fewer)
 }
 

@@ -1,10 +1,11 @@
-use Rattle.std.proofs.Common.{ℕ, sym, ap, subst, ◌∙◌}
+use Rattle.std.proofs.Common.{ℕ, sym, ap, subst, ◌∙◌, arith}
 use Rattle.std.proofs.lemmas.Result.{err_from_is_err_and}
 use Rattle.aig_net.specs.Nets.{latch_variable}
 use Rattle.cnf_frames.specs.Facts.{AllIn}
 use Rattle.cnf_frames.specs.QueryPaths.{word_of}
 use Rattle.sat_core.specs.declared.solving.Outcome.{Outcome}
 use Rattle.sat_core.specs.Outcomes.{IsOutcome}
+use Rattle.invar_find.proofs.Sublists.{sublist-among, sublist-length}
 use Rattle.invar_find.proofs.Searching.{stopped, satisfied-left, spent-pushed}
 use Rattle.invar_find.proofs.finding.ask_group.Goals as goal
 
@@ -22,34 +23,40 @@ returns-in_err-query-clause-refused c =
 pub held-requires : goal.held-requires
 held-requires c =
     let N : ℕ → Type 0 = λ n. AllIn n c.args.facts.now in
-    subst N (sym c.state_after.ensures.many)
+    subst N (sym c.state_after-after.ensures.many)
     c.requires.searching.starting.inside
 
+pub walk-requires-clause-inside : goal.walk-requires-clause-inside
+walk-requires-clause-inside c f has =
+    c.requires.searching.starting.inside f (sublist-among _ _ c.in_ok-facts-in-Satisfied.ensures.sublist f has)
+
 pub returns-in-Satisfied-clause-searching : goal.returns-in-Satisfied-clause-searching
-returns-in-Satisfied-clause-searching c =
+returns-in-Satisfied-clause-searching c = c.in_ok-walk-in-Satisfied.ensures.goes c.args.spent.now
     (satisfied-left c.args.trial.now.safe.now c.args.trial.now.candidates.now c.args.trial.now.conflicts c.args.group c.args.facts.now _
-    c.args.spent.now c.state_after.result.now c.in-Satisfied.values c.in_ok-query.query
+    c.args.spent.now c.state_after-after.result.now c.in-Satisfied.values c.in_ok-query.query
     c.requires.safe c.requires.searching c.in_ok-query.ensures.query
     (let P : Outcome → Type 0 = IsOutcome c.in_ok-query.query.cnf.variables
     c.in_ok-query.query.cnf.clauses c.args.trial.now.conflicts in
     subst P c.in-Satisfied.is c.in_ok-log.ensures)
-    (λ j lt. c.state_after.ensures.state j lt
+    (λ j lt. c.state_after-after.ensures.state j lt
     ∙ ap (λ values. word_of c.args.trial.now.safe.now values 1 (latch_variable c.args.trial.now.safe.now.net j))
     c.as_slice.ensures)
     c.in_ok-facts-in-Satisfied.ensures).0
 
 pub returns-in-Satisfied-clause-reply : goal.returns-in-Satisfied-clause-reply
 returns-in-Satisfied-clause-reply c =
-    (satisfied-left c.args.trial.now.safe.now c.args.trial.now.candidates.now c.args.trial.now.conflicts c.args.group c.args.facts.now _
-    c.args.spent.now c.state_after.result.now c.in-Satisfied.values c.in_ok-query.query
+    let fewer = (satisfied-left c.args.trial.now.safe.now c.args.trial.now.candidates.now c.args.trial.now.conflicts c.args.group c.args.facts.now _
+    c.args.spent.now c.state_after-after.result.now c.in-Satisfied.values c.in_ok-query.query
     c.requires.safe c.requires.searching c.in_ok-query.ensures.query
     (let P : Outcome → Type 0 = IsOutcome c.in_ok-query.query.cnf.variables
     c.in_ok-query.query.cnf.clauses c.args.trial.now.conflicts in
     subst P c.in-Satisfied.is c.in_ok-log.ensures)
-    (λ j lt. c.state_after.ensures.state j lt
+    (λ j lt. c.state_after-after.ensures.state j lt
     ∙ ap (λ values. word_of c.args.trial.now.safe.now values 1 (latch_variable c.args.trial.now.safe.now.net j))
     c.as_slice.ensures)
-    c.in_ok-facts-in-Satisfied.ensures).1
+    c.in_ok-facts-in-Satisfied.ensures).1 in
+    let less = sublist-length c.in_ok-walk-in-Satisfied.ensures.part in
+    omega (arith, fewer, less)
 
 pub returns-clause-searching : goal.returns-clause-searching
 returns-clause-searching c =
