@@ -60,6 +60,7 @@ mod commands;
 mod escape;
 mod files;
 mod lassos;
+mod runs;
 mod tally;
 mod tools;
 mod trial;

@@ -6,7 +6,7 @@ use Rattle.aig_net.specs.Nets.{variables}
 use Rattle.ltl_closure.specs.Bodies.{body_nodes}
 use Rattle.wit_lasso.specs.FormulaNets.{formula_safe}
 use Rattle.formula_nets.specs.Posed.{IsPosed}
-use Rattle.lab.proofs.posed.pose.Goals as goal
+use Rattle.bench_tools.proofs.posed.pose.Goals as goal
 
 pub safe_for-requires-clause-own : goal.safe_for-requires-clause-own
 safe_for-requires-clause-own c =

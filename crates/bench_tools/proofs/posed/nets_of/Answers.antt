@@ -1,6 +1,6 @@
 use Rattle.std.proofs.Common.{arith}
 use Rattle.hy_formula.specs.Trees.{tree_of}
-use Rattle.lab.proofs.posed.safe_net_of.Goals as goal
+use Rattle.bench_tools.proofs.posed.nets_of.Goals as goal
 
 pub pose-requires-clause-room : goal.pose-requires-clause-room
 pose-requires-clause-room c =
