@@ -10,6 +10,8 @@ mod counted_runs;
 #[cfg(test)]
 mod finite_traces;
 #[cfg(test)]
+mod jobs;
+#[cfg(test)]
 mod letters;
 #[cfg(test)]
 mod made_formulas;

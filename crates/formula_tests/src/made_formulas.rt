@@ -1,8 +1,12 @@
 //! Bodies and formulas that are made of others, as they are printed: calls that no program makes.
 
-ghost use Rattle.std.specs.Prelude.{◌≤◌, length};
+ghost use Rattle.std.specs.Prelude.{◌≤◌, length, IsTrue};
+ghost use Rattle.hy_formula.specs.Trees.{tree_of, vars_below};
 
-use hy_formula::{Formula, NameTable, atoms_of, conjoin, copy_formulas, negate, rename};
+use hy_base::Text;
+use hy_formula::{
+    Atom, Body, Formula, NameTable, Prefix, Quant, atoms_of, conjoin, copy_formulas, negate, rename,
+};
 use hy_read::{print_formula, read_formula};
 use std::alloc::Global;
 use std::test::Fail;
@@ -34,6 +38,41 @@ fn negates_copies_and_prints(rt: HostRuntime) -> Result<(), Fail> {
     let text = b"forall p. a_p <-> b_p | false <-> F G c_d_p R b_p W X_p";
     let wanted = b"exists x1. !(a_x1 <-> ((b_x1 | false) <-> (F G c_d_x1 R (b_x1 W X_x1))))";
     assert!(rt; negated(alloc, text)?.as_slice() == wanted.as_slice());
+    let text = b"exists p. forall q. a_p & !a_q";
+    let wanted = b"forall x1. exists x2. !(a_x1 & !a_x2)";
+    assert!(rt; negated(alloc, text)?.as_slice() == wanted.as_slice());
+    Ok(())
+}
+
+/// A body of one variable, as it is printed behind its quantifier.
+fn printed_body(alloc: Global, body: Body) -> Result<Text, Fail>
+    requires { IsTrue (vars_below 1 (tree_of body)) }
+{
+    let mut names = NameTable::new(alloc)?;
+    names.add(alloc, b"a")?;
+    let prefix = Prefix::new(alloc, &[Quant::Exists])?;
+    Ok(print_formula(alloc, &Formula { prefix, body }, &names)?)
+}
+
+/// `a_p & !a_q`, with one variable in place of both.
+fn joined(alloc: Global) -> Result<Text, Fail> {
+    let second = Box::new(alloc, Body::Atom(Atom { name: 0, var: 1 }))?;
+    let both = conjoin(
+        alloc,
+        Body::Atom(Atom { name: 0, var: 0 }),
+        Body::Not(second),
+    )?;
+    printed_body(alloc, rename(alloc, &both, &[0, 0])?)
+}
+
+#[test]
+fn prints_what_is_made(rt: HostRuntime) -> Result<(), Fail> {
+    let alloc = rt.alloc();
+    let wanted = b"exists x1. (a_x1 & !a_x1)";
+    assert!(rt; joined(alloc)?.as_slice() == wanted.as_slice());
+    let wanted = b"exists x1. (true & false)";
+    let both = printed_body(alloc, conjoin(alloc, Body::True, Body::False)?)?;
+    assert!(rt; both.as_slice() == wanted.as_slice());
     Ok(())
 }
 
