@@ -1,4 +1,4 @@
-"""The programs that benches time: the one that was built here, or else the one that bin/NAME unpacked."""
+"""The programs that benches run, which are those that the launchers of bin/ start."""
 import os
 import subprocess
 import sys
@@ -8,8 +8,16 @@ TOP = os.path.dirname(os.path.dirname(os.path.abspath(__file__)))
 
 def program(name):
     """the path of a program itself, since its launcher takes time of its own"""
-    subprocess.run([os.path.join(TOP, "bin", name)], capture_output=True, check=False)
-    for path in (os.path.join(TOP, "crates", name, "out", name), os.path.join(TOP, "prebuilt", "out", name)):
-        if os.access(path, os.X_OK):
-            return path
-    sys.exit(f"there is no program {name}: run bin/{name}, which says why")
+    found = subprocess.run([os.path.join(TOP, "bin", "where"), name], stdout=subprocess.PIPE, text=True, check=False)
+    return found.stdout.rstrip("\n") or sys.exit(f"there is no program {name}")
+
+
+def programs(names, folder):
+    """programs by name: those of a folder, or those that the launchers start"""
+    if not folder:
+        return {name: program(name) for name in names}
+    found = {name: os.path.join(os.path.abspath(folder), name) for name in names}
+    for path in found.values():
+        if not os.access(path, os.X_OK):
+            sys.exit(f"there is no program {path}")
+    return found
