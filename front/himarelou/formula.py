@@ -1,0 +1,179 @@
+"""A formula as a user writes it, written out as the tools read it: vectors bit by bit, faults at the user's own place."""
+from __future__ import annotations
+
+import re
+from dataclasses import dataclass, field
+from typing import NoReturn
+
+from himarelou.faults import shown
+from himarelou.names import Names, atom
+from himarelou.tokens import QUANTIFIERS, Text, Token
+
+MOST_NAMES = 64
+ONE_RUN = "p"
+BINARY = {"&", "|", "->", "<->", "U", "R", "W"}
+UNARY = {"!", "X", "F", "G"}
+
+
+@dataclass
+class Written:
+    """A formula as the tools read it, with its quantifiers, and which byte came of which place of the user's text."""
+
+    source: Text
+    text: str = ""
+    quantifiers: list[tuple[str, str]] = field(default_factory=list)
+    names: dict[str, None] = field(default_factory=dict)
+    places: list[tuple[int, int]] = field(default_factory=list)
+
+    def add(self, text: str, at: int) -> None:
+        self.places.append((len(self.text.encode("utf-8", "surrogateescape")), at))
+        self.text += text
+
+    def place_of(self, byte: int) -> int:
+        """Where in the user's text the byte of the written one comes from."""
+        return max((at for begun, at in self.places if begun <= byte), default=0)
+
+
+def write_out(source: Text, names: Names | None) -> Written:
+    """The formula written out. Without names a vector is written as it says its own places, and no name is looked for."""
+    return _Writer(source, names).formula()
+
+
+def write_out_of_one_run(source: Text, names: Names) -> Written:
+    """A body on signals of one run, which say no run, written out as that of a run p."""
+    writer = _Writer(source, names, ONE_RUN)
+    writer.body()
+    return writer.ended()
+
+
+class _Writer:
+    """Goes through the tokens by what may stand at each place."""
+
+    def __init__(self, source: Text, names: Names | None, run: str = ""):
+        self.source, self.names = source, names
+        self.tokens = list(source.tokens(run))
+        self.out, self.bound = Written(source), {run}
+        self.at = self.open = self.copied = 0
+
+    def formula(self) -> Written:
+        self.prefix()
+        self.body()
+        while self.token().text == ";":
+            self.at += 1
+            self.prefix()
+            self.body()
+        return self.ended()
+
+    def ended(self) -> Written:
+        if self.token().kind != "end":
+            self.refuse("an operator")
+        self.copy_gap(len(self.source.content))
+        return self.out
+
+    def token(self, ahead: int = 0) -> Token:
+        return self.tokens[min(self.at + ahead, len(self.tokens) - 1)]
+
+    def refuse(self, words: str, ahead: int = 0) -> NoReturn:
+        token = self.token(ahead)
+        found = "the end" if token.kind == "end" else shown(token.text)
+        raise self.source.fault(token.at, f"{words} is wanted here, not {found}")
+
+    def prefix(self) -> None:
+        if self.token().text not in QUANTIFIERS:
+            self.refuse("`forall` or `exists`")
+        self.bound = set()
+        while self.token().text in QUANTIFIERS:
+            variable = self.token(1)
+            if variable.kind != "word" or not variable.text.isalnum():
+                self.refuse("the name of a run", 1)
+            if self.token(2).text != ".":
+                self.refuse("`.`", 2)
+            self.out.quantifiers.append((self.token().text, variable.text))
+            self.bound.add(variable.text)
+            self.at += 3
+
+    def body(self) -> None:
+        is_wanted = True
+        while True:
+            token = self.token()
+            if is_wanted:
+                is_wanted = self.operand(token)
+            elif token.kind == "end" or token.text == ";":
+                break
+            elif token.text == ")" and self.open:
+                self.open -= 1
+                self.replace(token.text, 1)
+            elif token.text in BINARY:
+                is_wanted = True
+                self.replace(token.text, 1)
+            else:
+                self.refuse("an operator")
+        if self.open:
+            self.refuse("`)`")
+
+    def operand(self, token: Token) -> bool:
+        """Takes one token, or a whole equality; whether an operand is still wanted behind it."""
+        if token.kind == "atom":
+            self.equality(token)
+            return False
+        if token.text == "(":
+            self.open += 1
+        elif token.text not in UNARY and token.text not in ("true", "false"):
+            self.refuse("an operand")
+        self.replace(token.text, 1)
+        return token.text not in ("true", "false")
+
+    def copy_gap(self, end: int) -> None:
+        """Blanks as they are; comments are for the user alone."""
+        self.out.add(re.sub("#[^\n]*", "", self.source.content[self.copied:end]), self.copied)
+
+    def replace(self, text: str, count: int) -> None:
+        """Writes a text in place of the next tokens."""
+        self.copy_gap(self.token().at)
+        self.out.add(text, self.token().at)
+        self.copied = self.token(count - 1).end
+        self.at += count
+
+    def equality(self, token: Token) -> None:
+        left, sign, other = self.bits(token), self.token(1), self.token(2)
+        if sign.text not in ("=", "!="):
+            if len(left) > 1:
+                raise self.source.fault(token.at, f"{shown(token.name)} has {len(left)} bits: compare it by =")
+            return self.replace(left[0], 1)
+        if other.kind not in ("atom", "number"):
+            self.refuse("a name or a number", 2)
+        parts = self.number(left, other) if other.kind == "number" else self.pairs(token, left, other)
+        whole = parts[0] if len(parts) == 1 and other.kind == "atom" else "(" + " & ".join(parts) + ")"
+        return self.replace(whole if sign.text == "=" else "!" + whole, 3)
+
+    def number(self, left: list[str], other: Token) -> list[str]:
+        value = int(other.text, 0) if other.text[:2] in ("0x", "0b") else int(other.text)
+        if value >> len(left):
+            raise self.source.fault(other.at, f"{other.text} has more than {len(left)} bits")
+        return [it if value >> place & 1 else "!" + it for place, it in enumerate(left)]
+
+    def pairs(self, token: Token, left: list[str], other: Token) -> list[str]:
+        right = self.bits(other)
+        if len(left) != len(right):
+            raise self.source.fault(token.at, f"{shown(token.name)} has {len(left)} bits, {shown(other.name)} has {len(right)}")
+        return [f"({a} <-> {b})" for a, b in zip(left, right)]
+
+    def bits(self, token: Token) -> list[str]:
+        """The atoms of a token's bits, whose run is bound."""
+        if token.variable not in self.bound:
+            raise self.source.fault(token.at, f"no quantifier binds the run {token.variable} of {shown(token.text)}")
+        found = _said_places(token.name) if self.names is None else self.names.bits(token.name)
+        if not found:
+            hint = self.names.hint(token.name)
+            raise self.source.fault(token.at, f"no signal is named {shown(token.name)}{hint}")
+        self.out.names |= dict.fromkeys(found)
+        return [atom(it, token.variable) for it in found]
+
+
+def _said_places(name: str) -> list[str]:
+    """The bits of `a[3:0]` where nothing else is known of it."""
+    vector, bracket, places = name.rpartition("[")
+    if not bracket or ":" not in places or not places.endswith("]"):
+        return [name]
+    low, high = sorted(int(it) for it in places[:-1].split(":"))
+    return [f"{vector}[{it}]" for it in range(low, min(high, low + MOST_NAMES) + 1)]

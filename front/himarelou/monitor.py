@@ -1,0 +1,106 @@
+"""One monitor: traces of a simulation are given to `rvhyper`."""
+from __future__ import annotations
+
+import re
+import time
+from pathlib import Path
+
+from himarelou.aiger import MOST_BYTES, read_bytes
+from himarelou.asking import OPEN_STATUS
+from himarelou.check import Work, text_of
+from himarelou.design import files_of
+from himarelou.faults import Fault, shown
+from himarelou.formula import write_out
+from himarelou.names import Names
+from himarelou.programs import program
+from himarelou.project import Question
+from himarelou.result import Result
+from himarelou.statement import Statement
+from himarelou.tokens import Text
+
+NAME = re.compile(rb'"[^"\n]*"|[A-Za-z][A-Za-z0-9_]*')
+
+
+class Monitor:
+    def __init__(self, work: Work, question: Question):
+        self.work, self.question = work, question
+        self.result = Result(question.name, question.kind, question.expect)
+        self.room = work.store.room("checks", question.name)
+
+    def run(self) -> Result:
+        begun = time.monotonic()
+        self.work.tell(self.question.name, "traces")
+        files, joined, names = self.traces()
+        formula, used = self.formula(names)
+        self.work.store.write(self.room / "traces", joined)
+        self.work.store.write(self.room / "formula", formula.encode("utf-8", "surrogateescape"))
+        unseen = [it for it in used if it not in names.known]
+        if unseen:
+            self.result.notes.append(f"no trace has {shown(', '.join(unseen))}, so it is never high")
+        self.ask(files)
+        self.result.seconds = round(time.monotonic() - begun, 2)
+        self.result.files = {"formula": str(self.room / "formula"), "traces": str(self.room / "traces")}
+        return self.result
+
+    def fault(self, key: str, words: str) -> Fault:
+        return self.work.project.fault((self.question.kind, self.question.name, key), words)
+
+    def traces(self) -> tuple[list[tuple[str, int]], bytes, Names]:
+        """The files with their first lines in what they are joined to, and the names that stand there."""
+        try:
+            files = files_of(self.question.traces, self.work.project.folder)
+        except Fault as fault:
+            raise self.fault("traces", str(fault)) from fault
+        parts, begins, line, size = [], [], 1, 0
+        for file in files:
+            data = read_bytes(self.work.project.folder / file)
+            data += b"" if data.endswith(b"\n") or not data else b"\n"
+            begins.append((file, line))
+            line, size = line + data.count(b"\n"), size + len(data)
+            if size > MOST_BYTES:
+                raise self.fault("traces", f"more than {MOST_BYTES} bytes in all")
+            parts.append(data)
+        joined = b"".join(parts)
+        names = {it.decode("utf-8", "surrogateescape").strip('"') for it in set(NAME.findall(joined))}
+        return begins, joined, Names(sorted(names))
+
+    def formula(self, names: Names) -> tuple[str, list[str]]:
+        """The formula's text and its names."""
+        question = self.question
+        if question.same is not None:
+            statement = Statement(None, *(self.bits(key, names) for key in ("equal", "given", "same")))
+            return statement.formula(), list(statement.names())
+        source = Text("formula", question.formula) if question.formula else text_of(self.work.project.folder / question.file)
+        try:
+            out = write_out(source, None)
+        except Fault as fault:
+            raise self.fault("formula" if question.formula else "file", str(fault)) from fault
+        return out.text, list(out.names)
+
+    def bits(self, key: str, names: Names) -> list[str]:
+        """The bits of the words of a key; a name that no trace has stands for itself."""
+        words = getattr(self.question, key) or ()
+        return list(dict.fromkeys(it for word in words for it in names.bits(word) or [word]))
+
+    def ask(self, files: list[tuple[str, int]]) -> None:
+        question, result = self.question, self.result
+        self.work.tell(question.name, "rvhyper")
+        words = [*(["--drop"] if question.drop else []), "--lengths", question.lengths, self.room / "formula", self.room / "traces"]
+        ended = self.work.runner.run([program("rvhyper"), *words], seconds=question.budget)
+        line = ended.out.decode(errors="replace").strip() or ended.err.strip().split("\n")[0]
+        if ended.status in (0, 1):
+            result.answer = "violation" if ended.status else "no violation"
+            result.notes.append(shown(line))
+            result.evidence = "no certificate exists of a monitor's answer; rvhyper, which is proved, carries it"
+        elif ended.status is None or ended.status in OPEN_STATUS:
+            result.lines.append(f"nothing in {question.budget:g} s" if ended.status is None else shown(line))
+        else:
+            raise Fault(f"rvhyper: {shown(line)}{self.place_of(line, files)}")
+
+    def place_of(self, line: str, files: list[tuple[str, int]]) -> str:
+        """Of which file the line is that an error line names."""
+        match = re.search(r"E(?:9 .*|10): line (\d+)$", line)
+        if not match:
+            return ""
+        name, begun = max((it for it in files if it[1] <= int(match[1])), key=lambda it: it[1], default=files[0])
+        return f", which is {shown(name)}:{int(match[1]) - begun + 1}"

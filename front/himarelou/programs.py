@@ -1,0 +1,121 @@
+"""The four proved programs and yosys: where they are, and how a process is run, bounded, and stopped."""
+from __future__ import annotations
+
+import contextlib
+import hashlib
+import os
+import shutil
+import signal
+import subprocess
+import threading
+import time
+from collections.abc import Sequence
+from dataclasses import dataclass
+from functools import cache
+from pathlib import Path
+
+from himarelou.faults import Broken, Stopped
+
+TOOLS = ("rvhyper", "eahyper", "mchyper", "hycheck")
+
+
+def bin_folder() -> Path:
+    """The folder of the launcher that started this, which has the programs, too."""
+    return Path(os.environ.get("HIMARELOU_BIN") or Path(__file__).parents[2] / "bin")
+
+
+@cache
+def program(name: str) -> Path:
+    """The checked program: the path that `bin/where` prints, or where that is not there the program beside the launcher."""
+    where = bin_folder() / "where"
+    if os.access(where, os.X_OK):
+        said = subprocess.run([where, name], capture_output=True, text=True, stdin=subprocess.DEVNULL, check=False)
+        if said.returncode:
+            raise Broken(said.stderr.strip() or f"{name}: not there")
+        return Path(said.stdout.strip())
+    path = bin_folder() / name
+    if not os.access(path, os.X_OK):
+        raise Broken(f"{name} is not in {bin_folder()}")
+    return path
+
+
+@cache
+def program_sum(name: str) -> str:
+    return file_sum(program(name))
+
+
+@cache
+def yosys_version() -> str:
+    if not shutil.which("yosys"):
+        raise Broken("yosys is not installed, and a circuit is to be made of sources; on Debian: apt-get install yosys")
+    return subprocess.run(["yosys", "-V"], capture_output=True, text=True, check=False).stdout.strip()
+
+
+def file_sum(path: Path) -> str:
+    try:
+        with open(path, "rb") as file:
+            return hashlib.file_digest(file, "sha256").hexdigest()
+    except OSError as error:
+        raise Broken(f"{path}: {error.strerror}") from error
+
+
+@dataclass(frozen=True)
+class Ended:
+    """How a process ended: its status (minus the number of a signal), or None where its time was over."""
+
+    status: int | None
+    out: bytes
+    err: str
+    seconds: float
+
+
+class Runner:
+    """Runs processes, each in a group of its own, and ends them all at once when it is stopped."""
+
+    def __init__(self) -> None:
+        self.lock, self.running, self.is_stopped = threading.Lock(), set(), False
+
+    def run(self, words: Sequence[str | Path], folder: Path | None = None, seconds: float | None = None,
+            out: Path | None = None, given: bytes | None = None) -> Ended:
+        """Runs a list of words; what it prints goes to the file `out`, or is kept."""
+        begun = time.monotonic()
+        process = self._start(words, folder, out, given is not None)
+        try:
+            printed, told = process.communicate(given, timeout=seconds)
+            status = process.returncode
+        except subprocess.TimeoutExpired:
+            _end(process)
+            printed, told = process.communicate()
+            status = None
+        finally:
+            with self.lock:
+                self.running.discard(process)
+        if self.is_stopped:
+            raise Stopped
+        return Ended(status, printed or b"", told.decode(errors="replace"), time.monotonic() - begun)
+
+    def _start(self, words: Sequence[str | Path], folder: Path | None, out: Path | None, is_given: bool) -> subprocess.Popen:
+        with self.lock, contextlib.ExitStack() as files:
+            if self.is_stopped:
+                raise Stopped
+            try:
+                to = subprocess.PIPE if out is None else files.enter_context(open(out, "wb"))
+                process = subprocess.Popen(words, cwd=folder, stdin=subprocess.PIPE if is_given else subprocess.DEVNULL,
+                                           stdout=to, stderr=subprocess.PIPE, start_new_session=True)
+            except OSError as error:
+                raise Broken(f"{words[0]}: {error.strerror}") from error
+            self.running.add(process)
+            return process
+
+    def stop(self) -> None:
+        with self.lock:
+            self.is_stopped = True
+            for process in self.running:
+                _end(process)
+
+
+def _end(process: subprocess.Popen) -> None:
+    try:
+        os.killpg(process.pid, signal.SIGKILL)
+    except ProcessLookupError:
+        pass

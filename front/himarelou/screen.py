@@ -1,0 +1,101 @@
+"""What is seen while checks run: on a terminal a line for each running one, renewed, and a table behind all; elsewhere plain
+lines."""
+from __future__ import annotations
+
+import os
+import shutil
+import sys
+import threading
+import time
+from typing import TextIO
+
+from himarelou.faults import shown
+from himarelou.result import AS_EXPECTED, FAULT, OPEN, OTHERWISE, Result
+
+COLOURS = {AS_EXPECTED: "32", OTHERWISE: "31", OPEN: "33", FAULT: "31"}
+HEAD = ("check", "answer", "", "seconds", "by")
+
+
+class Screen:
+    def __init__(self, stream: TextIO = sys.stdout, is_quiet: bool = False):
+        self.stream, self.lock = stream, threading.Lock()
+        self.is_terminal = stream.isatty() and os.environ.get("TERM") != "dumb"
+        self.has_colour = self.is_terminal and not os.environ.get("NO_COLOR")
+        self.running: dict[str, tuple[str, float]] = {}
+        self.drawn = 0
+        self.is_over = threading.Event()
+        if self.is_terminal:
+            threading.Thread(target=self._renew, daemon=True).start()
+
+    def stage(self, name: str, stage: str) -> None:
+        with self.lock:
+            begun = self.running.get(name, ("", time.monotonic()))[1]
+            self.running[name] = stage, begun
+            if not self.is_terminal:
+                self._line(f"{name}: {stage} ..")
+
+    def ended(self, result: Result) -> None:
+        with self.lock:
+            self.running.pop(result.name, None)
+            self._wipe()
+            self._line(self.line_of(result))
+            for note in result.notes if result.outcome != AS_EXPECTED or not self.is_terminal else []:
+                self._line(f"    {note}")
+            for line in result.lines if result.outcome in (OPEN, FAULT) else []:
+                self._line(f"    {line}")
+
+    def line_of(self, result: Result) -> str:
+        said = result.answer if result.answer == result.outcome else f"{result.answer}, {result.outcome}"
+        return f"{result.name}: {self.coloured(said, result.outcome)}, {result.seconds:g} s{by(result)}"
+
+    def coloured(self, text: str, outcome: str) -> str:
+        return f"\x1b[{COLOURS[outcome]}m{text}\x1b[0m" if self.has_colour else text
+
+    def close(self, results: list[Result]) -> None:
+        """The closing table on a terminal, and how many came to what."""
+        self.is_over.set()
+        with self.lock:
+            self._wipe()
+            if self.is_terminal:
+                self._table(results)
+            counts = [f"{sum(it.outcome == outcome for it in results)} {outcome}" for outcome in COLOURS
+                      if any(it.outcome == outcome for it in results)]
+            self._line(f"{len(results)} checks: " + ", ".join(counts) if results else "no checks")
+
+    def _table(self, results: list[Result]) -> None:
+        rows = [(it.name, it.answer, it.outcome, f"{it.seconds:g}", by(it)[2:]) for it in results]
+        widths = [max(map(len, column)) for column in zip(HEAD, *rows)]
+        for row, outcome in [(HEAD, ""), *zip(rows, (it.outcome for it in results))]:
+            cells = [cell.ljust(width) for cell, width in zip(row, widths)]
+            if outcome:
+                cells[2] = self.coloured(cells[2], outcome)
+            self._line("  ".join(cells).rstrip())
+
+    def _line(self, text: str) -> None:
+        kept = "\x1b" if self.has_colour else ""
+        print("".join(it if it in kept else shown(it) for it in text), file=self.stream, flush=True)
+
+    def _wipe(self) -> None:
+        if self.drawn:
+            self.stream.write(f"\x1b[{self.drawn}A\x1b[J")
+            self.drawn = 0
+
+    def _renew(self) -> None:
+        while not self.is_over.wait(0.2):
+            with self.lock:
+                self._wipe()
+                width, height = shutil.get_terminal_size()
+                rows = list(self.running.items())[:max(1, height - 2)]
+                for name, (stage, begun) in rows:
+                    self.stream.write(shown(f"{name}: {stage}, {time.monotonic() - begun:.0f} s")[:width - 1] + "\n")
+                self.drawn = len(rows)
+                self.stream.flush()
+
+
+def by(result: Result) -> str:
+    """What gave the answer."""
+    parts = ["kept"] if result.is_kept else []
+    parts += [result.stage] if result.stage else []
+    parts += [result.evidence.split(" of ")[0].split(";")[0]] if result.evidence else []
+    parts += [f"premise {result.vacuity}"] if result.vacuity else []
+    return "; " + "; ".join(parts) if parts else ""

@@ -1,0 +1,94 @@
+"""What stays beside the project: circuits, formulas, answers, results, each renamed into place when it is whole."""
+from __future__ import annotations
+
+import hashlib
+import hmac
+import json
+import os
+import tempfile
+from functools import cache
+from pathlib import Path
+from typing import Any
+
+from himarelou.faults import Broken, Fault, shown
+
+FOLDER = ".himarelou"
+
+
+class Store:
+    """The folder of results. Nothing is written through a link, and a record that was not sealed here is none."""
+
+    def __init__(self, folder: Path):
+        self.folder = folder
+        self.room()
+        if not (folder / ".gitignore").exists():
+            self.write(folder / ".gitignore", b"*\n")
+
+    def room(self, *names: str) -> Path:
+        """A folder in the store, made where it is not there."""
+        path = self.folder
+        for name in ("", *names):
+            path = path / name
+            try:
+                path.mkdir(exist_ok=True, parents=path == self.folder)
+            except OSError as error:
+                raise Broken(f"{shown(str(path))}: {error.strerror}") from error
+            if path.is_symlink():
+                raise Fault(f"{shown(str(path))} is a link; results are not written through one")
+        return path
+
+    def write(self, path: Path, data: bytes) -> None:
+        """Writes a file whole, or leaves it as it was."""
+        try:
+            handle, name = tempfile.mkstemp(prefix=".new-", dir=path.parent)
+            with os.fdopen(handle, "wb") as file:
+                file.write(data)
+            os.replace(name, path)
+        except OSError as error:
+            raise Broken(f"{shown(str(path))}: {error.strerror}") from error
+
+    def record(self, path: Path, value: dict[str, Any]) -> None:
+        """Writes a record with a seal."""
+        text = json.dumps(value, sort_keys=True)
+        self.write(path, json.dumps({"seal": _seal(text), "record": value}, indent=1, sort_keys=True).encode() + b"\n")
+
+    def recorded(self, path: Path) -> dict[str, Any] | None:
+        """The record of a file, where this user sealed it."""
+        try:
+            value = json.loads(path.read_bytes())
+            text = json.dumps(value["record"], sort_keys=True)
+            return value["record"] if hmac.compare_digest(str(value["seal"]), _seal(text)) else None
+        except (OSError, ValueError, KeyError, TypeError, RecursionError):
+            return None
+
+
+def _seal(text: str) -> str:
+    return hmac.new(_key(), text.encode(), "sha256").hexdigest()
+
+
+@cache
+def _key() -> bytes:
+    """A key of this user's own, so that results which came with a project are not believed; one of this call alone
+    where there is no place for it."""
+    state = os.environ.get("XDG_STATE_HOME", "")
+    home = Path(state) if state.startswith("/") else Path(os.environ.get("HOME") or "/nowhere") / ".local/state"
+    path = home / "himarelou" / "key"
+    try:
+        path.parent.mkdir(mode=0o700, parents=True, exist_ok=True)
+        handle, name = tempfile.mkstemp(dir=path.parent)
+        with os.fdopen(handle, "wb") as file:
+            file.write(os.urandom(32))
+        try:
+            os.link(name, path)
+        except FileExistsError:
+            pass
+        finally:
+            os.unlink(name)
+        return path.read_bytes()
+    except OSError:
+        return os.urandom(32)
+
+
+def sum_of(*parts: Any) -> str:
+    """The sum of values that JSON can write."""
+    return hashlib.sha256(json.dumps(parts, sort_keys=True).encode()).hexdigest()
