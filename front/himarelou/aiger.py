@@ -2,8 +2,7 @@
 
 A literal is twice a variable, and one more for its negation; variable 0 is false. `docs/FORMATS.md` has the texts.
 """
-from __future__ import annotations
-
+import graphlib
 import re
 from collections.abc import Iterable, Iterator, Sequence
 from dataclasses import dataclass, field
@@ -177,22 +176,9 @@ def check_literals(made: Circuit) -> None:
 
 def in_order(ands: list[tuple[int, int, int]]) -> list[tuple[int, int, int]]:
     """The ands, each behind those that it uses."""
-    rows, done, order = {row[0] >> 1: row for row in ands}, set(), []
-    for first in rows:
-        todo = [first]
-        while todo:
-            variable = todo[-1]
-            wanted = [it >> 1 for it in rows[variable][1:] if it >> 1 in rows and it >> 1 not in done]
-            if variable in done or not wanted:
-                if variable not in done:
-                    done.add(variable)
-                    order.append(rows[variable])
-                todo.pop()
-            elif len(todo) > len(rows):
-                raise ValueError("an and depends on itself")
-            else:
-                todo += wanted[:1]
-    return order
+    rows = {row[0] >> 1: row for row in ands}
+    uses = {variable: [it >> 1 for it in row[1:] if it >> 1 in rows] for variable, row in rows.items()}
+    return [rows[it] for it in graphlib.TopologicalSorter(uses).static_order()]
 
 
 def written(circuit: Circuit, is_ascii: bool) -> bytes:

@@ -1,14 +1,12 @@
 """What is assumed of each run in each cycle, made a constraint of the circuit."""
-from __future__ import annotations
-
 import copy
-from collections.abc import Sequence
+from collections.abc import Callable, Sequence
 
 from himarelou.aiger import Circuit
-from himarelou.body import gates_of, parse_body
+from himarelou.body import LOOSEST, Tree, parse_body
 from himarelou.faults import Fault
 from himarelou.formula import write_out_of_one_run
-from himarelou.gates import Builder
+from himarelou.gates import FALSE, TRUE, Builder
 from himarelou.names import Names
 from himarelou.tokens import Text
 
@@ -28,3 +26,20 @@ def with_assumed(circuit: Circuit, assumed: Sequence[str]) -> Circuit:
         except RecursionError as error:
             raise Fault("assume: too deep") from error
     return made
+
+
+def gates_of(tree: Tree, builder: Builder, literal_of: Callable[[str], int]) -> int:
+    """The literal of a part without temporal operators; a ValueError names one that there is."""
+    if tree.sign == "atom":
+        return literal_of(tree.name)
+    if tree.sign in ("true", "false"):
+        return TRUE if tree.sign == "true" else FALSE
+    if tree.sign not in ("!", *LOOSEST):
+        raise ValueError(tree.sign)
+    parts = [gates_of(it, builder, literal_of) for it in tree.parts]
+    if tree.sign == "!":
+        return parts[0] ^ 1
+    left, right = parts
+    if tree.sign == "&":
+        return builder.both(left, right)
+    return builder.same(left, right) if tree.sign == "<->" else builder.either(left ^ (tree.sign == "->"), right)

@@ -1,10 +1,10 @@
-"""The tree of a formula: judged on runs, so that it can be told which part fails where, and made gates of a circuit."""
-from __future__ import annotations
-
-from collections.abc import Callable
+"""The tree of a formula, judged on runs: which part fails where."""
+from collections.abc import Callable, Sequence
 from dataclasses import dataclass
 
-from himarelou.gates import FALSE, TRUE, Builder
+from himarelou.aiger import Circuit, value_of
+from himarelou.faults import Fault
+from himarelou.runs import Run, joint_length
 from himarelou.tokens import QUANTIFIERS, Text, Token
 
 LOOSEST = ("<->", "->", "|", "&")
@@ -16,7 +16,7 @@ class Tree:
     """A part: its operator (`atom` of a leaf with a name), its operands, and where it stands in the text."""
 
     sign: str
-    parts: tuple[Tree, ...] = ()
+    parts: tuple["Tree", ...] = ()
     name: str = ""
     variable: str = ""
     begin: int = 0
@@ -141,18 +141,34 @@ def _plain(sign: str, values: tuple[bool, ...]) -> bool:
     return {"&": left and right, "|": left or right, "->": not left or right, "<->": left == right}[sign]
 
 
-def gates_of(tree: Tree, builder: Builder, literal_of: Callable[[str], int]) -> int:
-    """The literal of a part without temporal operators; a ValueError names one that there is."""
-    if tree.sign == "atom":
-        return literal_of(tree.name)
-    if tree.sign in ("true", "false"):
-        return TRUE if tree.sign == "true" else FALSE
-    if tree.sign not in ("!", *LOOSEST):
-        raise ValueError(tree.sign)
-    parts = [gates_of(it, builder, literal_of) for it in tree.parts]
-    if tree.sign == "!":
-        return parts[0] ^ 1
-    left, right = parts
-    if tree.sign == "&":
-        return builder.both(left, right)
-    return builder.same(left, right) if tree.sign == "<->" else builder.either(left ^ (tree.sign == "->"), right)
+def failing_part(content: str, circuit: Circuit, runs: Sequence[Run]) -> str:
+    """In words, or nothing where the runs do not break the formula, or where it is too much to judge here."""
+    try:
+        quantifiers, body = parse(content)
+    except (Fault, IndexError, RecursionError):
+        return ""
+    if len(quantifiers) != len(runs):
+        return ""
+    stem, length = joint_length(runs, circuit)
+    for run in runs:
+        run.play(circuit, length)
+    literals = {name: literal for _, name, literal in circuit.signals()}
+    seen = {variable: run.seen for (_, variable), run in zip(quantifiers, runs)}
+
+    def holds(name: str, variable: str, position: int) -> bool:
+        return bool(value_of(seen[variable][position], literals[name]))
+
+    judge = Judge(holds, stem, length)
+    try:
+        if judge.row(body)[0]:
+            return ""
+        part, at = judge.failing(body)
+    except (KeyError, RecursionError):
+        return ""
+    return f"{_shortened(content, part)} fails in cycle {at}"
+
+
+def _shortened(content: str, part: Tree) -> str:
+    text = " ".join(content[part.begin:part.end].split())
+    text += ")" * (text.count("(") - text.count(")"))
+    return text if len(text) <= 80 else text[:77] + "..."

@@ -1,30 +1,30 @@
 """One check of a circuit, from its keys in the project file to its result."""
-from __future__ import annotations
-
 import time
 from collections.abc import Callable
 from dataclasses import dataclass
 from pathlib import Path
 
-from himarelou.aiger import Circuit, read_circuit, written
-from himarelou.asking import ACCEPTED, Asked, Files, ask, check_evidence
+from himarelou.aiger import Circuit, read_bytes, written
+from himarelou.asking import Asked, Asker, Files
 from himarelou.assume import with_assumed
+from himarelou.body import failing_part
 from himarelou.circuits import Circuits, Ready
-from himarelou.design import front_sum
 from himarelou.faults import Fault, shown
 from himarelou.formula import MOST_NAMES, Written, write_out
 from himarelou.names import joined
-from himarelou.pair import FORMULAS, MET, PARTED, pair_of
-from himarelou.programs import Runner, file_sum, program_sum
+from himarelou.pair import FORMULAS, MET, PARTED, first_parting, pair_of, split
+from himarelou.picture import svg
+from himarelou.programs import Runner
 from himarelou.project import Project, Question
-from himarelou.result import OPEN, Result, UNKNOWN, VACUOUS
-from himarelou.result import MET as IS_MET
+from himarelou.result import IS_MET, OPEN, Result, UNKNOWN, VACUOUS
+from himarelou.runs import Run, letters_of, runs_of, runs_with_strategy
+from himarelou.scene import STEPS, scene_of
 from himarelou.statement import Statement
-from himarelou.store import Store, sum_of
-from himarelou.strategy import in_order_of_ports
+from himarelou.store import Store
+from himarelou.strategy import in_order_of_ports, shows_all
 from himarelou.tokens import Text
 
-VACUITY_BUDGET = 120.0
+VACUITY_BUDGET = 120
 
 
 @dataclass
@@ -44,194 +44,182 @@ class Check:
     def __init__(self, work: Work, question: Question):
         self.work, self.question = work, question
         self.result = Result(question.name, question.kind, question.expect)
-        self.room: Path = work.store.room("checks", question.name)
+        self.room = work.store.room("checks", question.name)
+        self.design = work.project.circuits[question.circuit]
+        self.asker = Asker(work.runner, work.store, question.stages, lambda stage: work.tell(question.name, stage))
         self.statement: Statement | None = None
         self.missing: list[str] = []
 
     def run(self) -> Result:
         begun = time.monotonic()
-        self.tell("circuit")
-        ready = self.work.circuits.of(self.work.project.circuits[self.question.circuit])
-        self.circuit = self.assumed(ready)
-        files = self.posed(ready)
-        asked = self.decided("answer", files, self.question.budget)
-        self.result.answer, self.result.stage = asked.answer, asked.stage
-        self.result.evidence, self.result.lines = asked.evidence, asked.lines
-        self.judge_premise(ready)
-        self.picture(ready, files)
+        self.asker.tell("circuit")
+        self.ready = self.work.circuits.of(self.design)
+        self.circuit = self.assumed()
+        files = self.posed()
+        asked = self.asker.decided(files, self.question.budget)
+        self.result.take(asked)
+        self.result.files = {"circuit": str(files.circuit), "formula": str(files.formula), "answer": str(files.answer)}
+        self.show(files)
+        self.judge_premise()
         self.result.seconds = round(time.monotonic() - begun, 2)
         return self.result
 
-    def tell(self, stage: str) -> None:
-        self.work.tell(self.question.name, stage)
+    def fault(self, fault: Fault | str, key: str) -> Fault:
+        return self.work.project.fault(str(fault), *self.question.where, key)
 
-    def fault(self, key: str, words: str) -> Fault:
-        return self.work.project.fault((self.question.kind, self.question.name, key), words)
-
-    def assumed(self, ready: Ready) -> Circuit:
-        """The circuit under what is assumed, and what is told of it."""
-        design = self.work.project.circuits[self.question.circuit]
-        texts = (*design.assume, *self.question.assume)
-        self.result.notes += ready.made.findings + [f"assumed: {it}" for it in (*ready.made.assumptions, *map(shown, texts))]
-        try:
-            return with_assumed(ready.circuit, texts)
-        except Fault as fault:
-            raise self.work.project.fault(("circuit", design.name, "assume") if design.assume else
-                                          ("check", self.question.name, "assume"), str(fault)) from fault
-
-    def posed(self, ready: Ready) -> Files:
-        """The files that are asked about."""
-        file = ready.file if self.circuit is ready.circuit else self.write("circuit.aig", written(self.circuit, False))
-        answer = self.room / "answer"
-        if self.question.formula or self.question.file:
-            formula = self.write("formula", self.own_formula(ready).text.encode("utf-8", "surrogateescape"))
-            return Files(file, formula, answer, self.ordered_strategy(ready))
-        self.statement = self.stated(ready)
-        if len(self.statement.names()) <= MOST_NAMES:
-            return Files(file, self.write("formula", self.statement.formula().encode("utf-8", "surrogateescape")), answer)
-        pair = written(pair_of(self.circuit, self.statement, PARTED), False)
-        self.result.notes.append(f"{len(self.statement.names())} names, so it is asked of two copies with an output `{PARTED}`")
-        return Files(self.write("pair.aig", pair), self.write("formula", FORMULAS[PARTED].encode()), answer)
-
-    def write(self, name: str, data: bytes) -> Path:
-        self.work.store.write(self.room / name, data)
+    def write(self, name: str, data: bytes | str) -> Path:
+        self.work.store.write(self.room / name, data if isinstance(data, bytes) else data.encode("utf-8", "surrogateescape"))
         return self.room / name
 
-    def own_formula(self, ready: Ready) -> Written:
+    def assumed(self) -> Circuit:
+        """The circuit under what is assumed, which is told."""
+        notes = [*self.ready.made.findings, *(f"assumed: {it}" for it in self.ready.made.assumptions)]
+        circuit = self.ready.circuit
+        for texts, where in ((self.design.assume, self.design.where), (self.question.assume, self.question.where)):
+            try:
+                circuit = with_assumed(circuit, texts)
+            except Fault as fault:
+                raise self.work.project.fault(str(fault), *where, "assume") from fault
+            notes += [f"assumed in each cycle: {shown(it)}" for it in texts]
+        self.result.notes += notes
+        return circuit
+
+    def posed(self) -> Files:
+        """The files that are asked about."""
+        self.file = self.ready.file if self.circuit is self.ready.circuit else self.write("circuit.aig", written(self.circuit, False))
+        answer = self.room / "answer"
+        if self.question.formula or self.question.file:
+            out = self.own_formula()
+            strategy = self.ordered_strategy(out)
+            return Files(self.file, self.write("formula", shows_all(out, self.circuit) if strategy else out.text), answer, strategy)
+        self.statement = self.stated()
+        names = self.statement.names()
+        if len(names) <= MOST_NAMES:
+            return Files(self.file, self.write("formula", self.statement.formula()), answer)
+        self.result.notes.append(f"{len(names)} names, so it is asked of two copies with an output `{PARTED}`")
+        return self.of_pair(PARTED, answer)
+
+    def of_pair(self, asked: str, answer: Path) -> Files:
+        pair = written(pair_of(self.circuit, self.statement, asked), False)
+        return Files(self.write(f"{asked}.aig", pair), self.write(f"{asked}.formula", FORMULAS[asked]), answer)
+
+    def own_formula(self) -> Written:
         """The user's formula, written out."""
-        if self.question.formula:
-            source = Text("formula", self.question.formula)
-        else:
-            source = text_of(self.work.project.folder / self.question.file)
+        key = "formula" if self.question.formula else "file"
+        source = Text(key, self.question.formula) if self.question.formula else text_of(self.work.project.folder / self.question.file)
         try:
-            out = write_out(source, ready.names)
+            out = write_out(source, self.ready.names)
         except Fault as fault:
-            raise self.fault("formula" if self.question.formula else "file", str(fault)) from fault
+            raise self.fault(fault, key) from fault
         if len(out.names) > MOST_NAMES:
-            raise self.fault("formula", f"it has {len(out.names)} names, and a formula has at most {MOST_NAMES}")
+            raise self.fault(f"it has {len(out.names)} names, and a formula has at most {MOST_NAMES}", key)
         return out
 
-    def ordered_strategy(self, ready: Ready) -> Path | None:
+    def ordered_strategy(self, out: Written) -> Path | None:
         """The strategy with its ports in the order that the tool wants."""
-        design = self.question.strategy
-        if design is None:
+        if self.question.strategy is None:
             return None
-        out = self.own_formula(ready)
-        strategy = self.work.circuits.of(design)
         try:
-            ordered = in_order_of_ports(strategy.circuit, self.circuit, out.quantifiers)
+            self.strategy = in_order_of_ports(self.work.circuits.of(self.question.strategy).circuit, self.circuit, out.quantifiers)
         except Fault as fault:
-            raise self.fault("strategy", str(fault)) from fault
-        return self.write("strategy.aig", written(ordered, False))
+            raise self.fault(fault, "strategy") from fault
+        self.quantifiers = out.quantifiers
+        return self.write("strategy.aig", written(self.strategy, False))
 
-    def stated(self, ready: Ready) -> Statement:
+    def stated(self) -> Statement:
         """The statement that the keys make."""
-        question, reset = self.question, self.work.project.circuits[self.question.circuit].reset
-        if reset and len(ready.names.bits(reset.name)) != 1:
-            words = f"no signal of one bit is named {shown(reset.name)}{ready.names.hint(reset.name)}"
-            raise self.work.project.fault(("circuit", question.circuit, "reset"), words)
+        reset, names, question = self.design.reset, self.ready.names, self.question
+        if reset and len(names.bits(reset.name)) != 1:
+            words = f"no signal of one bit is named {shown(reset.name)}{names.hint(reset.name)}"
+            raise self.work.project.fault(words, *self.design.where, "reset")
         read = self.circuit.read_variables()
         inputs = [name for kind, name, literal in self.circuit.signals() if kind == "i" and literal >> 1 in read]
-        given = self.bits("given", ready)
-        same = self.bits("same", ready) if question.same else [it for word in ready.made.outputs for it in ready.names.bits(word)]
-        if not same:
-            raise self.fault("same", "the circuit has no outputs, so it is to be said what is the same")
+        given = self.bits("given")
+        same = self.bits("same") if question.same else [it for word in self.ready.made.outputs for it in names.bits(word)]
         if question.equal is not None:
-            equal = self.bits("equal", ready)
-            registers = [name for kind, name, _ in self.circuit.signals() if kind == "l"]
-            secret = [it for it in inputs if it not in equal] + registers
+            equal = self.bits("equal")
+            secret = [it for it in inputs if it not in equal] + [name for kind, name, _ in self.circuit.signals() if kind == "l"]
         else:
-            secret = self.secrets(ready)
+            secret = self.secrets()
             equal = [it for it in inputs if it not in secret]
         own = {reset.name} if reset else set()
-        return Statement(reset, [it for it in equal if it not in own], given, [it for it in same if it not in given],
-                         [it for it in secret if it not in own])
+        same = [it for it in same if it not in given]
+        if not same:
+            raise self.fault("no output is left that is to be the same", "same")
+        return Statement(reset, [it for it in equal if it not in own], given, same, [it for it in secret if it not in own])
 
-    def bits(self, key: str, ready: Ready) -> list[str]:
+    def bits(self, key: str) -> list[str]:
         """The bits that the words of a key name."""
-        words = getattr(self.question, key) or ()
-        found: dict[str, None] = {}
-        for place, word in enumerate(words):
-            try:
-                found |= dict.fromkeys(ready.names.wanted(word))
-            except Fault as fault:
-                raise self.work.project.fault(("check", self.question.name, key, place), str(fault)) from fault
-        return list(found)
+        try:
+            return list(dict.fromkeys(it for word in getattr(self.question, key) or () for it in self.ready.names.wanted(word)))
+        except Fault as fault:
+            raise self.fault(fault, key) from fault
 
-    def secrets(self, ready: Ready) -> list[str]:
+    def secrets(self) -> list[str]:
         """The secret bits; what the circuit does not have is told with the premise."""
         found: dict[str, None] = {}
-        for place, word in enumerate(self.question.secret or ()):
-            bits = ready.names.bits(word)
+        kinds = {name: kind for kind, name, _ in self.circuit.signals() if kind != "o"}
+        for word in self.question.secret or ():
+            bits = self.ready.names.bits(word)
             if not bits:
-                self.missing.append(f"the circuit has no input or register {shown(word)}{ready.names.hint(word)}")
-            elif any(ready.kinds(it) == {"o"} for it in bits):
-                where = ("check", self.question.name, "secret", place)
-                raise self.work.project.fault(where, f"{shown(word)} is an output, and a secret is an input or a register")
+                self.missing.append(f"the circuit has no input or register {shown(word)}{self.ready.names.hint(word)}")
+            elif not all(it in kinds for it in bits):
+                raise self.fault(f"{shown(word)} is an output, and a secret is an input or a register", "secret")
             found |= dict.fromkeys(bits)
         return list(found)
 
-    def decided(self, name: str, files: Files, budget: float) -> Asked:
-        """The answer that is kept, its evidence checked again, or one that is found now."""
-        store, record = self.work.store, self.room / f"{name}.json"
-        words = [it.words for it in self.question.stages]
-        sums = [file_sum(it) if it else None for it in (files.circuit, files.formula, files.strategy)]
-        key = sum_of(sums, words, program_sum("mchyper"), program_sum("hycheck"), front_sum())
-        kept = store.recorded(record) or {}
-        if kept.get("key") == key and (kept["answer"] != OPEN or budget <= kept["budget"]) and files.answer.is_file():
-            asked = Asked(kept["answer"], kept["stage"], kept["lines"], kept["evidence"])
-            if asked.evidence == ACCEPTED:
-                self.tell("hycheck")
-                asked.evidence = check_evidence(self.work.runner, files)
-            self.result.is_kept = True
-            return asked
-        asked = ask(self.work.runner, files, self.question.stages, budget, self.tell)
-        store.record(record, {"key": key, "budget": budget, **vars(asked)})
-        return asked
-
-    def judge_premise(self, ready: Ready) -> None:
-        """Whether any two runs meet the premise with different secrets, behind an answer that says so of all."""
-        if self.question.met:
-            answer = self.own_premise(ready)
-        elif self.statement and self.result.answer == "holds" and not self.missing:
-            answer = self.two_that_meet()
+    def judge_premise(self) -> None:
+        """Whether any runs meet the premise with different secrets, asked behind an answer that says so of all."""
+        if self.missing:
+            asked, why = Asked("violated"), "; ".join(self.missing)
+        elif self.question.met:
+            asked, why = self.own_premise(), "no runs satisfy met"
+        elif self.statement and self.result.answer == "holds":
+            self.asker.tell("premise")
+            asked = self.asker.decided(self.of_pair(MET, self.room / "premise"), min(self.question.budget, VACUITY_BUDGET))
+            secret = shown(", ".join(joined(self.statement.secret))) or "anything"
+            why = f"no two runs that differ in {secret} meet the premise up to a cycle that is compared"
         else:
-            answer = "violated" if self.missing else ""
-        self.result.vacuity = {"holds": IS_MET, "violated": VACUOUS, OPEN: UNKNOWN}.get(answer, "")
-        if self.result.vacuity == VACUOUS:
-            why = "; ".join(self.missing) or self.why_vacuous()
-            self.result.notes.append(f"vacuous: {why}")
-        elif self.result.vacuity == UNKNOWN:
-            self.result.notes.append("whether any runs meet the premise is unknown")
+            return
+        self.result.vacuity = {"holds": IS_MET, "violated": VACUOUS}.get(asked.answer, UNKNOWN)
+        if self.result.vacuity != IS_MET:
+            self.result.notes.append(f"vacuous: {why}" if asked.answer == "violated" else "whether runs meet the premise is unknown")
 
-    def why_vacuous(self) -> str:
-        if self.question.met:
-            return "no runs satisfy met"
-        secret = ", ".join(joined(self.question.secret or self.statement.secret)) or "anything"
-        return f"no two runs that differ in {shown(secret)} meet the premise up to a cycle that is compared"
-
-    def two_that_meet(self) -> str:
-        self.tell("premise")
-        pair = written(pair_of(self.circuit, self.statement, MET), False)
-        files = Files(self.write("met.aig", pair), self.write("met.formula", FORMULAS[MET].encode()), self.room / "met")
-        return self.decided("met", files, min(self.question.budget, VACUITY_BUDGET)).answer
-
-    def own_premise(self, ready: Ready) -> str:
-        self.tell("premise")
+    def own_premise(self) -> Asked:
         try:
-            out = write_out(Text("met", self.question.met), ready.names)
+            out = write_out(Text("met", self.question.met), self.ready.names)
         except Fault as fault:
-            raise self.fault("met", str(fault)) from fault
-        file = ready.file if self.circuit is ready.circuit else self.room / "circuit.aig"
-        files = Files(file, self.write("met.formula", out.text.encode("utf-8", "surrogateescape")), self.room / "met")
-        return self.decided("met", files, min(self.question.budget, VACUITY_BUDGET)).answer
+            raise self.fault(fault, "met") from fault
+        self.asker.tell("premise")
+        files = Files(self.file, self.write("premise.formula", out.text), self.room / "premise")
+        return self.asker.decided(files, min(self.question.budget, VACUITY_BUDGET))
 
-    def picture(self, ready: Ready, files: Files) -> None:
-        """Which files there are."""
-        self.result.files = {"circuit": str(files.circuit), "formula": str(files.formula), "answer": str(files.answer)}
+    def show(self, files: Files) -> None:
+        """The picture of the runs behind an answer, played on the circuit itself, and what is to be seen there."""
+        answer = text_of(files.answer).content
+        if self.result.answer == "strategy fails":
+            said = letters_of(answer)
+            steps = min(STEPS, max(len(stem) + 2 * len(cycle) for stem, cycle in said))
+            runs, why = runs_with_strategy(self.circuit, self.strategy, self.quantifiers, said, steps), ""
+        elif "\nproof runs " in answer:
+            runs = runs_of(answer)
+            runs, why = self.parted(files, runs) if self.statement else (runs, failing_part(text_of(files.formula).content, self.circuit, runs))
+        else:
+            return
+        scene = scene_of(self.circuit, runs, STEPS)
+        scene.title = [f"{self.question.name}: {files.circuit.name}, {self.result.answer}", *([why] if why else [])]
+        self.result.notes += [why] if why else []
+        self.result.files["picture"] = str(self.write("picture.svg", svg(scene)))
+
+    def parted(self, files: Files, runs: list[Run]) -> tuple[list[Run], str]:
+        """The two runs behind a leak, which must be runs of the circuit itself, and where they part."""
+        runs = split(runs[0], self.circuit) if files.circuit.name == f"{PARTED}.aig" else runs
+        found = all(it.is_right(self.circuit) for it in runs) and first_parting(self.circuit, self.statement, runs)
+        if not found:
+            raise Fault("the runs behind the answer are no leak of the circuit itself")
+        step, names = found
+        return runs, f"{shown(', '.join(joined(names)))} differs in cycle {step}"
 
 
 def text_of(path: Path) -> Text:
-    """The text of a formula's file."""
-    from himarelou.aiger import read_bytes
     return Text(str(path), read_bytes(path).decode("utf-8", "surrogateescape"))

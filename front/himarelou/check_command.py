@@ -1,6 +1,4 @@
 """`himarelou check`: asks what a project file asks."""
-from __future__ import annotations
-
 import argparse
 import os
 from pathlib import Path

@@ -1,6 +1,4 @@
 """The circuits of a project: each is made once a call, and kept by the sum of what it is made of."""
-from __future__ import annotations
-
 import threading
 from collections import defaultdict
 from dataclasses import dataclass
@@ -31,10 +29,6 @@ class Ready:
     def circuit(self) -> Circuit:
         return self.made.circuit
 
-    def kinds(self, name: str) -> set[str]:
-        """Of what kinds the signals of a name are: i, l, o."""
-        return {kind for kind, own, _ in self.circuit.signals() if own == name}
-
 
 class Circuits:
     def __init__(self, runner: Runner, project: Project, store: Store):
@@ -64,7 +58,7 @@ class Circuits:
         except Fault as fault:
             if type(fault) is not Fault:
                 raise
-            raise Fault(f"{self.project.path}:{design.line}: circuit {design.name}: {fault}") from fault
+            raise self.project.fault(str(fault), *design.where) from fault
 
     def _of_sources(self, design: Design) -> Ready:
         room = self.store.room("circuits")

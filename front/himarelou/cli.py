@@ -1,18 +1,15 @@
 """The words of a command, each subcommand with a help of its own."""
-from __future__ import annotations
-
 import argparse
 import os
 import signal
 import sys
 from collections.abc import Sequence
-from pathlib import Path
 from typing import NoReturn
 
-from himarelou import check_command
+from himarelou import check_command, circuit_command, formula_command, help_command, waves_command
 from himarelou.faults import Fault, Stopped
 
-COMMANDS = (check_command,)
+COMMANDS = (check_command, circuit_command, formula_command, waves_command, help_command)
 
 
 class Parser(argparse.ArgumentParser):
@@ -37,6 +34,9 @@ def main(words: Sequence[str]) -> int:
     signal.signal(signal.SIGTERM, lambda number, frame: signal.raise_signal(signal.SIGINT))
     said = parser().parse_args(words)
     try:
+        if said.version:
+            print(help_command.version())
+            return 0
         if said.command is None:
             parser().print_help(sys.stderr)
             return 2

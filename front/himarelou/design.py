@@ -1,19 +1,16 @@
 """A circuit of Verilog sources, by yosys, and what of it is seldom meant."""
-from __future__ import annotations
-
 import glob
 import hashlib
 import os
 import re
 import tempfile
 from dataclasses import dataclass, field
-from functools import cache
 from pathlib import Path
 
 from himarelou.aiger import Circuit, read_bytes, read_circuit
 from himarelou.faults import Fault, shown
 from himarelou.gates import Builder
-from himarelou.programs import Runner, file_sum, yosys_version
+from himarelou.programs import Runner, file_sum, front_sum, yosys_version
 from himarelou.project import Design
 from himarelou.yosys import Module, listed, quoted, read_modules, run_yosys, top_of
 
@@ -71,12 +68,6 @@ def made_of(design: Design, folder: Path) -> str | None:
                 return None
             files += named
     return hashlib.sha256("\n".join([*parts[:3], *sorted(parts[3:])]).encode("utf-8", "surrogateescape")).hexdigest()
-
-
-@cache
-def front_sum() -> str:
-    """The sum of the front itself, so that nothing is kept that another one made."""
-    return hashlib.sha256("".join(file_sum(it) for it in sorted(Path(__file__).parent.glob("*.py"))).encode()).hexdigest()
 
 
 def make(runner: Runner, design: Design, folder: Path) -> Made:
@@ -139,7 +130,7 @@ class _Work:
         """The flat module, memories still whole."""
         lines, top = self.reads(), self.design.top
         if top is None:
-            self.run([*lines, f"write_json {self.here('modules.json')}"])
+            self.run([*lines, "proc", f"write_json {self.here('modules.json')}"])
             top = top_of(read_modules(self.room / "modules.json"))
         if not re.fullmatch(r"[A-Za-z_][A-Za-z0-9_$]*", top):
             raise Fault(f"top: {shown(top)} is no identifier")

@@ -1,6 +1,4 @@
 """What goes wrong: one kind of exception, told in one line; and text of others made fit for a terminal."""
-from __future__ import annotations
-
 import difflib
 from collections.abc import Iterable
 

@@ -1,6 +1,4 @@
 """A formula as a user writes it, written out as the tools read it: vectors bit by bit, faults at the user's own place."""
-from __future__ import annotations
-
 import re
 from dataclasses import dataclass, field
 from typing import NoReturn
@@ -24,6 +22,7 @@ class Written:
     quantifiers: list[tuple[str, str]] = field(default_factory=list)
     names: dict[str, None] = field(default_factory=dict)
     places: list[tuple[int, int]] = field(default_factory=list)
+    body_at: int = 0
 
     def add(self, text: str, at: int) -> None:
         self.places.append((len(self.text.encode("utf-8", "surrogateescape")), at))
@@ -90,7 +89,8 @@ class _Writer:
                 self.refuse("`.`", 2)
             self.out.quantifiers.append((self.token().text, variable.text))
             self.bound.add(variable.text)
-            self.at += 3
+            self.replace(f"{self.token().text} {variable.text}.", 3)
+        self.out.body_at = len(self.out.text)
 
     def body(self) -> None:
         is_wanted = True

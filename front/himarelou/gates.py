@@ -1,6 +1,4 @@
 """Gates are added to a circuit: ands, and what is made of them."""
-from __future__ import annotations
-
 from collections.abc import Callable, Iterable
 
 from himarelou.aiger import Circuit, Latch

@@ -1,12 +1,10 @@
 """One monitor: traces of a simulation are given to `rvhyper`."""
-from __future__ import annotations
-
 import re
 import time
 from pathlib import Path
 
 from himarelou.aiger import MOST_BYTES, read_bytes
-from himarelou.asking import OPEN_STATUS
+from himarelou.asking import NO_CERTIFICATE, OPEN_STATUS
 from himarelou.check import Work, text_of
 from himarelou.design import files_of
 from himarelou.faults import Fault, shown
@@ -42,15 +40,15 @@ class Monitor:
         self.result.files = {"formula": str(self.room / "formula"), "traces": str(self.room / "traces")}
         return self.result
 
-    def fault(self, key: str, words: str) -> Fault:
-        return self.work.project.fault((self.question.kind, self.question.name, key), words)
+    def fault(self, fault: Fault | str, key: str) -> Fault:
+        return self.work.project.fault(str(fault), *self.question.where, key)
 
     def traces(self) -> tuple[list[tuple[str, int]], bytes, Names]:
         """The files with their first lines in what they are joined to, and the names that stand there."""
         try:
             files = files_of(self.question.traces, self.work.project.folder)
         except Fault as fault:
-            raise self.fault("traces", str(fault)) from fault
+            raise self.fault(fault, "traces") from fault
         parts, begins, line, size = [], [], 1, 0
         for file in files:
             data = read_bytes(self.work.project.folder / file)
@@ -58,7 +56,7 @@ class Monitor:
             begins.append((file, line))
             line, size = line + data.count(b"\n"), size + len(data)
             if size > MOST_BYTES:
-                raise self.fault("traces", f"more than {MOST_BYTES} bytes in all")
+                raise self.fault(f"more than {MOST_BYTES} bytes in all", "traces")
             parts.append(data)
         joined = b"".join(parts)
         names = {it.decode("utf-8", "surrogateescape").strip('"') for it in set(NAME.findall(joined))}
@@ -74,7 +72,7 @@ class Monitor:
         try:
             out = write_out(source, None)
         except Fault as fault:
-            raise self.fault("formula" if question.formula else "file", str(fault)) from fault
+            raise self.fault(fault, "formula" if question.formula else "file") from fault
         return out.text, list(out.names)
 
     def bits(self, key: str, names: Names) -> list[str]:
@@ -91,7 +89,7 @@ class Monitor:
         if ended.status in (0, 1):
             result.answer = "violation" if ended.status else "no violation"
             result.notes.append(shown(line))
-            result.evidence = "no certificate exists of a monitor's answer; rvhyper, which is proved, carries it"
+            result.evidence = NO_CERTIFICATE.format("monitor", "rvhyper")
         elif ended.status is None or ended.status in OPEN_STATUS:
             result.lines.append(f"nothing in {question.budget:g} s" if ended.status is None else shown(line))
         else:

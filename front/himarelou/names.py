@@ -1,6 +1,4 @@
 """Names of signals: vectors and their bits, and what a user may have meant."""
-from __future__ import annotations
-
 import difflib
 import re
 from collections.abc import Iterable
@@ -20,19 +18,26 @@ def split_place(name: str) -> tuple[str, int | None]:
     return (match[1], int(match[2])) if match else (name, None)
 
 
-def joined(names: Iterable[str]) -> list[str]:
-    """Bits as vectors, each once: `a[0]`, `a[1]`, `b` as `a[1:0]`, `b`."""
-    vectors: dict[str, set[int | None]] = {}
+def ranges(names: Iterable[str]) -> list[tuple[str, list[str]]]:
+    """Bits as vectors, each once, with their bits, the highest first: `a[0]`, `a[1]`, `b` as `a[1:0]`, `b`."""
+    vectors: dict[str, dict[int | None, str]] = {}
     for name in names:
         vector, place = split_place(name)
-        vectors.setdefault(vector, set()).add(place)
-    parts = []
+        vectors.setdefault(vector, {})[place] = name
+    found = []
     for vector, places in vectors.items():
-        parts += [vector] if None in places else []
-        numbers = sorted(it for it in places if it is not None)
-        is_whole = len(numbers) > 1 and numbers == list(range(numbers[0], numbers[-1] + 1))
-        parts += [f"{vector}[{numbers[-1]}:{numbers[0]}]"] if is_whole else [f"{vector}[{it}]" for it in numbers]
-    return parts
+        found += [(vector, [places.pop(None)])] if None in places else []
+        while places:
+            low = high = max(places)
+            while low - 1 in places:
+                low -= 1
+            label = f"{vector}[{high}:{low}]" if low < high else f"{vector}[{high}]"
+            found.append((label, [places.pop(it) for it in range(high, low - 1, -1)]))
+    return found
+
+
+def joined(names: Iterable[str]) -> list[str]:
+    return [label for label, _ in ranges(names)]
 
 
 class Names:

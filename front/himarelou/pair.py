@@ -5,13 +5,11 @@ on, and free behind it: so the pair has a run with that output exactly where two
 a cycle and there do what is asked for. While the output was never on, the copies are equal where they are found to be,
 which is what proofs by induction live on.
 """
-from __future__ import annotations
-
 from dataclasses import dataclass
 
 from himarelou.aiger import Circuit, value_of
 from himarelou.gates import TRUE, Builder
-from himarelou.runs import Run
+from himarelou.runs import Run, joint_length
 from himarelou.statement import Statement
 
 PARTED, MET = "parted", "met"
@@ -89,20 +87,17 @@ def split(run: Run, circuit: Circuit) -> list[Run]:
                 [row[at * inputs:(at + 1) * inputs] for row in run.cycle], str(at)) for at in (0, 1)]
 
 
-def first_parting(circuit: Circuit, statement: Statement, runs: list[Run], steps: int) -> tuple[int, list[str]] | None:
+def first_parting(circuit: Circuit, statement: Statement, runs: list[Run]) -> tuple[int, list[str]] | None:
     """The first cycle, and the signals, in which two runs of the circuit itself part though the premise has held."""
-    literals = {name: literal for _, name, literal in circuit.signals()}
-    for run in runs:
-        run.play(circuit, steps)
-    reset = statement.reset
-    for step, (left, right) in enumerate(zip(*(it.seen for it in runs))):
+    literals, reset = {name: literal for _, name, literal in circuit.signals()}, statement.reset
+    steps = joint_length(runs, circuit)[1]
+    equal = [*statement.equal, *([reset.name] if reset else [])]
+    for step, both in enumerate(zip(*(circuit.play(it.first, it.rows(steps)) for it in runs))):
         def differ(names: list[str]) -> list[str]:
-            return [it for it in names if value_of(left, literals[it]) != value_of(right, literals[it])]
+            return [it for it in names if len({value_of(values, literals[it]) for values in both}) > 1]
 
-        is_reset = bool(reset) and value_of(left, literals[reset.name] ^ reset.is_low) == 1
-        if differ([*statement.equal, *([reset.name] if reset else [])]) or reset and step == 0 and not is_reset:
-            return None
-        if not is_reset and differ(statement.given):
+        is_reset = bool(reset) and value_of(both[0], literals[reset.name] ^ reset.is_low) == 1
+        if differ(equal) or reset and step == 0 and not is_reset or not is_reset and differ(statement.given):
             return None
         if not is_reset and differ(statement.same):
             return step, differ(statement.same)

@@ -1,6 +1,4 @@
 """The four proved programs and yosys: where they are, and how a process is run, bounded, and stopped."""
-from __future__ import annotations
-
 import contextlib
 import hashlib
 import os
@@ -57,6 +55,12 @@ def file_sum(path: Path) -> str:
             return hashlib.file_digest(file, "sha256").hexdigest()
     except OSError as error:
         raise Broken(f"{path}: {error.strerror}") from error
+
+
+@cache
+def front_sum() -> str:
+    """The sum of the front itself, so that nothing is kept that another one made."""
+    return hashlib.sha256("".join(file_sum(it) for it in sorted(Path(__file__).parent.glob("*.py"))).encode()).hexdigest()
 
 
 @dataclass(frozen=True)

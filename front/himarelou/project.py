@@ -1,20 +1,22 @@
 """The project file `himarelou.toml`: what may stand in it, and what it says. A fault names its line and key."""
-from __future__ import annotations
-
 import re
 import tomllib
 from dataclasses import dataclass, field
 from pathlib import Path
+from typing import Any
 
 from himarelou.faults import Broken, Fault, did_you_mean, shown
-from himarelou.schema import CHECK, CIRCUIT, MONITOR, STRATEGY, Kind, Schema
+from himarelou.schema import CHECK, CIRCUIT, MONITOR, STRATEGY, Schema
 from himarelou.stages import DEFAULT, Stage
 from himarelou.statement import Reset
-from himarelou.toml_lines import Lines
 
 FILE = "himarelou.toml"
 MOST_BYTES = 1 << 22
 NAME = re.compile(r"[A-Za-z0-9_-]+")
+KEY = r"""(?:[\w-]+|"[^"\n]*"|'[^'\n]*')"""
+KEYS = rf"({KEY}(?:\s*\.\s*{KEY})*)"
+LONG_TEXT = re.compile(r'''("""(?:[^\\]|\\.)*?"""+|\'\'\'.*?\'\'\'+)|"(?:[^"\\\n]|\\.)*"|'[^'\n]*'|#[^\n]*''', re.S)
+Path_ = tuple[str, ...]
 
 
 @dataclass(frozen=True)
@@ -22,7 +24,7 @@ class Design:
     """What a circuit is made of: sources, or a circuit's own file."""
 
     name: str
-    line: int
+    where: Path_ = ()
     file: str | None = None
     sources: tuple[str, ...] = ()
     top: str | None = None
@@ -39,13 +41,12 @@ class Design:
 
 @dataclass(frozen=True)
 class Question:
-    """A check or a monitor, by its own line; `circuit` is the name of one."""
+    """A check or a monitor."""
 
     kind: str
     name: str
-    line: int
     expect: str
-    circuit: str | None = None
+    circuit: str = ""
     secret: tuple[str, ...] | None = None
     equal: tuple[str, ...] | None = None
     same: tuple[str, ...] | None = None
@@ -58,14 +59,18 @@ class Question:
     traces: tuple[str, ...] = ()
     lengths: str = "min"
     drop: bool = False
-    budget: float = 900.0
+    budget: int = 900
     stages: tuple[Stage, ...] = DEFAULT
+
+    @property
+    def where(self) -> Path_:
+        return self.kind, self.name
 
 
 @dataclass
 class Project:
     path: Path
-    lines: Lines
+    lines: dict[Path_, int]
     circuits: dict[str, Design] = field(default_factory=dict)
     questions: list[Question] = field(default_factory=list)
 
@@ -73,10 +78,12 @@ class Project:
     def folder(self) -> Path:
         return self.path.parent
 
-    def fault(self, path: tuple[str | int, ...], words: str) -> Fault:
-        """A fault at a key."""
-        key = ".".join(it for it in path if isinstance(it, str))
-        return Fault(f"{shown(str(self.path))}:{self.lines.of(*path)}: {shown(key)}: {words}")
+    def fault(self, words: str, *path: str) -> Fault:
+        """A fault at a key, or where that has no line of its own at what has it."""
+        at = path
+        while at and at not in self.lines:
+            at = at[:-1]
+        return Fault(f"{shown(str(self.path))}:{self.lines.get(at, 1)}: {shown('.'.join(path))}: {words}")
 
 
 def find(word: str | None) -> Path:
@@ -86,123 +93,128 @@ def find(word: str | None) -> Path:
 
 
 def read_project(path: Path) -> Project:
+    name = shown(str(path))
     try:
         with open(path, "rb") as file:
             data = file.read(MOST_BYTES + 1)
-    except OSError as error:
-        raise Broken(f"{shown(str(path))}: {error.strerror}") from error
-    if len(data) > MOST_BYTES:
-        raise Fault(f"{shown(str(path))}: more than {MOST_BYTES} bytes")
-    return _Reader(path, *_parsed(path, data)).read()
-
-
-def _parsed(path: Path, data: bytes) -> tuple[dict, Lines]:
-    name = shown(str(path))
-    try:
+        if len(data) > MOST_BYTES:
+            raise Fault(f"{name}: more than {MOST_BYTES} bytes")
         text = data.decode()
-        return tomllib.loads(text), Lines(text)
+        return _Reader(Project(path, lines_of(text)), tomllib.loads(text)).read()
+    except OSError as error:
+        raise Broken(f"{name}: {error.strerror}") from error
     except UnicodeDecodeError as error:
-        line = data.count(b"\n", 0, error.start) + 1
-        raise Fault(f"{name}:{line}: no UTF-8") from error
+        raise Fault(f"{name}:{data.count(10, 0, error.start) + 1}: no UTF-8") from error
     except RecursionError as error:
         raise Fault(f"{name}: too many lists or tables in one another") from error
     except ValueError as error:
         place = re.search(r" \(at (?:line (\d+), column \d+|end of document)\)$", str(error))
-        line = place[1] if place and place[1] else data.count(b"\n") + 1
-        words = str(error)[:place.start()] if place else str(error)
-        raise Fault(f"{name}:{line}: {shown(words)}") from error
+        line = place[1] if place and place[1] else data.count(10) + 1
+        raise Fault(f"{name}:{line}: {shown(str(error)[:place.start()] if place else str(error))}") from error
+
+
+def lines_of(text: str) -> dict[Path_, int]:
+    """The line of each table and key. tomllib says none; what stands in a text of several lines is passed over."""
+    found: dict[Path_, int] = {}
+    table: Path_ = ()
+    bare = LONG_TEXT.sub(lambda it: '""' + "\n" * it[1].count("\n") if it[1] else it[0], text)
+    for number, line in enumerate(bare.split("\n"), 1):
+        head = re.match(rf"\s*\[+\s*{KEYS}\s*\]+\s*(#.*)?$", line)
+        key = head or re.match(rf"\s*{KEYS}\s*=", line)
+        if not key:
+            continue
+        path = () if head else table
+        for part in re.findall(KEY, key[1]):
+            path += (part.strip("\"'"),)
+            found.setdefault(path, number)
+        table = path if head else table
+    return found
 
 
 class _Reader:
-    def __init__(self, path: Path, tables: dict, lines: Lines):
-        self.tables, self.lines = tables, lines
-        self.project = Project(path, lines)
-        self.fault = self.project.fault
+    """Judges the tables of a file."""
+
+    def __init__(self, project: Project, tables: dict[str, Any]):
+        self.project, self.tables, self.fault = project, tables, project.fault
 
     def read(self) -> Project:
         for key in self.tables:
             if key not in ("circuit", "check", "monitor"):
-                raise self.fault((key,), f"no such table{did_you_mean(key, ['circuit', 'check', 'monitor'])}")
-        project = self.project
+                raise self.fault(f"no such table{did_you_mean(key, ('circuit', 'check', 'monitor'))}", key)
         for name, path in self.circuit_tables():
-            project.circuits[name] = self.design(name, path, CIRCUIT)
+            self.project.circuits[name] = self.design(name, path, CIRCUIT)
         for kind, schema in (("check", CHECK), ("monitor", MONITOR)):
-            for name in self.table((kind,)):
-                project.questions.append(self.question(kind, name, schema))
-        twice = self.table(("check",)).keys() & self.table(("monitor",)).keys()
+            self.project.questions += [self.question(kind, name, schema) for name in self.table(kind)]
+        twice = self.table("check").keys() & self.table("monitor").keys()
         if twice:
-            raise self.fault(("monitor", min(twice)), "a check has this name, too")
-        project.questions.sort(key=lambda it: it.line)
-        return project
+            raise self.fault("a check has this name, too", "monitor", min(twice))
+        self.project.questions.sort(key=lambda it: self.project.lines.get(it.where, 0))
+        return self.project
 
-    def table(self, path: tuple) -> dict:
+    def table(self, *path: str) -> dict[str, Any]:
         value = self.tables
         for key in path:
             value = value.get(key, {})
         if not isinstance(value, dict):
-            raise self.fault(path, "a table is wanted")
+            raise self.fault("a table is wanted", *path)
         return value
 
-    def circuit_tables(self) -> list[tuple[str, tuple]]:
+    def circuit_tables(self) -> list[tuple[str, Path_]]:
         """The circuits by name: `[circuit]` itself, or each `[circuit.NAME]`."""
-        table = self.table(("circuit",))
+        table = self.table("circuit")
         if not all(isinstance(it, dict) for it in table.values()):
             return [("circuit", ("circuit",))]
-        return [(self.named(("circuit", name)), ("circuit", name)) for name in table]
+        return [(self.named("circuit", name), ("circuit", name)) for name in table]
 
-    def named(self, path: tuple) -> str:
+    def named(self, *path: str) -> str:
         if not NAME.fullmatch(path[-1]):
-            raise self.fault(path, "a name is letters, digits, _ and -")
+            raise self.fault("a name is letters, digits, _ and -", *path)
         return path[-1]
 
-    def values(self, path: tuple, schema: Schema) -> dict:
+    def values(self, path: Path_, schema: Schema) -> dict[str, Any]:
         """The values of a table by their keys, each of its kind."""
-        table = self.table(path)
+        table = self.table(*path)
         for key, value in table.items():
             if key not in schema.kinds:
-                raise self.fault(path + (key,), f"no such key{did_you_mean(key, schema.kinds)}")
-            kind: Kind = schema.kinds[key]
-            wrong = kind.fault_of(value)
-            if wrong is not None:
-                place, words = wrong
-                raise self.fault(path + (key,) + place, words)
-        for first, second in schema.apart:
-            if first in table and second in table:
-                raise self.fault(path + (second,), f"it stands beside no {first}")
+                raise self.fault(f"no such key{did_you_mean(key, schema.kinds)}", *path, key)
+            if not schema.kinds[key].fits(value):
+                raise self.fault(f"{schema.kinds[key].words} is wanted", *path, key)
+        for pair in schema.apart:
+            if table.keys() >= set(pair):
+                first, second = sorted(pair, key=list(table).index)
+                raise self.fault(f"it stands beside no {first}", *path, second)
+        if schema.forms and not table.keys() & set(schema.forms):
+            raise self.fault("it wants one of " + ", ".join(schema.forms), *path)
         return {key: schema.kinds[key].taken(value) for key, value in table.items()}
 
-    def design(self, name: str, path: tuple, schema: Schema) -> Design:
+    def design(self, name: str, path: Path_, schema: Schema) -> Design:
         values = self.values(path, schema)
-        if "sources" not in values and "file" not in values:
-            raise self.fault(path, "it wants sources or file")
-        return Design(name=name, line=self.lines.of(*path), **values)
+        if not values.keys() & {"sources", "file"}:
+            raise self.fault("it wants sources or file", *path)
+        return Design(name=name, where=path, **values)
 
     def question(self, kind: str, name: str, schema: Schema) -> Question:
-        path = (kind, name)
-        self.named(path)
+        path = (kind, self.named(kind, name))
         values = self.values(path, schema)
+        good, bad = schema.answers
         if "strategy" in values:
-            values["strategy"] = self.design(f"{name}-strategy", path + ("strategy",), STRATEGY)
-        if "strategy" in values and not ("formula" in values or "file" in values):
-            raise self.fault(path + ("strategy",), "it wants formula or file beside it")
-        if not any(key in values for key in schema.forms):
-            raise self.fault(path, "it wants one of " + ", ".join(schema.forms))
+            values["strategy"] = self.design(f"{name}.strategy", (*path, "strategy"), STRATEGY)
+            good, bad = "holds with strategy", "strategy fails"
         if kind == "monitor" and "traces" not in values:
-            raise self.fault(path, "it wants traces")
+            raise self.fault("it wants traces", *path)
         if kind == "check":
             values["circuit"] = self.circuit_of(path, values)
-        good, bad = schema.answers_of(values)
         expect = values.pop("expect", good)
         if expect not in (good, bad):
-            raise self.fault(path + ("expect",), f'"{good}" or "{bad}" is wanted')
-        return Question(kind=kind, name=name, line=self.lines.of(*path), expect=expect, **values)
+            raise self.fault(f'"{good}" or "{bad}" is wanted', *path, "expect")
+        return Question(kind=kind, name=name, expect=expect, **values)
 
-    def circuit_of(self, path: tuple, values: dict) -> str:
-        said, project = values.get("circuit"), self.project
-        if said is None and len(project.circuits) == 1:
-            return next(iter(project.circuits))
+    def circuit_of(self, path: Path_, values: dict[str, Any]) -> str:
+        said, known = values.get("circuit"), self.project.circuits
+        if said is None and len(known) == 1:
+            return next(iter(known))
         if said is None:
-            raise self.fault(path, "it wants circuit, since there are several" if project.circuits else "there is no [circuit]")
-        if said not in project.circuits:
-            raise self.fault(path + ("circuit",), f"no such circuit{did_you_mean(said, project.circuits)}")
+            raise self.fault("it wants circuit, since there are several" if known else "there is no [circuit]", *path)
+        if said not in known:
+            raise self.fault(f"no such circuit{did_you_mean(said, known)}", *path, "circuit")
         return said

@@ -1,6 +1,4 @@
 """The results as JSON and as JUnit."""
-from __future__ import annotations
-
 import json
 import xml.etree.ElementTree as ET
 from collections.abc import Sequence

@@ -1,13 +1,11 @@
 """What came of a check."""
-from __future__ import annotations
-
 from dataclasses import asdict, dataclass, field
 from typing import Any
 
 AS_EXPECTED, OTHERWISE, OPEN, FAULT = "as expected", "not as expected", "open", "fault"
 STATUS = {AS_EXPECTED: 0, OTHERWISE: 1, OPEN: 4, FAULT: 2}
 WEIGHT = (FAULT, OTHERWISE, OPEN, AS_EXPECTED)
-MET, VACUOUS, UNKNOWN = "met", "vacuous", "unknown"
+IS_MET, VACUOUS, UNKNOWN = "met", "vacuous", "unknown"
 
 
 @dataclass
@@ -26,6 +24,11 @@ class Result:
     notes: list[str] = field(default_factory=list)
     lines: list[str] = field(default_factory=list)
     files: dict[str, str] = field(default_factory=dict)
+
+    def take(self, asked: Any) -> None:
+        """Takes over what was answered."""
+        self.answer, self.stage, self.lines = asked.answer, asked.stage, asked.lines
+        self.evidence, self.is_kept = asked.evidence, asked.is_kept
 
     @property
     def outcome(self) -> str:

@@ -1,6 +1,4 @@
 """Runs of a circuit, as an answer of `mchyper --proof` has them: read, played, and judged."""
-from __future__ import annotations
-
 import math
 import re
 from collections.abc import Sequence
@@ -8,7 +6,9 @@ from dataclasses import dataclass, field
 
 from himarelou.aiger import Circuit, value_of
 from himarelou.faults import Fault
+from himarelou.strategy import runs_of_kind
 
+MOST_KEPT = 1 << 26
 Rows = list[list[int]]
 Letters = tuple[list[set[str]], list[set[str]]]
 
@@ -49,10 +49,10 @@ class Run:
         return starts and state == back and kept and fair
 
 
-def joint_length(runs: Sequence[Run], most: int = 4096) -> tuple[int, int]:
-    """The stem and the length behind which all runs together repeat, cut where that is long."""
+def joint_length(runs: Sequence[Run], circuit: Circuit) -> tuple[int, int]:
+    """The stem and the length behind which all runs together repeat, cut where that is too long to keep."""
     stem = max(len(it.stem) for it in runs)
-    return stem, min(stem + math.lcm(*(len(it.cycle) for it in runs)), most)
+    return stem, min(stem + math.lcm(*(len(it.cycle) for it in runs)), MOST_KEPT // (circuit.most + 1) + 1)
 
 
 def runs_of(answer: str) -> list[Run]:
@@ -108,3 +108,34 @@ def agree(circuit: Circuit, runs: Sequence[Run], said: Sequence[Letters]) -> boo
             if any(name not in literals or bool(value_of(values, literals[name])) != (name in letter) for name in names):
                 return False
     return True
+
+
+def runs_with_strategy(circuit: Circuit, strategy: Circuit, quantifiers: Sequence[tuple[str, str]], said: Sequence[Letters],
+                       steps: int) -> list[Run]:
+    """The runs of all quantifiers, played. What the answer does not show of an input or a first value is taken for 0, and
+    where that makes other runs than it shows they are refused."""
+    names = runs_of_kind(quantifiers, "forall")
+    given = [_run_of(circuit, letters, name) for letters, name in zip(said, names)]
+    for run in given:
+        run.play(circuit, steps)
+    if not agree(circuit, given, said):
+        raise Fault("the answer does not show what the runs' inputs are: name them all in the formula, as by (a_p | !a_p)")
+    rows = [[run.rows(steps)[step][place] for place in range(len(circuit.inputs)) for run in given] for step in range(steps)]
+    strategy_runs = list(strategy.play([it.reset & 1 for it in strategy.latches], rows))
+    chosen = runs_of_kind(quantifiers, "exists")
+    made = []
+    for place, name in enumerate(chosen):
+        outputs = strategy.outputs[place::len(chosen)]
+        inputs = [[value_of(values, it) for it in outputs] for values in strategy_runs]
+        first = [0 if it.is_either else it.reset for it in circuit.latches]
+        made.append(Run(first, inputs, [], name, list(circuit.play(first, inputs))))
+    by_name = dict(zip(names, given)) | dict(zip(chosen, made))
+    return [by_name[variable] for _, variable in quantifiers]
+
+
+def _run_of(circuit: Circuit, letters: Letters, name: str) -> Run:
+    stem, cycle = letters
+    latches = [circuit.names.get(("l", place)) for place in range(len(circuit.latches))]
+    first = [int(own in (stem + cycle)[0]) if it.is_either else it.reset for it, own in zip(circuit.latches, latches)]
+    inputs = [circuit.names.get(("i", place)) for place in range(len(circuit.inputs))]
+    return Run(first, *([[int(it in letter) for it in inputs] for letter in part] for part in (stem, cycle)), name)

@@ -1,7 +1,5 @@
 """What is seen while checks run: on a terminal a line for each running one, renewed, and a table behind all; elsewhere plain
 lines."""
-from __future__ import annotations
-
 import os
 import shutil
 import sys

@@ -1,6 +1,4 @@
 """All checks of a call: so many at a time, each told as it ends; what was found stays where it is stopped."""
-from __future__ import annotations
-
 from collections.abc import Sequence
 from concurrent.futures import ThreadPoolExecutor, as_completed
 

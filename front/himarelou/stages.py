@@ -1,10 +1,9 @@
 """The stages of a check, from cheap to dear: words of `mchyper`, each with a budget in seconds."""
-from __future__ import annotations
-
 from dataclasses import dataclass
 from typing import Any
 
 RANGES = {"depth": (0, 100_000), "conflicts": (0, 1_000_000_000), "ic3": (1, 1_000_000)}
+MOST_SECONDS = 10_000_000
 
 
 @dataclass(frozen=True)
@@ -27,24 +26,25 @@ DEFAULT = (
 )
 
 
-def stage_of(table: Any) -> Stage | str:
-    """A stage of the project file, as `{ depth = 5, plain = true, seconds = 20 }`, or what is wrong with it."""
-    if not isinstance(table, dict):
-        return "a table is wanted"
-    unknown = next((key for key in table if key not in RANGES and key not in ("plain", "seconds")), None)
-    if unknown is not None:
-        return f"no such key of a stage: {unknown}"
-    if table.get("plain") not in (None, True, False) or "plain" in table and "ic3" in table:
-        return "plain is true or false, and stands beside no ic3"
-    if "ic3" in table and "depth" not in table:
-        return "ic3 wants depth beside it"
-    words = ["--plain"] if table.get("plain") else []
-    for key, (least, most) in RANGES.items():
-        value = table.get(key, least)
-        if type(value) is not int or not least <= value <= most:
-            return f"{key} is a number from {least} to {most}"
-        words += [f"--{key}", str(value)] if key in table else []
+def are_stages(value: Any) -> bool:
+    return isinstance(value, list) and bool(value) and all(map(_is_stage, value))
+
+
+def _is_stage(table: Any) -> bool:
+    """Whether it is as `{ depth = 5, plain = true, seconds = 20 }`; beside `ic3` a depth is stated."""
+    if not isinstance(table, dict) or table.keys() - {*RANGES, "plain", "seconds"}:
+        return False
+    numbers = all(type(table[key]) is int and least <= table[key] <= most for key, (least, most) in RANGES.items() if key in table)
+    clauses = "ic3" not in table or "depth" in table and not table.get("plain")
     seconds = table.get("seconds", 600)
-    if type(seconds) not in (int, float) or not 0 < seconds <= 1e7:
-        return "seconds is a number"
-    return Stage(tuple(words), float(seconds))
+    return numbers and clauses and table.get("plain", False) in (True, False) and type(seconds) is int and 0 < seconds <= MOST_SECONDS
+
+
+def stages_of(tables: list[dict[str, Any]]) -> tuple[Stage, ...]:
+    """The stages that a project file says."""
+    made = []
+    for table in tables:
+        words = ["--plain"] if table.get("plain") else []
+        words += [word for key in RANGES if key in table for word in (f"--{key}", str(table[key]))]
+        made.append(Stage(tuple(words), table.get("seconds", 600)))
+    return tuple(made)

@@ -3,8 +3,6 @@
 With P saying that the reset, the `equal` inputs and, outside reset, the `given` signals agree, and S that outside reset
 the `same` signals do, two runs that begin with a reset never part in S while P has held: `reset_p -> !(P U (P & !S))`.
 """
-from __future__ import annotations
-
 from collections.abc import Iterable
 from dataclasses import dataclass, field
 

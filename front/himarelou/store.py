@@ -1,6 +1,4 @@
 """What stays beside the project: circuits, formulas, answers, results, each renamed into place when it is whole."""
-from __future__ import annotations
-
 import hashlib
 import hmac
 import json

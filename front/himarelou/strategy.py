@@ -1,12 +1,11 @@
 """A strategy's ports, put by their names into the order that `mchyper --strategy` wants."""
-from __future__ import annotations
-
 from collections.abc import Sequence
 
 from himarelou.aiger import Circuit, check_literals
 from himarelou.faults import Fault, did_you_mean, shown
 from himarelou.gates import FALSE, Builder
-from himarelou.names import split_place
+from himarelou.formula import MOST_NAMES, Written
+from himarelou.names import atom, split_place
 
 
 def ports_of(circuit: Circuit, variables: Sequence[str]) -> list[tuple[str, bool]]:
@@ -48,6 +47,21 @@ def in_order_of_ports(strategy: Circuit, circuit: Circuit, quantifiers: Sequence
         raise Fault(f"the strategy's input {shown(left[0])} is no NAME_RUN of an input{did_you_mean(left[0], known)}")
     check_literals(made)
     return made
+
+
+def shows_all(out: Written, circuit: Circuit) -> str:
+    """The formula, which as long as it has room for them also names all inputs and free starts of the runs that are given: so
+    an answer shows which runs they are. What is added is true of all."""
+    runs = runs_of_kind(out.quantifiers, "forall")
+    read = circuit.read_variables()
+    named = [circuit.names.get(("i", at)) for at, it in enumerate(circuit.inputs) if it >> 1 in read]
+    named += [circuit.names.get(("l", at)) for at, it in enumerate(circuit.latches) if it.is_either]
+    shown_names = [atom(name, run) for name in named if name for run in runs]
+    count = len(set(shown_names)) + len(out.names) * len(out.quantifiers) + 1 + len(circuit.fairness) * len(out.quantifiers)
+    if count > MOST_NAMES or len(set(named) | set(out.names)) > MOST_NAMES:
+        return out.text
+    said = "".join(f"\n  & ({it} | !{it})" for it in shown_names)
+    return f"{out.text[:out.body_at]}({out.text[out.body_at:].strip()}){said}\n"
 
 
 def _port(name: str) -> str:

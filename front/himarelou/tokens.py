@@ -1,6 +1,4 @@
 """The tokens of a formula as a user writes it: vectors, `=`, `&&` and comments too, each with its place."""
-from __future__ import annotations
-
 import re
 from collections.abc import Iterator
 from dataclasses import dataclass

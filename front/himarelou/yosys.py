@@ -1,6 +1,4 @@
 """yosys: a script of quoted words, the netlist that it writes, and what is read off that."""
-from __future__ import annotations
-
 import json
 import re
 from collections.abc import Iterable

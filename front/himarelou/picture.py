@@ -1,0 +1,100 @@
+"""A scene as a timing diagram in SVG. A cycle in which runs differ is shaded, the first one of each signal is marked; the bar
+above is the cycle of a run, which goes on for ever."""
+import html
+from collections.abc import Iterator
+
+from himarelou.faults import shown
+from himarelou.scene import Line, Scene
+
+TALL, CHARACTER, LEAST_STEP = 20, 6.5, 34
+STYLE = ("text{font:12px monospace;fill:#222}.s{font-size:10px;fill:#666}.n{text-anchor:middle;font-size:10px}"
+         ".e{text-anchor:end}.b{font-weight:bold}path{fill:none;stroke:#124;stroke-width:1.4}.d{fill:#fbd9a8}"
+         ".m{stroke:#c22;stroke-width:2}.c{fill:#69a}.h{fill:#246;fill-opacity:.18}.g{stroke:#e4e4e4;stroke-width:1}")
+
+
+def svg(scene: Scene) -> str:
+    return "\n".join(_Drawing(scene).lines()) + "\n"
+
+
+def _text(x: float, y: float, words: str, style: str = "") -> str:
+    return f'<text x="{x:g}" y="{y:g}" {style}>{html.escape(shown(words))}</text>'
+
+
+def _path(points: list[tuple[float, float]]) -> str:
+    return '<path d="M' + " L".join(f"{x:g},{y:g}" for x, y in points) + '"/>'
+
+
+class _Drawing:
+    def __init__(self, scene: Scene):
+        self.scene = scene
+        digits = max((len(_digits(it, value)) for it in scene.lines for row in it.values for value in row), default=1)
+        self.step = max(LEAST_STEP, int(digits * CHARACTER) + 12)
+        self.left = 60 + int(max((len(shown(it.label)) for it in scene.lines), default=0) * 7.5)
+        self.top = 18 * len(scene.title)
+
+    def x(self, step: float) -> float:
+        return self.left + step * self.step
+
+    def lines(self) -> Iterator[str]:
+        scene, y = self.scene, self.top + 54 + 12 * len(self.scene.labels)
+        drawn = []
+        for line in scene.lines:
+            drawn += self.signal(line, y)
+            y += TALL * len(line.values) + 8
+        wide = max(self.x(scene.steps) + 20, 20 + 7.5 * max((len(shown(it)) for it in scene.title), default=0))
+        yield f'<svg xmlns="http://www.w3.org/2000/svg" width="{wide:g}" height="{y:g}">'
+        yield f"<style>{STYLE}</style>"
+        yield '<rect width="100%" height="100%" fill="white"/>'
+        for step in range(scene.steps + 1):
+            yield f'<path class="g" d="M{self.x(step):g},{self.top + 30} V{y - 12:g}"/>'
+        yield from self.head()
+        yield from drawn
+        yield "</svg>"
+
+    def head(self) -> Iterator[str]:
+        for place, words in enumerate(self.scene.title):
+            yield _text(10, 16 + 18 * place, words, 'class="b"' if place == 0 else "")
+        for place, (label, (stem, cycle)) in enumerate(zip(self.scene.labels, self.scene.shapes)):
+            y, end = self.top + 30 + 12 * place, min(stem + cycle, self.scene.steps)
+            yield _text(self.left - 12, y + 3, f"run {label} repeats" if cycle else f"run {label}", 'class="e s"')
+            if stem < end:
+                yield f'<rect x="{self.x(stem) + 2:g}" y="{y - 2}" width="{(end - stem) * self.step - 4}" height="4" class="c"/>'
+        for step in range(self.scene.steps):
+            yield _text(self.x(step + 0.5), self.top + 16, str(step), 'class="n s"')
+
+    def signal(self, line: Line, y: float) -> Iterator[str]:
+        parted, high, tall = line.parted(), y - TALL + 5, TALL * len(line.values)
+        for step in parted:
+            yield f'<rect x="{self.x(step):g}" y="{high:g}" width="{self.step}" height="{tall}" class="d"/>'
+        if parted:
+            yield f'<path class="m" d="M{self.x(parted[0]):g},{high:g} v{tall}"/>'
+        yield _text(10, y, line.label, 'class="b"')
+        for place, row in enumerate(line.values):
+            yield _text(self.left - 12, y + TALL * place, self.scene.labels[place], 'class="e s"')
+            yield from (self.bit if line.width == 1 else self.boxes)(line, row, y + TALL * place)
+
+    def bit(self, line: Line, row: list[int], low: float) -> Iterator[str]:
+        """A level for each value."""
+        high, points = low - TALL + 7, []
+        for step, value in enumerate(row):
+            level = high if value else low
+            points += [(self.x(step), level), (self.x(step + 1), level)]
+            if value:
+                yield f'<rect x="{self.x(step):g}" y="{high:g}" width="{self.step}" height="{low - high:g}" class="h"/>'
+        yield _path(points)
+
+    def boxes(self, line: Line, row: list[int], low: float) -> Iterator[str]:
+        """A box with a number for each value that stays."""
+        high, begun = low - TALL + 7, 0
+        middle = (high + low) / 2
+        for step in range(1, len(row) + 1):
+            if step < len(row) and row[step] == row[begun]:
+                continue
+            x, end = self.x(begun), self.x(step)
+            yield _path([(x + 3, high), (end - 3, high), (end, middle), (end - 3, low), (x + 3, low), (x, middle), (x + 3, high)])
+            yield _text((x + end) / 2, low - 3, _digits(line, row[begun]), 'class="n"')
+            begun = step
+
+
+def _digits(line: Line, value: int) -> str:
+    return f"{value:0{(line.width + 3) // 4}x}" if line.width > 1 else ""
