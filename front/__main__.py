@@ -4,6 +4,10 @@ import sys
 if sys.version_info < (3, 11):
     sys.exit("himarelou: this is Python {}.{}, and 3.11 or later is wanted".format(*sys.version_info[:2]))
 
-from himarelou.cli import main  # noqa: E402 (the version comes first)
+try:
+    from himarelou.cli import main
 
-sys.exit(main(sys.argv[1:]))
+    status = main(sys.argv[1:])
+except KeyboardInterrupt:
+    status = 130
+sys.exit(status)

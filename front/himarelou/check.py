@@ -8,7 +8,7 @@ from himarelou.aiger import Circuit, read_bytes, written
 from himarelou.asking import Asked, Asker, Files
 from himarelou.assume import with_assumed
 from himarelou.body import failing_part
-from himarelou.circuits import Circuits, Ready
+from himarelou.circuits import Circuits
 from himarelou.faults import Fault, shown
 from himarelou.formula import MOST_NAMES, Written, write_out
 from himarelou.names import joined
@@ -16,11 +16,11 @@ from himarelou.pair import FORMULAS, MET, PARTED, first_parting, pair_of, split
 from himarelou.picture import svg
 from himarelou.programs import Runner
 from himarelou.project import Project, Question
-from himarelou.result import IS_MET, OPEN, Result, UNKNOWN, VACUOUS
+from himarelou.result import IS_MET, Result, UNKNOWN, VACUOUS
 from himarelou.runs import Run, letters_of, runs_of, runs_with_strategy
 from himarelou.scene import STEPS, scene_of
 from himarelou.statement import Statement
-from himarelou.store import Store
+from himarelou.store import Store, replaced
 from himarelou.strategy import in_order_of_ports, shows_all
 from himarelou.tokens import Text
 
@@ -68,7 +68,7 @@ class Check:
         return self.work.project.fault(str(fault), *self.question.where, key)
 
     def write(self, name: str, data: bytes | str) -> Path:
-        self.work.store.write(self.room / name, data if isinstance(data, bytes) else data.encode("utf-8", "surrogateescape"))
+        replaced(self.room / name, data if isinstance(data, bytes) else data.encode("utf-8", "surrogateescape"))
         return self.room / name
 
     def assumed(self) -> Circuit:
@@ -198,9 +198,7 @@ class Check:
         """The picture of the runs behind an answer, played on the circuit itself, and what is to be seen there."""
         answer = text_of(files.answer).content
         if self.result.answer == "strategy fails":
-            said = letters_of(answer)
-            steps = min(STEPS, max(len(stem) + 2 * len(cycle) for stem, cycle in said))
-            runs, why = runs_with_strategy(self.circuit, self.strategy, self.quantifiers, said, steps), ""
+            runs, why = runs_with_strategy(self.circuit, self.strategy, self.quantifiers, letters_of(answer), STEPS), ""
         elif "\nproof runs " in answer:
             runs = runs_of(answer)
             runs, why = self.parted(files, runs) if self.statement else (runs, failing_part(text_of(files.formula).content, self.circuit, runs))

@@ -10,7 +10,7 @@ from himarelou.faults import Fault
 from himarelou.names import Names
 from himarelou.programs import Runner, file_sum
 from himarelou.project import Design, Project
-from himarelou.store import Store
+from himarelou.store import Store, replaced
 
 
 @dataclass
@@ -69,7 +69,7 @@ class Circuits:
             made = Made(read_circuit(file), kept["outputs"], kept["findings"], kept["assumptions"])
             return Ready(made, file, kept["sum"], True)
         made = make(self.runner, design, self.project.folder)
-        self.store.write(file, written(made.circuit, False))
+        replaced(file, written(made.circuit, False))
         ready = Ready(made, file, file_sum(file))
         self.store.record(record, {"key": key, "sum": ready.sum, "outputs": made.outputs, "findings": made.findings,
                                    "assumptions": made.assumptions})

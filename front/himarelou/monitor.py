@@ -1,7 +1,6 @@
 """One monitor: traces of a simulation are given to `rvhyper`."""
 import re
 import time
-from pathlib import Path
 
 from himarelou.aiger import MOST_BYTES, read_bytes
 from himarelou.asking import NO_CERTIFICATE, OPEN_STATUS
@@ -14,6 +13,7 @@ from himarelou.programs import program
 from himarelou.project import Question
 from himarelou.result import Result
 from himarelou.statement import Statement
+from himarelou.store import replaced
 from himarelou.tokens import Text
 
 NAME = re.compile(rb'"[^"\n]*"|[A-Za-z][A-Za-z0-9_]*')
@@ -30,8 +30,8 @@ class Monitor:
         self.work.tell(self.question.name, "traces")
         files, joined, names = self.traces()
         formula, used = self.formula(names)
-        self.work.store.write(self.room / "traces", joined)
-        self.work.store.write(self.room / "formula", formula.encode("utf-8", "surrogateescape"))
+        replaced(self.room / "traces", joined)
+        replaced(self.room / "formula", formula.encode("utf-8", "surrogateescape"))
         unseen = [it for it in used if it not in names.known]
         if unseen:
             self.result.notes.append(f"no trace has {shown(', '.join(unseen))}, so it is never high")

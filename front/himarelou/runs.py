@@ -80,8 +80,22 @@ def _bits(text: str) -> list[int]:
     return [] if text == "-" else [int(it) for it in text]
 
 
-def letters_of(answer: str) -> list[Letters]:
+def played(circuit: Circuit, answer: str) -> list[Run]:
+    """The runs of an answer, which must be runs of this circuit and what the answer says of them."""
+    runs = runs_of(answer)
+    if not all(it.fits(circuit) for it in runs):
+        raise Fault("the runs are of another circuit")
+    for run in runs:
+        run.play(circuit, len(run.stem) + len(run.cycle))
+    if not agree(circuit, runs, letters_of(answer)):
+        raise Fault("the runs are of another circuit: what is seen of them is not what the answer says")
+    return runs
+
+
+def letters_of(answer: str, verdict: str = "") -> list[Letters]:
     """What the answer says is seen of each run: the sets of its stem and of its cycle."""
+    if verdict and answer.split("\n")[0] != verdict:
+        raise Fault(f"the answer is not `{verdict}`")
     found = []
     for line in answer.split("\n")[1:]:
         if line.startswith("proof runs "):
@@ -111,25 +125,24 @@ def agree(circuit: Circuit, runs: Sequence[Run], said: Sequence[Letters]) -> boo
 
 
 def runs_with_strategy(circuit: Circuit, strategy: Circuit, quantifiers: Sequence[tuple[str, str]], said: Sequence[Letters],
-                       steps: int) -> list[Run]:
+                       most: int) -> list[Run]:
     """The runs of all quantifiers, played. What the answer does not show of an input or a first value is taken for 0, and
     where that makes other runs than it shows they are refused."""
-    names = runs_of_kind(quantifiers, "forall")
+    steps = min(most, max(len(stem) + 2 * len(cycle) for stem, cycle in said))
+    names, chosen = runs_of_kind(quantifiers, "forall"), runs_of_kind(quantifiers, "exists")
     given = [_run_of(circuit, letters, name) for letters, name in zip(said, names)]
     for run in given:
         run.play(circuit, steps)
     if not agree(circuit, given, said):
         raise Fault("the answer does not show what the runs' inputs are: name them all in the formula, as by (a_p | !a_p)")
     rows = [[run.rows(steps)[step][place] for place in range(len(circuit.inputs)) for run in given] for step in range(steps)]
-    strategy_runs = list(strategy.play([it.reset & 1 for it in strategy.latches], rows))
-    chosen = runs_of_kind(quantifiers, "exists")
+    answers = list(strategy.play([it.reset & 1 for it in strategy.latches], rows))
     made = []
     for place, name in enumerate(chosen):
-        outputs = strategy.outputs[place::len(chosen)]
-        inputs = [[value_of(values, it) for it in outputs] for values in strategy_runs]
+        inputs = [[value_of(values, it) for it in strategy.outputs[place::len(chosen)]] for values in answers]
         first = [0 if it.is_either else it.reset for it in circuit.latches]
         made.append(Run(first, inputs, [], name, list(circuit.play(first, inputs))))
-    by_name = dict(zip(names, given)) | dict(zip(chosen, made))
+    by_name = {it.label: it for it in given + made}
     return [by_name[variable] for _, variable in quantifiers]
 
 

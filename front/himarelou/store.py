@@ -11,6 +11,8 @@ from typing import Any
 from himarelou.faults import Broken, Fault, shown
 
 FOLDER = ".himarelou"
+UMASK = os.umask(0o22)
+os.umask(UMASK)
 
 
 class Store:
@@ -20,7 +22,7 @@ class Store:
         self.folder = folder
         self.room()
         if not (folder / ".gitignore").exists():
-            self.write(folder / ".gitignore", b"*\n")
+            replaced(folder / ".gitignore", b"*\n")
 
     def room(self, *names: str) -> Path:
         """A folder in the store, made where it is not there."""
@@ -35,20 +37,10 @@ class Store:
                 raise Fault(f"{shown(str(path))} is a link; results are not written through one")
         return path
 
-    def write(self, path: Path, data: bytes) -> None:
-        """Writes a file whole, or leaves it as it was."""
-        try:
-            handle, name = tempfile.mkstemp(prefix=".new-", dir=path.parent)
-            with os.fdopen(handle, "wb") as file:
-                file.write(data)
-            os.replace(name, path)
-        except OSError as error:
-            raise Broken(f"{shown(str(path))}: {error.strerror}") from error
-
     def record(self, path: Path, value: dict[str, Any]) -> None:
         """Writes a record with a seal."""
         text = json.dumps(value, sort_keys=True)
-        self.write(path, json.dumps({"seal": _seal(text), "record": value}, indent=1, sort_keys=True).encode() + b"\n")
+        replaced(path, json.dumps({"seal": _seal(text), "record": value}, indent=1, sort_keys=True).encode() + b"\n")
 
     def recorded(self, path: Path) -> dict[str, Any] | None:
         """The record of a file, where this user sealed it."""
@@ -58,6 +50,18 @@ class Store:
             return value["record"] if hmac.compare_digest(str(value["seal"]), _seal(text)) else None
         except (OSError, ValueError, KeyError, TypeError, RecursionError):
             return None
+
+
+def replaced(path: Path, data: bytes) -> None:
+    """Writes a file whole, or leaves it as it was."""
+    try:
+        handle, name = tempfile.mkstemp(prefix=".new-", dir=path.parent)
+        with os.fdopen(handle, "wb") as file:
+            file.write(data)
+        os.chmod(name, 0o666 & ~UMASK)
+        os.replace(name, path)
+    except OSError as error:
+        raise Broken(f"{shown(str(path))}: {error.strerror}") from error
 
 
 def _seal(text: str) -> str:

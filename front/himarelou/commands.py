@@ -1,0 +1,140 @@
+"""What each subcommand does with its words."""
+import argparse
+import os
+import re
+import shutil
+import subprocess
+import sys
+from collections.abc import Sequence
+from pathlib import Path
+
+from himarelou.aiger import read_bytes, read_circuit, written
+from himarelou.body import failing_part, parse
+from himarelou.check import Work, text_of
+from himarelou.circuits import Circuits
+from himarelou.design import make
+from himarelou.faults import Broken, Fault, did_you_mean, shown
+from himarelou.formula import write_out
+from himarelou.names import Names
+from himarelou.picture import svg
+from himarelou.programs import TOOLS, Runner, bin_folder, program, program_sum
+from himarelou.project import Design, Project, Question, find, read_project
+from himarelou.report import as_json, as_junit
+from himarelou.result import status_of
+from himarelou.runs import played, letters_of, runs_with_strategy
+from himarelou.scene import scene_of
+from himarelou.schema import IDENTIFIER
+from himarelou.screen import Screen
+from himarelou.session import run_all
+from himarelou.store import FOLDER, Store, replaced
+from himarelou.strategy import ports_of, runs_of_kind
+from himarelou.tokens import Text
+from himarelou.vcd import vcd
+
+STOPPED = 130
+
+
+def check(said: argparse.Namespace) -> int:
+    is_path = bool(said.words) and (os.path.exists(said.words[0]) or said.words[0].endswith(".toml") or "/" in said.words[0])
+    project = read_project(find(said.words[0] if is_path else None))
+    questions = chosen(project, said.words[is_path:])
+    store = Store(said.out or project.folder / FOLDER)
+    runner, screen = Runner(), Screen()
+    results, is_whole = run_all(Work(runner, project, store, Circuits(runner, project, store), screen.stage), questions, said.jobs, screen)
+    screen.close(results)
+    status = status_of(results) if is_whole else STOPPED
+    for file, data in ((said.json, as_json(project.path, results, status)), (said.junit, as_junit(project.path, results))):
+        if file:
+            replaced(file, data)
+    return status
+
+
+def chosen(project: Project, names: Sequence[str]) -> list[Question]:
+    """The questions that are named, or all."""
+    known = [it.name for it in project.questions]
+    for name in names:
+        if name not in known:
+            raise Fault(f"{shown(str(project.path))}: no check or monitor is named {shown(name)}{did_you_mean(name, known)}")
+    if not known:
+        raise Fault(f"{shown(str(project.path))}: it has no check and no monitor")
+    return [it for it in project.questions if not names or it.name in names]
+
+
+def circuit(said: argparse.Namespace) -> int:
+    if said.out.suffix not in (".aag", ".aig"):
+        raise Fault(f"the circuit to write ends in .aag or .aig: {shown(str(said.out))}")
+    if said.top and not IDENTIFIER.fullmatch(said.top):
+        raise Fault(f"--top: {shown(said.top)} is no identifier")
+    design = Design("circuit", sources=tuple(said.sources), top=said.top, define=tuple(_pair("-D", it, True) for it in said.define),
+                    parameters=tuple(_pair("--set", it) for it in said.set), include=tuple(said.include), sv=said.sv,
+                    clocks=said.clocks, memory=said.memory, start=said.start)
+    made = make(Runner(), design, Path())
+    for line in [*made.findings, *(f"assumed: {it}" for it in made.assumptions), made.size()]:
+        print(line, file=sys.stderr)
+    replaced(said.out, written(made.circuit, said.out.suffix == ".aag"))
+    return 0
+
+
+def _pair(option: str, word: str, other: bool | None = None) -> tuple[str, str | bool]:
+    """NAME=VALUE as a pair; where the value may be left out, `other` stands for it."""
+    match = re.fullmatch(r"([A-Za-z_]\w*)(?:=([\w'.+-]+))?", word, re.A)
+    if not match or match[2] is None and other is None:
+        raise Fault(f"{option} wants NAME=VALUE: {shown(word)}")
+    return match[1], match[2] or other
+
+
+def formula(said: argparse.Namespace) -> int:
+    source = Text(said.file, sys.stdin.buffer.read().decode("utf-8", "surrogateescape")) if said.file == "-" else text_of(Path(said.file))
+    known = read_circuit(said.circuit) if said.circuit else None
+    if said.order and not known:
+        raise Fault("--order wants --circuit")
+    out = write_out(source, Names(name for _, name, _ in known.signals()) if known else None)
+    text = out.text if out.text.endswith("\n") else out.text + "\n"
+    if said.order:
+        kinds = (("input", "forall"), ("output", "exists"))
+        text = "".join(f"{port} {shown(name)}\n" for port, kind in kinds for name, _ in ports_of(known, runs_of_kind(out.quantifiers, kind)))
+    sys.stdout.buffer.write(text.encode("utf-8", "surrogateescape"))
+    return 0
+
+
+def waves(said: argparse.Namespace) -> int:
+    known, content = read_circuit(said.circuit), text_of(said.formula).content if said.formula else ""
+    data = sys.stdin.buffer.read() if said.answer == "-" else read_bytes(Path(said.answer))
+    answer = data.decode("utf-8", "surrogateescape")
+    if said.strategy and not content:
+        raise Fault("--strategy wants --formula")
+    if said.strategy:
+        letters = letters_of(answer, "strategy fails")
+        runs, why = runs_with_strategy(known, read_circuit(said.strategy), parse(content)[0], letters, said.steps), ""
+    else:
+        runs = played(known, answer)
+        why = failing_part(content, known, runs) if content else ""
+    scene = scene_of(known, runs, said.steps)
+    scene.title = [" ".join(str(it) for it in (said.circuit, said.formula) if it), *([why] if why else [])]
+    if said.only:
+        scene.only(said.only.split(","))
+    sys.stdout.buffer.write((vcd(scene) if said.vcd else svg(scene)).encode("utf-8", "replace"))
+    return 0
+
+
+def help(said: argparse.Namespace) -> int:
+    pages = [bin_folder() / place / f"{said.tool}.1" for place in ("../docs/man", "../share/man/man1")]
+    page = next((it for it in pages if it.is_file()), None)
+    if page is None:
+        raise Broken(f"the page of {said.tool} is not there")
+    if shutil.which("man"):
+        return subprocess.run(["man", "-l", page], check=False).returncode
+    marks = re.sub(r'(?m)^\.(TH|nf|fi|br|TP|PP).*\n|^\.(SH|B|I|BR|RB|BI|RI|IR) |\\f.|"', "", page.read_text(encoding="utf-8"))
+    print(marks.replace("\\-", "-"), end="")
+    return 0
+
+
+def version() -> str:
+    """The version, and of each program its sum and whether it was packed or built here."""
+    changes = next((it for place in ("..", "../share/doc/himarelou") if (it := bin_folder() / place / "CHANGES.md").is_file()), None)
+    number = re.search(r"(?m)^## (\S+)", changes.read_text(encoding="utf-8")) if changes else None
+    lines = [f"himarelou {number[1] if number else 'of no stated version'}"]
+    for name in TOOLS:
+        built = "built here" if "crates" in program(name).parts else "packed"
+        lines.append(f"{name} {program_sum(name)} {built}")
+    return "\n".join(lines)
