@@ -1,6 +1,6 @@
 """Larger designs of `bench/mchyper`: each in a form that leaks (LEAK = 1) and in a mended one (LEAK = 0).
 
-A design is a name, its Verilog, parameters, and formulas by their names, in the notation of `examples/bits`. The name
+A design is a name, its Verilog, parameters, and formulas by their names, as `himarelou formula` takes them. The name
 is that of the module, with what may stand behind a `-`. Without a start value a register begins with either one; `rst`
 is there for those.
 """

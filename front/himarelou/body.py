@@ -121,9 +121,11 @@ class Judge:
 
     def failing(self, tree: Tree, at: int = 0) -> tuple[Tree, int]:
         """The smallest part that the failure of a part at a position comes down to, and where it fails."""
+        if tree.sign == "!":
+            return self.holding(tree.parts[0], at)
         if tree.sign == "&":
             return self.failing(next(it for it in tree.parts if not self.row(it)[at]), at)
-        if tree.sign == "->":
+        if tree.sign in ("->", "|"):
             return self.failing(tree.parts[1], at)
         if tree.sign == "X":
             return self.failing(tree.parts[0], self._next(at))
@@ -132,6 +134,15 @@ class Judge:
                 at = self._next(at)
             return self.failing(tree.parts[0], at)
         return tree, at
+
+    def holding(self, tree: Tree, at: int) -> tuple[Tree, int]:
+        """The same of a part that holds and is not to hold."""
+        if tree.sign in ("U", "F"):
+            while not self.row(tree.parts[-1])[at]:
+                at = self._next(at)
+        if tree.sign in ("U", "F", "&"):
+            return self.holding(tree.parts[-1], at)
+        return self.failing(tree.parts[0], at) if tree.sign == "!" else (tree, at)
 
 
 def _plain(sign: str, values: tuple[bool, ...]) -> bool:
@@ -165,7 +176,7 @@ def failing_part(content: str, circuit: Circuit, runs: Sequence[Run]) -> str:
         part, at = judge.failing(body)
     except (KeyError, RecursionError):
         return ""
-    return f"{_shortened(content, part)} fails in cycle {at}"
+    return f"{_shortened(content, part)} {'holds' if judge.row(part)[at] else 'fails'} in cycle {at}"
 
 
 def _shortened(content: str, part: Tree) -> str:

@@ -5,7 +5,7 @@ from dataclasses import dataclass, field
 from pathlib import Path
 from typing import Any
 
-from himarelou.faults import Broken, Fault, did_you_mean, shown
+from himarelou.faults import Fault, did_you_mean, shown
 from himarelou.schema import CHECK, CIRCUIT, MONITOR, STRATEGY, Schema
 from himarelou.stages import DEFAULT, Stage
 from himarelou.statement import Reset
@@ -102,7 +102,7 @@ def read_project(path: Path) -> Project:
         text = data.decode()
         return _Reader(Project(path, lines_of(text)), tomllib.loads(text)).read()
     except OSError as error:
-        raise Broken(f"{name}: {error.strerror}") from error
+        raise Fault(f"{name}: {error.strerror}") from error
     except UnicodeDecodeError as error:
         raise Fault(f"{name}:{data.count(10, 0, error.start) + 1}: no UTF-8") from error
     except RecursionError as error:

@@ -12,7 +12,7 @@ import time
 import unittest
 import xml.etree.ElementTree as ET
 
-from himarelou.aiger import Circuit, parse, written
+from himarelou.aiger import Circuit, written
 from himarelou.gates import Builder
 from himarelou.pair import FORMULAS, PARTED, first_parting, pair_of, split
 from himarelou.programs import program
@@ -129,7 +129,7 @@ class Checking(Folder):
         self.assertIn("1 checks: 1 as expected", self.run_front("check", "z").stdout)
         self.assertIn("did you mean cell?", self.run_front("check", "cel", status=2).stderr)
         self.run_front("check", str(self.folder), "z", cwd="/")
-        self.run_front("check", "none.toml", status=3)
+        self.run_front("check", "none.toml", status=2)
 
     def test_monitor(self):
         self.put("runs/a b.traces", "{start};{};{done}\n{start,key};{};{done}")
@@ -154,12 +154,13 @@ class Examples(Folder):
     def test_stopped_in_each_stage(self):
         """Whenever it is stopped, no process stays, and the next call ends with the same table."""
         shutil.copytree(TOP / "examples/lock", self.folder / "lock", ignore=shutil.ignore_patterns(".himarelou"))
-        for seconds in (0.1, 0.3, 0.6, 1, 2, 4):
+        for seconds in (0, 0.3, 0.6, 1, 2, 4):
             process = subprocess.Popen([HIMARELOU, "check", "lock", "lamp", "opens"], cwd=self.folder, stdout=subprocess.PIPE, text=True)
+            process.stdout.readline()
             time.sleep(seconds)
             process.send_signal(signal.SIGINT)
             process.communicate(timeout=20)
-            self.assertIn(process.returncode, (0, 130, -signal.SIGINT))
+            self.assertIn(process.returncode, (0, 130))
         self.assertIn("2 checks: 2 as expected", self.run_front("check", "lock", "lamp", "opens").stdout)
         self.assertEqual([it.name for it in (self.folder / "lock/.himarelou").rglob(".new-*") if it.stat().st_size == 0], [])
 

@@ -92,6 +92,6 @@ class Judging(unittest.TestCase):
                 self.assertEqual(self.judge().row(parse(f"forall p. {text}")[1])[0], bool(value))
 
     def test_failing_part(self):
-        content = "forall p. a_p -> G (a_p | b_p) & true"
-        part, at = self.judge().failing(parse(content)[1])
-        self.assertEqual((content[part.begin:part.end], at), ("a_p | b_p", 2))
+        for content, wanted in {"forall p. a_p -> G (a_p | X c_p) & true": ("c_p", 1), "forall p. !(a_p U (X c_p & !a_p))": ("a_p", 1)}.items():
+            part, at = self.judge().failing(parse(content)[1])
+            self.assertEqual((content[part.begin:part.end], at), wanted)
