@@ -142,6 +142,8 @@ class Check:
         else:
             secret = self.secrets()
             equal = [it for it in inputs if it not in secret]
+            unread = [name for kind, name, _ in self.circuit.signals() if kind == "i" and name in secret and name not in inputs]
+            self.result.notes += [f"nothing reads {shown(', '.join(joined(unread)))}"] if unread else []
         own = {reset.name} if reset else set()
         same = [it for it in same if it not in given]
         if not same:

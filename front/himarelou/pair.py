@@ -54,8 +54,7 @@ class Copies:
         builder, secret = self.builder, set(self.statement.secret)
         place = {it: name for (kind, at), name in self.circuit.names.items() if kind == "i" for it in [self.circuit.inputs[at]]}
         held = {self.circuit.latches[at].literal: name for (kind, at), name in self.circuit.names.items() if kind == "l"}
-        read = self.circuit.read_variables()
-        inputs = [it for it in self.circuit.inputs if place.get(it) in secret and it >> 1 in read]
+        inputs = [it for it in self.circuit.inputs if place.get(it) in secret]
         starts = [it.literal for it in self.circuit.latches if it.is_either and held.get(it.literal, "") in secret]
         was = builder.latch()
         now = builder.some([self.same(it) ^ 1 for it in inputs] + [builder.both(started ^ 1, self.same(it) ^ 1) for it in starts])
