@@ -5,10 +5,9 @@ from collections.abc import Callable, Sequence
 from himarelou.aiger import Circuit
 from himarelou.body import LOOSEST, Tree, parse_body
 from himarelou.faults import Fault
-from himarelou.formula import write_out_of_one_run
+from himarelou.formula import Text, write_out_of_one_run
 from himarelou.gates import FALSE, TRUE, Builder
 from himarelou.names import Names
-from himarelou.tokens import Text
 
 
 def with_assumed(circuit: Circuit, assumed: Sequence[str]) -> Circuit:

@@ -5,7 +5,7 @@ from dataclasses import dataclass
 from himarelou.aiger import Circuit, value_of
 from himarelou.faults import Fault
 from himarelou.runs import Run, joint_length
-from himarelou.tokens import QUANTIFIERS, Text, Token
+from himarelou.formula import QUANTIFIERS, Text, Token
 
 LOOSEST = ("<->", "->", "|", "&")
 TEMPORAL = ("U", "W", "R")

@@ -10,7 +10,7 @@ from himarelou.assume import with_assumed
 from himarelou.body import failing_part
 from himarelou.circuits import Circuits
 from himarelou.faults import Fault, shown
-from himarelou.formula import MOST_NAMES, Written, write_out
+from himarelou.formula import MOST_NAMES, Text, write_out, Written
 from himarelou.names import joined
 from himarelou.pair import FORMULAS, MET, PARTED, first_parting, pair_of, split
 from himarelou.picture import svg
@@ -22,7 +22,6 @@ from himarelou.scene import STEPS, scene_of
 from himarelou.statement import Statement
 from himarelou.store import Store, replaced
 from himarelou.strategy import in_order_of_ports, shows_all
-from himarelou.tokens import Text
 
 VACUITY_BUDGET = 120
 
@@ -138,7 +137,7 @@ class Check:
         same = self.bits("same") if question.same else [it for word in self.ready.made.outputs for it in names.bits(word)]
         if question.equal is not None:
             equal = self.bits("equal")
-            secret = [it for it in inputs if it not in equal] + [name for kind, name, _ in self.circuit.signals() if kind == "l"]
+            secret = [it for it in inputs if it not in equal]
         else:
             secret = self.secrets()
             equal = [it for it in inputs if it not in secret]
@@ -148,7 +147,8 @@ class Check:
         same = [it for it in same if it not in given]
         if not same:
             raise self.fault("no output is left that is to be the same", "same")
-        return Statement(reset, [it for it in equal if it not in own], given, same, [it for it in secret if it not in own])
+        return Statement(reset, [it for it in equal if it not in own], given, same, [it for it in secret if it not in own],
+                         question.equal is None)
 
     def bits(self, key: str) -> list[str]:
         """The bits that the words of a key name."""
@@ -179,7 +179,7 @@ class Check:
         elif self.statement and self.result.answer == "holds":
             self.asker.tell("premise")
             asked = self.asker.decided(self.of_pair(MET, self.room / "premise"), min(self.question.budget, VACUITY_BUDGET))
-            secret = shown(", ".join(joined(self.statement.secret))) or "anything"
+            secret = shown(", ".join(joined(self.statement.secret)) or "the start of a register")
             why = f"no two runs that differ in {secret} meet the premise up to a cycle that is compared"
         else:
             return

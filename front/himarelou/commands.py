@@ -14,13 +14,12 @@ from himarelou.check import Work, text_of
 from himarelou.circuits import Circuits
 from himarelou.design import make
 from himarelou.faults import Broken, Fault, did_you_mean, shown
-from himarelou.formula import write_out
+from himarelou.formula import Text, write_out
 from himarelou.names import Names
 from himarelou.picture import svg
 from himarelou.programs import TOOLS, Runner, bin_folder, program, program_sum
 from himarelou.project import Design, Project, Question, find, read_project
-from himarelou.report import as_json, as_junit
-from himarelou.result import status_of
+from himarelou.result import as_json, as_junit, status_of
 from himarelou.runs import played, letters_of, runs_with_strategy
 from himarelou.scene import scene_of
 from himarelou.schema import IDENTIFIER
@@ -28,7 +27,6 @@ from himarelou.screen import Screen
 from himarelou.session import run_all
 from himarelou.store import FOLDER, Store, replaced
 from himarelou.strategy import ports_of, runs_of_kind
-from himarelou.tokens import Text
 from himarelou.vcd import vcd
 
 STOPPED = 130

@@ -10,9 +10,9 @@ from pathlib import Path
 from himarelou.aiger import Circuit, read_bytes, read_circuit
 from himarelou.faults import Fault, shown
 from himarelou.gates import Builder
-from himarelou.programs import Runner, file_sum, front_sum, yosys_version
+from himarelou.programs import file_sum, front_sum, Runner, yosys_version
 from himarelou.project import Design
-from himarelou.yosys import Module, listed, quoted, read_modules, run_yosys, top_of
+from himarelou.yosys import listed, Module, quoted, read_modules, run_yosys, top_of
 
 INCLUDE = re.compile(rb'`include\s+(?:"([^"\n]+)")?|\$readmem[bh]\s*\(\s*(?:"([^"\n]+)")?')
 FINISH = ("dffunmap", "setundef -undriven -anyseq", "setundef -anyseq")
@@ -155,13 +155,15 @@ class _Work:
 def told_of(circuit: Circuit, module: Module) -> list[str]:
     """What is seldom meant: free signals, registers that start with either value, values x."""
     free, told = module.undriven(), []
-    either = [circuit.names.get(("l", place), f"register#{place}") for place, it in enumerate(circuit.latches)
-              if it.is_either and not it.is_constant]
+    either = [circuit.names.get(("l", place)) for place, it in enumerate(circuit.latches) if it.is_either and not it.is_constant]
+    nameless = either.count(None)
+    named = [min(it.split(" "), key=len) for it in either if it is not None]
     values_x = sum(("i", place) not in circuit.names for place in range(len(circuit.inputs))) - len(free)
     if free:
         told.append(f"nothing drives (free in each cycle): {listed(free)}")
     if either:
-        told.append(f"no start value: {listed(min(it.split(' '), key=len) for it in either)}")
+        others = [f"{nameless} without a name"] if nameless else []
+        told.append("no start value: " + ", ".join([listed(named)] * bool(named) + others))
     if values_x > 0:
         places = module.lines_of_x()
         told.append(f"values x (free in each cycle): {values_x}" + (f", as of {shown(', '.join(places[:10]))}" if places else ""))

@@ -7,14 +7,13 @@ from himarelou.asking import NO_CERTIFICATE, OPEN_STATUS
 from himarelou.check import Work, text_of
 from himarelou.design import files_of
 from himarelou.faults import Fault, shown
-from himarelou.formula import write_out
+from himarelou.formula import Text, write_out
 from himarelou.names import Names
 from himarelou.programs import program
 from himarelou.project import Question
 from himarelou.result import Result
 from himarelou.statement import Statement
 from himarelou.store import replaced
-from himarelou.tokens import Text
 
 NAME = re.compile(rb'"[^"\n]*"|[A-Za-z][A-Za-z0-9_]*')
 

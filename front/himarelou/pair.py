@@ -50,18 +50,17 @@ class Copies:
         return self.builder.both(self.resets() ^ 1, self.agree(self.statement.same) ^ 1)
 
     def met(self, started: int) -> int:
-        """That the copies differed in a secret, outside reset, and still do in some input or register."""
-        builder, secret = self.builder, set(self.statement.secret)
-        place = {it: name for (kind, at), name in self.circuit.names.items() if kind == "i" for it in [self.circuit.inputs[at]]}
-        held = {self.circuit.latches[at].literal: name for (kind, at), name in self.circuit.names.items() if kind == "l"}
-        inputs = [it for it in self.circuit.inputs if place.get(it) in secret]
-        starts = [it.literal for it in self.circuit.latches if it.is_either and held.get(it.literal, "") in secret]
+        """That outside reset the copies have differed in a secret, and where secrets are named still do in one of its inputs or
+        in some register: a secret that the reset sets is none."""
+        builder, circuit, secret = self.builder, self.circuit, set(self.statement.secret)
+        inputs = [it for at, it in enumerate(circuit.inputs) if circuit.names.get(("i", at)) in secret]
+        starts = [it.literal for at, it in enumerate(circuit.latches)
+                  if it.is_either and (not self.statement.is_named or circuit.names.get(("l", at)) in secret)]
+        differs = [self.same(it) ^ 1 for it in inputs]
         was = builder.latch()
-        now = builder.some([self.same(it) ^ 1 for it in inputs] + [builder.both(started ^ 1, self.same(it) ^ 1) for it in starts])
-        parted = builder.either(was.literal, now)
-        was.next = parted
-        alive = builder.some(self.same(it) ^ 1 for it in [*inputs, *(it.literal for it in self.circuit.latches)])
-        return builder.every([self.resets() ^ 1, parted, alive])
+        was.next = builder.some([was.literal, *differs, *(builder.both(started ^ 1, self.same(it) ^ 1) for it in starts)])
+        alive = builder.some([*differs, *(self.same(it.literal) ^ 1 for it in circuit.latches)])
+        return builder.every([self.resets() ^ 1, was.next, alive if self.statement.is_named else TRUE])
 
 
 def pair_of(circuit: Circuit, statement: Statement, asked: str) -> Circuit:

@@ -22,13 +22,15 @@ class Reset:
 
 @dataclass
 class Statement:
-    """The bits that two runs are compared by, and the secret inputs and registers."""
+    """The bits that two runs are compared by, and the secret inputs and registers. Where the user did not name them they are
+    the inputs that are left, and the starts of all registers."""
 
     reset: Reset | None
     equal: list[str]
     given: list[str]
     same: list[str]
     secret: list[str] = field(default_factory=list)
+    is_named: bool = False
 
     def names(self) -> dict[str, None]:
         """The names that the formula has."""

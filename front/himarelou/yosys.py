@@ -29,7 +29,7 @@ def run_yosys(runner: Runner, lines: Iterable[str], folder: Path, room: Path) ->
     ended = runner.run(["yosys", "-q", "-s", script], folder)
     if ended.status:
         told = ended.err.strip() or ended.out.decode(errors="replace").strip() or f"it ended with {ended.status}"
-        raise Fault(f"yosys: {shown(told.splitlines()[-1].removeprefix('ERROR: ').replace('`./', '`'))}")
+        raise Fault(f"yosys: {shown(told.splitlines()[-1].removeprefix('ERROR: ').removeprefix('./').replace('`./', '`'))}")
 
 
 class Module:

@@ -55,7 +55,8 @@ class Checking(Folder):
         self.assertEqual(self.results('[circuit]\nfile = "cell.aag"\n[check.x]\nequal = ["r", "w", "d"]\n', status=1)["x"]["vacuity"], "vacuous")
         self.put("cell.aag", CELL.replace(b"\n8 16\n", b"\n8 16 8\n"))
         self.assertEqual(self.results('[circuit]\nfile = "cell.aag"\n[check.x]\nequal = ["r", "w", "d"]\n', status=1)["x"]["answer"], "violated")
-        self.assertEqual(self.results(PROJECT + '[check.x]\nequal = ["r", "w", "d"]\n', status=1)["x"]["vacuity"], "vacuous")
+        self.assertEqual(self.results(PROJECT + '[check.x]\nequal = ["r", "w", "d"]\n')["x"]["vacuity"], "met")
+        self.assertEqual(self.results(PROJECT + '[check.x]\nsecret = ["q"]\n', status=1)["x"]["vacuity"], "vacuous")
 
     def test_formulas(self):
         found = self.results(PROJECT + '[check.reachable]\nformula = "exists p. F o_p"\n[check.never]\nformula = "exists p. F (o_p && !q_p)"\n'
@@ -286,7 +287,7 @@ class Designs(Folder):
         said, circuit = self.made("module m(input clk, input rst, input d, output q, output s);\nreg r, t, never;\n"
                                   "always @(posedge clk or posedge rst) if (rst) r <= 0; else r <= d;\nalways @(posedge clk) t <= r ^ never;\n"
                                   "assign q = r, s = d ? t : 1'bx;\nendmodule\n")
-        self.assertEqual(said, "nothing drives (free in each cycle): never\nno start value: t, register#1\n"
+        self.assertEqual(said, "nothing drives (free in each cycle): never\nno start value: t, 1 without a name\n"
                                "values x (free in each cycle): 1, as of a b.v:5\n2 registers, 6 ands\n".replace("6 ands", re.search(r"\d+ ands", said)[0]))
         for name in ("q", "r", "s", "t"):
             self.assertRegex(circuit, rf"(?m)^[lo]\d+ {name}$")

@@ -3,10 +3,9 @@ import unittest
 
 from himarelou.body import Judge, parse
 from himarelou.faults import Fault
-from himarelou.formula import write_out
+from himarelou.formula import Text, write_out
 from himarelou.names import Names, atom, joined
 from himarelou.statement import Reset, Statement
-from himarelou.tokens import Text
 
 NAMES = Names(["rst", "busy", "d[0]", "d[1]", "s[0]", "s[1]", "m[0][0]", "m[0][1]", "m[1][0]", "u.tx_data[0]", "u.tx_data[1]", "a-b"])
 
