@@ -160,12 +160,13 @@ class Check:
     def secrets(self) -> list[str]:
         """The secret bits; what the circuit does not have is told with the premise."""
         found: dict[str, None] = {}
-        kinds = {name: kind for kind, name, _ in self.circuit.signals() if kind != "o"}
+        own = {it for word in self.ready.made.outputs for it in self.ready.names.bits(word)}
+        own -= {name for kind, name, _ in self.circuit.signals() if kind != "o"}
         for word in self.question.secret or ():
             bits = self.ready.names.bits(word)
             if not bits:
                 self.missing.append(f"the circuit has no input or register {shown(word)}{self.ready.names.hint(word)}")
-            elif not all(it in kinds for it in bits):
+            elif own & set(bits):
                 raise self.fault(f"{shown(word)} is an output, and a secret is an input or a register", "secret")
             found |= dict.fromkeys(bits)
         return list(found)

@@ -53,9 +53,10 @@ class Copies:
         """That outside reset the copies have differed in a secret, and where secrets are named still do in one of its inputs or
         in some register: a secret that the reset sets is none."""
         builder, circuit, secret = self.builder, self.circuit, set(self.statement.secret)
-        inputs = [it for at, it in enumerate(circuit.inputs) if circuit.names.get(("i", at)) in secret]
-        starts = [it.literal for at, it in enumerate(circuit.latches)
-                  if it.is_either and (not self.statement.is_named or circuit.names.get(("l", at)) in secret)]
+        inputs = [literal for kind, name, literal in circuit.signals() if name in secret and kind == "i"]
+        starts = [literal for kind, name, literal in circuit.signals() if name in secret and kind != "i"]
+        if not self.statement.is_named:
+            starts = [it.literal for it in circuit.latches if it.is_either]
         differs = [self.same(it) ^ 1 for it in inputs]
         was = builder.latch()
         was.next = builder.some([was.literal, *differs, *(builder.both(started ^ 1, self.same(it) ^ 1) for it in starts)])
