@@ -1,11 +1,10 @@
 """What is assumed of each run in each cycle, made a constraint of the circuit."""
 import copy
-from collections.abc import Callable, Sequence
+from collections.abc import Sequence
 
 from himarelou.aiger import Circuit
-from himarelou.body import LOOSEST, Tree, parse_body
 from himarelou.faults import Fault
-from himarelou.formula import Text, write_out_of_one_run
+from himarelou.formula import Text, Tree, parse_body
 from himarelou.gates import FALSE, TRUE, Builder
 from himarelou.names import Names
 
@@ -17,28 +16,26 @@ def with_assumed(circuit: Circuit, assumed: Sequence[str]) -> Circuit:
     made = copy.deepcopy(circuit)
     builder, literals = Builder(made), {name: literal for _, name, literal in circuit.signals()}
     for text in assumed:
-        body = write_out_of_one_run(Text("assume", text), Names(literals))
-        try:
-            made.constraints.append(gates_of(parse_body(body.text), builder, literals.__getitem__))
-        except ValueError as error:
-            raise Fault(f"assume: {error} speaks of other cycles, and what is assumed is so in each") from error
-        except RecursionError as error:
-            raise Fault("assume: too deep") from error
+        made.constraints.append(gates_of(parse_body(Text("assume", text), Names(literals)), builder, literals))
     return made
 
 
-def gates_of(tree: Tree, builder: Builder, literal_of: Callable[[str], int]) -> int:
-    """The literal of a part without temporal operators; a ValueError names one that there is."""
+def gates_of(tree: Tree, builder: Builder, literals: dict[str, int]) -> int:
+    """The literal of a part without temporal operators."""
     if tree.sign == "atom":
-        return literal_of(tree.name)
+        return literals[tree.name]
     if tree.sign in ("true", "false"):
         return TRUE if tree.sign == "true" else FALSE
-    if tree.sign not in ("!", *LOOSEST):
-        raise ValueError(tree.sign)
-    parts = [gates_of(it, builder, literal_of) for it in tree.parts]
-    if tree.sign == "!":
-        return parts[0] ^ 1
-    left, right = parts
-    if tree.sign == "&":
-        return builder.both(left, right)
-    return builder.same(left, right) if tree.sign == "<->" else builder.either(left ^ (tree.sign == "->"), right)
+    left, right = (*(gates_of(it, builder, literals) for it in tree.parts), TRUE)[:2]
+    match tree.sign:
+        case "!":
+            return left ^ 1
+        case "&":
+            return builder.both(left, right)
+        case "|":
+            return builder.either(left, right)
+        case "->":
+            return builder.either(left ^ 1, right)
+        case "<->":
+            return builder.same(left, right)
+    raise Fault(f"assume: {tree.sign} speaks of other cycles, and what is assumed is so in each")

@@ -1,74 +1,45 @@
 """One check of a circuit, from its keys in the project file to its result."""
-import time
-from collections.abc import Callable
-from dataclasses import dataclass
 from pathlib import Path
 
-from himarelou.aiger import Circuit, read_bytes, written
+from himarelou.aiger import Circuit, written
 from himarelou.asking import Asked, Asker, Files
 from himarelou.assume import with_assumed
-from himarelou.body import failing_part
-from himarelou.circuits import Circuits
 from himarelou.faults import Fault, shown
-from himarelou.formula import MOST_NAMES, Text, write_out, Written
+from himarelou.formula import MOST_NAMES, Formula
+from himarelou.judging import failing_part
 from himarelou.names import joined
 from himarelou.pair import FORMULAS, MET, PARTED, first_parting, pair_of, split
 from himarelou.picture import svg
-from himarelou.programs import Runner
-from himarelou.project import Project, Question
-from himarelou.result import IS_MET, Result, UNKNOWN, VACUOUS
+from himarelou.project import Question
+from himarelou.result import IS_MET, UNKNOWN, VACUOUS
 from himarelou.runs import Run, letters_of, runs_of, runs_with_strategy
 from himarelou.scene import STEPS, scene_of
 from himarelou.statement import Statement
-from himarelou.store import Store, replaced
 from himarelou.strategy import in_order_of_ports, shows_all
+from himarelou.task import Task, Work, text_of
 
 VACUITY_BUDGET = 120
 
 
-@dataclass
-class Work:
-    """What all checks of a call share."""
-
-    runner: Runner
-    project: Project
-    store: Store
-    circuits: Circuits
-    tell: Callable[[str, str], None]
-
-
-class Check:
-    """One check; `run` fills its result."""
+class Check(Task):
+    """One check of a circuit."""
 
     def __init__(self, work: Work, question: Question):
-        self.work, self.question = work, question
-        self.result = Result(question.name, question.kind, question.expect)
-        self.room = work.store.room("checks", question.name)
+        super().__init__(work, question)
         self.design = work.project.circuits[question.circuit]
-        self.asker = Asker(work.runner, work.store, question.stages, lambda stage: work.tell(question.name, stage))
+        self.asker = Asker(work.runner, work.store, question.stages, self.tell)
         self.statement: Statement | None = None
         self.missing: list[str] = []
 
-    def run(self) -> Result:
-        begun = time.monotonic()
-        self.asker.tell("circuit")
+    def work_on(self) -> None:
+        self.tell("circuit")
         self.ready = self.work.circuits.of(self.design)
         self.circuit = self.assumed()
         files = self.posed()
-        asked = self.asker.decided(files, self.question.budget)
-        self.result.take(asked)
+        self.result.take(self.asker.decided(files, self.question.budget))
         self.result.files = {"circuit": str(files.circuit), "formula": str(files.formula), "answer": str(files.answer)}
         self.show(files)
         self.judge_premise()
-        self.result.seconds = round(time.monotonic() - begun, 2)
-        return self.result
-
-    def fault(self, fault: Fault | str, key: str) -> Fault:
-        return self.work.project.fault(str(fault), *self.question.where, key)
-
-    def write(self, name: str, data: bytes | str) -> Path:
-        replaced(self.room / name, data if isinstance(data, bytes) else data.encode("utf-8", "surrogateescape"))
-        return self.room / name
 
     def assumed(self) -> Circuit:
         """The circuit under what is assumed, which is told."""
@@ -88,9 +59,10 @@ class Check:
         self.file = self.ready.file if self.circuit is self.ready.circuit else self.write("circuit.aig", written(self.circuit, False))
         answer = self.room / "answer"
         if self.question.formula or self.question.file:
-            out = self.own_formula()
-            strategy = self.ordered_strategy(out)
-            return Files(self.file, self.write("formula", shows_all(out, self.circuit) if strategy else out.text), answer, strategy)
+            self.formula = self.one_formula("formula" if self.question.formula else "file")
+            strategy = self.ordered_strategy() if self.question.strategy else None
+            text = (shows_all(self.formula, self.circuit) if strategy else self.formula).text()
+            return Files(self.file, self.write("formula", text), answer, strategy)
         self.statement = self.stated()
         names = self.statement.names()
         if len(names) <= MOST_NAMES:
@@ -102,27 +74,20 @@ class Check:
         pair = written(pair_of(self.circuit, self.statement, asked), False)
         return Files(self.write(f"{asked}.aig", pair), self.write(f"{asked}.formula", FORMULAS[asked]), answer)
 
-    def own_formula(self) -> Written:
-        """The user's formula, written out."""
-        key = "formula" if self.question.formula else "file"
-        source = Text(key, self.question.formula) if self.question.formula else text_of(self.work.project.folder / self.question.file)
-        try:
-            out = write_out(source, self.ready.names)
-        except Fault as fault:
-            raise self.fault(fault, key) from fault
-        if len(out.names) > MOST_NAMES:
-            raise self.fault(f"it has {len(out.names)} names, and a formula has at most {MOST_NAMES}", key)
-        return out
+    def one_formula(self, key: str) -> Formula:
+        """The user's formula."""
+        found = self.formulas(key, self.ready.names)
+        count = len(found[0].body.names())
+        if len(found) > 1 or count > MOST_NAMES:
+            raise self.fault(f"one formula with at most {MOST_NAMES} names is wanted, not {len(found)} with {count}", key)
+        return found[0]
 
-    def ordered_strategy(self, out: Written) -> Path | None:
+    def ordered_strategy(self) -> Path:
         """The strategy with its ports in the order that the tool wants."""
-        if self.question.strategy is None:
-            return None
         try:
-            self.strategy = in_order_of_ports(self.work.circuits.of(self.question.strategy).circuit, self.circuit, out.quantifiers)
+            self.strategy = in_order_of_ports(self.work.circuits.of(self.question.strategy).circuit, self.circuit, self.formula)
         except Fault as fault:
             raise self.fault(fault, "strategy") from fault
-        self.quantifiers = out.quantifiers
         return self.write("strategy.aig", written(self.strategy, False))
 
     def stated(self) -> Statement:
@@ -176,10 +141,10 @@ class Check:
         if self.missing:
             asked, why = Asked("violated"), "; ".join(self.missing)
         elif self.question.met:
-            asked, why = self.own_premise(), "no runs satisfy met"
+            formula = self.write("premise.formula", self.one_formula("met").text())
+            asked, why = self.asked_of_premise(Files(self.file, formula, self.room / "premise")), "no runs satisfy met"
         elif self.statement and self.result.answer == "holds":
-            self.asker.tell("premise")
-            asked = self.asker.decided(self.of_pair(MET, self.room / "premise"), min(self.question.budget, VACUITY_BUDGET))
+            asked = self.asked_of_premise(self.of_pair(MET, self.room / "premise"))
             secret = shown(", ".join(joined(self.statement.secret)) or "the start of a register")
             why = f"no two runs that differ in {secret} meet the premise up to a cycle that is compared"
         else:
@@ -188,25 +153,22 @@ class Check:
         if self.result.vacuity != IS_MET:
             self.result.notes.append(f"vacuous: {why}" if asked.answer == "violated" else "whether runs meet the premise is unknown")
 
-    def own_premise(self) -> Asked:
-        try:
-            out = write_out(Text("met", self.question.met), self.ready.names)
-        except Fault as fault:
-            raise self.fault(fault, "met") from fault
-        self.asker.tell("premise")
-        files = Files(self.file, self.write("premise.formula", out.text), self.room / "premise")
+    def asked_of_premise(self, files: Files) -> Asked:
+        self.tell("premise")
         return self.asker.decided(files, min(self.question.budget, VACUITY_BUDGET))
 
     def show(self, files: Files) -> None:
         """The picture of the runs behind an answer, played on the circuit itself, and what is to be seen there."""
-        answer = text_of(files.answer).content
+        answer, why = text_of(files.answer).content, ""
         if self.result.answer == "strategy fails":
-            runs, why = runs_with_strategy(self.circuit, self.strategy, self.quantifiers, letters_of(answer), STEPS), ""
-        elif "\nproof runs " in answer:
-            runs = runs_of(answer)
-            runs, why = self.parted(files, runs) if self.statement else (runs, failing_part(text_of(files.formula).content, self.circuit, runs))
-        else:
+            runs = runs_with_strategy(self.circuit, self.strategy, self.formula, letters_of(answer), STEPS)
+        elif "\nproof runs " not in answer:
             return
+        elif self.statement:
+            runs, why = self.parted(files, runs_of(answer))
+        else:
+            runs = runs_of(answer)
+            why = failing_part(self.formula, self.circuit, runs)
         scene = scene_of(self.circuit, runs, STEPS)
         scene.title = [f"{self.question.name}: {files.circuit.name}, {self.result.answer}", *([why] if why else [])]
         self.result.notes += [why] if why else []
@@ -221,6 +183,3 @@ class Check:
         step, names = found
         return runs, f"{shown(', '.join(joined(names)))} differs in cycle {step}"
 
-
-def text_of(path: Path) -> Text:
-    return Text(str(path), read_bytes(path).decode("utf-8", "surrogateescape"))

@@ -9,12 +9,11 @@ from collections.abc import Sequence
 from pathlib import Path
 
 from himarelou.aiger import read_bytes, read_circuit, written
-from himarelou.body import failing_part, parse
-from himarelou.check import Work, text_of
 from himarelou.circuits import Circuits
 from himarelou.design import make
 from himarelou.faults import Broken, Fault, did_you_mean, shown
-from himarelou.formula import Text, write_out
+from himarelou.formula import Text, parse, parse_one
+from himarelou.judging import failing_part
 from himarelou.names import Names
 from himarelou.picture import svg
 from himarelou.programs import TOOLS, Runner, bin_folder, program, program_sum
@@ -26,7 +25,8 @@ from himarelou.schema import IDENTIFIER
 from himarelou.screen import Screen
 from himarelou.session import run_all
 from himarelou.store import FOLDER, Store, replaced
-from himarelou.strategy import ports_of, runs_of_kind
+from himarelou.strategy import in_order_of_ports, ports_of
+from himarelou.task import Work, text_of
 from himarelou.vcd import vcd
 
 STOPPED = 130
@@ -86,27 +86,28 @@ def formula(said: argparse.Namespace) -> int:
     known = read_circuit(said.circuit) if said.circuit else None
     if said.order and not known:
         raise Fault("--order wants --circuit")
-    out = write_out(source, Names(name for _, name, _ in known.signals()) if known else None)
-    text = out.text if out.text.endswith("\n") else out.text + "\n"
+    formulas = parse(source, Names(name for _, name, _ in known.signals()) if known else None)
+    text = ";\n".join(it.text() for it in formulas)
     if said.order:
-        kinds = (("input", "forall"), ("output", "exists"))
-        text = "".join(f"{port} {shown(name)}\n" for port, kind in kinds for name, _ in ports_of(known, runs_of_kind(out.quantifiers, kind)))
+        ports = [(kind, name) for kind, of in (("input", "forall"), ("output", "exists")) for name, _ in ports_of(known, formulas[0].runs(of))]
+        text = "".join(f"{kind} {shown(name)}\n" for kind, name in ports)
     sys.stdout.buffer.write(text.encode("utf-8", "surrogateescape"))
     return 0
 
 
 def waves(said: argparse.Namespace) -> int:
-    known, content = read_circuit(said.circuit), text_of(said.formula).content if said.formula else ""
-    data = sys.stdin.buffer.read() if said.answer == "-" else read_bytes(Path(said.answer))
-    answer = data.decode("utf-8", "surrogateescape")
-    if said.strategy and not content:
+    known, why = read_circuit(said.circuit), ""
+    names = Names(name for _, name, _ in known.signals())
+    asked = parse_one(text_of(said.formula), names) if said.formula else None
+    answer = (sys.stdin.buffer.read() if said.answer == "-" else read_bytes(Path(said.answer))).decode("utf-8", "surrogateescape")
+    if said.strategy and not asked:
         raise Fault("--strategy wants --formula")
     if said.strategy:
-        letters = letters_of(answer, "strategy fails")
-        runs, why = runs_with_strategy(known, read_circuit(said.strategy), parse(content)[0], letters, said.steps), ""
+        strategy = in_order_of_ports(read_circuit(said.strategy), known, asked)
+        runs = runs_with_strategy(known, strategy, asked, letters_of(answer, "strategy fails"), said.steps)
     else:
         runs = played(known, answer)
-        why = failing_part(content, known, runs) if content else ""
+        why = failing_part(asked, known, runs) if asked else ""
     scene = scene_of(known, runs, said.steps)
     scene.title = [" ".join(str(it) for it in (said.circuit, said.formula) if it), *([why] if why else [])]
     if said.only:

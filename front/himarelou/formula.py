@@ -1,251 +1,245 @@
-"""A formula as a user writes it, written out as the tools read it: vectors bit by bit, faults at the user's own place."""
+"""Formulas as a user writes them, with vectors, `=` and comments, read as trees of what the tools read, and printed."""
 import re
 from collections.abc import Iterator
-from dataclasses import dataclass, field
+from dataclasses import dataclass
 from typing import NoReturn
 
 from himarelou.faults import Fault, shown
-from himarelou.names import atom, Names
+from himarelou.names import Names, atom, said_bits
 
+MOST_NAMES = 64
 RESERVED = {"exists", "forall", "true", "false", "X", "F", "G", "U", "R", "W"}
 QUANTIFIERS = {"forall", "exists"}
 SIGNS = {"&&": "&", "||": "|", "==": "="}
-NAME = r"[A-Za-z_](?:[\w$]|\.[\w$]|\[\d+(?::\d+)?\])*"
-RUN = re.compile(r"(?P<word>[A-Za-z][A-Za-z0-9]*)|(?P<blank>[ \t\r\n]+|\#[^\n]*)")
-TOKEN = re.compile(rf"""
-    (?P<blank>[ \t\r\n]+|\#[^\n]*)
+RANKS = {"<->": 0, "->": 1, "|": 2, "&": 3, "U": 4, "W": 4, "R": 4}
+UNARY = {"!": "!", "X": "X ", "F": "F ", "G": "G "}
+TIGHTEST = 5
+BLANK = r"(?P<blank>[ \t\r\n]+|\#[^\n]*)"
+RUN = re.compile(rf"(?P<word>[A-Za-z][A-Za-z0-9]*)|{BLANK}")
+TOKEN = re.compile(rf"""{BLANK}
   | (?P<quoted>"[^"\n]+"_[A-Za-z][A-Za-z0-9]*)
   | (?P<sign><->|->|&&|\|\||==|!=|[()!&|.;=])
   | (?P<number>0x[0-9A-Fa-f]+|0b[01]+|\d+)
-  | (?P<word>{NAME})
+  | (?P<word>[A-Za-z_](?:[\w$]|\.[\w$]|\[\d+(?::\d+)?\])*)
 """, re.X | re.A)
 
 
 @dataclass(frozen=True)
 class Token:
-    """`kind` is sign, word (reserved, or a variable), atom, number, or end."""
+    """`kind` is sign, word (reserved, or a run behind its quantifier), atom, number, or end."""
 
     kind: str
     text: str
     at: int
-    end: int
     name: str = ""
-    variable: str = ""
+    run: str = ""
 
 
 @dataclass(frozen=True)
 class Text:
-    """A formula's text and what names it."""
+    """A text and what names it."""
 
     name: str
     content: str
 
     def fault(self, at: int, words: str) -> Fault:
         """A fault at a place of the text."""
-        line = self.content.count("\n", 0, at) + 1
-        column = at - (self.content.rfind("\n", 0, at) + 1) + 1
+        line, column = self.content.count("\n", 0, at) + 1, at - self.content.rfind("\n", 0, at)
         return Fault(f"{shown(self.name)}:{line}:{column}: {words}")
 
-    def tokens(self, run: str = "") -> Iterator[Token]:
-        """The tokens and the end; where one run is given an atom is a name alone, of that run."""
+    def tokens(self, run: str) -> Iterator[Token]:
+        """The tokens and the end; where a run is given an atom is a name alone, of that run."""
         at, before = 0, ""
         while at < len(self.content):
             match = (RUN if before in QUANTIFIERS else TOKEN).match(self.content, at)
             if not match:
-                raise self.fault(at, f"{shown(self.content[at])} begins nothing here{_hint(self.content[at])}")
+                hint = ": quantifiers are `forall p. forall q.`" if self.content[at] == "," else ""
+                raise self.fault(at, f"{shown(self.content[at])} begins nothing here{hint}")
             if match.lastgroup != "blank":
-                token = self._token(match, before, run)
-                before = token.text
-                yield token
+                yield self._token(match, before, run)
+                before = match[0]
             at = match.end()
-        yield Token("end", "", len(self.content), len(self.content))
+        yield Token("end", "", at)
 
     def _token(self, match: re.Match, before: str, run: str) -> Token:
-        kind, text, at, end = match.lastgroup, match[0], match.start(), match.end()
-        if kind in ("sign", "number"):
-            return Token(kind, SIGNS.get(text, text), at, end)
-        if kind == "word" and (before in QUANTIFIERS or text in RESERVED):
-            return Token("word", text, at, end)
-        if kind == "word" and run:
-            return Token("atom", text, at, end, text, run)
+        kind, text, at = match.lastgroup, match[0], match.start()
+        if kind in ("sign", "number") or before in QUANTIFIERS or text in RESERVED:
+            return Token(kind, SIGNS.get(text, text), at)
+        if run:
+            return Token("atom", text, at, text, run)
         name, _, variable = text.rpartition("_")
         if not name or not re.fullmatch(r"[A-Za-z][A-Za-z0-9]*", variable):
             hint = "; put a space between two operators" if re.fullmatch("[XFGURW]+", text) else ""
             raise self.fault(at, f"{shown(text)} is no NAME_RUN{hint}")
-        return Token("atom", text, at, end, name.strip('"'), variable)
+        return Token("atom", text, at, name.strip('"'), variable)
 
 
-def _hint(character: str) -> str:
-    return {'"': ": a quoted name is \"NAME\"_RUN", ",": ": quantifiers are `forall p. forall q.`"}.get(character, "")
+@dataclass(frozen=True)
+class Tree:
+    """A part of a body: `atom` with a name and a run, `true`, `false`, or an operator and its operands."""
+
+    sign: str
+    parts: tuple["Tree", ...] = ()
+    name: str = ""
+    run: str = ""
+
+    def text(self, least: int = 0) -> str:
+        """As the tools read it, in parentheses where it binds weaker than is wanted."""
+        if self.sign == "atom":
+            return atom(self.name, self.run)
+        if self.sign in UNARY:
+            return UNARY[self.sign] + self.parts[0].text(TIGHTEST)
+        if not self.parts:
+            return self.sign
+        rank = RANKS[self.sign]
+        whole = f"{self.parts[0].text(rank + 1)} {self.sign} {self.parts[1].text(rank)}"
+        return f"({whole})" if rank < least else whole
+
+    def names(self) -> dict[str, None]:
+        return {self.name: None} if self.sign == "atom" else {name: None for it in self.parts for name in it.names()}
 
 
-MOST_NAMES = 64
-ONE_RUN = "p"
-BINARY = {"&", "|", "->", "<->", "U", "R", "W"}
-UNARY = {"!", "X", "F", "G"}
+@dataclass(frozen=True)
+class Formula:
+    quantifiers: tuple[tuple[str, str], ...]
+    body: Tree
+
+    def text(self) -> str:
+        return " ".join(f"{kind} {run}." for kind, run in self.quantifiers) + f"\n  {self.body.text()}\n"
+
+    def runs(self, kind: str) -> list[str]:
+        """The runs of the quantifiers of a kind."""
+        return [run for own, run in self.quantifiers if own == kind]
 
 
-@dataclass
-class Written:
-    """A formula as the tools read it, with its quantifiers, and which byte came of which place of the user's text."""
-
-    source: Text
-    text: str = ""
-    quantifiers: list[tuple[str, str]] = field(default_factory=list)
-    names: dict[str, None] = field(default_factory=dict)
-    places: list[tuple[int, int]] = field(default_factory=list)
-    body_at: int = 0
-
-    def add(self, text: str, at: int) -> None:
-        self.places.append((len(self.text.encode("utf-8", "surrogateescape")), at))
-        self.text += text
-
-    def place_of(self, byte: int) -> int:
-        """Where in the user's text the byte of the written one comes from."""
-        return max((at for begun, at in self.places if begun <= byte), default=0)
+def parse(source: Text, names: Names | None) -> list[Formula]:
+    """The formulas of a text, `;` between two. Without names a vector is written as it says its own places."""
+    return _Parser(source, names).guarded(_Parser.formulas)
 
 
-def write_out(source: Text, names: Names | None) -> Written:
-    """The formula written out. Without names a vector is written as it says its own places, and no name is looked for."""
-    return _Writer(source, names).formula()
+def parse_one(source: Text, names: Names | None) -> Formula:
+    formula, *others = parse(source, names)
+    if others:
+        raise Fault(f"{shown(source.name)}: one formula is wanted, not {len(others) + 1}")
+    return formula
 
 
-def write_out_of_one_run(source: Text, names: Names) -> Written:
-    """A body on signals of one run, which say no run, written out as that of a run p."""
-    writer = _Writer(source, names, ONE_RUN)
-    writer.body()
-    return writer.ended()
+def parse_body(source: Text, names: Names, run: str = "p") -> Tree:
+    """A body on signals of one run, which it does not say."""
+    return _Parser(source, names, run).guarded(_Parser.whole_body)
 
 
-class _Writer:
-    """Goes through the tokens by what may stand at each place."""
+class _Parser:
+    """By descent, the operators by their ranks; all binary ones group to the right."""
 
     def __init__(self, source: Text, names: Names | None, run: str = ""):
         self.source, self.names = source, names
-        self.tokens = list(source.tokens(run))
-        self.out, self.bound = Written(source), {run}
-        self.at = self.open = self.copied = 0
+        self.tokens, self.at, self.bound = list(source.tokens(run)), 0, {run}
 
-    def formula(self) -> Written:
-        self.prefix()
-        self.body()
-        while self.token().text == ";":
-            self.at += 1
-            self.prefix()
-            self.body()
-        return self.ended()
-
-    def ended(self) -> Written:
-        if self.token().kind != "end":
-            self.refuse("an operator")
-        self.copy_gap(len(self.source.content))
-        return self.out
+    def guarded(self, way):
+        try:
+            return way(self)
+        except RecursionError as error:
+            raise Fault(f"{shown(self.source.name)}: too deep") from error
 
     def token(self, ahead: int = 0) -> Token:
         return self.tokens[min(self.at + ahead, len(self.tokens) - 1)]
 
     def refuse(self, words: str, ahead: int = 0) -> NoReturn:
         token = self.token(ahead)
-        found = "the end" if token.kind == "end" else shown(token.text)
-        raise self.source.fault(token.at, f"{words} is wanted here, not {found}")
+        raise self.source.fault(token.at, f"{words} is wanted here, not {'the end' if token.kind == 'end' else shown(token.text)}")
 
-    def prefix(self) -> None:
-        if self.token().text not in QUANTIFIERS:
-            self.refuse("`forall` or `exists`")
-        self.bound = set()
+    def formulas(self) -> list[Formula]:
+        found = [self.formula()]
+        while self.token().text == ";":
+            self.at += 1
+            found.append(self.formula())
+        if self.token().kind != "end":
+            self.refuse("an operator")
+        return found
+
+    def formula(self) -> Formula:
+        quantifiers = []
         while self.token().text in QUANTIFIERS:
-            variable = self.token(1)
-            if variable.kind != "word" or not variable.text.isalnum():
+            if self.token(1).kind != "word":
                 self.refuse("the name of a run", 1)
             if self.token(2).text != ".":
                 self.refuse("`.`", 2)
-            self.out.quantifiers.append((self.token().text, variable.text))
-            self.bound.add(variable.text)
-            self.replace(f"{self.token().text} {variable.text}.", 3)
-        self.out.body_at = len(self.out.text)
+            quantifiers.append((self.token().text, self.token(1).text))
+            self.at += 3
+        if not quantifiers:
+            self.refuse("`forall` or `exists`")
+        self.bound = {run for _, run in quantifiers}
+        formula = Formula(tuple(quantifiers), self.binary(0))
+        formula.text()  # what is too deep to be printed is too deep
+        return formula
 
-    def body(self) -> None:
-        is_wanted = True
-        while True:
-            token = self.token()
-            if is_wanted:
-                is_wanted = self.operand(token)
-            elif token.kind == "end" or token.text == ";":
-                break
-            elif token.text == ")" and self.open:
-                self.open -= 1
-                self.replace(token.text, 1)
-            elif token.text in BINARY:
-                is_wanted = True
-                self.replace(token.text, 1)
-            else:
-                self.refuse("an operator")
-        if self.open:
-            self.refuse("`)`")
+    def whole_body(self) -> Tree:
+        body = self.binary(0)
+        if self.token().kind != "end":
+            self.refuse("an operator")
+        return body
 
-    def operand(self, token: Token) -> bool:
-        """Takes one token, or a whole equality; whether an operand is still wanted behind it."""
+    def binary(self, least: int) -> Tree:
+        left = self.unary()
+        while RANKS.get(self.token().text, -1) >= least:
+            sign = self.token().text
+            self.at += 1
+            left = Tree(sign, (left, self.binary(RANKS[sign])))
+        return left
+
+    def unary(self) -> Tree:
+        token = self.token()
         if token.kind == "atom":
-            self.equality(token)
-            return False
-        if token.text == "(":
-            self.open += 1
-        elif token.text not in UNARY and token.text not in ("true", "false"):
+            return self.equality(token)
+        if token.text not in UNARY and token.text not in ("(", "true", "false"):
             self.refuse("an operand")
-        self.replace(token.text, 1)
-        return token.text not in ("true", "false")
+        self.at += 1
+        if token.text in UNARY:
+            return Tree(token.text, (self.unary(),))
+        if token.text != "(":
+            return Tree(token.text)
+        inner = self.binary(0)
+        if self.token().text != ")":
+            self.refuse("`)`" if self.token().kind == "end" else "an operator")
+        self.at += 1
+        return inner
 
-    def copy_gap(self, end: int) -> None:
-        """Blanks as they are; comments are for the user alone."""
-        self.out.add(re.sub("#[^\n]*", "", self.source.content[self.copied:end]), self.copied)
-
-    def replace(self, text: str, count: int) -> None:
-        """Writes a text in place of the next tokens."""
-        self.copy_gap(self.token().at)
-        self.out.add(text, self.token().at)
-        self.copied = self.token(count - 1).end
-        self.at += count
-
-    def equality(self, token: Token) -> None:
+    def equality(self, token: Token) -> Tree:
+        """An atom, or `=` or `!=` between it and another or a number."""
         left, sign, other = self.bits(token), self.token(1), self.token(2)
         if sign.text not in ("=", "!="):
-            if len(left) > 1:
-                raise self.source.fault(token.at, f"{shown(token.name)} has {len(left)} bits: compare it by =")
-            return self.replace(left[0], 1)
+            self.at += 1
+            return left[0] if len(left) == 1 else self.fault(token, f"{shown(token.name)} has {len(left)} bits: compare it by =")
         if other.kind not in ("atom", "number"):
             self.refuse("a name or a number", 2)
+        self.at += 3
         parts = self.number(left, other) if other.kind == "number" else self.pairs(token, left, other)
-        whole = parts[0] if len(parts) == 1 and other.kind == "atom" else "(" + " & ".join(parts) + ")"
-        return self.replace(whole if sign.text == "=" else "!" + whole, 3)
+        whole = parts.pop()
+        while parts:
+            whole = Tree("&", (parts.pop(), whole))
+        return whole if sign.text == "=" else Tree("!", (whole,))
 
-    def number(self, left: list[str], other: Token) -> list[str]:
-        value = int(other.text, 0) if other.text[:2] in ("0x", "0b") else int(other.text)
+    def fault(self, token: Token, words: str) -> NoReturn:
+        raise self.source.fault(token.at, words)
+
+    def number(self, left: list[Tree], other: Token) -> list[Tree]:
+        value = int(other.text, 0) if other.text[:2] in ("0x", "0b") else int(other.text[:40])
         if value >> len(left):
-            raise self.source.fault(other.at, f"{other.text} has more than {len(left)} bits")
-        return [it if value >> place & 1 else "!" + it for place, it in enumerate(left)]
+            self.fault(other, f"{other.text} has more than {len(left)} bits")
+        return [it if value >> place & 1 else Tree("!", (it,)) for place, it in enumerate(left)]
 
-    def pairs(self, token: Token, left: list[str], other: Token) -> list[str]:
+    def pairs(self, token: Token, left: list[Tree], other: Token) -> list[Tree]:
         right = self.bits(other)
         if len(left) != len(right):
-            raise self.source.fault(token.at, f"{shown(token.name)} has {len(left)} bits, {shown(other.name)} has {len(right)}")
-        return [f"({a} <-> {b})" for a, b in zip(left, right)]
+            self.fault(token, f"{shown(token.name)} has {len(left)} bits, {shown(other.name)} has {len(right)}")
+        return [Tree("<->", it) for it in zip(left, right)]
 
-    def bits(self, token: Token) -> list[str]:
+    def bits(self, token: Token) -> list[Tree]:
         """The atoms of a token's bits, whose run is bound."""
-        if token.variable not in self.bound:
-            raise self.source.fault(token.at, f"no quantifier binds the run {token.variable} of {shown(token.text)}")
-        found = _said_places(token.name) if self.names is None else self.names.bits(token.name)
+        if token.run not in self.bound:
+            self.fault(token, f"no quantifier binds the run {token.run} of {shown(token.text)}")
+        found = said_bits(token.name) if self.names is None else self.names.bits(token.name)
         if not found:
-            hint = self.names.hint(token.name)
-            raise self.source.fault(token.at, f"no signal is named {shown(token.name)}{hint}")
-        self.out.names |= dict.fromkeys(found)
-        return [atom(it, token.variable) for it in found]
-
-
-def _said_places(name: str) -> list[str]:
-    """The bits of `a[3:0]` where nothing else is known of it."""
-    vector, bracket, places = name.rpartition("[")
-    if not bracket or ":" not in places or not places.endswith("]"):
-        return [name]
-    low, high = sorted(int(it) for it in places[:-1].split(":"))
-    return [f"{vector}[{it}]" for it in range(low, min(high, low + MOST_NAMES) + 1)]
+            self.fault(token, f"no signal is named {shown(token.name)}{self.names.hint(token.name) if self.names else ''}")
+        return [Tree("atom", (), it, token.run) for it in found]

@@ -1,46 +1,30 @@
 """One monitor: traces of a simulation are given to `rvhyper`."""
 import re
-import time
 
 from himarelou.aiger import MOST_BYTES, read_bytes
 from himarelou.asking import NO_CERTIFICATE, OPEN_STATUS
-from himarelou.check import Work, text_of
 from himarelou.design import files_of
 from himarelou.faults import Fault, shown
-from himarelou.formula import Text, write_out
 from himarelou.names import Names
 from himarelou.programs import program
-from himarelou.project import Question
-from himarelou.result import Result
 from himarelou.statement import Statement
-from himarelou.store import replaced
+from himarelou.task import Task
 
 NAME = re.compile(rb'"[^"\n]*"|[A-Za-z][A-Za-z0-9_]*')
 
 
-class Monitor:
-    def __init__(self, work: Work, question: Question):
-        self.work, self.question = work, question
-        self.result = Result(question.name, question.kind, question.expect)
-        self.room = work.store.room("checks", question.name)
+class Monitor(Task):
+    """One monitor of recorded runs."""
 
-    def run(self) -> Result:
-        begun = time.monotonic()
-        self.work.tell(self.question.name, "traces")
+    def work_on(self) -> None:
+        self.tell("traces")
         files, joined, names = self.traces()
         formula, used = self.formula(names)
-        replaced(self.room / "traces", joined)
-        replaced(self.room / "formula", formula.encode("utf-8", "surrogateescape"))
         unseen = [it for it in used if it not in names.known]
         if unseen:
             self.result.notes.append(f"no trace has {shown(', '.join(unseen))}, so it is never high")
+        self.result.files = {"formula": str(self.write("formula", formula)), "traces": str(self.write("traces", joined))}
         self.ask(files)
-        self.result.seconds = round(time.monotonic() - begun, 2)
-        self.result.files = {"formula": str(self.room / "formula"), "traces": str(self.room / "traces")}
-        return self.result
-
-    def fault(self, fault: Fault | str, key: str) -> Fault:
-        return self.work.project.fault(str(fault), *self.question.where, key)
 
     def traces(self) -> tuple[list[tuple[str, int]], bytes, Names]:
         """The files with their first lines in what they are joined to, and the names that stand there."""
@@ -62,17 +46,12 @@ class Monitor:
         return begins, joined, Names(sorted(names))
 
     def formula(self, names: Names) -> tuple[str, list[str]]:
-        """The formula's text and its names."""
-        question = self.question
-        if question.same is not None:
+        """The formulas' text and their names."""
+        if self.question.same is not None:
             statement = Statement(None, *(self.bits(key, names) for key in ("equal", "given", "same")))
             return statement.formula(), list(statement.names())
-        source = Text("formula", question.formula) if question.formula else text_of(self.work.project.folder / question.file)
-        try:
-            out = write_out(source, None)
-        except Fault as fault:
-            raise self.fault(fault, "formula" if question.formula else "file") from fault
-        return out.text, list(out.names)
+        formulas = self.formulas("formula" if self.question.formula else "file", None)
+        return ";\n".join(it.text() for it in formulas), list({name: None for it in formulas for name in it.body.names()})
 
     def bits(self, key: str, names: Names) -> list[str]:
         """The bits of the words of a key; a name that no trace has stands for itself."""

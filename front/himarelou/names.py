@@ -59,10 +59,7 @@ class Names:
         part = PART.fullmatch(word)
         if not part:
             return sorted(self.vectors.get(word, []), key=_places)
-        low, high = sorted((int(part[2]), int(part[3])))
-        if high - low >= WIDEST:
-            return []
-        rows = [self.bits(f"{part[1]}[{it}]") for it in range(low, high + 1)]
+        rows = [self.bits(it) for it in places_of(part)]
         return [name for row in rows for name in row] if all(rows) else []
 
     def wanted(self, word: str) -> list[str]:
@@ -79,6 +76,18 @@ class Names:
         ends = [it for it in whole if it.endswith((f".{vector}", f"_{vector}"))]
         near = [vector] if vector in whole else ends or difflib.get_close_matches(vector, whole, 1, 0.6)
         return f"; did you mean {shown(whole[near[0]])}?" if near else ""
+
+
+def places_of(part: re.Match) -> list[str]:
+    """The bits of `a[3:0]`, the lowest first; none of more than anyone has."""
+    low, high = sorted((int(part[2][:9]), int(part[3][:9])))
+    return [f"{part[1]}[{it}]" for it in range(low, high + 1)] if high - low < WIDEST else []
+
+
+def said_bits(word: str) -> list[str]:
+    """The bits that a word says by itself, where nothing else is known of it."""
+    part = PART.fullmatch(word)
+    return places_of(part) if part else [word]
 
 
 def _places(name: str) -> list[int]:

@@ -6,7 +6,7 @@ from dataclasses import dataclass, field
 
 from himarelou.aiger import Circuit, value_of
 from himarelou.faults import Fault
-from himarelou.strategy import runs_of_kind
+from himarelou.formula import Formula
 
 MOST_KEPT = 1 << 26
 Rows = list[list[int]]
@@ -124,12 +124,11 @@ def agree(circuit: Circuit, runs: Sequence[Run], said: Sequence[Letters]) -> boo
     return True
 
 
-def runs_with_strategy(circuit: Circuit, strategy: Circuit, quantifiers: Sequence[tuple[str, str]], said: Sequence[Letters],
-                       most: int) -> list[Run]:
+def runs_with_strategy(circuit: Circuit, strategy: Circuit, formula: Formula, said: Sequence[Letters], most: int) -> list[Run]:
     """The runs of all quantifiers, played. What the answer does not show of an input or a first value is taken for 0, and
     where that makes other runs than it shows they are refused."""
     steps = min(most, max(len(stem) + 2 * len(cycle) for stem, cycle in said))
-    names, chosen = runs_of_kind(quantifiers, "forall"), runs_of_kind(quantifiers, "exists")
+    names, chosen = formula.runs("forall"), formula.runs("exists")
     given = [_run_of(circuit, letters, name) for letters, name in zip(said, names)]
     for run in given:
         run.play(circuit, steps)
@@ -143,7 +142,7 @@ def runs_with_strategy(circuit: Circuit, strategy: Circuit, quantifiers: Sequenc
         first = [0 if it.is_either else it.reset for it in circuit.latches]
         made.append(Run(first, inputs, [], name, list(circuit.play(first, inputs))))
     by_name = {it.label: it for it in given + made}
-    return [by_name[variable] for _, variable in quantifiers]
+    return [by_name[variable] for _, variable in formula.quantifiers]
 
 
 def _run_of(circuit: Circuit, letters: Letters, name: str) -> Run:

@@ -2,12 +2,13 @@
 from collections.abc import Sequence
 from concurrent.futures import ThreadPoolExecutor, as_completed
 
-from himarelou.check import Check, Work
-from himarelou.faults import Fault, Stopped
+from himarelou.check import Check
+from himarelou.faults import Stopped
 from himarelou.monitor import Monitor
 from himarelou.project import Question
-from himarelou.result import FAULT, Result
+from himarelou.result import Result
 from himarelou.screen import Screen
+from himarelou.task import Work
 
 
 def run_all(work: Work, questions: Sequence[Question], jobs: int, screen: Screen) -> tuple[list[Result], bool]:
@@ -29,11 +30,4 @@ def run_all(work: Work, questions: Sequence[Question], jobs: int, screen: Screen
 
 
 def run_one(work: Work, question: Question) -> Result:
-    """A check's result; a fault is one."""
-    check = (Check if question.kind == "check" else Monitor)(work, question)
-    try:
-        return check.run()
-    except Fault as fault:
-        check.result.answer = FAULT
-        check.result.lines = [str(fault)]
-        return check.result
+    return (Check if question.kind == "check" else Monitor)(work, question).run()

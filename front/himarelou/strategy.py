@@ -4,8 +4,8 @@ from collections.abc import Sequence
 from himarelou.aiger import Circuit, check_literals
 from himarelou.faults import Fault, did_you_mean, shown
 from himarelou.gates import FALSE, Builder
-from himarelou.formula import MOST_NAMES, Written
-from himarelou.names import atom, split_place
+from himarelou.formula import MOST_NAMES, Formula, Tree
+from himarelou.names import split_place
 
 
 def ports_of(circuit: Circuit, variables: Sequence[str]) -> list[tuple[str, bool]]:
@@ -18,11 +18,7 @@ def ports_of(circuit: Circuit, variables: Sequence[str]) -> list[tuple[str, bool
     return ports
 
 
-def runs_of_kind(quantifiers: Sequence[tuple[str, str]], kind: str) -> list[str]:
-    return [variable for own, variable in quantifiers if own == kind]
-
-
-def in_order_of_ports(strategy: Circuit, circuit: Circuit, quantifiers: Sequence[tuple[str, str]]) -> Circuit:
+def in_order_of_ports(strategy: Circuit, circuit: Circuit, formula: Formula) -> Circuit:
     """The strategy with its inputs and outputs in order. One without names is taken as it stands."""
     if not any(kind in "io" for kind, _ in strategy.names):
         return strategy
@@ -32,36 +28,35 @@ def in_order_of_ports(strategy: Circuit, circuit: Circuit, quantifiers: Sequence
     inputs = {_port(strategy.names.get(("i", at), f"input#{at}")): it for at, it in enumerate(strategy.inputs)}
     outputs = {_port(strategy.names.get(("o", at), f"output#{at}")): it for at, it in enumerate(strategy.outputs)}
     builder = Builder(made)
-    for name, _ in ports_of(circuit, runs_of_kind(quantifiers, "forall")):
+    for name, _ in ports_of(circuit, formula.runs("forall")):
         literal = inputs.pop(name, None)
         made.names["i", len(made.inputs)] = name
         made.inputs.append(builder.fresh() if literal is None else literal)
-    for name, is_read in ports_of(circuit, runs_of_kind(quantifiers, "exists")):
+    for name, is_read in ports_of(circuit, formula.runs("exists")):
         if name not in outputs and is_read:
             raise Fault(f"the strategy has no output {shown(name)}{did_you_mean(name, outputs)}")
         builder.output(name, outputs.pop(name, FALSE))
     read = strategy.read_variables()
     left = [name for name, literal in inputs.items() if literal >> 1 in read]
     if left:
-        known = [name for name, _ in ports_of(circuit, runs_of_kind(quantifiers, "forall"))]
+        known = [name for name, _ in ports_of(circuit, formula.runs("forall"))]
         raise Fault(f"the strategy's input {shown(left[0])} is no NAME_RUN of an input{did_you_mean(left[0], known)}")
     check_literals(made)
     return made
 
 
-def shows_all(out: Written, circuit: Circuit) -> str:
+def shows_all(formula: Formula, circuit: Circuit) -> Formula:
     """The formula, which as long as it has room for them also names all inputs and free starts of the runs that are given: so
     an answer shows which runs they are. What is added is true of all."""
-    runs = runs_of_kind(out.quantifiers, "forall")
-    read = circuit.read_variables()
-    named = [circuit.names.get(("i", at)) for at, it in enumerate(circuit.inputs) if it >> 1 in read]
-    named += [circuit.names.get(("l", at)) for at, it in enumerate(circuit.latches) if it.is_either]
-    shown_names = [atom(name, run) for name in named if name for run in runs]
-    count = len(set(shown_names)) + len(out.names) * len(out.quantifiers) + 1 + len(circuit.fairness) * len(out.quantifiers)
-    if count > MOST_NAMES or len(set(named) | set(out.names)) > MOST_NAMES:
-        return out.text
-    said = "".join(f"\n  & ({it} | !{it})" for it in shown_names)
-    return f"{out.text[:out.body_at]}({out.text[out.body_at:].strip()}){said}\n"
+    read, names, body = circuit.read_variables(), formula.body.names(), formula.body
+    more = [circuit.names.get(("i", at)) for at, it in enumerate(circuit.inputs) if it >> 1 in read]
+    more += [circuit.names.get(("l", at)) for at, it in enumerate(circuit.latches) if it.is_either]
+    atoms = [Tree("atom", (), name, run) for name in dict.fromkeys(more) if name for run in formula.runs("forall")]
+    if len(atoms) + 1 + (len(names) + len(circuit.fairness)) * len(formula.quantifiers) > MOST_NAMES:
+        return formula
+    for it in reversed(atoms):
+        body = Tree("&", (body, Tree("|", (it, Tree("!", (it,))))))
+    return Formula(formula.quantifiers, body)
 
 
 def _port(name: str) -> str:

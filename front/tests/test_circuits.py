@@ -6,6 +6,7 @@ from pathlib import Path
 from himarelou.aiger import parse, value_of, written
 from himarelou.assume import with_assumed
 from himarelou.faults import Fault
+from himarelou.formula import Text, parse_one
 from himarelou.pair import MET, PARTED, first_parting, pair_of, split
 from himarelou.picture import svg
 from himarelou.runs import Run, letters_of, played, runs_of
@@ -66,14 +67,14 @@ class Files(unittest.TestCase):
 class Strategies(unittest.TestCase):
     def test_order(self):
         circuit = parse(b"aag 2 2 0 0 0\n2\n4\ni0 a[0]\ni1 b\nc\n".replace(b"0 0 0\n2", b"0 2 0\n2").replace(b"4\ni0", b"4\n2\n4\ni0"), "c")
-        quantifiers = [("forall", "p"), ("forall", "q"), ("exists", "r")]
+        formula = parse_one(Text("f", "forall p. forall q. exists r. b_r"), None)
         self.assertEqual([name for name, _ in ports_of(circuit, ["p", "q"])], ["a[0]_p", "a[0]_q", "b_p", "b_q"])
         strategy = parse(b"aag 3 3 0 2 0\n2\n4\n6\n4\n2\ni0 b_q\ni1 a_p[0]\ni2 clk\no0 a_r[0]\no1 b_r\n", "s")
-        made = parse(written(in_order_of_ports(strategy, circuit, quantifiers), True), "m")
+        made = parse(written(in_order_of_ports(strategy, circuit, formula), True), "m")
         self.assertEqual((made.inputs, made.outputs), ([2, 4, 6, 8], [2, 8]))
         for text, words in ((b"aag 1 1 0 1 0\n2\n2\ni0 x_p\no0 b_r\n", "no output a"), (b"aag 1 1 0 2 0\n2\n2\n2\ni0 x_p\no0 b_r\no1 a[0]_r\n", "x_p is no NAME_RUN")):
             with self.assertRaisesRegex(Fault, words):
-                in_order_of_ports(parse(text, "s"), circuit, quantifiers)
+                in_order_of_ports(parse(text, "s"), circuit, formula)
 
 
 class Pairs(unittest.TestCase):

@@ -1,9 +1,9 @@
 """Formulas: written out, with faults at the user's own place; the statement of a check; which part fails."""
 import unittest
 
-from himarelou.body import Judge, parse
 from himarelou.faults import Fault
-from himarelou.formula import Text, write_out
+from himarelou.formula import Text, parse, parse_one
+from himarelou.judging import Judge
 from himarelou.names import Names, atom, joined
 from himarelou.statement import Reset, Statement
 
@@ -12,7 +12,7 @@ NAMES = Names(["rst", "busy", "d[0]", "d[1]", "s[0]", "s[1]", "m[0][0]", "m[0][1
 
 class Writing(unittest.TestCase):
     def written(self, text, names=NAMES):
-        return write_out(Text("f", text), names).text
+        return " ".join(parse_one(Text("f", text), names).text().split())
 
     def refused(self, text, words):
         with self.assertRaises(Fault) as caught:
@@ -21,23 +21,29 @@ class Writing(unittest.TestCase):
 
     def test_equalities(self):
         self.assertEqual(self.written("forall p. forall q. d_p = d_q"),
-                         'forall p. forall q. (("d[0]"_p <-> "d[0]"_q) & ("d[1]"_p <-> "d[1]"_q))')
+                         'forall p. forall q. ("d[0]"_p <-> "d[0]"_q) & ("d[1]"_p <-> "d[1]"_q)')
         self.assertEqual(self.written("forall p. d_p != 2"), 'forall p. !(!"d[0]"_p & "d[1]"_p)')
-        self.assertEqual(self.written("forall p. d[1:0]_p == s_p"), 'forall p. (("d[0]"_p <-> "s[0]"_p) & ("d[1]"_p <-> "s[1]"_p))')
-        self.assertEqual(self.written("forall p. busy_p=rst_p"), "forall p. (busy_p <-> rst_p)")
-        self.assertEqual(self.written("forall p. busy_p = 1"), "forall p. (busy_p)")
+        self.assertEqual(self.written("forall p. d[1:0]_p == s_p"), 'forall p. ("d[0]"_p <-> "s[0]"_p) & ("d[1]"_p <-> "s[1]"_p)')
+        self.assertEqual(self.written("forall p. busy_p=rst_p"), "forall p. busy_p <-> rst_p")
+        self.assertEqual(self.written("forall p. busy_p = 1"), "forall p. busy_p")
         self.assertEqual(self.written("exists p. u.tx_data[1]_p"), 'exists p. "u.tx_data[1]"_p')
 
     def test_signs_and_comments(self):
         self.assertEqual(self.written('forall p. # a " b\n G (busy_p && !rst_p || "a-b"_p) # end'),
-                         'forall p. \n G (busy_p & !rst_p | "a-b"_p) ')
+                         'forall p. G (busy_p & !rst_p | "a-b"_p)')
+        self.assertEqual(self.written("forall p. (rst_p -> busy_p) -> (rst_p & (busy_p | rst_p)) U !(rst_p <-> busy_p) & X busy_p"),
+                         "forall p. (rst_p -> busy_p) -> (rst_p & (busy_p | rst_p)) U !(rst_p <-> busy_p) & X busy_p")
+        self.assertEqual(self.written("forall p. ((rst_p U busy_p) U rst_p) <-> (rst_p -> (busy_p -> rst_p))"),
+                         "forall p. (rst_p U busy_p) U rst_p <-> rst_p -> busy_p -> rst_p")
 
     def test_without_names(self):
-        self.assertEqual(self.written("forall p. x[1:0]_p = 1", None), 'forall p. ("x[0]"_p & !"x[1]"_p)')
+        self.assertEqual(self.written("forall p. x[1:0]_p = 1", None), 'forall p. "x[0]"_p & !"x[1]"_p')
 
-    def test_places(self):
-        out = write_out(Text("f", "forall p. d_p = 3 & busy_p"), NAMES)
-        self.assertEqual(out.place_of(out.text.index("busy")), 20)
+    def test_several(self):
+        self.assertEqual([it.quantifiers for it in parse(Text("f", "forall p. busy_p; forall q. busy_q"), NAMES)], [(("forall", "p"),), (("forall", "q"),)])
+        self.refused("forall p. busy_p; forall q. busy_p", "1:29: no quantifier binds the run p of busy_p")
+        for text in ("(" * 100_000, "!" * 100_000, "busy_p & " * 100_000):
+            self.refused("forall p. " + text, " too deep")
 
     def test_faults(self):
         for text, words in {
@@ -88,9 +94,9 @@ class Judging(unittest.TestCase):
         for text, value in {"a_p": 1, "b_p": 0, "X b_p": 1, "G F b_p": 1, "F G b_p": 0, "a_p U b_p": 1, "b_p R c_p": 0, "G (a_p | b_p | c_p)": 1,
                             "a_p W c_p": 0, "X (b_p W a_p)": 0, "G (b_p -> X c_p)": 1, "a_p <-> X b_p": 1, "F (c_p & X X c_p)": 1}.items():
             with self.subTest(text):
-                self.assertEqual(self.judge().row(parse(f"forall p. {text}")[1])[0], bool(value))
+                self.assertEqual(self.judge().row(parse_one(Text("f", f"forall p. {text}"), None).body)[0], bool(value))
 
     def test_failing_part(self):
         for content, wanted in {"forall p. a_p -> G (a_p | X c_p) & true": ("c_p", 1), "forall p. !(a_p U (X c_p & !a_p))": ("a_p", 1)}.items():
-            part, at = self.judge().failing(parse(content)[1])
-            self.assertEqual((content[part.begin:part.end], at), wanted)
+            part, at = self.judge().failing(parse_one(Text("f", content), None).body)
+            self.assertEqual((part.text(), at), wanted)
