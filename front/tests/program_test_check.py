@@ -370,7 +370,7 @@ class Words(Folder):
     def test_formula(self):
         self.put("c.aag", CELL)
         self.put("f", "forall p. forall q. exists r. G (d_p == d_q && o_r) # c\n")
-        self.assertEqual(self.run_front("formula", "--circuit", "c.aag", "f").stdout, "forall p. forall q. exists r. G ((d_p <-> d_q) & o_r) \n")
+        self.assertEqual(self.run_front("formula", "--circuit", "c.aag", "f").stdout, "forall p. forall q. exists r.\n  G ((d_p <-> d_q) & o_r)\n")
         self.assertEqual(self.run_front("formula", "--order", "--circuit", "c.aag", "f").stdout.split("\n")[:4], ["input r_p", "input r_q", "input w_p", "input w_q"])
         self.put("f", "forall p. G x_p")
         self.assertEqual(self.run_front("formula", "--circuit", "c.aag", "f", status=2).stderr, "himarelou: f:1:13: no signal is named x\n")
