@@ -107,13 +107,13 @@ class _Reader:
     def __init__(self, data: bytes):
         self.data, self.at = data, 0
 
-    def line(self) -> bytes:
+    def row(self) -> list[int]:
         end = self.data.index(b"\n", self.at)
         line, self.at = self.data[self.at:end], end + 1
-        return line
+        return [int(it) for it in line.split()]
 
-    def row(self) -> list[int]:
-        return [int(it) for it in self.line().split()]
+    def firsts(self, count: int) -> list[int]:
+        return [self.row()[0] for _ in range(count)]
 
     def delta(self) -> int:
         value = shift = 0
@@ -126,25 +126,19 @@ class _Reader:
                 return value
 
     def circuit(self) -> Circuit:
-        form, *numbers = self.line().split()
-        if form not in (b"aag", b"aig"):
+        form, self.at = self.data[:4], 4
+        if form not in (b"aag ", b"aig "):
             raise ValueError("its first line is no header")
-        most, inputs, latches, outputs, ands, bads, constraints, justice, fairness = ([int(it) for it in numbers] + [0] * 4)[:9]
-        if not 0 <= most <= MOST_VARIABLES or min(inputs, latches, outputs, ands) < 0 or max(inputs, latches, ands) > most:
-            raise ValueError(f"more than {MOST_VARIABLES} variables, or fewer than it counts")
-        if justice:
-            raise ValueError("it has justice properties")
-        is_ascii = form == b"aag"
-        made = Circuit(most)
-        made.inputs = [self.row()[0] for _ in range(inputs)] if is_ascii else [2 * it + 2 for it in range(inputs)]
+        most, inputs, latches, outputs, ands, bads, constraints, justice, fairness = (self.row() + [0] * 4)[:9]
+        if not 0 <= most <= MOST_VARIABLES or not all(0 <= it <= most for it in (inputs, latches, ands)) or justice:
+            raise ValueError(f"more than {MOST_VARIABLES} variables, fewer than it counts, or justice properties")
+        is_ascii, made = form == b"aag ", Circuit(most)
+        made.inputs = self.firsts(inputs) if is_ascii else [2 * it + 2 for it in range(inputs)]
         for place in range(latches):
             row = self.row() if is_ascii else [2 * (inputs + place) + 2, *self.row()]
             made.latches.append(Latch(row[0], row[1], row[2] if len(row) > 2 else 0))
-        made.outputs = [self.row()[0] for _ in range(outputs)]
-        for _ in range(bads):
-            self.row()
-        made.constraints = [self.row()[0] for _ in range(constraints)]
-        made.fairness = [self.row()[0] for _ in range(fairness)]
+        made.outputs, _ = self.firsts(outputs), self.firsts(bads)
+        made.constraints, made.fairness = self.firsts(constraints), self.firsts(fairness)
         if is_ascii:
             made.ands = in_order([tuple(self.row()[:3]) for _ in range(ands)])
         else:

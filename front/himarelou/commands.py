@@ -6,28 +6,28 @@ import shutil
 import subprocess
 import sys
 from collections.abc import Sequence
+from concurrent.futures import as_completed, ThreadPoolExecutor
 from pathlib import Path
 
 from himarelou.aiger import read_bytes, read_circuit, written
-from himarelou.circuits import Circuits
-from himarelou.design import make
-from himarelou.faults import Broken, Fault, did_you_mean, shown
-from himarelou.formula import Text, parse, parse_one
+from himarelou.check import Check
+from himarelou.design import Circuits, make
+from himarelou.faults import Broken, did_you_mean, Fault, shown, Stopped
+from himarelou.formula import parse, parse_one, Text
 from himarelou.judging import failing_part
+from himarelou.monitor import Monitor
 from himarelou.names import Names
-from himarelou.picture import svg
-from himarelou.programs import TOOLS, Runner, bin_folder, program, program_sum
-from himarelou.project import Design, Project, Question, find, read_project
-from himarelou.result import as_json, as_junit, status_of
-from himarelou.runs import played, letters_of, runs_with_strategy
+from himarelou.picture import svg, vcd
+from himarelou.programs import bin_folder, program, program_sum, Runner, TOOLS
+from himarelou.project import Design, find, Project, Question, read_project
+from himarelou.result import as_json, as_junit, Result, status_of
+from himarelou.runs import letters_of, played, runs_with_strategy
 from himarelou.scene import scene_of
 from himarelou.schema import IDENTIFIER
 from himarelou.screen import Screen
-from himarelou.session import run_all
-from himarelou.store import FOLDER, Store, replaced
+from himarelou.store import FOLDER, replaced, Store
 from himarelou.strategy import in_order_of_ports, ports_of
-from himarelou.task import Work, text_of
-from himarelou.vcd import vcd
+from himarelou.task import text_of, Work
 
 STOPPED = 130
 
@@ -121,11 +121,9 @@ def help(said: argparse.Namespace) -> int:
     page = next((it for it in pages if it.is_file()), None)
     if page is None:
         raise Broken(f"the page of {said.tool} is not there")
-    if shutil.which("man"):
-        return subprocess.run(["man", "-l", page], check=False).returncode
-    marks = re.sub(r'(?m)^\.(TH|nf|fi|br|TP|PP).*\n|^\.(SH|B|I|BR|RB|BI|RI|IR) |\\f.|"', "", page.read_text(encoding="utf-8"))
-    print(marks.replace("\\-", "-"), end="")
-    return 0
+    if not shutil.which("man"):
+        raise Broken(f"man is not installed; the page is {page}")
+    return subprocess.run(["man", "-l", page], check=False).returncode
 
 
 def version() -> str:
@@ -137,3 +135,25 @@ def version() -> str:
         built = "built here" if "crates" in program(name).parts else "packed"
         lines.append(f"{name} {program_sum(name)} {built}")
     return "\n".join(lines)
+
+
+def run_all(work: Work, questions: Sequence[Question], jobs: int, screen: Screen) -> tuple[list[Result], bool]:
+    """The results in the order of the questions, and whether all of them are there."""
+    results: dict[str, Result] = {}
+    is_whole = True
+    with ThreadPoolExecutor(max_workers=jobs) as pool:
+        futures = {pool.submit(run_one, work, it): it for it in questions}
+        try:
+            for future in as_completed(futures):
+                result = future.result()
+                results[result.name] = result
+                screen.ended(result)
+        except (KeyboardInterrupt, Stopped):
+            is_whole = False
+            work.runner.stop()
+            pool.shutdown(wait=True, cancel_futures=True)
+    return [results[it.name] for it in questions if it.name in results], is_whole
+
+
+def run_one(work: Work, question: Question) -> Result:
+    return (Check if question.kind == "check" else Monitor)(work, question).run()

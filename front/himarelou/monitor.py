@@ -18,32 +18,26 @@ class Monitor(Task):
 
     def work_on(self) -> None:
         self.tell("traces")
-        files, joined, names = self.traces()
+        joined, names = self.traces()
         formula, used = self.formula(names)
         unseen = [it for it in used if it not in names.known]
         if unseen:
             self.result.notes.append(f"no trace has {shown(', '.join(unseen))}, so it is never high")
         self.result.files = {"formula": str(self.write("formula", formula)), "traces": str(self.write("traces", joined))}
-        self.ask(files)
+        self.ask()
 
-    def traces(self) -> tuple[list[tuple[str, int]], bytes, Names]:
-        """The files with their first lines in what they are joined to, and the names that stand there."""
+    def traces(self) -> tuple[bytes, Names]:
+        """The files joined, each ending in a line feed, and the names that stand there."""
         try:
             files = files_of(self.question.traces, self.work.project.folder)
         except Fault as fault:
             raise self.fault(fault, "traces") from fault
-        parts, begins, line, size = [], [], 1, 0
-        for file in files:
-            data = read_bytes(self.work.project.folder / file)
-            data += b"" if data.endswith(b"\n") or not data else b"\n"
-            begins.append((file, line))
-            line, size = line + data.count(b"\n"), size + len(data)
-            if size > MOST_BYTES:
-                raise self.fault(f"more than {MOST_BYTES} bytes in all", "traces")
-            parts.append(data)
-        joined = b"".join(parts)
+        parts = [read_bytes(self.work.project.folder / it) for it in files]
+        joined = b"".join(it if it.endswith(b"\n") or not it else it + b"\n" for it in parts)
+        if len(joined) > MOST_BYTES:
+            raise self.fault(f"more than {MOST_BYTES} bytes in all", "traces")
         names = {it.decode("utf-8", "surrogateescape").strip('"') for it in set(NAME.findall(joined))}
-        return begins, joined, Names(sorted(names))
+        return joined, Names(sorted(names))
 
     def formula(self, names: Names) -> tuple[str, list[str]]:
         """The formulas' text and their names."""
@@ -58,7 +52,7 @@ class Monitor(Task):
         words = getattr(self.question, key) or ()
         return list(dict.fromkeys(it for word in words for it in names.bits(word) or [word]))
 
-    def ask(self, files: list[tuple[str, int]]) -> None:
+    def ask(self) -> None:
         question, result = self.question, self.result
         self.work.tell(question.name, "rvhyper")
         words = [*(["--drop"] if question.drop else []), "--lengths", question.lengths, self.room / "formula", self.room / "traces"]
@@ -71,12 +65,4 @@ class Monitor(Task):
         elif ended.status is None or ended.status in OPEN_STATUS:
             result.lines.append(f"nothing in {question.budget:g} s" if ended.status is None else shown(line))
         else:
-            raise Fault(f"rvhyper: {shown(line)}{self.place_of(line, files)}")
-
-    def place_of(self, line: str, files: list[tuple[str, int]]) -> str:
-        """Of which file the line is that an error line names."""
-        match = re.search(r"E(?:9 .*|10): line (\d+)$", line)
-        if not match:
-            return ""
-        name, begun = max((it for it in files if it[1] <= int(match[1])), key=lambda it: it[1], default=files[0])
-        return f", which is {shown(name)}:{int(match[1]) - begun + 1}"
+            raise Fault(f"rvhyper: {shown(line)}")

@@ -25,15 +25,14 @@ def bin_folder() -> Path:
 @cache
 def program(name: str) -> Path:
     """The checked program: the path that `bin/where` prints, or where that is not there the program beside the launcher."""
-    where = bin_folder() / "where"
-    if os.access(where, os.X_OK):
+    where, path = bin_folder() / "where", bin_folder() / name
+    if where.is_file():
         said = subprocess.run([where, name], capture_output=True, text=True, stdin=subprocess.DEVNULL, check=False)
+        path = Path(said.stdout.strip() or path)
         if said.returncode:
-            raise Broken(said.stderr.strip() or f"{name}: not there")
-        return Path(said.stdout.strip())
-    path = bin_folder() / name
+            raise Broken(said.stderr.strip())
     if not os.access(path, os.X_OK):
-        raise Broken(f"{name} is not in {bin_folder()}")
+        raise Broken(f"{name} is not in {path.parent}")
     return path
 
 
@@ -79,33 +78,29 @@ class Runner:
     def __init__(self) -> None:
         self.lock, self.running, self.is_stopped = threading.Lock(), set(), False
 
-    def run(self, words: Sequence[str | Path], folder: Path | None = None, seconds: float | None = None,
-            out: Path | None = None, given: bytes | None = None) -> Ended:
+    def run(self, words: Sequence[str | Path], folder: Path | None = None, seconds: float | None = None, out: Path | None = None) -> Ended:
         """Runs a list of words; what it prints goes to the file `out`, or is kept."""
         begun = time.monotonic()
-        process = self._start(words, folder, out, given is not None)
+        process = self._start(words, folder, out)
         try:
-            printed, told = process.communicate(given, timeout=seconds)
+            printed, told = process.communicate(timeout=seconds)
             status = process.returncode
         except subprocess.TimeoutExpired:
             _end(process)
-            printed, told = process.communicate()
-            status = None
-        finally:
-            with self.lock:
-                self.running.discard(process)
+            (printed, told), status = process.communicate(), None
+        with self.lock:
+            self.running.discard(process)
         if self.is_stopped:
             raise Stopped
         return Ended(status, printed or b"", told.decode(errors="replace"), time.monotonic() - begun)
 
-    def _start(self, words: Sequence[str | Path], folder: Path | None, out: Path | None, is_given: bool) -> subprocess.Popen:
-        with self.lock, contextlib.ExitStack() as files:
+    def _start(self, words: Sequence[str | Path], folder: Path | None, out: Path | None) -> subprocess.Popen:
+        with self.lock, open(out or os.devnull, "wb") as file:
             if self.is_stopped:
                 raise Stopped
             try:
-                to = subprocess.PIPE if out is None else files.enter_context(open(out, "wb"))
-                process = subprocess.Popen(words, cwd=folder, stdin=subprocess.PIPE if is_given else subprocess.DEVNULL,
-                                           stdout=to, stderr=subprocess.PIPE, start_new_session=True)
+                process = subprocess.Popen(words, cwd=folder, stdin=subprocess.DEVNULL, stdout=file if out else subprocess.PIPE,
+                                           stderr=subprocess.PIPE, start_new_session=True)
             except OSError as error:
                 raise Broken(f"{words[0]}: {error.strerror}") from error
             self.running.add(process)
@@ -119,7 +114,5 @@ class Runner:
 
 
 def _end(process: subprocess.Popen) -> None:
-    try:
+    with contextlib.suppress(ProcessLookupError):
         os.killpg(process.pid, signal.SIGKILL)
-    except ProcessLookupError:
-        pass

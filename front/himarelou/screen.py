@@ -15,7 +15,7 @@ HEAD = ("check", "answer", "", "seconds", "by")
 
 
 class Screen:
-    def __init__(self, stream: TextIO = sys.stdout, is_quiet: bool = False):
+    def __init__(self, stream: TextIO = sys.stdout):
         self.stream, self.lock = stream, threading.Lock()
         self.is_terminal = stream.isatty() and os.environ.get("TERM") != "dumb"
         self.has_colour = self.is_terminal and not os.environ.get("NO_COLOR")
@@ -33,21 +33,14 @@ class Screen:
                 self._line(f"{name}: {stage} ..")
 
     def ended(self, result: Result) -> None:
+        said = result.answer if result.answer == result.outcome else f"{result.answer}, {result.outcome}"
+        notes = result.notes if result.outcome != AS_EXPECTED or not self.is_terminal else []
         with self.lock:
             self.running.pop(result.name, None)
             self._wipe()
-            self._line(self.line_of(result))
-            for note in result.notes if result.outcome != AS_EXPECTED or not self.is_terminal else []:
-                self._line(f"    {note}")
-            for line in result.lines if result.outcome in (OPEN, FAULT) else []:
-                self._line(f"    {line}")
-
-    def line_of(self, result: Result) -> str:
-        said = result.answer if result.answer == result.outcome else f"{result.answer}, {result.outcome}"
-        return f"{result.name}: {self.coloured(said, result.outcome)}, {result.seconds:g} s{by(result)}"
-
-    def coloured(self, text: str, outcome: str) -> str:
-        return f"\x1b[{COLOURS[outcome]}m{text}\x1b[0m" if self.has_colour else text
+            self._line(f"{result.name}: ", said, result.outcome, f", {result.seconds:g} s{by(result)}")
+            for it in [*notes, *(result.lines if result.outcome in (OPEN, FAULT) else [])]:
+                self._line(f"    {it}")
 
     def close(self, results: list[Result]) -> None:
         """The closing table on a terminal, and how many came to what."""
@@ -56,22 +49,20 @@ class Screen:
             self._wipe()
             if self.is_terminal:
                 self._table(results)
-            counts = [f"{sum(it.outcome == outcome for it in results)} {outcome}" for outcome in COLOURS
-                      if any(it.outcome == outcome for it in results)]
-            self._line(f"{len(results)} checks: " + ", ".join(counts) if results else "no checks")
+            counts = {it: sum(result.outcome == it for result in results) for it in COLOURS}
+            self._line(f"{len(results)} checks: " + ", ".join(f"{count} {it}" for it, count in counts.items() if count))
 
     def _table(self, results: list[Result]) -> None:
-        rows = [(it.name, it.answer, it.outcome, f"{it.seconds:g}", by(it)[2:]) for it in results]
-        widths = [max(map(len, column)) for column in zip(HEAD, *rows)]
-        for row, outcome in [(HEAD, ""), *zip(rows, (it.outcome for it in results))]:
-            cells = [cell.ljust(width) for cell, width in zip(row, widths)]
-            if outcome:
-                cells[2] = self.coloured(cells[2], outcome)
-            self._line("  ".join(cells).rstrip())
+        rows = [HEAD, *((it.name, it.answer, it.outcome, f"{it.seconds:g}", by(it)[2:]) for it in results)]
+        widths = [max(map(len, column)) for column in zip(*rows)]
+        for row in rows:
+            name, answer, outcome, seconds, carried = (cell.ljust(width) for cell, width in zip(row, widths))
+            self._line(f"{name}  {answer}  ", outcome, row[2], f"  {seconds}  {carried.rstrip()}")
 
-    def _line(self, text: str) -> None:
-        kept = "\x1b" if self.has_colour else ""
-        print("".join(it if it in kept else shown(it) for it in text), file=self.stream, flush=True)
+    def _line(self, before: str, said: str = "", outcome: str = "", behind: str = "") -> None:
+        """A line, of which one part has the colour of an outcome."""
+        begin, end = (f"\x1b[{COLOURS[outcome]}m", "\x1b[0m") if self.has_colour and outcome else ("", "")
+        print(f"{shown(before)}{begin}{shown(said)}{end}{shown(behind)}".rstrip(), file=self.stream, flush=True)
 
     def _wipe(self) -> None:
         if self.drawn:

@@ -1,4 +1,5 @@
 """What stays beside the project: circuits, formulas, answers, results, each renamed into place when it is whole."""
+import contextlib
 import hashlib
 import hmac
 import json
@@ -29,12 +30,12 @@ class Store:
         path = self.folder
         for name in ("", *names):
             path = path / name
-            try:
-                path.mkdir(exist_ok=True, parents=path == self.folder)
-            except OSError as error:
-                raise Broken(f"{shown(str(path))}: {error.strerror}") from error
             if path.is_symlink():
                 raise Fault(f"{shown(str(path))} is a link; results are not written through one")
+            try:
+                path.mkdir(exist_ok=True, parents=not name)
+            except OSError as error:
+                raise Broken(f"{shown(str(path))}: {error.strerror}") from error
         return path
 
     def record(self, path: Path, value: dict[str, Any]) -> None:
@@ -72,20 +73,15 @@ def _seal(text: str) -> str:
 def _key() -> bytes:
     """A key of this user's own, so that results which came with a project are not believed; one of this call alone
     where there is no place for it."""
-    state = os.environ.get("XDG_STATE_HOME", "")
-    home = Path(state) if state.startswith("/") else Path(os.environ.get("HOME") or "/nowhere") / ".local/state"
-    path = home / "himarelou" / "key"
+    state, home = os.environ.get("XDG_STATE_HOME", ""), os.environ.get("HOME") or "/nowhere"
+    path = (Path(state) if state.startswith("/") else Path(home) / ".local/state") / "himarelou" / "key"
     try:
         path.parent.mkdir(mode=0o700, parents=True, exist_ok=True)
-        handle, name = tempfile.mkstemp(dir=path.parent)
-        with os.fdopen(handle, "wb") as file:
+        with tempfile.NamedTemporaryFile(dir=path.parent) as file:
             file.write(os.urandom(32))
-        try:
-            os.link(name, path)
-        except FileExistsError:
-            pass
-        finally:
-            os.unlink(name)
+            file.flush()
+            with contextlib.suppress(FileExistsError):
+                os.link(file.name, path)
         return path.read_bytes()
     except OSError:
         return os.urandom(32)

@@ -5,7 +5,7 @@ from dataclasses import dataclass
 from pathlib import Path
 
 from himarelou.aiger import read_bytes
-from himarelou.circuits import Circuits
+from himarelou.design import Circuits
 from himarelou.faults import Fault
 from himarelou.formula import Formula, Text, parse
 from himarelou.names import Names

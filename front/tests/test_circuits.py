@@ -8,12 +8,11 @@ from himarelou.assume import with_assumed
 from himarelou.faults import Fault
 from himarelou.formula import Text, parse_one
 from himarelou.pair import MET, PARTED, first_parting, pair_of, split
-from himarelou.picture import svg
+from himarelou.picture import svg, vcd
 from himarelou.runs import Run, letters_of, played, runs_of
 from himarelou.scene import scene_of
 from himarelou.statement import Reset, Statement
 from himarelou.strategy import in_order_of_ports, ports_of
-from himarelou.vcd import vcd
 from tests import TOP
 
 # Inputs r, w, d; register q: 0 where r is on, d where w is on, else as before. The output shows it.
