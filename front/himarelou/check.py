@@ -34,6 +34,7 @@ class Check(Task):
     def work_on(self) -> None:
         self.tell("circuit")
         self.ready = self.work.circuits.of(self.design)
+        self.tell(self.ready.size())
         self.circuit = self.assumed()
         files = self.posed()
         self.result.take(self.asker.decided(files, self.question.budget))
@@ -43,7 +44,7 @@ class Check(Task):
 
     def assumed(self) -> Circuit:
         """The circuit under what is assumed, which is told."""
-        notes = [*self.ready.made.findings, *(f"assumed: {it}" for it in self.ready.made.assumptions)]
+        notes = [*self.ready.findings, *(f"assumed: {it}" for it in self.ready.assumptions)]
         circuit = self.ready.circuit
         for texts, where in ((self.design.assume, self.design.where), (self.question.assume, self.question.where)):
             try:
@@ -99,7 +100,7 @@ class Check(Task):
         read = self.circuit.read_variables()
         inputs = [name for kind, name, literal in self.circuit.signals() if kind == "i" and literal >> 1 in read]
         given = self.bits("given")
-        same = self.bits("same") if question.same else [it for word in self.ready.made.outputs for it in names.bits(word)]
+        same = self.bits("same") if question.same else [it for word in self.ready.outputs for it in names.bits(word)]
         if question.equal is not None:
             equal = self.bits("equal")
             secret = [it for it in inputs if it not in equal]
@@ -125,7 +126,7 @@ class Check(Task):
     def secrets(self) -> list[str]:
         """The secret bits; what the circuit does not have is told with the premise."""
         found: dict[str, None] = {}
-        own = {it for word in self.ready.made.outputs for it in self.ready.names.bits(word)}
+        own = {it for word in self.ready.outputs for it in self.ready.names.bits(word)}
         own -= {name for kind, name, _ in self.circuit.signals() if kind != "o"}
         for word in self.question.secret or ():
             bits = self.ready.names.bits(word)

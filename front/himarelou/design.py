@@ -8,6 +8,7 @@ import tempfile
 import threading
 from collections import defaultdict
 from dataclasses import dataclass, field
+from functools import cached_property
 from pathlib import Path
 
 from himarelou.aiger import Circuit, read_bytes, read_circuit, written
@@ -27,15 +28,21 @@ TO_ANDS = ("techmap", "opt_expr", "opt_merge", "opt_clean", "abc -g AND", "opt_c
 
 @dataclass
 class Made:
-    """A circuit, the design's own outputs, and what is to be told of it."""
+    """A circuit, the design's own outputs, and what is to be told of it; in a project also its file and the sum of that."""
 
     circuit: Circuit
     outputs: list[str]
     findings: list[str] = field(default_factory=list)
     assumptions: list[str] = field(default_factory=list)
+    file: Path = Path()
+    sum: str = ""
 
     def size(self) -> str:
         return f"{len(self.circuit.latches)} registers, {len(self.circuit.ands)} ands"
+
+    @cached_property
+    def names(self) -> Names:
+        return Names(name for _, name, _ in self.circuit.signals())
 
 
 def files_of(patterns: tuple[str, ...], folder: Path) -> list[str]:
@@ -53,8 +60,6 @@ def files_of(patterns: tuple[str, ...], folder: Path) -> list[str]:
 
 def made_of(design: Design, folder: Path) -> str | None:
     """The sum of all that a circuit is made of, or None where the sources name further files in a way that is not seen."""
-    if design.file:
-        return file_sum(folder / design.file)
     files = [folder / it for it in files_of(design.sources, folder)]
     parts = [repr(design), yosys_version(), front_sum()]
     seen: set[Path] = set()
@@ -189,66 +194,40 @@ def with_aliases(circuit: Circuit) -> None:
                 builder.output(other, literal[place])
 
 
-@dataclass
-class Ready:
-    """A circuit with its file, the sum of that, and what is told of it."""
-
-    made: Made
-    file: Path
-    sum: str
-    is_kept: bool = False
-
-    def __post_init__(self) -> None:
-        self.names = Names(name for _, name, _ in self.circuit.signals())
-
-    @property
-    def circuit(self) -> Circuit:
-        return self.made.circuit
-
-
 class Circuits:
-    """The circuits of a project."""
+    """The circuits of a project, each made once a call."""
 
     def __init__(self, runner: Runner, project: Project, store: Store):
         self.runner, self.project, self.store = runner, project, store
         self.locks: dict[str, threading.Lock] = defaultdict(threading.Lock)
-        self.ready: dict[str, Ready | Fault] = {}
+        self.made: dict[str, Made | Fault] = {}
 
-    def of(self, design: Design) -> Ready:
+    def of(self, design: Design) -> Made:
         """The circuit of a design; a fault is the same for all that ask."""
         with self.locks[design.name]:
-            if design.name not in self.ready:
+            if design.name not in self.made:
                 try:
-                    self.ready[design.name] = self._find(design)
+                    self.made[design.name] = self._of_file(design) if design.file else self._of_sources(design)
                 except Fault as fault:
-                    self.ready[design.name] = fault
-        found = self.ready[design.name]
+                    self.made[design.name] = self.project.fault(str(fault), *design.where)
+        found = self.made[design.name]
         if isinstance(found, Fault):
             raise found
         return found
 
-    def _find(self, design: Design) -> Ready:
-        try:
-            if design.file:
-                file = self.project.folder / design.file
-                return Ready(make(self.runner, design, self.project.folder), file, file_sum(file))
-            return self._of_sources(design)
-        except Fault as fault:
-            if type(fault) is not Fault:
-                raise
-            raise self.project.fault(str(fault), *design.where) from fault
+    def _of_file(self, design: Design) -> Made:
+        made, file = make(self.runner, design, self.project.folder), self.project.folder / design.file
+        made.file, made.sum = file, file_sum(file)
+        return made
 
-    def _of_sources(self, design: Design) -> Ready:
+    def _of_sources(self, design: Design) -> Made:
         room = self.store.room("circuits")
         file, record = room / f"{design.name}.aig", room / f"{design.name}.json"
-        key = made_of(design, self.project.folder)
-        kept = self.store.recorded(record) or {}
+        key, kept = made_of(design, self.project.folder), self.store.recorded(record) or {}
         if key and kept.get("key") == key and file.is_file() and kept["sum"] == file_sum(file):
-            made = Made(read_circuit(file), kept["outputs"], kept["findings"], kept["assumptions"])
-            return Ready(made, file, kept["sum"], True)
+            return Made(read_circuit(file), *kept["told"], file, kept["sum"])
         made = make(self.runner, design, self.project.folder)
         replaced(file, written(made.circuit, False))
-        ready = Ready(made, file, file_sum(file))
-        self.store.record(record, {"key": key, "sum": ready.sum, "outputs": made.outputs, "findings": made.findings,
-                                   "assumptions": made.assumptions})
-        return ready
+        made.file, made.sum = file, file_sum(file)
+        self.store.record(record, {"key": key, "sum": made.sum, "told": [made.outputs, made.findings, made.assumptions]})
+        return made
