@@ -54,9 +54,9 @@ class Monitor(Task):
 
     def ask(self) -> None:
         question, result = self.question, self.result
-        self.work.tell(question.name, "rvhyper")
-        words = [*(["--drop"] if question.drop else []), "--lengths", question.lengths, self.room / "formula", self.room / "traces"]
-        ended = self.work.runner.run([program("rvhyper"), *words], seconds=question.budget)
+        self.tell("rvhyper")
+        flags = [*(["--drop"] if question.drop else []), "--lengths", question.lengths]
+        ended = self.work.runner.run([program("rvhyper"), *flags, self.room / "formula", self.room / "traces"], seconds=question.budget)
         line = ended.out.decode(errors="replace").strip() or ended.err.strip().split("\n")[0]
         if ended.status in (0, 1):
             result.answer = "violation" if ended.status else "no violation"

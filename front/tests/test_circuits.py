@@ -1,4 +1,8 @@
 """Circuits: both forms of a file, playing, assumptions, ports of strategies, the pair, runs and pictures."""
+import ast
+import io
+import sys
+import tokenize
 import unittest
 import xml.etree.ElementTree as ET
 from pathlib import Path
@@ -155,7 +159,27 @@ class Pictures(unittest.TestCase):
 
 
 class Layout(unittest.TestCase):
+    """What the house asks of the front's own files, and that it needs no other library."""
+
     def test_sizes(self):
-        """What the house asks of the front's own files."""
+        count = 0
         for path in Path(__file__).parents[1].glob("himarelou/*.py"):
-            self.assertLessEqual(len(path.read_text().splitlines()), 400, path)
+            text = path.read_text(encoding="utf-8")
+            self.assertLessEqual(text.count("\n"), 400, path)
+            count += len(code_lines(text))
+            for node in ast.walk(ast.parse(text)):
+                if isinstance(node, ast.FunctionDef):
+                    self.assertLessEqual(node.end_lineno - node.lineno + 1, 40, f"{path} {node.name}")
+                if isinstance(node, (ast.Import, ast.ImportFrom)):
+                    names = [it.name for it in node.names] if isinstance(node, ast.Import) else [node.module]
+                    self.assertTrue(all(it.split(".")[0] in {"himarelou", *sys.stdlib_module_names} for it in names), path)
+        self.assertLessEqual(count, 2500, "lines of code, without blank ones, comments and documentation")
+
+
+def code_lines(text: str) -> set[int]:
+    blank = {tokenize.COMMENT, tokenize.NL, tokenize.NEWLINE, tokenize.INDENT, tokenize.DEDENT, tokenize.ENDMARKER}
+    lines = {line for it in tokenize.generate_tokens(io.StringIO(text).readline) if it.type not in blank for line in range(it.start[0], it.end[0] + 1)}
+    for node in ast.walk(ast.parse(text)):
+        if isinstance(node, (ast.Module, ast.ClassDef, ast.FunctionDef)) and ast.get_docstring(node) is not None:
+            lines -= set(range(node.body[0].lineno, node.body[0].end_lineno + 1))
+    return lines
