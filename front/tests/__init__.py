@@ -9,7 +9,8 @@ from pathlib import Path
 
 sys.dont_write_bytecode = True
 TOP = Path(__file__).resolve().parents[2]
-HIMARELOU = TOP / "bin" / "himarelou"
+HIMARELOU = Path(os.environ.get("HIMARELOU", TOP / "bin" / "himarelou"))  # an installed one may be named
+os.environ.setdefault("HIMARELOU_BIN", str(HIMARELOU.parent))
 
 
 
