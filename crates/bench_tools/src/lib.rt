@@ -1,6 +1,12 @@
-//! What benches and cases share: the nets of a formula on a circuit.
+//! What benches and cases share: closures of formulas, runs as words, and the nets of formulas on
+//! circuits.
 #![tactic(auto)]
 
-mod posed;
+mod formulas;
+mod nets;
+mod runs;
+mod signals;
 
-pub use posed::{FormulaNets, nets_of};
+pub use formulas::body_closure;
+pub use nets::{composed, formula_net, safe_net};
+pub use runs::{rows_text, run_of};
