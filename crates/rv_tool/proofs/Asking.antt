@@ -40,11 +40,11 @@ one_name (a ∷ b ∷ files) e = absurd (omega (arith, e))
 
 -- What a question that was asked says of its files and its count.
 pub asked_two : (words files : List Text) (lengths : Lengths) (drop : Bool) → asks words (Monitor lengths drop) files → length files ≡ 2
-asked_two words files lengths drop (items, are, monitors, two) = two
+asked_two words files lengths drop (items, are, (monitors, two)) = two
 
 pub asked_one : (words files : List Text) (count : ℕ) (lengths : Lengths) (drop : Bool) → asks words (MonitorMade count lengths drop) files
     → (length files ≡ 1) × (count < 2 ^ 31)
-asked_one words files count lengths drop (items, are, text, monitors, number, one) = (one, let most = number.2 in omega (arith, most))
+asked_one words files count lengths drop (items, are, (text, monitors, number, one)) = (one, let most = number.2 in omega (arith, most))
 
 -- ---- one question
 

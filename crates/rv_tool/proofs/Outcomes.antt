@@ -135,7 +135,7 @@ module _ (formulas : List Plain) where
   too_large-once _ other one two = absurd one
 
   taken-small : (kind : Kind) → EachPlain IsTaken formulas → ¬ AreTooLarge formulas kind
-  taken-small Closure taken = no-body HasLargeClosure IsTaken (λ body is. closures_apart body is.closure) formulas taken
+  taken-small Closure taken large = no-body HasLargeClosure IsTaken (λ body is. closures_apart body is.closure) formulas taken large
   taken-small Atoms taken (small, many) = no-body HasManyAtoms IsTaken (λ body is. atoms_apart body is.atoms) formulas taken many
   taken-small Table taken (small, few, large) =
       no-body HasLargeTable IsTaken (λ body is. tables_apart body is.table) formulas taken large

@@ -9,7 +9,7 @@ use Rattle.hy_files.specs.declared.fault.FileFault.{FileFault}
 use Rattle.hy_files.proofs.Texts.{refused_once, text_not_refused, text_once}
 use Rattle.hy_run.specs.Laws.{AgreeOrShort, AreSettled}
 use Rattle.hy_run.specs.Names.{Text}
-use Rattle.rv_tool.specs.Agreeing.{same}
+use Rattle.rv_tool.specs.Agreeing.{same as says_same}
 use Rattle.rv_tool.specs.Monitoring.{RvAnswer, IsOutcome}
 use Rattle.rv_tool.specs.Rules.{AreEvents, ComesTo, IsRefusedBy, IsTextOf, lengths_of, rv_rules}
 use Rattle.rv_tool.specs.Texts.{drops}
@@ -56,5 +56,5 @@ rv_settled = record {
   fault = λ question. fault_once;
   apart = λ question. text_apart;
   answer = comes_once;
-  same = λ a. same a;
+  same = says_same;
 }

@@ -13,7 +13,7 @@ ghost use Rattle.rv_tool.specs.declared.verdict.Question.TheVariants.{Monitor, M
 ghost use Rattle.rv_tool.specs.Watching.{AreLeft, count_left, AreNumbered, OrFault, IsLinesAnswer};
 
 use crate::source::Source;
-use crate::verdict::{RvFault, RvVerdict};
+use crate::verdict::{RvAnswer, RvFault};
 use crate::watching::watch;
 use hy_base::Shelf;
 use hy_files::{FileFault, bytes_in, specs_in};
@@ -38,7 +38,7 @@ pub fn monitor<S: Shelf>(
     lengths: Lengths,
     drop: bool,
     names: &mut NameTable,
-) -> Result<RvVerdict, Refusal<RvFault>>
+) -> RvAnswer
     requires { names.old ≡ [] }
     ensures keeps { KeepsShelf S.Shelf shelf.old shelf.new }
     ensures follows { Follows rv_rules S.Shelf shelf.old shelf.new (Monitor lengths drop)
@@ -64,7 +64,7 @@ pub fn monitor_made<S: Shelf>(
     lengths: Lengths,
     drop: bool,
     names: &mut NameTable,
-) -> Result<RvVerdict, Refusal<RvFault>>
+) -> RvAnswer
     requires empty { names.old ≡ [] }
     requires few { count < 2 ^ 31 }
     ensures keeps { KeepsShelf S.Shelf shelf.old shelf.new }
@@ -90,7 +90,7 @@ fn judge_lines(
     drop: bool,
     bytes: &[u8],
     names: &NameTable,
-) -> Result<RvVerdict, Refusal<RvFault>>
+) -> RvAnswer
     requires quantifiers { All HasFewQuantifiers specs.now }
     requires countable { length specs.now < 2 ^ 32 }
     requires few { length bytes.now ≤ BYTES_LIMIT }
@@ -101,13 +101,7 @@ fn judge_lines(
 }
 
 /// The first line of a source at fault; or where there is none, what formulas come to on its events.
-fn judge(
-    alloc: Global,
-    specs: &SpecList,
-    lengths: Lengths,
-    drop: bool,
-    source: &Source,
-) -> Result<RvVerdict, Refusal<RvFault>>
+fn judge(alloc: Global, specs: &SpecList, lengths: Lengths, drop: bool, source: &Source) -> RvAnswer
     requires quantifiers { All HasFewQuantifiers specs.now }
     requires countable { length specs.now < 2 ^ 32 }
     requires few { count_left source.now < 2 ^ 31 }
@@ -123,11 +117,7 @@ fn judge(
 
 /// The first line of a source at fault; or where there is none, the answer for formulas that are not
 /// monitored.
-fn unwatched(
-    alloc: Global,
-    error: RvNewError,
-    source: &Source,
-) -> Result<RvVerdict, Refusal<RvFault>>
+fn unwatched(alloc: Global, error: RvNewError, source: &Source) -> RvAnswer
     ensures { (lengths : Lengths) (drop : Bool) (formulas : List Formula)
         → IsNewRefusal formulas error → OrFault source.now result
         (IsOutcome lengths drop (plain_formulas formulas) (AreLeft source.now) result) }

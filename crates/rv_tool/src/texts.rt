@@ -34,15 +34,15 @@ fn drops(question: Question) -> bool
 }
 
 /// The text of a run that met no violation.
-fn clean_text(alloc: Global, drops: bool, traces: u32, kept: &[u32], live: u32) -> M<Text>
+fn clean_text(alloc: Global, shown: bool, traces: u32, kept: &[u32], live: u32) -> M<Text>
     ensures { IfOk result (λ t. t ≡ codes "no violation in " ++ decimal traces ++ codes " traces"
-        ++ (if drops then kept_text kept.now else []) ++ open_text live ++ codes "\n") }
+        ++ (if shown then kept_text kept.now else []) ++ open_text live ++ codes "\n") }
 {
     let mut text = Text::new(alloc);
     text.extend(b"no violation in ")?;
     push_number(&mut text, traces)?;
     text.extend(b" traces")?;
-    if drops {
+    if shown {
         push_kept(&mut text, kept)?;
     }
     push_open(&mut text, live)?;

@@ -77,11 +77,7 @@ impl Tool for RvHyper {
         let mut buffer = Buffer::new();
         write_pieces(
             err,
-            &[
-                b"error E10: line ",
-                buffer.format(*line).as_bytes(),
-                b"\n",
-            ],
+            &[b"error E10: line ", buffer.format(*line).as_bytes(), b"\n"],
         )
     }
 

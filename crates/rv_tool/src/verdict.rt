@@ -2,6 +2,7 @@
 
 use hy_base::NumList;
 use hy_finite::Lengths;
+use hy_run::Refusal;
 use tuple_walk::Tuple;
 
 /// What is asked of the files of a command, under a rule of lengths. Dominated traces are dropped where
@@ -9,7 +10,10 @@ use tuple_walk::Tuple;
 #[derive(Clone, Copy)]
 pub enum Question {
     /// Whether the traces of the second file violate the formulas of the first.
-    Monitor { lengths: Lengths, drop: bool },
+    Monitor {
+        lengths: Lengths,
+        drop: bool,
+    },
     /// Whether `count` made traces, from 1 to 1,000,000, violate the formulas of the only file.
     MonitorMade {
         count: u32,
@@ -42,3 +46,6 @@ pub enum RvFault {
     /// The event of a line is refused: it ends a session that is not open, or goes back without a save.
     Session { line: u32 },
 }
+
+/// What a question comes to.
+pub type RvAnswer = Result<RvVerdict, Refusal<RvFault>>;

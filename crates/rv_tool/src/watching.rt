@@ -8,7 +8,7 @@ ghost use Rattle.rv_tool.specs.Monitoring.{EventsCome, AreKeptCounts, IsNoViolat
 ghost use Rattle.rv_tool.specs.Watching.{OrMemory, OrFault, AreLeft, count_left, AreNumbered, AreGood, AreRead, IsWatched};
 
 use crate::source::Source;
-use crate::verdict::{RvFault, RvVerdict};
+use crate::verdict::{RvAnswer, RvFault, RvVerdict};
 use hy_base::{M, Memory, NumList, Steps};
 use hy_bits::Letters;
 use hy_files::FileFault;
@@ -37,12 +37,7 @@ pub enum Watched {
 /// What the events of a source come to with a monitor of `specs` formulas to which nothing has come
 /// yet; or the first line at fault. Each line is read once: those behind the last event that is given
 /// are checked alone.
-pub fn watch(
-    alloc: Global,
-    rv: &mut Rv,
-    specs: u32,
-    source: &Source,
-) -> Result<RvVerdict, Refusal<RvFault>>
+pub fn watch(alloc: Global, rv: &mut Rv, specs: u32, source: &Source) -> RvAnswer
     requires stands { StandsFor (held rv.old) empty_history }
     requires specs { specs ≡ length (specs_of (held rv.old)) }
     requires few { count_left source.now < 2 ^ 31 }
@@ -123,12 +118,7 @@ fn watch_events<L: Ledger>(
 }
 
 /// The answer where all lines are taken.
-fn watched_answer(
-    alloc: Global,
-    rv: &Rv,
-    specs: u32,
-    watched: Watched,
-) -> Result<RvVerdict, Refusal<RvFault>>
+fn watched_answer(alloc: Global, rv: &Rv, specs: u32, watched: Watched) -> RvAnswer
     requires { specs ≡ length (specs_of (held rv.now)) }
     ensures { (source : Source) → IsWatched (held rv.now).rule (held rv.now).drop
         (specs_of (held rv.now)) source (held rv.now) watched → OrMemory result (EventsCome
@@ -159,7 +149,7 @@ fn event_refusal(error: RvError, line: u32) -> Refusal<RvFault>
 }
 
 /// The answer that no event was refused or violated one of `specs` formulas.
-fn clean_answer(alloc: Global, rv: &Rv, specs: u32) -> Result<RvVerdict, Refusal<RvFault>>
+fn clean_answer(alloc: Global, rv: &Rv, specs: u32) -> RvAnswer
     requires { specs ≡ length (specs_of (held rv.now)) }
     ensures { OrMemory result ((h : History) → StandsFor (held rv.now) h
         → IsNoViolation (held rv.now).rule (held rv.now).drop (specs_of (held rv.now)) h result) }

@@ -19,7 +19,7 @@ use std::alloc::Global;
 /// rvhyper    [--drop] [--lengths min|pad] SPECS TRACES
 /// rvhyper    [--drop] [--lengths min|pad] --make N SPECS
 /// ```
-/// Without a rule of lengths tuples are judged on the least length.
+/// N is from 1 to 1,000,000. Without a rule of lengths tuples are judged on the least length.
 pub fn order_of<'a>(alloc: Global, words: &'a [String]) -> M<Option<Order<'a, Question>>>
     ensures some { IfOk result (λ found. IfSome found (λ order.
         asks (texts words.entry.now) order.question (names_in order.files))) }
