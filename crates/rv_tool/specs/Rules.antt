@@ -17,7 +17,7 @@ use Rattle.hy_run.specs.Names.{Text}
 use Rattle.hy_run.specs.Rules.{Rules}
 use Rattle.rv_tool.specs.Agreeing.{Agree}
 use Rattle.rv_tool.specs.Monitoring.{RvAnswer, IsOutcome, whole_traces}
-use Rattle.rv_tool.specs.Texts.{drops, text_of, status_of, line_of, fault_status}
+use Rattle.rv_tool.specs.Texts.{drops, text_of, status_of, own_line, own_status}
 use Rattle.rv_tool.specs.Words.{asks}
 use Rattle.rv_tool.specs.declared.verdict.Question.{Question}
 use Rattle.rv_tool.specs.declared.verdict.Question.TheVariants.{Monitor, MonitorMade}
@@ -66,7 +66,7 @@ rv_rules = record {
   comes = ComesTo;
   text = λ question names. text_of question;
   status = status_of;
-  own_line = line_of;
-  own_status = fault_status;
+  own_line = own_line;
+  own_status = own_status;
   agrees = Agree;
 }

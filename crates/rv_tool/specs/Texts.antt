@@ -40,8 +40,8 @@ status_of (NoViolation traces kept live) = 0
 status_of (Violation spec trace tuple) = 1
 
 -- what `err` receives, whatever the names of the files
-abbrev pub line_of : List Text → RvFault → List ℕ
-line_of files (Session line) = codes "error E10: line " ++ decimal line ++ codes "\n"
+abbrev pub own_line : List Text → RvFault → List ℕ
+own_line files (Session line) = codes "error E10: line " ++ decimal line ++ codes "\n"
 
-abbrev pub fault_status : RvFault → ℕ
-fault_status (Session line) = 2
+abbrev pub own_status : RvFault → ℕ
+own_status (Session line) = 2
