@@ -81,11 +81,11 @@ module _ (items : List Item) (f : Found) (tells : Tells mc_syntax items f) where
 
   module _ (calls : Option (Bor Text)) (at_calls : Gives (codes "ic3") calls) where
     -- What was found says how much is to be tried.
-    pub ask_of : (k : ℕ) → AreCalls (listed_slice calls) k → (depth : Option (Bor Text)) → Gives (codes "depth") depth → (usual : ℕ) → usual ≡ usual_depth k
+    pub tries_of : (k : ℕ) → AreCalls (listed_slice calls) k → (depth : Option (Bor Text)) → Gives (codes "depth") depth → (usual : ℕ) → usual ≡ usual_depth k
         → (d : ℕ) → IsNumberOr usual (listed_slice depth) 0 100000 d → (conflicts : Option (Bor Text)) → Gives (codes "conflicts") conflicts
         → (n : ℕ) → AreConflicts (listed_slice conflicts) n → (plain : Bool) → plain ≡ found_flag f (codes "plain") → (plain ≡ true → k ≡ 0)
         → IsAsk items (record { depth = d; conflicts = n; plain = plain; calls = k })
-    ask_of k seeks depth at_depth usual is d deep conflicts at_conflicts n budget plain bare apart =
+    tries_of k seeks depth at_depth usual is d deep conflicts at_conflicts n budget plain bare apart =
         let (depths, (budgets, (searches, rest))) = tells.options in
         let P : List Text → Type 0 = λ vs. IsDepth k vs d in
         let Q : List Text → Type 0 = λ vs. AreConflicts vs n in

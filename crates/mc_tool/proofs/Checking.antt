@@ -266,7 +266,7 @@ module _ (net : Net) (names : List (List ℕ)) (f : Plain) (ask : Ask) where
 
   one_untaken : (a b : Said) → IsUntaken a → IsUntaken b → AgreeOrShort mc_rules a b
   one_untaken a b (class, is, other, one) (more, also, none, two) =
-      let classes : class ≡ more = sym is ∙ also in equal a b (one ∙ ap (λ c. Err (Prefix 1 c)) classes ∙ sym two)
+      let alike : class ≡ more = sym is ∙ also in equal a b (one ∙ ap (λ c. Err (Prefix 1 c)) alike ∙ sym two)
 
   one_large : (a b : Said) → IsLarge a → IsLarge b → AgreeOrShort mc_rules a b
   one_large a b (many, one) (more, two) = equal a b (one ∙ sym two)

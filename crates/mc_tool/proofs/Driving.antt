@@ -275,7 +275,7 @@ module _ (net player : Net) (names : List (List ℕ)) (f : Plain) (ask : Ask) wh
 
   one_untaken : (a b : Said) → IsUntaken a → IsUntaken b → AgreeOrShort mc_rules a b
   one_untaken a b (class, is, other, one) (more, also, none, two) =
-      let classes : class ≡ more = sym is ∙ also in equal a b (one ∙ ap (λ c. Err (Prefix 1 c)) classes ∙ sym two)
+      let alike : class ≡ more = sym is ∙ also in equal a b (one ∙ ap (λ c. Err (Prefix 1 c)) alike ∙ sym two)
 
   one_misshapen : (a b : Said) → IsMisshapen a → IsMisshapen b → AgreeOrShort mc_rules a b
   one_misshapen a b (m, e, prefix, other, one) (n, k, also, none, two) =

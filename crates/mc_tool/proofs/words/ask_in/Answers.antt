@@ -1,5 +1,5 @@
 use Rattle.std.proofs.Common.{rules}
-use Rattle.mc_tool.proofs.Asking.{ask_of, no_calls, no_conflicts, no_depth, not_apart}
+use Rattle.mc_tool.proofs.Asking.{no_calls, no_conflicts, no_depth, not_apart, tries_of}
 use Rattle.mc_tool.proofs.words.ask_in.Goals as goal
 
 pub returns-in_err-calls-clause-none : goal.returns-in_err-calls-clause-none
@@ -17,6 +17,6 @@ returns-in_err-conflicts-clause-none c =
 
 pub returns-clause-some : goal.returns-clause-some
 returns-clause-some c =
-    λ items tells. ask_of items c.args.found.now tells c.value.result c.value.ensures c.in_ok-calls.calls c.in_ok-calls.ensures.some c.value-2.result c.value-2.ensures
+    λ items tells. tries_of items c.args.found.now tells c.value.result c.value.ensures c.in_ok-calls.calls c.in_ok-calls.ensures.some c.value-2.result c.value-2.ensures
     _ c.usual_depth.ensures c.in_ok-depth.depth c.in_ok-depth.ensures.some c.value-3.result c.value-3.ensures c.in_ok-conflicts.conflicts c.in_ok-conflicts.ensures.some
     c.has-plain.result c.has-plain.ensures (search rules)

@@ -22,7 +22,7 @@ returns-in-Err-formula_in-clause-follows g c =
 
 pub check-requires-clause-conflicts : goal.check-requires-clause-conflicts
 check-requires-clause-conflicts g c =
-    few_conflicts c.requires.asked.0 _ (names_in c.args.order.now.files) (rw c.in-Check.is at c.requires.asked.1)
+    rw c.in-Check.is at few_conflicts c.requires.asked.0 c.args.order.now.question (names_in c.args.order.now.files) c.requires.asked.1
 
 pub check-requires-clause-quantifiers : goal.check-requires-clause-quantifiers
 check-requires-clause-quantifiers g c = few_quantifiers _ _ _ _ c.in-Ok-formula_in.ensures.taken.is
@@ -30,14 +30,14 @@ check-requires-clause-quantifiers g c = few_quantifiers _ _ _ _ c.in-Ok-formula_
 pub returns-in-Check-clause-follows : goal.returns-in-Check-clause-follows
 returns-in-Check-clause-follows g c =
     let files = names_in c.args.order.now.files in
-    let are = files_named c.requires.asked.0 _ files (rw c.in-Check.is at c.requires.asked.1) c.name.result.now c.name-2.result.now c.name.ensures c.name-2.ensures in
+    let are = files_named c.requires.asked.0 c.args.order.now.question files c.requires.asked.1 c.name.result.now c.name-2.result.now c.name.ensures c.name-2.ensures in
     rw c.in-Check.is
     (check_follows g.S.Shelf _ _ _ _ _ c.in-Ok.net c.in-Ok.ensures.taken _ _ (rw c.requires.empty at c.in-Ok-formula_in.ensures.taken) c.in-Check.ask _
-    files are _ c.check.ensures)
+    files (rw c.in-Check.is at are) _ c.check.ensures)
 
 pub check_by_strategy-requires-clause-conflicts : goal.check_by_strategy-requires-clause-conflicts
 check_by_strategy-requires-clause-conflicts g c =
-    few_conflicts c.requires.asked.0 _ (names_in c.args.order.now.files) (rw c.in-CheckByStrategy.is at c.requires.asked.1)
+    rw c.in-CheckByStrategy.is at few_conflicts c.requires.asked.0 c.args.order.now.question (names_in c.args.order.now.files) c.requires.asked.1
 
 pub check_by_strategy-requires-clause-quantifiers : goal.check_by_strategy-requires-clause-quantifiers
 check_by_strategy-requires-clause-quantifiers g c = few_quantifiers _ _ _ _ c.in-Ok-formula_in.ensures.taken.is
@@ -45,15 +45,16 @@ check_by_strategy-requires-clause-quantifiers g c = few_quantifiers _ _ _ _ c.in
 pub returns-in-CheckByStrategy-in-Ok-circuit_in-clause-follows : goal.returns-in-CheckByStrategy-in-Ok-circuit_in-clause-follows
 returns-in-CheckByStrategy-in-Ok-circuit_in-clause-follows g c =
     let files = names_in c.args.order.now.files in
-    let are = files_named c.requires.asked.0 _ files (rw c.in-CheckByStrategy.is at c.requires.asked.1) c.name.result.now c.name-2.result.now c.name.ensures c.name-2.ensures in
+    let are = files_named c.requires.asked.0 c.args.order.now.question files c.requires.asked.1 c.name.result.now c.name-2.result.now c.name.ensures c.name-2.ensures in
     rw c.in-CheckByStrategy.is
     (drive_follows g.S.Shelf _ _ _ _ _ c.in-Ok.net c.in-Ok.ensures.taken _ _ (rw c.requires.empty at c.in-Ok-formula_in.ensures.taken) c.in-CheckByStrategy.ask
-    _ _ files (rw c.name-3.ensures are) c.in-Ok-circuit_in.strategy c.in-Ok-circuit_in.ensures.taken _ c.check_by_strategy.ensures)
+    _ c.name-3.result.now files (rw c.name-3.ensures (rw c.in-CheckByStrategy.is at are)) c.in-Ok-circuit_in.strategy c.in-Ok-circuit_in.ensures.taken _
+    c.check_by_strategy.ensures)
 
 pub returns-clause-follows : goal.returns-clause-follows
 returns-clause-follows g c =
     let files = names_in c.args.order.now.files in
-    let are = files_named c.requires.asked.0 _ files (rw c.in-CheckByStrategy.is at c.requires.asked.1) c.name.result.now c.name-2.result.now c.name.ensures c.name-2.ensures in
+    let are = files_named c.requires.asked.0 c.args.order.now.question files c.requires.asked.1 c.name.result.now c.name-2.result.now c.name.ensures c.name-2.ensures in
     rw (c.in-CheckByStrategy.is, c.file_refusal-in-Err-circuit_in.ensures)
     (ends_at_strategy g.S.Shelf _ _ _ _ _ c.in-Ok.net c.in-Ok.ensures.taken _ _ (rw c.requires.empty at c.in-Ok-formula_in.ensures.taken) c.in-CheckByStrategy.ask
-    _ _ files (rw c.name-3.ensures are) _ c.in-Err-circuit_in.fault c.in-Err-circuit_in.ensures.failed)
+    _ c.name-3.result.now files (rw c.name-3.ensures (rw c.in-CheckByStrategy.is at are)) _ c.in-Err-circuit_in.fault c.in-Err-circuit_in.ensures.failed)
