@@ -3,7 +3,7 @@
 ghost use Rattle.std.specs.Prelude.{◌≡◌, List, IfOk, IfSome, IfNone, map};
 ghost use Rattle.hy_run.specs.Names.{Text, names_in, texts};
 ghost use Rattle.hy_words.specs.Found.{Tells, found_files};
-ghost use Rattle.hy_words.specs.Words.{Item, syntax_of};
+ghost use Rattle.hy_words.specs.Words.{Item};
 ghost use Rattle.mc_tool.specs.Words.{Asks, IsAsk, Orders, mc_syntax, usual_depth};
 
 use crate::verdict::Question;
@@ -12,16 +12,6 @@ use hy_run::{FileNames, Order};
 use hy_words::{Found, Syntax, found_in, number_or};
 use mc_core::Ask;
 use std::alloc::Global;
-
-/// The names of flags and options.
-fn syntax<'a>() -> Syntax<'a>
-    ensures { syntax_of result ≡ mc_syntax }
-{
-    Syntax {
-        flags: &["plain", "proof"],
-        options: &["depth", "conflicts", "ic3", "strategy"],
-    }
-}
 
 /// The command that the words are, if any. In time linear in the words.
 ///
@@ -38,7 +28,11 @@ pub fn order_of<'a>(alloc: Global, words: &'a [String]) -> M<Option<Order<'a, Qu
     ensures none { IfOk result (λ found. IfNone found ((question : Question) (files : List Text)
         → ¬ Asks (texts words.entry.now) question files)) }
 {
-    match found_in(alloc, syntax(), words)? {
+    let syntax = Syntax {
+        flags: &["plain", "proof"],
+        options: &["depth", "conflicts", "ic3", "strategy"],
+    };
+    match found_in(alloc, syntax, words)? {
         Some(found) => Ok(ordered(found.files().unwrap_or(&[]), &found)),
         None => Ok(None),
     }
