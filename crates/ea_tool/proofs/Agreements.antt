@@ -1,5 +1,5 @@
 -- A question about files of these bytes comes to one answer.
-use Rattle.std.proofs.Common.{◌⊎◌, ℕ, ◌≤◌, length, Bool, List, [], ◌∷◌, Ok, Err, inl, inr, refl, sym, subst, arith}
+use Rattle.std.proofs.Common.{◌⊎◌, ℕ, ◌≤◌, length, Bool, List, [], ◌∷◌, Err, inl, inr, refl, subst, arith}
 use Rattle.std.specs.List.{Contains}
 use Rattle.std.proofs.lemmas.List.Elements.{All-contains}
 use Rattle.hy_bits.specs.Letter.{Letter}

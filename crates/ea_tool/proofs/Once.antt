@@ -1,5 +1,5 @@
 -- The rules are settled: words ask one question, files are one text, and a question comes to one answer.
-use Rattle.std.proofs.Common.{◌≡◌, ◌≢◌, ℕ, Bool, true, false, List, [], ◌∷◌, Result, Ok, Err, refl, sym, subst, ◌∙◌}
+use Rattle.std.proofs.Common.{◌≡◌, ◌≢◌, ℕ, Bool, true, false, List, [], ◌∷◌, Result, Err, sym, subst, ◌∙◌}
 use Rattle.std.specs.Bool.{IsTrue}
 use Rattle.hy_bits.specs.Letter.{Letter}
 use Rattle.hy_formula.specs.Formulas.{Plain}
