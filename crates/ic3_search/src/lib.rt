@@ -5,14 +5,19 @@
 
 mod asker;
 mod clauses;
+mod cone;
 mod constrained;
 mod cubes;
 mod engine;
 mod finding;
 mod layout;
 mod lemmas;
+mod numbers;
 mod obligations;
+mod paths;
 mod pushing;
+mod question;
 mod reducing;
+mod targets;
 
-pub use finding::find_clauses;
+pub use finding::{Found, find_clauses};

@@ -55,6 +55,16 @@ pub fn whole_proof(kept: Kept, proof: SafeProof) -> InductionProof
     }
 }
 
+/// The clauses that a search finds.
+fn found_clauses(alloc: Global, safe: &SafeNet, facts: &Inv, calls: u32) -> M<Inv>
+    requires safe { IsSafe safe.now }
+    requires inside { AllIn (length safe.now.net.latches) facts.now }
+    ensures inside { IfOk result (AllIn (length safe.now.net.latches)) }
+{
+    let found = find_clauses(alloc, safe, facts, calls)?;
+    Ok(found.clauses)
+}
+
 /// The facts, and behind them clauses that a search finds. None where it finds none.
 fn with_clauses(alloc: Global, safe: &SafeNet, facts: &Inv, calls: u32) -> M<Option<Inv>>
     requires safe { IsSafe safe.now }
@@ -62,7 +72,7 @@ fn with_clauses(alloc: Global, safe: &SafeNet, facts: &Inv, calls: u32) -> M<Opt
     ensures { IfOk result (λ found. IfSome found (λ candidates.
         AllIn (length safe.now.net.latches) candidates × (length candidates < 2 ^ 37))) }
 {
-    let clauses = find_clauses(alloc, safe, facts, calls)?;
+    let clauses = found_clauses(alloc, safe, facts, calls)?;
     let mut candidates = facts.copy(alloc)?;
     for clause in clauses.as_slice() {
         candidates.push(clause.remake(alloc)?)?;
