@@ -99,13 +99,13 @@ within-bases safe facts depth k logs on here i le =
       | inr apart ↦ on.made i (omega arith)
     ]
 
-pub good-below : (safe : SafeNet) (facts : List Fact) (k : ℕ) → IsReached safe facts k →
+pub good-below : (safe : SafeNet) (k : ℕ) → IsGoodBelow safe k →
     ((word : Word) → ¬ IsBadPath safe k word) → IsGoodBelow safe (suc k)
-good-below safe facts k reached none i lt word bad =
+good-below safe k before none i lt word bad =
     let P : ℕ → Type 0 = λ i. IsBadPath safe i word in
     elim (cases_eq i k) [
       | inl same ↦ none word (subst P same bad)
-      | inr apart ↦ reached.before i (omega arith) word bad
+      | inr apart ↦ before i (omega arith) word bad
     ]
 
 pub going-on : (safe : SafeNet) (facts : List Fact) (depth k : ℕ)
@@ -116,7 +116,7 @@ pub going-on : (safe : SafeNet) (facts : List Fact) (depth k : ℕ)
 going-on safe facts depth k logs more path on bases made none (word, answers, _, _) apart = record {
   within = let w = on.within in omega arith;
   reached = record {
-    before = λ i lt. good-below safe facts k on.reached none i (omega arith);
+    before = λ i lt. good-below safe k on.reached.before none i (omega arith);
     stepped = λ j e.
         let P : ℕ → Type 0 = λ j. IsStepPath safe facts j word in
         let same : k ≡ j = omega arith in
@@ -134,7 +134,7 @@ pub met-step : (safe : SafeNet) (facts : List Fact) (depth k : ℕ) (logs : List
 met-step safe facts depth k logs on none = record {
   within = on.within;
   reached = on.reached;
-  asks = (refl, good-below safe facts k on.reached none);
+  asks = (refl, good-below safe k on.reached.before none);
 }
 
 pub stopped-step : (safe : SafeNet) (facts : List Fact) (depth k : ℕ)
@@ -158,7 +158,7 @@ proved safe facts depth k logs more log on inductive bases made none step no_ste
   base_within = made;
   step_within = made_step;
   good = never-bad safe facts inductive k
-      (λ i le. good-below safe facts k on.reached none i (omega arith)) no_step;
+      (λ i le. good-below safe k on.reached.before none i (omega arith)) no_step;
 }
 
 pub deep : (safe : SafeNet) (facts : List Fact) (depth k : ℕ) (logs : List (List Learned))
@@ -168,7 +168,7 @@ pub deep : (safe : SafeNet) (facts : List Fact) (depth k : ℕ) (logs : List (Li
 deep safe facts depth k logs path on same none (word, answers, shows, rows) =
     let D : ℕ → Type 0 = λ k. IsDeep safe facts k path in
     subst D same (record {
-      good = good-below safe facts k on.reached none;
+      good = good-below safe k on.reached.before none;
       answers = (word, answers, shows, rows);
       few = short-step safe facts k word answers;
     })

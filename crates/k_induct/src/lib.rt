@@ -4,7 +4,10 @@
 
 mod asking;
 mod proving;
+mod searching;
 mod verdict;
 
+pub use asking::{Reply, ask_base};
 pub use proving::prove;
-pub use verdict::{SafeProof, Verdict};
+pub use searching::shortest;
+pub use verdict::{SafeProof, Shortest, Verdict};

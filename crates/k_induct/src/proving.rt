@@ -2,28 +2,17 @@
 
 ghost use Rattle.std.specs.Prelude.{◌<◌, ◌^◌, length, IfOk, IfErr};
 ghost use Rattle.cnf_frames.specs.Facts.{AllIn, IsInductive, IsSafe};
-ghost use Rattle.cnf_frames.specs.declared.queries.Asked.TheVariants.{Base, Step};
+ghost use Rattle.cnf_frames.specs.declared.queries.Asked.TheVariants.{Step};
 ghost use Rattle.cnf_frames.specs.Queries.{IsRefusal};
 ghost use Rattle.k_induct.specs.Replies.{IsReply};
 ghost use Rattle.k_induct.specs.Verdicts.{IsVerdict, IsStopped};
 
-use crate::asking::{Reply, ask};
+use crate::asking::{Reply, ask, ask_base};
 use crate::verdict::{SafeProof, Verdict};
-use cnf_frames::{FrameError, Inv, base_query, step_query};
+use cnf_frames::{FrameError, Inv, step_query};
 use hy_base::List;
 use live_safe::SafeNet;
 use std::alloc::Global;
-
-/// Asks whether a path of `k` steps from the start reaches `bad`.
-fn ask_base(alloc: Global, safe: &SafeNet, k: u32, conflicts: u32) -> Result<Reply, FrameError>
-    requires safe { IsSafe safe.now }
-    requires conflicts { conflicts < 2 ^ 31 }
-    ensures reply { IfOk result (IsReply safe.now (Base k) conflicts) }
-    ensures refused { IfErr result (IsRefusal safe.now (Base k)) }
-{
-    let query = base_query(alloc, safe, k)?;
-    Ok(ask(alloc, safe, &query, conflicts)?)
-}
 
 /// Asks for `k + 1` different good states with all facts, and a step from the last to a bad one.
 fn ask_step(

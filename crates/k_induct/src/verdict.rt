@@ -28,3 +28,15 @@ pub enum Verdict {
     /// The conflicts were spent on the step query at `k` where `step`, and else on the base query.
     Spent { k: u32, step: bool, log: Log },
 }
+
+/// What queries for paths from the start come to, asked by number of steps.
+#[derive(Drop)]
+pub enum Shortest {
+    /// A shortest path from the start to `bad`.
+    Path(Path),
+    /// No path of at most the depth asked for reaches `bad`.
+    Good,
+    /// No path of fewer than `k` steps reaches `bad`, and the conflicts were spent on the query for
+    /// one of `k` steps.
+    Spent { k: u32, log: Log },
+}
