@@ -1,19 +1,24 @@
 //! Whether a path of a safe net reaches `bad`.
 
-ghost use Rattle.std.specs.Prelude.{◌<◌, ◌^◌, IfErr, IfOk};
+ghost use Rattle.std.specs.Prelude.{◌<◌, ◌^◌, IfErr, IfOk, IfSome};
 ghost use Rattle.cnf_frames.specs.Facts.{IsSafe};
+ghost use Rattle.k_induct.specs.Verdicts.{IsShortest};
 ghost use Rattle.mc_core.specs.Answers.{IsWorkRefusal};
 ghost use Rattle.mc_core.specs.Decisions.{IsDecision};
 
 use crate::ask::Ask;
 use crate::mc_error::McError;
-use crate::proving::{facts_for, prove_by_clauses, whole_proof};
+use crate::proving::{facts_for, prove_by_clauses, prove_early, whole_proof};
 use chain_check::Log;
 use cnf_frames::{FrameError, InductionProof};
+use hy_base::{M, Memory};
 use invar_find::Kept;
-use k_induct::{Verdict, prove};
+use k_induct::{Shortest, Verdict, prove, shortest};
 use live_safe::{Path, SafeNet};
 use std::alloc::Global;
+
+/// How many steps a path has at most that is looked for before facts are.
+const SHORT: u32 = 4;
 
 /// Whether a path from the start of a safe net reaches `bad`.
 #[derive(Drop)]
@@ -38,24 +43,47 @@ pub enum Decision {
     },
 }
 
-/// Decides it by facts and induction; and where that leaves it open, by clauses that a search finds,
-/// if calls of the solver are asked for.
+/// A shortest path to `bad`, if one has few steps. None also where a query for it is past a limit or
+/// spends the conflicts.
+fn short_path(alloc: Global, safe: &SafeNet, ask: &Ask) -> M<Option<Path>>
+    requires good { IsSafe safe.now }
+    requires conflicts { ask.now.conflicts < 2 ^ 31 }
+    ensures { IfOk result (λ found. IfSome found (IsShortest safe.now ask.now.depth)) }
+{
+    match shortest(alloc, safe, ask.depth.min(SHORT), ask.conflicts) {
+        Ok(Shortest::Path(path)) => Ok(Some(path)),
+        Ok(_) | Err(FrameError::Limit(_)) => Ok(None),
+        Err(FrameError::Memory) => Err(Memory),
+    }
+}
+
+/// Decides it by a path of few steps, or else by facts and induction. If calls of the solver are
+/// asked for, clauses are searched for, too: before induction goes deep, with a third of the calls,
+/// and with all of them where it leaves it open.
 pub fn decide(alloc: Global, safe: &SafeNet, ask: &Ask) -> Result<Decision, McError>
     requires good { IsSafe safe.now }
     requires conflicts { ask.now.conflicts < 2 ^ 31 }
     ensures decided { IfOk result (IsDecision safe.now ask.now) }
     ensures refused { IfErr result (IsWorkRefusal safe.now ask.now) }
 {
+    if let Some(path) = short_path(alloc, safe, ask)? {
+        return Ok(Decision::Path(path));
+    }
     let kept = facts_for(alloc, safe, ask)?;
+    if let Some(proof) = prove_early(alloc, safe, &kept.inv, ask)? {
+        return Ok(Decision::Safe(proof));
+    }
     match prove(alloc, safe, &kept.inv, ask.depth, ask.conflicts) {
         Ok(Verdict::Safe(proof)) => Ok(Decision::Safe(whole_proof(kept, proof))),
         Ok(Verdict::Path(path)) => Ok(Decision::Path(path)),
-        Ok(Verdict::Depth(path)) => match prove_by_clauses(alloc, safe, &kept.inv, ask)? {
-            Some(proof) => Ok(Decision::Safe(proof)),
-            None => Ok(Decision::Depth { kept, path }),
-        },
+        Ok(Verdict::Depth(path)) => {
+            match prove_by_clauses(alloc, safe, &kept.inv, ask, ask.calls)? {
+                Some(proof) => Ok(Decision::Safe(proof)),
+                None => Ok(Decision::Depth { kept, path }),
+            }
+        }
         Ok(Verdict::Spent { k, step, log }) => {
-            match prove_by_clauses(alloc, safe, &kept.inv, ask)? {
+            match prove_by_clauses(alloc, safe, &kept.inv, ask, ask.calls)? {
                 Some(proof) => Ok(Decision::Safe(proof)),
                 None => Ok(Decision::Spent { k, step, kept, log }),
             }

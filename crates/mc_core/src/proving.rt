@@ -1,7 +1,7 @@
 //! Proofs by induction of the safe net of a formula: by facts, and by clauses that a search finds.
 
-ghost use Rattle.std.specs.Prelude.{◌≡◌, ◌<◌, ◌^◌, length, IfErr, IfOk, IfSome};
-ghost use Rattle.cnf_frames.specs.Facts.{AllIn, IsSafe};
+ghost use Rattle.std.specs.Prelude.{◌≡◌, ◌<◌, ◌≤◌, ◌^◌, length, IfErr, IfOk, IfSome};
+ghost use Rattle.cnf_frames.specs.Facts.{AllIn, IsInductive, IsSafe};
 ghost use Rattle.cnf_frames.specs.ProofTexts.{AreSimple};
 ghost use Rattle.mc_core.specs.Answers.{IsKept, IsProved, IsUsable, IsWorkRefusal, whole_proof};
 ghost use Rattle.mc_core.specs.Decisions.{HasNoBadPath};
@@ -88,25 +88,27 @@ fn kept_of(alloc: Global, safe: &SafeNet, candidates: &Inv, ask: &Ask) -> M<Opti
     }
 }
 
-/// A proof by the facts and by clauses that a search finds, in as many calls of the solver as were
-/// asked for. None where that comes to none: nothing was found, a query is past a limit, or what
-/// steps keep of the clauses is not enough.
+/// A proof by the facts and by clauses that a search finds, in at most `calls` calls of the solver.
+/// None where that comes to none: no call is allowed, nothing was found, a query is past a limit, or
+/// what steps keep of the clauses is not enough.
 pub fn prove_by_clauses(
     alloc: Global,
     safe: &SafeNet,
     facts: &Inv,
     ask: &Ask,
+    calls: u32,
 ) -> M<Option<InductionProof>>
     requires safe { IsSafe safe.now }
     requires inside { AllIn (length safe.now.net.latches) facts.now }
     requires conflicts { ask.now.conflicts < 2 ^ 31 }
+    requires asked { calls ≤ ask.now.calls }
     ensures proved { IfOk result (λ found. IfSome found (IsProved safe.now ask.now)) }
     ensures good { IfOk result (λ found. IfSome found (λ proof. HasNoBadPath safe.now)) }
 {
-    if ask.calls == 0 {
+    if calls == 0 {
         return Ok(None);
     }
-    let Some(candidates) = with_clauses(alloc, safe, facts, ask.calls)? else {
+    let Some(candidates) = with_clauses(alloc, safe, facts, calls)? else {
         return Ok(None);
     };
     let Some(kept) = kept_of(alloc, safe, &candidates, ask)? else {
@@ -114,6 +116,34 @@ pub fn prove_by_clauses(
     };
     match prove(alloc, safe, &kept.inv, ask.depth, ask.conflicts) {
         Ok(Verdict::Safe(proof)) => Ok(Some(whole_proof(kept, proof))),
+        Ok(_) | Err(FrameError::Limit(_)) => Ok(None),
+        Err(FrameError::Memory) => Err(Memory),
+    }
+}
+
+/// The same with a third of the calls that were asked for, where one step leaves it open. None also
+/// where one step decides it, since induction then does.
+pub fn prove_early(
+    alloc: Global,
+    safe: &SafeNet,
+    facts: &Inv,
+    ask: &Ask,
+) -> M<Option<InductionProof>>
+    requires safe { IsSafe safe.now }
+    requires inside { AllIn (length safe.now.net.latches) facts.now }
+    requires inductive { IsInductive safe.now.net facts.now }
+    requires conflicts { ask.now.conflicts < 2 ^ 31 }
+    ensures proved { IfOk result (λ found. IfSome found (IsProved safe.now ask.now)) }
+    ensures good { IfOk result (λ found. IfSome found (λ proof. HasNoBadPath safe.now)) }
+{
+    if ask.calls == 0 {
+        return Ok(None);
+    }
+    match prove(alloc, safe, facts, 0, ask.conflicts) {
+        Ok(Verdict::Depth(_) | Verdict::Spent { .. }) => {
+            let third = (ask.calls / 3).max(1);
+            prove_by_clauses(alloc, safe, facts, ask, third)
+        }
         Ok(_) | Err(FrameError::Limit(_)) => Ok(None),
         Err(FrameError::Memory) => Err(Memory),
     }

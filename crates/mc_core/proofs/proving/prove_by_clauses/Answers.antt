@@ -1,4 +1,4 @@
-use Rattle.std.proofs.Common.{Option, IfSome, sym, subst}
+use Rattle.std.proofs.Common.{Option, IfSome, sym, subst, arith}
 use Rattle.cnf_frames.specs.declared.inductions.InductionProof.{InductionProof}
 use Rattle.invar_find.specs.declared.kept.Kept.{Kept}
 use Rattle.k_induct.specs.Verdicts.{IsSafeProof}
@@ -16,4 +16,5 @@ returns-in-Ok-Safe-clause-proved c =
     let P : InductionProof → Type 0 = IsProved c.args.safe.now c.args.ask.now in
     subst P (sym c.whole_proof.ensures)
     (proved c.args.safe.now c.args.ask.now c.in-Some-2.kept c.in-Ok-Safe.proof usable
-    (λ none. absurd (c.if-ask-eq0.false none)) is)
+    (λ none. absurd (c.if-calls-eq0.false
+    (let few = c.requires.asked in omega (arith, few, none)))) is)
