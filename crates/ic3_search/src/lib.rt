@@ -1,18 +1,6 @@
-//! A search for clauses over latches that each step keeps and that exclude bad states: property
-//! directed reachability (Bradley, "SAT-based model checking without unrolling", VMCAI 2011). What
-//! is found are candidates: that they are kept is for the caller to ask.
+//! Stub.
 #![tactic(auto)]
 
-mod asker;
-mod clauses;
-mod constrained;
-mod cubes;
-mod engine;
 mod finding;
-mod layout;
-mod lemmas;
-mod obligations;
-mod pushing;
-mod reducing;
 
-pub use finding::find_clauses;
+pub use finding::{Found, classes_of, find_clauses};

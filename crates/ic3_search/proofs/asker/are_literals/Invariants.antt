@@ -1,6 +1,0 @@
-use Rattle.std.proofs.Common.{take}
-use Rattle.chain_check.specs.Clauses.{AreLiterals}
-use Rattle.ic3_search.proofs.asker.are_literals.Given as goal
-
-abbrev pub invariant-loop-literal : goal.invariant-loop-literal
-invariant-loop-literal l = AreLiterals l.variables (take l.literal-index l.literals)
