@@ -23,17 +23,22 @@ use Rattle.chain_check.specs.Values.{Assignment}
 use Rattle.bound_search.specs.declared.bound.Bound.{Bound}
 use Rattle.bound_search.specs.Bounds.{IsBound, IsShort}
 use Rattle.bound_search.specs.Names.{names_of, name_place}
-use Rattle.bound_search.specs.Rows.{Row, first_or, row_gates}
-use Rattle.bound_search.specs.Choices.{chosen, chosen_gates}
+use Rattle.bound_search.specs.declared.frame.Frame.{Frame}
+use Rattle.bound_search.specs.declared.sheets.Sheet.{Sheet}
+use Rattle.bound_search.specs.Rows.{Row, first_or}
+use Rattle.bound_search.specs.Choices.{chosen_gates}
+use Rattle.bound_search.specs.Sheets.{variables_in, row_of, sheet_gates}
 use Rattle.bound_search.specs.Drawings.{never}
-use Rattle.bound_search.specs.Queries.{round, places, variables_of_member, letter_variable, first_gate, atom_row, body_literal}
-use Rattle.bound_search.proofs.Atoms.{atoms-like}
+use Rattle.bound_search.specs.Queries.{round, places, variables_of_member, letter_variable, first_gate, letters_row, frame_of, tuple_literal, formula_literal}
+use Rattle.bound_search.proofs.Atoms.{EachAtom, atoms-like}
 use Rattle.bound_search.proofs.RightGates.{Gives, gives-plain, gives-followed}
 use Rattle.bound_search.proofs.Saying.{Says, says-variable}
 use Rattle.bound_search.proofs.Telling.{IsTold, told-listed}
-use Rattle.bound_search.proofs.BodyRows.{IsAtomTold, body-told}
+use Rattle.bound_search.proofs.SheetRows.{IsAtomTold, TellsSheet, row-told, sheet-told}
+use Rattle.bound_search.proofs.Picking.{IsChoice}
 use Rattle.bound_search.proofs.Fitting.{Fits, fits-plain, fits-followed, literal-more}
-use Rattle.bound_search.proofs.RowFits.{IsRow, first-literal, fits-body}
+use Rattle.bound_search.proofs.RowFits.{IsRow, first-literal}
+use Rattle.bound_search.proofs.SheetFits.{IsSheetFor, row-chosen, fits-sheet}
 use Rattle.bound_search.proofs.Choosing.{IsMember, says-chosen, fits-chosen}
 use Rattle.bound_search.proofs.Naming.{IsAtomOf, own-atoms, place-within}
 use Rattle.bound_search.specs.Spelling.{Spells}
@@ -44,11 +49,14 @@ module _ (bound : Bound) (ok : IsBound bound) (prefix : List Quant) (body : Tree
   abbrev names : List ℕ
   names = names_of body
 
-  -- one number of a member for each variable
-  abbrev pub IsChoice : List ℕ → Type 0
-  IsChoice tuple = (length tuple ≡ length prefix) × Each (λ k. k < bound.traces) tuple
+  abbrev frame : Frame
+  frame = frame_of bound (length prefix)
 
-  member-of : (tuple : List ℕ) → IsChoice tuple → (v : ℕ) → v < length tuple →
+  -- one number of a member for each variable
+  abbrev pub Chosen : List ℕ → Type 0
+  Chosen tuple = IsChoice frame tuple
+
+  member-of : (tuple : List ℕ) → Chosen tuple → (v : ℕ) → v < length tuple →
       get_or tuple v 0 < bound.traces
   member-of tuple (long, each) v lt = each-place (λ k. k < bound.traces) tuple 0 each v lt
 
@@ -72,38 +80,43 @@ module _ (bound : Bound) (ok : IsBound bound) (prefix : List Quant) (body : Tree
         literals = (all i (omega arith) (omega arith), rest.literals);
       }
 
-  fits-tuple : (tuple : List ℕ) → IsChoice tuple →
-      Fits (body_literal names bound body tuple) (first_gate names bound)
-      (row_gates (places bound) (round bound) body) IsLiteral
-  fits-tuple tuple choice =
-      let first = first_gate names bound in
-      let w = places bound in
-      let gates = row_gates w (round bound) body in
-      fits-followed _ _ first gates 0 gates (IsRow w) IsLiteral (omega arith)
-      (fits-body bound.stem (round bound) first (omega arith)
-      (common-some bound.cycle ok.short_cycle) (atom_row names bound tuple) body
-      (atoms-like (IsAtomOf names (length prefix)) _ atom body (own-atoms
-      (length prefix) body known)))
-      (λ m row le r. fits-plain (first_or never row) m IsLiteral (λ o up.
-      literal-more m o (first_or never row) up
-      (first-literal w m never row (omega arith, omega arith) r)))
-    where
-      atom : (name variable : ℕ) → IsAtomOf names (length prefix) name variable →
-          IsRow (places bound) (first_gate names bound) (atom_row names bound tuple name variable)
-      atom name variable (there, lt) =
-          let few = member-of tuple choice variable (omega (arith, lt, choice.0)) in
-          let place = place-within name names there in
-          literals-listed (first_gate names bound) _ 0 (places bound) (λ i _ within.
-          let below = letter-below (get_or tuple variable 0) (name_place name names) i few place
-          (omega (arith, within)) in
-          (omega arith, omega (arith, below)))
+  abbrev first : ℕ
+  first = first_gate names bound
 
-  pub fits-formula : Fits (chosen bound.traces (body_literal names bound body) prefix)
-      (first_gate names bound)
-      (chosen_gates bound.traces (row_gates (places bound) (round bound) body)
-      (length prefix)) IsLiteral
-  fits-formula = fits-chosen bound.traces (first_gate names bound) _ (omega arith) prefix _
-      (λ tuple long each. fits-tuple tuple (long, each))
+  letters-right : (name v : ℕ) → IsAtomOf names (length prefix) name v → (t : ℕ) →
+      t < bound.traces → IsRow (places bound) first (letters_row names bound name t)
+  letters-right name v (there, lt) t few =
+      let place = place-within name names there in
+      literals-listed first _ 0 (places bound) (λ i _ within.
+      let below = letter-below t (name_place name names) i few place
+      (omega (arith, within)) in
+      (omega arith, omega (arith, below)))
+
+  -- The literal of a tuple is one of its sheet.
+  fits-tuple : (m : ℕ) → 0 < m → (sheet : Sheet) →
+      IsSheetFor frame ok.some_traces (places bound) (variables_in body) m sheet →
+      (tuple : List ℕ) → Chosen tuple → Fits (tuple_literal frame sheet tuple) m 0 IsLiteral
+  fits-tuple m up sheet s tuple choice =
+      let row = row_of frame sheet tuple in
+      let r = row-chosen frame ok.some_traces (places bound) (variables_in body) m sheet s tuple
+      choice in
+      fits-plain (first_or never row) m IsLiteral (λ o le.
+      literal-more m o (first_or never row) le
+      (first-literal (places bound) m never row (omega arith, omega arith) r))
+
+  pub fits-formula : Fits (formula_literal names bound prefix body) first
+      (sheet_gates bound.traces (places bound) (round bound) body
+      + chosen_gates bound.traces 0 (length prefix)) IsLiteral
+  fits-formula =
+      fits-followed _ _ first (sheet_gates bound.traces (places bound) (round bound) body)
+      (chosen_gates bound.traces 0 (length prefix)) _
+      (IsSheetFor frame ok.some_traces (places bound) (variables_in body)) IsLiteral refl
+      (fits-sheet frame ok.some_traces (round bound) first (omega arith)
+      (common-some bound.cycle ok.short_cycle) refl (letters_row names bound) body
+      (atoms-like (IsAtomOf names (length prefix)) _ letters-right body (own-atoms
+      (length prefix) body known)))
+      (λ m sheet le s. fits-chosen bound.traces m 0 (omega arith) prefix _
+      (λ tuple long each. fits-tuple m (omega arith) sheet s tuple (long, each)))
 
   -- ---- what the literals say
 
@@ -118,7 +131,7 @@ module _ (bound : Bound) (ok : IsBound bound) (prefix : List Quant) (body : Tree
         get_or (tuple_of tuple) v no_lasso ≡ member (get_or tuple v 0)
     chosen-at tuple v lt = at-map member 0 no_lasso tuple v lt
 
-    period : (tuple : List ℕ) → IsChoice tuple →
+    period : (tuple : List ℕ) → Chosen tuple →
         IsPeriod (tuple_of tuple) bound.stem (round bound)
     period tuple choice =
         let long : length (tuple_of tuple) ≡ length tuple = length-map tuple member in
@@ -141,39 +154,57 @@ module _ (bound : Bound) (ok : IsBound bound) (prefix : List Quant) (body : Tree
     abbrev words : List ℕ → Words
     words tuple = lasso_words (tuple_of tuple)
 
-    repeats : (tuple : List ℕ) → IsChoice tuple → Repeats (words tuple) bound.stem (round bound)
+    repeats : (tuple : List ℕ) → Chosen tuple → Repeats (words tuple) bound.stem (round bound)
     repeats tuple choice = tuple-repeats _ bound.stem (round bound) (period tuple choice)
 
-    atom-told : (tuple : List ℕ) (choice : IsChoice tuple) (name variable : ℕ) →
-        IsAtomOf names (length prefix) name variable →
-        IsAtomTold a sure_is (words tuple) bound.stem (round bound) (repeats tuple choice)
-        (atom_row names bound tuple) name variable
-    atom-told tuple choice name variable (there, lt) =
-        let v : variable < length tuple = omega (arith, lt, choice.0) in
-        let t : ℕ = get_or tuple variable 0 in
-        told-listed a _ _ (places bound) (λ i within.
-        says-variable a (letter_variable names bound t (name_place name names) i) _
-        (Decides-at _ _ (spells t (member-of tuple choice variable v) name there i within
-        ∙ ap (λ l. contains (letter_at l i) name) (sym (chosen-at tuple variable v)))
-        (decides-itself _)))
+    alike : (t u : List ℕ) → Chosen t → Chosen u → (v : ℕ) → v < length prefix →
+        get_or t v 0 ≡ get_or u v 0 → (name : ℕ) → words t name v ≡ words u name v
+    alike t u choice other v lt same name =
+        let here = chosen-at t v (omega (arith, lt, choice.0)) in
+        let there = chosen-at u v (omega (arith, lt, other.0)) in
+        ap (λ (l : Lasso Letter). λ (i : ℕ). contains (letter_at l i) name)
+        (here ∙ ap member same ∙ sym there)
+
+    atom-told : (name v : ℕ) → IsAtomOf names (length prefix) name v →
+        IsAtomTold a sure_is frame ok.some_traces (round bound) refl words repeats alike
+        (letters_row names bound) name v
+    atom-told name v (there, lt) = (
+      lt,
+      λ tuple choice.
+          let short : v < length tuple = omega (arith, lt, choice.0) in
+          let t : ℕ = get_or tuple v 0 in
+          told-listed a _ _ (places bound) (λ i within.
+          says-variable a (letter_variable names bound t (name_place name names) i) _
+          (Decides-at _ _ (spells t (member-of tuple choice v short) name there i within
+          ∙ ap (λ l. contains (letter_at l i) name) (sym (chosen-at tuple v short)))
+          (decides-itself _))),
+    )
 
     first-says : (P : ℕ → Type 0) (n : ℕ) (row : Row) → 0 < n → IsTold a P 0 n row →
         Says a (first_or never row) (P 0)
     first-says P n [] some t = absurd (omega (arith, t.long))
     first-says P n (l ∷ row) some t = t.told.0
 
-    says-tuple : (tuple : List ℕ) → IsChoice tuple →
-        Gives a (body_literal names bound body tuple)
-        (λ l. Says a l (Meets body (tuple_of tuple)))
-    says-tuple tuple choice =
-        let r = repeats tuple choice in
-        gives-followed a _ _ _ _
-        (body-told a sure_is (words tuple) bound.stem (round bound) r
-        (atom_row names bound tuple) body
-        (atoms-like _ _ (atom-told tuple choice) body (own-atoms (length prefix) body known)))
-        (λ row t. gives-plain a _ _ (first-says _ (places bound) row (omega (arith, r.some)) t))
+    abbrev atoms : EachAtom (IsAtomTold a sure_is frame ok.some_traces (round bound) refl words repeats alike
+        (letters_row names bound)) body
+    atoms = atoms-like _ _ atom-told body (own-atoms (length prefix) body known)
 
-    pub says-formula : Gives a (chosen bound.traces (body_literal names bound body) prefix)
+    says-tuple : (sheet : Sheet) →
+        TellsSheet a sure_is frame ok.some_traces (round bound) refl words repeats alike
+        (letters_row names bound) body sheet → (tuple : List ℕ) → Chosen tuple →
+        Gives a (tuple_literal frame sheet tuple) (λ l. Says a l (Meets body (tuple_of tuple)))
+    says-tuple sheet t tuple choice =
+        let r = repeats tuple choice in
+        gives-plain a _ _ (first-says _ (places bound) (row_of frame sheet tuple)
+        (omega (arith, r.some))
+        (row-told a sure_is frame ok.some_traces (round bound) refl words repeats alike
+        (letters_row names bound) body atoms sheet t tuple choice))
+
+    pub says-formula : Gives a (formula_literal names bound prefix body)
         (λ l. Says a l (Quantified (IsMember bound.traces member) (Meets body) prefix))
-    says-formula = says-chosen a sure_is bound.traces member prefix _ (Meets body)
-        (λ tuple long each. says-tuple tuple (long, each))
+    says-formula =
+        gives-followed a _ _ _ _
+        (sheet-told a sure_is frame ok.some_traces (round bound) refl words repeats alike
+        (letters_row names bound) body atoms)
+        (λ sheet t. says-chosen a sure_is bound.traces member prefix _ (Meets body)
+        (λ tuple long each. says-tuple sheet t tuple (long, each)))

@@ -4,10 +4,14 @@ pub mod RightGates
 pub mod Saying
 pub mod Telling
 pub mod Stepping
-pub mod BodyRows
+pub mod Agreeing
+pub mod Variables
+pub mod Picking
+pub mod SheetRows
 pub mod Filling
 pub mod Fitting
 pub mod RowFits
+pub mod SheetFits
 pub mod Choosing
 pub mod Naming
 pub mod Members
@@ -18,6 +22,8 @@ pub mod Ranges
 pub mod Assigning
 pub mod Sizing
 pub mod Making
+pub mod Listing
+pub mod MadeSheets
 pub mod MadeChoices
 pub mod MadeCycles
 pub mod MadeQuery

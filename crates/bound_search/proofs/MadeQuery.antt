@@ -6,26 +6,36 @@ use Rattle.hy_formula.specs.declared.prefix.Quant.{Quant}
 use Rattle.chain_check.specs.Clauses.{Clause}
 use Rattle.chain_check.specs.FewClauses.{for_each, alone}
 use Rattle.bound_search.specs.declared.bound.Bound.{Bound}
+use Rattle.bound_search.specs.declared.frame.Frame.{Frame}
 use Rattle.bound_search.specs.declared.gates.Gates.{Gates}
+use Rattle.bound_search.specs.declared.sheets.Sheet.{Sheet}
 use Rattle.bound_search.specs.Choices.{chosen}
+use Rattle.bound_search.specs.Sheets.{sheet}
+use Rattle.bound_search.proofs.Making.{draws-followed}
 use Rattle.bound_search.specs.Drawings.{Drawn, sure, gate_clauses}
 use Rattle.bound_search.specs.Making.{Draws}
 use Rattle.bound_search.specs.Names.{names_of}
-use Rattle.bound_search.specs.Queries.{first_gate, member_clauses, body_literal, formula_drawn, query_clauses, clauses_of, variables_of}
+use Rattle.bound_search.specs.Queries.{first_gate, member_clauses, letters_row, frame_of, tuple_literal, formula_literal, formula_drawn, query_clauses, clauses_of, variables_of}
 
 module _ (bound : Bound) (prefix : List Quant) (body : Tree) where
   -- what is drawn from this variable on
   abbrev literal : List ℕ → ℕ → Drawn ℤ
-  literal names = chosen bound.traces (body_literal names bound body) prefix
+  literal names = formula_literal names bound prefix body
 
-  -- where members were chosen for no quantifier yet
-  pub nothing-chosen : (names members : List ℕ) (old new : Gates) (root : ℤ) → members ≡ [] →
-      Draws (chosen bound.traces (λ more. body_literal names bound body (members ++ more))
-      (drop (length members) prefix)) old new root → Draws (literal names) old new root
-  nothing-chosen names members old new root e p =
+  -- the parts of the body, and then where members were chosen for no quantifier yet
+  pub parts-drawn : (names members : List ℕ) (drawn : Sheet) (old mid new : Gates) (root : ℤ) →
+      members ≡ [] →
+      Draws (sheet (frame_of bound (length prefix)) (letters_row names bound) body) old mid drawn →
+      Draws (chosen bound.traces (λ more. tuple_literal (frame_of bound (length prefix)) drawn
+      (members ++ more)) (drop (length members) prefix)) mid new root →
+      Draws (literal names) old new root
+  parts-drawn names members drawn old mid new root e p q =
+      let frame : Frame = frame_of bound (length prefix) in
       let P : List ℕ → Type 0 = λ l. Draws (chosen bound.traces
-      (λ more. body_literal names bound body (l ++ more)) (drop (length l) prefix)) old new root in
-      subst P e p
+      (λ more. tuple_literal frame drawn (l ++ more)) (drop (length l) prefix)) mid new root in
+      draws-followed (sheet frame (letters_row names bound) body)
+      (λ drawn. chosen bound.traces (tuple_literal frame drawn) prefix) old mid new drawn root p
+      (subst P e q)
 
   module _ (names : List ℕ) (old new : Gates) (root s : ℤ) (own : names ≡ names_of body)
       (first : old.next ≡ first_gate names bound) (drawn : Draws (literal names) old new root) where

@@ -13,9 +13,9 @@ use Rattle.hy_base.proofs.Listed.{listed-same}
 use Rattle.bound_search.specs.declared.bound.Bound.{Bound}
 use Rattle.bound_search.specs.declared.gates.Gates.{Gates}
 use Rattle.bound_search.specs.Names.{name_place}
-use Rattle.bound_search.specs.Queries.{places, letter_variable, atom_row}
+use Rattle.bound_search.specs.Queries.{places, letter_variable, letters_row}
 use Rattle.bound_search.specs.Drawings.{Gate, Drawing, plain, followed, both, either, alike, never, gate_clauses}
-use Rattle.bound_search.specs.Rows.{Row, Step, turned, next_row, first_or, back, steps, either_here, until_here, pairs, around, until_row, finally_row, release_row, globally_row, of_two}
+use Rattle.bound_search.specs.Rows.{Row, Step, turned, next_row, first_or, back, steps, either_here, until_here, pairs, around, until_row, finally_row, release_row, globally_row, implies_row, weak_row}
 use Rattle.bound_search.specs.Making.{Draws}
 
 pub same_size : (l : ℤ) (n : ℕ) → unsigned_abs l < n → unsigned_abs (neg_ℤ l) < n
@@ -233,48 +233,22 @@ release-drawn s left right no_left no_right row made old new e f p g =
 
 -- ---- rows of two parts
 
-pub two-drawn : (first second : Drawing Row) (join : Row → Row → Drawing Row)
-    (old mid late new : Gates) (left right row : Row) → Draws first old mid left →
-    Draws second mid late right → Draws (join left right) late new row →
-    Draws (of_two first second join) old new row
-two-drawn first second join old mid late new left right row p q r =
-    draws-followed first (λ left. followed second (λ right. join left right)) old mid new left row p
-    (draws-followed second (λ right. join left right) mid late new right row q r)
+pub weak-drawn : (s : ℕ) (left right one row : Row) (old mid new : Gates) →
+    Draws (pairs either_here left right) old mid one → Draws (release_row s right one) mid new row →
+    Draws (weak_row s left right) old new row
+weak-drawn s left right one row old mid new p q =
+    draws-followed (pairs either_here left right) (λ one. release_row s right one) old mid new one
+    row p q
 
-pub implies-drawn : (first second : Drawing Row) (old mid late new : Gates)
-    (left right no_left row : Row) → Draws first old mid left → Draws second mid late right →
-    no_left ≡ turned left → Draws (pairs either_here no_left right) late new row →
-    Draws (of_two first second (λ left right. pairs either_here (turned left) right)) old new row
-implies-drawn first second old mid late new left right no_left row p q e r =
-    let P : Row → Type 0 = λ l. Draws (pairs either_here l right) late new row in
-    two-drawn first second (λ left right. pairs either_here (turned left) right) old mid late new
-    left right row p q (subst P e r)
+-- ---- rows of letters
 
-pub weak-drawn : (s : ℕ) (first second : Drawing Row) (old mid late last new : Gates)
-    (left right one row : Row) → Draws first old mid left → Draws second mid late right →
-    Draws (pairs either_here left right) late last one →
-    Draws (release_row s right one) last new row →
-    Draws (of_two first second (λ left right.
-    followed (pairs either_here left right) (λ one. release_row s right one))) old new row
-weak-drawn s first second old mid late last new left right one row p q r t =
-    two-drawn first second (λ left right.
-    followed (pairs either_here left right) (λ one. release_row s right one)) old mid late new
-    left right row p q
-    (draws-followed (pairs either_here left right) (λ one. release_row s right one) late last new
-    one row r t)
-
--- ---- rows of atoms
-
-pub atom-listed : (names : List ℕ) (bound : Bound) (members : List ℕ) (name v t r start n : ℕ)
-    (row : Row) → slice_get members v ≡ Some t → r ≡ name_place name names →
-    start ≡ letter_variable names bound t r 0 → n ≡ places bound →
-    row ≡ listed 0 n (λ k. further (start + k)) → row ≡ atom_row names bound members name v
-atom-listed names bound members name v t r start n row member place begins many e =
-    let is : get_or members v 0 ≡ t = get_or_from_slice_get members v t 0 member in
-    let literal : ℕ → ℕ → ℕ → ℤ = λ t r k. further (letter_variable names bound t r k) in
-    let each : (k : ℕ) → further (start + k) ≡ literal t r k =
+pub letters-listed : (names : List ℕ) (bound : Bound) (name t r start n : ℕ) (row : Row) →
+    r ≡ name_place name names → start ≡ letter_variable names bound t r 0 → n ≡ places bound →
+    row ≡ listed 0 n (λ k. further (start + k)) → row ≡ letters_row names bound name t
+letters-listed names bound name t r start n row place begins many e =
+    let literal : ℕ → ℕ → ℤ = λ r k. further (letter_variable names bound t r k) in
+    let each : (k : ℕ) → further (start + k) ≡ literal r k =
     λ k. (let there : start + k ≡ letter_variable names bound t r k = omega (arith, begins) in
     ap further there) in
-    e ∙ listed-same 0 n _ (literal t r) (λ k from below. each k) ∙ ap (λ w. listed 0 w (literal t r)) many
-    ∙ ap (λ p. listed 0 (places bound) (literal t p)) place
-    ∙ ap (λ m. listed 0 (places bound) (literal m (name_place name names))) (sym is)
+    e ∙ listed-same 0 n _ (literal r) (λ k from below. each k) ∙ ap (λ w. listed 0 w (literal r)) many
+    ∙ ap (λ p. listed 0 (places bound) (literal p)) place

@@ -1,7 +1,7 @@
 -- How many variables and literals a query has, and that these are not many.
 use Rattle.std.proofs.Common.{◌≡◌, ℕ, zero, suc, ◌+◌, ◌-◌, ◌*◌, ◌^◌, ◌<◌, ◌≤◌, true, List, [], ◌∷◌, ◌++◌, length, refl, sym, ap, ◌∙◌, subst, arith, length-append, min, inl, inr}
 use Rattle.std.specs.Prelude.{ℤ}
-use Rattle.std.proofs.Math.Nat.{mul-le-mul_left, mul-le-mul_right, mul-pos, pow-suc, pow-zero}
+use Rattle.std.proofs.Math.Nat.{mul-le-mul_left, mul-le-mul_right, mul-pos, pow-le-pow_right, pow-suc, pow-zero}
 use Rattle.std.proofs.lemmas.Bool.{cases_lt}
 use Rattle.hy_formula.specs.Trees as tree
 use Rattle.hy_formula.specs.Trees.{Tree, vars_below}
@@ -17,10 +17,13 @@ use Rattle.bound_search.specs.declared.bound.Bound.{Bound}
 use Rattle.bound_search.specs.Bounds.{IsBound}
 use Rattle.bound_search.specs.Names.{names_of}
 use Rattle.bound_search.specs.Drawings.{Gate, Drawn, gate_clauses}
-use Rattle.bound_search.specs.Rows.{row_gates}
+use Rattle.bound_search.specs.Sheets.{variables_in, more_gates, sheet_gates}
 use Rattle.bound_search.specs.Choices.{chosen_gates}
 use Rattle.bound_search.specs.Queries.{round, places, first_gate, repeat_clauses, cycle_clauses, some_cycle, member_clauses, formula_drawn, clauses_of, variables_of}
+use Rattle.bound_search.proofs.Atoms.{EachAtom, atoms-like}
 use Rattle.bound_search.proofs.Formulas.{fits-formula}
+use Rattle.bound_search.proofs.Naming.{IsAtomOf, own-atoms}
+use Rattle.bound_search.proofs.Variables.{few-variables}
 use Rattle.bound_search.proofs.Rounds.{common-some}
 
 -- ---- literals of lists of clauses
@@ -102,29 +105,69 @@ module _ (bound : Bound) (ok : IsBound bound) (prefix : List Quant) (body : Tree
 
 -- ---- not many
 
--- a node takes five gates for each place at most
-row-few : (w c : ℕ) → c ≤ w → (f : Tree) → row_gates w c f ≤ 5 * (w * nodes f)
-row-few w c le tree.always = omega arith
-row-few w c le tree.never = omega arith
-row-few w c le (tree.atom name variable) = omega arith
-row-few w c le (tree.not f) = let p = row-few w c le f in omega (arith, p)
-row-few w c le (tree.next f) = let p = row-few w c le f in omega (arith, p)
-row-few w c le (tree.finally f) = let p = row-few w c le f in omega (arith, p, le)
-row-few w c le (tree.globally f) = let p = row-few w c le f in omega (arith, p, le)
-row-few w c le (tree.and f g) =
-    let p = row-few w c le f in let q = row-few w c le g in omega (arith, p, q)
-row-few w c le (tree.or f g) =
-    let p = row-few w c le f in let q = row-few w c le g in omega (arith, p, q)
-row-few w c le (tree.implies f g) =
-    let p = row-few w c le f in let q = row-few w c le g in omega (arith, p, q)
-row-few w c le (tree.iff f g) =
-    let p = row-few w c le f in let q = row-few w c le g in omega (arith, p, q)
-row-few w c le (tree.until f g) =
-    let p = row-few w c le f in let q = row-few w c le g in omega (arith, p, q, le)
-row-few w c le (tree.release f g) =
-    let p = row-few w c le f in let q = row-few w c le g in omega (arith, p, q, le)
-row-few w c le (tree.weak f g) =
-    let p = row-few w c le f in let q = row-few w c le g in omega (arith, p, q, le)
+-- a node takes five gates for each place of each choice at most
+more-few : (m w i j e a : ℕ) → i ≤ m * (5 * (w * a)) → j ≤ m → e ≤ 5 * w →
+    i + j * e ≤ m * (5 * (w * suc a))
+more-few m w i j e a p few each =
+    let one : j * e ≤ m * e = mul-le-mul_right e few in
+    let two : m * e ≤ m * (5 * w) = mul-le-mul_left m each in
+    omega (arith, p, one, two)
+
+module _ (t k w c : ℕ) (some : 0 < t) (le : c ≤ w) where
+  -- as many gates for each choice of all quantifiers
+  abbrev FewGates : Tree → Type 0
+  FewGates f = sheet_gates t w c f ≤ t ^ k * (5 * (w * nodes f))
+
+  abbrev Below : Tree → Type 0
+  Below f = EachAtom (λ name v. v < k) f
+
+  choices-few : (f : Tree) → Below f → t ^ length (variables_in f) ≤ t ^ k
+  choices-few f h = pow-le-pow_right some (few-variables k f h)
+
+  leaf : 0 ≤ t ^ k * (5 * (w * 1))
+  leaf = omega arith
+
+  none : (f : Tree) → FewGates f → sheet_gates t w c f ≤ t ^ k * (5 * (w * suc (nodes f)))
+  none f p =
+      let up : t ^ k * (5 * (w * nodes f)) ≤ t ^ k * (5 * (w * suc (nodes f))) =
+      mul-le-mul_left (t ^ k) (omega arith) in
+      omega (arith, p, up)
+
+  one : (f : Tree) (e : ℕ) → Below f → e ≤ 5 * w → FewGates f →
+      more_gates t (sheet_gates t w c f) (variables_in f) e ≤ t ^ k * (5 * (w * suc (nodes f)))
+  one f e h each p = more-few (t ^ k) w _ _ e (nodes f) p (choices-few f h) each
+
+  two : (f g whole : Tree) (e : ℕ) → Below whole → e ≤ 5 * w → FewGates f → FewGates g →
+      more_gates t (sheet_gates t w c f + sheet_gates t w c g) (variables_in whole) e
+      ≤ t ^ k * (5 * (w * suc (nodes f + nodes g)))
+  two f g whole e h each p q =
+      more-few (t ^ k) w _ _ e (nodes f + nodes g) (omega (arith, p, q)) (choices-few whole h) each
+
+  gates-few : (f : Tree) → Below f → FewGates f
+  gates-few tree.always h = leaf
+  gates-few tree.never h = leaf
+  gates-few (tree.atom name v) h = leaf
+  gates-few (tree.not f) h = none f (gates-few f h)
+  gates-few (tree.next f) h = none f (gates-few f h)
+  gates-few (tree.finally f) h = one f (c + w) h (omega (arith, le)) (gates-few f h)
+  gates-few (tree.globally f) h = one f (c + w) h (omega (arith, le)) (gates-few f h)
+  gates-few (tree.and f g) h =
+      two f g (tree.and f g) w h (omega arith) (gates-few f h.0) (gates-few g h.1)
+  gates-few (tree.or f g) h =
+      two f g (tree.or f g) w h (omega arith) (gates-few f h.0) (gates-few g h.1)
+  gates-few (tree.implies f g) h =
+      two f g (tree.implies f g) w h (omega arith) (gates-few f h.0) (gates-few g h.1)
+  gates-few (tree.iff f g) h =
+      two f g (tree.iff f g) (3 * w) h (omega arith) (gates-few f h.0) (gates-few g h.1)
+  gates-few (tree.until f g) h =
+      two f g (tree.until f g) (2 * (c + w)) h (omega (arith, le)) (gates-few f h.0)
+      (gates-few g h.1)
+  gates-few (tree.release f g) h =
+      two f g (tree.release f g) (2 * (c + w)) h (omega (arith, le)) (gates-few f h.0)
+      (gates-few g h.1)
+  gates-few (tree.weak f g) h =
+      two f g (tree.weak f g) (w + 2 * (c + w)) h (omega (arith, le)) (gates-few f h.0)
+      (gates-few g h.1)
 
 power-some : (t : ℕ) → 0 < t → (n : ℕ) → 0 < t ^ n
 power-some t some zero = omega (arith, pow-zero t)
@@ -170,7 +213,8 @@ summands T N B W n L m gates rounds t l l4 w g r =
     let turns : T * rounds ≤ T * (24 * (N * W)) = mul-le-mul_left T few in
     (omega (arith, g, one, lengths, choices), omega (arith, g, one, lengths, choices, turns))
 
-module _ (bound : Bound) (ok : IsBound bound) (prefix : List Quant) (body : Tree) where
+module _ (bound : Bound) (ok : IsBound bound) (prefix : List Quant) (body : Tree)
+    (known : vars_below (length prefix) body ≡ true) where
   pub sizes-few : (query_variables bound prefix body ≤ most_of_query bound prefix body)
       × (query_literals bound prefix body ≤ most_of_query bound prefix body)
   sizes-few =
@@ -178,27 +222,27 @@ module _ (bound : Bound) (ok : IsBound bound) (prefix : List Quant) (body : Tree
       let W : ℕ = places bound in
       let names : ℕ = length (names_of body) in
       let n : ℕ = length prefix in
+      let m : ℕ = bound.traces ^ n in
       let gone = common-some bound.cycle ok.short_cycle in
-      let few : query_gates bound prefix body ≤ bound.traces ^ n * (row_gates W c body + n) =
-      chosen-few bound.traces (row_gates W c body) ok.some_traces n in
-      let row : row_gates W c body ≤ 5 * (W * nodes body) = row-few W c (omega arith) body in
-      let all : bound.traces ^ n * (row_gates W c body + n)
-      ≤ bound.traces ^ n * (5 * (W * nodes body) + n) =
-      mul-le-mul_left (bound.traces ^ n) (omega (arith, row)) in
-      summands bound.traces names (nodes body) W n bound.cycle (bound.traces ^ n) _ _ ok.some_traces
-      ok.some_cycle ok.short_cycle (omega (arith, gone)) (omega (arith, few, all))
+      let below : EachAtom (λ name v. v < n) body =
+      atoms-like (IsAtomOf (names_of body) n) _ (λ name v h. h.1) body (own-atoms n body known) in
+      let parts : sheet_gates bound.traces W c body ≤ m * (5 * (W * nodes body)) =
+      gates-few bound.traces n W c ok.some_traces (omega arith) body below in
+      let choices : chosen_gates bound.traces 0 n ≤ m * (0 + n) =
+      chosen-few bound.traces 0 ok.some_traces n in
+      summands bound.traces names (nodes body) W n bound.cycle m _ _ ok.some_traces
+      ok.some_cycle ok.short_cycle (omega (arith, gone)) (omega (arith, parts, choices))
       (rounds-few names W c bound.cycle (omega arith))
 
-  pub variables-few : vars_below (length prefix) body ≡ true →
-      variables_of bound prefix body ≤ most_of_query bound prefix body
-  variables-few known =
+  pub variables-few : variables_of bound prefix body ≤ most_of_query bound prefix body
+  variables-few =
       let e = variables-counted bound ok prefix body known in
       let few = sizes-few.0 in
       omega (arith, e, few)
 
-  pub literals-few : vars_below (length prefix) body ≡ true →
+  pub literals-few :
       literals_in (clauses_of bound prefix body) ≤ most_of_query bound prefix body
-  literals-few known =
+  literals-few =
       let e = literals-counted bound ok prefix body known in
       let few = sizes-few.1 in
       omega (arith, e, few)
@@ -240,24 +284,17 @@ module _ (own members gates counted : ℕ) (capped : counted ≡ min gates most_
   refusal-same (Limit limit) (past, is) = (past-same limit.kind past, is)
   refusal-same Memory h = tt
 
-capped-chosen : (t g x c : ℕ) → 0 < t → x ≡ min g c → (n : ℕ) →
-    min (chosen_gates t x n) c ≡ min (chosen_gates t g n) c
-capped-chosen t g x c some e zero = omega (arith, e)
-capped-chosen t g x c some e (suc n) =
-    let left : ℕ = chosen_gates t x n in
-    let right : ℕ = chosen_gates t g n in
-    sym (times_capped t (min left c) left c some refl)
-    ∙ times_capped t (min left c) right c some (capped-chosen t g x c some e n)
-
 module _ (bound : Bound) (ok : IsBound bound) (prefix : List Quant) (body : Tree)
-    (known : vars_below (length prefix) body ≡ true) (names : List ℕ) (own row gates member : ℕ)
-    (named : names ≡ names_of body) (before : own ≡ first_gate names bound)
-    (in_row : row ≡ min (row_gates (places bound) (round bound) body) most_gates)
-    (in_all : gates ≡ min (chosen_gates bound.traces row (length prefix)) most_gates)
+    (known : vars_below (length prefix) body ≡ true) (names : List ℕ)
+    (own parts choices gates member : ℕ) (named : names ≡ names_of body)
+    (before : own ≡ first_gate names bound)
+    (in_parts : parts
+    ≡ min (sheet_gates bound.traces (places bound) (round bound) body) most_gates)
+    (in_choices : choices ≡ min (chosen_gates bound.traces 0 (length prefix)) most_gates)
+    (in_all : gates ≡ min (parts + choices) most_gates)
     (in_member : member ≡ member_literals (length names) bound) where
   all-capped : gates ≡ min (query_gates bound prefix body) most_gates
-  all-capped =
-      in_all ∙ capped-chosen bound.traces _ row most_gates ok.some_traces in_row (length prefix)
+  all-capped = omega (arith, in_parts, in_choices, in_all)
 
   variables-are : own + query_gates bound prefix body ≡ variables_of bound prefix body
   variables-are =

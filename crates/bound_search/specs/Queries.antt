@@ -7,7 +7,7 @@
 --
 -- Variable 0 is true. Then come the variables of each member: for each name and each place whether
 -- the letter there has the name, and for each length whether the cycle may have it. The gates are
--- last.
+-- last: a part of the body is drawn once for each choice of members for its own variables.
 use Rattle.std.specs.Prelude.{ℕ, suc, ◌+◌, ◌-◌, ◌*◌, ◌%◌, List, [], ◌∷◌, ◌++◌, length, slice_index_or, ℤ}
 use Rattle.hy_formula.specs.Trees.{Tree}
 use Rattle.hy_formula.specs.declared.prefix.Quant.{Quant}
@@ -16,7 +16,10 @@ use Rattle.chain_check.specs.Clauses.{Clause}
 use Rattle.chain_check.specs.FewClauses.{for_each, further, alone, same_clauses, guarded, some_further}
 use Rattle.bound_search.specs.declared.bound.Bound.{Bound}
 use Rattle.bound_search.specs.Drawings.{Drawn, Drawing, plain, followed, sure, never, gate_clauses}
-use Rattle.bound_search.specs.Rows.{Row, first_or, body_row}
+use Rattle.bound_search.specs.Rows.{Row, first_or}
+use Rattle.bound_search.specs.declared.frame.Frame.{Frame}
+use Rattle.bound_search.specs.declared.sheets.Sheet.{Sheet}
+use Rattle.bound_search.specs.Sheets.{row_of, sheet}
 use Rattle.bound_search.specs.Choices.{chosen}
 use Rattle.bound_search.specs.Names.{names_of, name_place}
 
@@ -84,21 +87,33 @@ member_clauses names bound t =
 
 -- ---- the formula
 
--- the row of an atom, where these members were chosen
-abbrev pub atom_row : List ℕ → Bound → List ℕ → ℕ → ℕ → Row
-atom_row names bound tuple name variable =
-    listed 0 (places bound) (λ i. further
-    (letter_variable names bound (slice_index_or tuple variable 0) (name_place name names) i))
+-- the letters of member t: at each place whether the name is there
+abbrev pub letters_row : List ℕ → Bound → ℕ → ℕ → Row
+letters_row names bound name t =
+    listed 0 (places bound) (λ i. further (letter_variable names bound t (name_place name names) i))
 
--- what the body says of the tuple at its first place
-abbrev pub body_literal : List ℕ → Bound → Tree → List ℕ → Drawing ℤ
-body_literal names bound body tuple =
-    followed (body_row bound.stem (places bound) (atom_row names bound tuple) body)
-    (λ row. plain (first_or never row))
+abbrev pub frame_of : Bound → ℕ → Frame
+frame_of bound quantifiers = record {
+  traces = bound.traces;
+  quantifiers = quantifiers;
+  stem = bound.stem;
+  places = places bound;
+}
+
+-- what a body says of a tuple at its first place, where this is its sheet
+abbrev pub tuple_literal : Frame → Sheet → List ℕ → Drawing ℤ
+tuple_literal frame sheet tuple = plain (first_or never (row_of frame sheet tuple))
+
+-- each part of the body, and then what the quantifiers say
+abbrev pub formula_literal : List ℕ → Bound → List Quant → Tree → Drawing ℤ
+formula_literal names bound prefix body =
+    let frame = frame_of bound (length prefix) in
+    followed (sheet frame (letters_row names bound) body) (λ drawn.
+    chosen bound.traces (tuple_literal frame drawn) prefix)
 
 abbrev pub formula_drawn : List ℕ → Bound → List Quant → Tree → Drawn ℤ
 formula_drawn names bound prefix body =
-    chosen bound.traces (body_literal names bound body) prefix (first_gate names bound)
+    formula_literal names bound prefix body (first_gate names bound)
 
 -- ---- the query
 

@@ -1,5 +1,5 @@
 -- How large a query is, by the sizes of the formula and of the bound.
-use Rattle.std.specs.Prelude.{◌≡◌, ◌<◌, ◌≤◌, ℕ, zero, suc, ◌+◌, ◌-◌, ◌*◌, ◌^◌, List, length}
+use Rattle.std.specs.Prelude.{◌≡◌, ◌<◌, ◌≤◌, ℕ, zero, suc, ◌+◌, ◌-◌, ◌*◌, ◌^◌, List, length, min}
 use Rattle.hy_formula.specs.Trees.{Tree, always, never, atom, not, next, finally, globally, and, or, implies, iff, until, release, weak}
 use Rattle.hy_formula.specs.declared.prefix.Quant.{Quant}
 use Rattle.hy_base.specs.declared.limit.Kind.{Kind}
@@ -9,8 +9,10 @@ use Rattle.chain_check.specs.FewClauses.{literals_in}
 use Rattle.bound_search.specs.declared.bound_error.BoundError.{BoundError}
 use Rattle.bound_search.specs.declared.bound_error.BoundError.TheVariants.{Limit, Memory}
 use Rattle.bound_search.specs.declared.bound.Bound.{Bound}
+use Rattle.bound_search.specs.declared.counting.Counted.{Counted}
+use Rattle.bound_search.specs.declared.counting.Counter.{Counter}
 use Rattle.bound_search.specs.Names.{names_of}
-use Rattle.bound_search.specs.Rows.{row_gates}
+use Rattle.bound_search.specs.Sheets.{sheet_gates}
 use Rattle.bound_search.specs.Choices.{chosen_gates}
 use Rattle.bound_search.specs.Queries.{round, places, first_gate, clauses_of, variables_of}
 
@@ -34,7 +36,8 @@ nodes (weak f g) = suc (nodes f + nodes g)
 -- how many gates there are
 abbrev pub query_gates : Bound → List Quant → Tree → ℕ
 query_gates bound prefix body =
-    chosen_gates bound.traces (row_gates (places bound) (round bound) body) (length prefix)
+    sheet_gates bound.traces (places bound) (round bound) body
+    + chosen_gates bound.traces 0 (length prefix)
 
 abbrev pub query_variables : Bound → List Quant → Tree → ℕ
 query_variables bound prefix body =
@@ -58,6 +61,22 @@ query_literals bound prefix body =
 -- Gates are counted up to this number, which is past the limit on variables.
 abbrev pub most_gates : ℕ
 most_gates = 4294967296
+
+-- what code counts by
+pub record IsCounter (counter : Counter) : Type 0 where
+  pub some_traces : 0 < counter.traces
+  pub few_traces : counter.traces ≤ 4
+  pub few_places : counter.places ≤ 20
+  pub short_round : counter.round ≤ 12
+
+-- the gates of the sheet of a body
+abbrev pub counter_gates : Counter → Tree → ℕ
+counter_gates counter = sheet_gates counter.traces counter.places counter.round
+
+-- These are the variables, and there are so many gates, or more than are counted.
+pub record IsCounted (own : List ℕ) (all : ℕ) (counted : Counted) : Type 0 where
+  pub variables : counted.variables ≡ own
+  pub gates : counted.gates ≡ min all most_gates
 
 -- More than that it never has, of either.
 abbrev pub most_of_query : Bound → List Quant → Tree → ℕ

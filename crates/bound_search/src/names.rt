@@ -1,9 +1,10 @@
-//! The names of a body.
+//! The names of a body, and lists of numbers in which none stands twice.
 
 ghost use Rattle.std.specs.Prelude.{◌≡◌, ◌<◌, ◌≤◌, All, IfOk, OnOk, length, nat_eq};
 ghost use Rattle.std.specs.List.{list_any};
 ghost use Rattle.hy_formula.specs.Trees.{tree_of};
 ghost use Rattle.bound_search.specs.Names.{name_place, names_of, with_name, with_names};
+ghost use Rattle.bound_search.specs.Sheets.{with_all};
 
 use hy_base::{List, M, NumList};
 use hy_formula::Body;
@@ -29,10 +30,9 @@ fn has(names: &NumList, name: u32) -> bool
 
 /// Adds the name where it is new.
 fn add_name(names: &mut NumList, name: u32) -> M<()>
-    requires few { All (λ x. x < 64) names.old }
-    requires own { name < 64 }
     ensures names { OnOk result (names.new ≡ with_name name names.old) }
-    ensures few { OnOk result (All (λ x. x < 64) names.new) }
+    ensures few { All (λ x. x < 64) names.old → name < 64 →
+        OnOk result (All (λ x. x < 64) names.new) }
 {
     if !has(names, name) {
         names.push(name)?;
@@ -76,4 +76,15 @@ pub fn place_of(name: u32, names: &NumList) -> usize
         place += 1;
     }
     place
+}
+
+/// The variables of two parts, each once. In time of the product of the lists.
+pub fn with_all(alloc: Global, left: &NumList, right: &NumList) -> M<NumList>
+    ensures { IfOk result (λ all. all ≡ with_all left.now right.now) }
+{
+    let mut all = left.copy(alloc)?;
+    for v in right.as_slice() {
+        add_name(&mut all, *v)?;
+    }
+    Ok(all)
 }

@@ -8,10 +8,10 @@ ghost use Rattle.bound_search.specs.Bounds.{IsBound};
 ghost use Rattle.bound_search.specs.Queries.{clauses_of, variables_of};
 ghost use Rattle.bound_search.specs.Sizes.{IsRefusal, IsTaken};
 
+use crate::asked::Asked;
 use crate::bound::Bound;
 use crate::bound_error::BoundError;
-use crate::choices::Asked;
-use crate::counting::{admit, chosen_gates, member_literals, own_variables, row_gates};
+use crate::counting::{Counter, admit, capped, chosen_gates, member_literals, own_variables};
 use crate::cycles::add_members;
 use crate::gates::{Gates, add_alone};
 use crate::layout::first_gate;
@@ -56,8 +56,14 @@ fn admit_query(alloc: Global, f: &Formula, bound: Bound) -> Result<(), BoundErro
         (λ e. IsRefusal bound f.now.prefix (tree_of f.now.body) e) }
 {
     let names = names_of(alloc, &f.body)?;
-    let row = row_gates(&f.body, bound.places() as u64, bound.round() as u64);
-    let gates = chosen_gates(bound.traces as u64, row, f.prefix.len()) as u128;
+    let counter = Counter {
+        traces: bound.traces as u64,
+        places: bound.places() as u64,
+        round: bound.round() as u64,
+    };
+    let parts = counter.count(alloc, &f.body)?.gates;
+    let choices = chosen_gates(bound.traces as u64, 0, f.prefix.len());
+    let gates = capped(parts + choices) as u128;
     let variables = own_variables(&names, bound) + gates;
     let members = bound.traces as u128 * member_literals(&names, bound);
     admit(variables, 2 + members + 7 * gates)
@@ -102,7 +108,8 @@ fn make_gates(alloc: Global, f: &Formula, bound: Bound) -> M<Gates>
         names: &names,
         bound,
     };
-    let root = gates.chosen(alloc, &asked, &mut List::new(alloc))?;
+    let sheet = gates.sheet(alloc, &asked, &f.body)?;
+    let root = gates.chosen(alloc, &asked, &sheet, &mut List::new(alloc))?;
     add_alone(&mut gates.clauses, root)?;
     Ok(gates)
 }

@@ -2,8 +2,8 @@ use Rattle.std.proofs.Common.{◌≡◌, ◌+◌, ◌∙◌, ap, length, arith}
 use Rattle.hy_base.specs.Rows.{listed}
 use Rattle.hy_base.proofs.Listed.{length-listed, listed_next}
 use Rattle.chain_check.specs.FewClauses.{further}
-use Rattle.bound_search.proofs.Making.{atom-listed}
-use Rattle.bound_search.proofs.bodies.Tuple.atom_row.Goals as goal
+use Rattle.bound_search.proofs.Making.{letters-listed}
+use Rattle.bound_search.proofs.asked.Asked.letters_row.Goals as goal
 
 pub loop-i-preserved : goal.loop-i-preserved
 loop-i-preserved c = listed_next _ c.loop-i.i _ _ _ c.loop-i.invariant c.in_ok-push.ensures.added
@@ -18,9 +18,8 @@ whole c =
 
 pub returns-clause-values : goal.returns-clause-values
 returns-clause-values c =
-    atom-listed c.args.self.now.names.now c.args.self.now.bound c.args.self.now.members.now
-    c.args.a.name c.args.a.var _ _ _ _ _ c.at-t.ensures c.place_of.ensures.place
-    c.in_ok-start.ensures.start c.places-i-end.ensures.count (whole c)
+    letters-listed c.args.self.now.names.now c.args.self.now.bound c.args.name c.args.t _ _ _ _
+    c.place_of.ensures.place c.in_ok-start.ensures.start c.places-i-end.ensures.count (whole c)
 
 pub returns-clause-long : goal.returns-clause-long
 returns-clause-long c =
