@@ -4,7 +4,7 @@ use Rattle.std.specs.Prelude.{nat_le, slice_index}
 use Rattle.std.specs.List.{range_with_len, list_any, concat}
 use Rattle.std.proofs.lemmas.Bool.{cases_eq, cases_lt, eq-eqb, eqb-true, leb-true, and_parts, or_left, cases_Bool, or_parts}
 use Rattle.std.proofs.lemmas.List.{length-map, get_or-map, drop-drop}
-use Rattle.aiger_body.specs.declared.error.AigKind.TheVariants.{Cycle}
+use Rattle.aig_kind.specs.declared.kind.AigKind.TheVariants.{Cycle}
 use Rattle.aiger_body.specs.declared.header.Header.{Header}
 use Rattle.aiger_body.specs.declared.section.Section.TheVariants.{Inputs, Gates}
 use Rattle.aig_order.specs.declared.gate.Gate.{Gate}

@@ -6,7 +6,7 @@ use Rattle.std.proofs.Math.Nat.{pow-succ', pow-le-pow_right}
 use Rattle.std.proofs.Math.Seq.{drop-cons}
 use Rattle.std.proofs.lemmas.Bool.{le-leb, lt-ltb, cases_lt, lt-leb}
 use Rattle.std.proofs.lemmas.List.{length-drop}
-use Rattle.aiger_body.specs.declared.error.AigKind.TheVariants.{Delta, Truncated}
+use Rattle.aig_kind.specs.declared.kind.AigKind.TheVariants.{Delta, Truncated}
 use Rattle.aiger_body.specs.declared.header.Header.{Header}
 use Rattle.aig_order.specs.declared.gate.Gate.{Gate}
 use Rattle.aiger_body.specs.Texts.{grown, pieces, piece_at, place, is_ended}

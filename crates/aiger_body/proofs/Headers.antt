@@ -10,7 +10,7 @@ use Rattle.hy_text.specs.Numbers.{number_of}
 use Rattle.aiger_body.specs.Texts.{is_space, with_number, all_numbers, or_empty, numbers_of}
 use Rattle.aiger_body.specs.Files.{header_with, header_in, form_of, header_of, is_header}
 use Rattle.aiger_body.specs.Outcomes.{of_header, fault}
-use Rattle.aiger_body.specs.declared.error.AigKind.TheVariants.{Header as HeaderFault}
+use Rattle.aig_kind.specs.declared.kind.AigKind.TheVariants.{Header as HeaderFault}
 use Rattle.aiger_body.specs.Answers.{IsShort, Fits}
 use Rattle.hy_text.proofs.Digits.{number_small}
 use Rattle.aig_order.proofs.Firsts.{when-none, none-both}

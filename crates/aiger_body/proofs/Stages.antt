@@ -1,6 +1,6 @@
 -- The outcome by its stages.
 use Rattle.std.proofs.Common.{◌≡◌, ℕ, suc, ◌<◌, ◌≤◌, arith, true, false, cond, List, length, ◌∙◌, ap, Option, Some, None}
-use Rattle.aiger_body.specs.declared.error.AigKind.TheVariants.{Truncated}
+use Rattle.aig_kind.specs.declared.kind.AigKind.TheVariants.{Truncated}
 use Rattle.aiger_body.specs.declared.error.AigerError.{AigerError}
 use Rattle.aiger_body.specs.declared.error.AigerError.TheVariants.{Bad, Limit as PastLimit, Memory}
 use Rattle.aiger_body.specs.declared.header.Header.{Header}

@@ -4,7 +4,7 @@ use Rattle.hy_base.specs.declared.limit.Limit.{Limit}
 use Rattle.hy_base.specs.declared.limit.Kind.TheVariants.{Variables}
 use Rattle.aiger_body.specs.declared.error.AigerError.{AigerError}
 use Rattle.aiger_body.specs.declared.error.AigerError.TheVariants.{Bad, Limit as PastLimit, Memory}
-use Rattle.aiger_body.specs.declared.error.AigKind.TheVariants.{Header as HeaderFault}
+use Rattle.aig_kind.specs.declared.kind.AigKind.TheVariants.{Header as HeaderFault}
 use Rattle.aiger_body.specs.declared.header.Header.{Header}
 use Rattle.aiger_body.specs.Texts.{is_ended, is_feed, line_text}
 use Rattle.aiger_body.specs.Files.{header_of, is_header, line_start}

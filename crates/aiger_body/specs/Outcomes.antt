@@ -2,8 +2,8 @@
 use Rattle.std.specs.Prelude.{ℕ, ◌+◌, ◌-◌, ◌*◌, ◌/◌, ◌%◌, Bool, cond, not, ◌&&◌, nat_le, nat_lt, List, map, length, slice_index, Option, Some, None}
 use Rattle.std.specs.List.{range_with_len, list_any}
 use Rattle.aig_net.specs.declared.parts.NetParts.{NetParts}
-use Rattle.aiger_body.specs.declared.error.AigKind.{AigKind}
-use Rattle.aiger_body.specs.declared.error.AigKind.TheVariants.{Header as HeaderFault, Literal, Redefined, Delta, Truncated, Undefined, Cycle, Symbol as SymbolFault}
+use Rattle.aig_kind.specs.declared.kind.AigKind.{AigKind}
+use Rattle.aig_kind.specs.declared.kind.AigKind.TheVariants.{Header as HeaderFault, Literal, Redefined, Delta, Truncated, Undefined, Cycle, Symbol as SymbolFault}
 use Rattle.aiger_body.specs.declared.header.Header.{Header}
 use Rattle.aiger_body.specs.declared.section.Section.TheVariants.{Gates}
 use Rattle.aiger_body.specs.Texts.{piece_at, place, is_ended, is_feed, line_text}

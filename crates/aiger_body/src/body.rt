@@ -12,11 +12,12 @@ ghost use Rattle.aiger_body.specs.Bodies.{IsOwnAnswer, IsContentAnswer, IsOrderA
 
 use crate::content::Content;
 use crate::deltas::read_gates;
-use crate::error::{AigKind, AigerError};
+use crate::error::AigerError;
 use crate::header::{Header, read_header};
 use crate::lines::read_lines;
 use crate::text::line_at;
 use crate::uses::check_uses;
+use aig_kind::AigKind;
 use aig_order::{definers, first_cyclic, order};
 use hy_base::{List, M, NumList};
 use std::alloc::Global;

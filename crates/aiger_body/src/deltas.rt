@@ -7,9 +7,10 @@ ghost use Rattle.aiger_body.specs.Outcomes.{least as least_of, greatest as great
 ghost use Rattle.aiger_body.specs.Answers.{Fits};
 ghost use Rattle.aiger_body.specs.Deltas.{IsBehind, IsNumberAt, IsDeltaAnswer, IsGatesAnswer};
 
-use crate::error::{AigKind, AigerError};
+use crate::error::AigerError;
 use crate::header::Header;
 use crate::text::Ends;
+use aig_kind::AigKind;
 use aig_order::Gate;
 use hy_base::List;
 use std::alloc::Global;

@@ -5,8 +5,9 @@ ghost use Rattle.aiger_body.specs.Files.{form_of, header_of, header_with, is_hea
 ghost use Rattle.aiger_body.specs.Answers.{IsShort, IsHeaderAnswer, IsJudged};
 
 use crate::content::number;
-use crate::error::{AigKind, AigerError};
+use crate::error::AigerError;
 use crate::text::{is_whole, line_at, read_numbers, text_of};
+use aig_kind::AigKind;
 use hy_base::{Kind, Limit, List, M};
 use std::alloc::Global;
 

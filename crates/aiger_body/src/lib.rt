@@ -14,6 +14,6 @@ mod uses;
 
 pub use body::{Body, read_body};
 pub use content::{Content, Latch};
-pub use error::{AigKind, AigerError};
+pub use error::AigerError;
 pub use header::Header;
 pub use text::{is_whole, line_at, text_of, word_len};

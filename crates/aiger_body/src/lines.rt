@@ -8,10 +8,11 @@ ghost use Rattle.aiger_body.specs.Keeping.{empty};
 ghost use Rattle.aiger_body.specs.Passes.{IsStart, IsRowAnswer, AreLines, IsLineAnswer, IsSectionAnswer, IsSectionsAnswer, IsLinesAnswer, IsMarkAnswer};
 
 use crate::content::{Content, number};
-use crate::error::{AigKind, AigerError};
+use crate::error::AigerError;
 use crate::header::Header;
 use crate::section::{SECTIONS, Section, section_at};
 use crate::text::{is_whole, line_at, read_numbers, text_of};
+use aig_kind::AigKind;
 use hy_base::{List, M};
 use std::alloc::Global;
 

@@ -7,10 +7,11 @@ ghost use Rattle.aiger_body.specs.Answers.{Fits, IsLargeEnough};
 ghost use Rattle.aiger_body.specs.Passes.{IsStart, AllRead};
 ghost use Rattle.aiger_body.specs.Uses.{is_marked, AreKnown, AreChecked, IsUseAnswer, IsUsesAnswer};
 
-use crate::error::{AigKind, AigerError};
+use crate::error::AigerError;
 use crate::header::Header;
 use crate::lines::{Lines, read_row};
 use crate::section::{SECTIONS, Section, section_at};
+use aig_kind::AigKind;
 use hy_base::List;
 use std::alloc::Global;
 

@@ -5,7 +5,7 @@ use Rattle.std.proofs.lemmas.Bool.{ltb-true, cases_Bool}
 use Rattle.aig_net.specs.declared.parts.NetParts.{NetParts}
 use Rattle.aig_net.specs.Nets.{IsNet}
 use Rattle.aig_order.specs.Firsts.{when, otherwise, first_some}
-use Rattle.aiger_body.specs.declared.error.AigKind.TheVariants.{Header as HeaderFault}
+use Rattle.aig_kind.specs.declared.kind.AigKind.TheVariants.{Header as HeaderFault}
 use Rattle.aiger_body.specs.declared.header.Header.{Header}
 use Rattle.aiger_body.specs.declared.content.Content.{Content}
 use Rattle.aiger_body.specs.Circuits.{net_of}

@@ -11,7 +11,7 @@ use Rattle.aig_order.specs.declared.gate.Gate.{Gate}
 use Rattle.aig_order.specs.Firsts.{when, first_some}
 use Rattle.aig_order.specs.Gates.{Depends, depends}
 use Rattle.aig_order.proofs.Cycles.{depends-right}
-use Rattle.aiger_body.specs.declared.error.AigKind.TheVariants.{Cycle}
+use Rattle.aig_kind.specs.declared.kind.AigKind.TheVariants.{Cycle}
 use Rattle.aiger_body.specs.declared.header.Header.{Header}
 use Rattle.aiger_body.specs.declared.content.Content.{Content}
 use Rattle.aiger_body.specs.declared.content.Latch.{Latch}

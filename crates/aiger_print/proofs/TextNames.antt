@@ -11,7 +11,7 @@ use Rattle.aig_net.specs.Nets.{IsNet, AreNames}
 use Rattle.aig_order.specs.Firsts.{when, first_some}
 use Rattle.aig_order.proofs.Firsts.{any-some}
 use Rattle.aig_order.proofs.Sorted.{first-empty}
-use Rattle.aiger_body.specs.declared.error.AigKind.TheVariants.{Symbol as SymbolFault}
+use Rattle.aig_kind.specs.declared.kind.AigKind.TheVariants.{Symbol as SymbolFault}
 use Rattle.aiger_body.specs.declared.header.Header.{Header}
 use Rattle.aiger_body.specs.Texts.{pieces, piece_at, place, is_ended, is_feed, line_text}
 use Rattle.aiger_body.specs.Files.{tail_start}

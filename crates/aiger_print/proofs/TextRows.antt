@@ -9,7 +9,7 @@ use Rattle.aig_net.specs.declared.parts.NetParts.{NetParts}
 use Rattle.aig_net.specs.Nets.{IsNet}
 use Rattle.aig_order.specs.Firsts.{when, otherwise, first_some, holds}
 use Rattle.aig_order.proofs.Firsts.{any-some}
-use Rattle.aiger_body.specs.declared.error.AigKind.TheVariants.{Truncated, Literal, Redefined}
+use Rattle.aig_kind.specs.declared.kind.AigKind.TheVariants.{Truncated, Literal, Redefined}
 use Rattle.aiger_body.specs.declared.header.Header.{Header}
 use Rattle.aiger_body.specs.declared.section.Section.{Section}
 use Rattle.aiger_body.specs.declared.section.Section.TheVariants.{Inputs, Latches, Outputs, Bads, Constraints, Sizes, Justices, Fairs, Gates}

@@ -3,7 +3,7 @@ use Rattle.std.proofs.Common.{◌≡◌, ℕ, zero, suc, ◌+◌, ◌<◌, ◌�
 use Rattle.std.specs.Prelude.{slice_index_or, slice_set, nat_lt}
 use Rattle.std.proofs.lemmas.Bool.{cases_eq, eqb-true, eq-eqb, ltb-true, and_parts, cases_Bool}
 use Rattle.std.proofs.lemmas.List.{get_or-set_same, get_or-set_other, length-set}
-use Rattle.aiger_body.specs.declared.error.AigKind.TheVariants.{Symbol as SymbolFault}
+use Rattle.aig_kind.specs.declared.kind.AigKind.TheVariants.{Symbol as SymbolFault}
 use Rattle.aiger_body.specs.declared.header.Header.{Header}
 use Rattle.aig_order.specs.Firsts.{when, first_some, any_below}
 use Rattle.aig_order.proofs.Firsts.{first-here}

@@ -4,7 +4,7 @@ use Rattle.aig_net.specs.declared.parts.NetParts.{NetParts}
 use Rattle.aig_net.specs.Nets.{AreNames, IsNet}
 use Rattle.aig_order.specs.Firsts.{first_some}
 use Rattle.aig_order.proofs.Firsts.{none-both}
-use Rattle.aiger_body.specs.declared.error.AigKind.TheVariants.{Truncated}
+use Rattle.aig_kind.specs.declared.kind.AigKind.TheVariants.{Truncated}
 use Rattle.aiger_body.specs.declared.header.Header.{Header}
 use Rattle.aiger_body.specs.Texts.{is_ended, is_feed, line_text}
 use Rattle.aiger_body.specs.Files.{header_of, counted, content}

@@ -7,5 +7,5 @@ mod numbering;
 mod read;
 mod symbol;
 
-pub use aiger_body::{AigKind, AigerError};
+pub use aiger_body::AigerError;
 pub use read::read_aiger;

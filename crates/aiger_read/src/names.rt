@@ -6,8 +6,9 @@ ghost use Rattle.aiger_body.specs.Bodies.{IsTail};
 ghost use Rattle.aiger_read.specs.Naming.{IsNew, AreLong, IsKeepAnswer, IsNamesAnswer, with_name};
 
 use crate::symbol::{KINDS, begins_comment, is_symbol, place, start, symbol_of};
+use aig_kind::AigKind;
 use aig_net::NameList;
-use aiger_body::{AigKind, AigerError, Header, is_whole, line_at, text_of};
+use aiger_body::{AigerError, Header, is_whole, line_at, text_of};
 use hy_base::{List, M, Text};
 use std::alloc::Global;
 

@@ -8,8 +8,8 @@ use Rattle.hy_base.specs.declared.reading.TheConstants.{BYTES_LIMIT}
 use Rattle.hy_base.specs.declared.sink.Sink.{Ghosts}
 use Rattle.hy_formula.specs.declared.classes.Class.{Class}
 use Rattle.hy_formula.specs.declared.classes.Class.TheVariants as classes
-use Rattle.aiger_body.specs.declared.error.AigKind.{AigKind}
-use Rattle.aiger_body.specs.declared.error.AigKind.TheVariants as circuits
+use Rattle.aig_kind.specs.declared.kind.AigKind.{AigKind}
+use Rattle.aig_kind.specs.declared.kind.AigKind.TheVariants as circuits
 use Rattle.hy_files.specs.declared.fault.FileFault.{FileFault}
 use Rattle.hy_files.specs.declared.fault.FileFault.TheVariants.{Open, Read, Bytes, Syntax, Unbound, Count, Circuit, Line, Memory}
 

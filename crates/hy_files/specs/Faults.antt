@@ -1,7 +1,7 @@
 -- The faults of files: which of them stands for what a reader says.
 use Rattle.std.specs.Prelude.{◌≡◌, ℕ}
 use Rattle.hy_base.specs.Limits.{most}
-use Rattle.hy_base.specs.declared.limit.Kind.TheVariants.{Length, Variables}
+use Rattle.hy_base.specs.declared.limit.Kind.TheVariants.{Length}
 use Rattle.hy_base.specs.declared.reading.FileError.{FileError}
 use Rattle.hy_base.specs.declared.reading.FileError.TheVariants as reading
 use Rattle.hy_text.specs.declared.line_error.LineError.{LineError}
@@ -10,11 +10,8 @@ use Rattle.hy_read.specs.Answers.{Answer as Found, faulty, free, over, read_as}
 use Rattle.hy_read.specs.Contract.{kind_of_count}
 use Rattle.hy_read.specs.declared.error.ReadError.{ReadError}
 use Rattle.hy_read.specs.declared.error.ReadError.TheVariants as formulas
-use Rattle.aiger_body.specs.Outcomes.{Refusal, limit, fault}
-use Rattle.aiger_body.specs.declared.error.AigerError.{AigerError}
-use Rattle.aiger_body.specs.declared.error.AigerError.TheVariants as circuits
 use Rattle.hy_files.specs.declared.fault.FileFault.{FileFault}
-use Rattle.hy_files.specs.declared.fault.FileFault.TheVariants.{Open, Read, Bytes, Syntax, Unbound, Count, Circuit, Line, Memory}
+use Rattle.hy_files.specs.declared.fault.FileFault.TheVariants.{Open, Read, Bytes, Syntax, Unbound, Count, Line, Memory}
 
 -- the fault of a file that was not read
 abbrev pub read_fault : FileError → FileFault
@@ -42,14 +39,3 @@ abbrev pub line_fault : LineError → FileFault
 line_fault (lines.Syntax line) = Line line
 line_fault lines.Limit = Count Length (most Length)
 line_fault lines.Memory = Memory
-
--- the fault of a text that is no circuit
-abbrev pub circuit_fault : Refusal → FileFault
-circuit_fault limit = Count Variables (most Variables)
-circuit_fault (fault kind byte) = Circuit kind byte
-
--- the fault that the reader of circuits answers
-abbrev pub aiger_fault : AigerError → FileFault
-aiger_fault (circuits.Bad kind byte) = Circuit kind byte
-aiger_fault (circuits.Limit past) = Count past.kind past.limit
-aiger_fault circuits.Memory = Memory

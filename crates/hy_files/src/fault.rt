@@ -1,9 +1,9 @@
 //! Why a file was not taken.
 
 ghost use Rattle.std.specs.Prelude.{◌≡◌};
-ghost use Rattle.hy_files.specs.Faults.{aiger_fault, line_fault, read_fault, text_fault};
+ghost use Rattle.hy_files.specs.Faults.{line_fault, read_fault, text_fault};
 
-use aiger_read::{AigKind, AigerError};
+use aig_kind::AigKind;
 use hy_base::{BYTES_LIMIT, FileError, Kind, Memory};
 use hy_read::ReadError;
 use hy_text::LineError;
@@ -93,21 +93,6 @@ impl From<LineError> for FileFault {
                 limit: Kind::Length.most(),
             },
             LineError::Memory => FileFault::Memory,
-        }
-    }
-}
-
-impl From<AigerError> for FileFault {
-    ghost from_gives = { λ given fault. fault ≡ aiger_fault given };
-
-    fn from(error: AigerError) -> FileFault {
-        match error {
-            AigerError::Bad { kind, byte } => FileFault::Circuit { kind, byte },
-            AigerError::Limit(limit) => FileFault::Count {
-                kind: limit.kind,
-                limit: limit.limit,
-            },
-            AigerError::Memory => FileFault::Memory,
         }
     }
 }

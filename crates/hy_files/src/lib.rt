@@ -1,4 +1,4 @@
-//! Files of each content, read from a shelf and taken, or why not, and the error lines of that.
+//! Files of formulas, read from a shelf and taken, or why not; and the error lines of all files.
 #![tactic(auto)]
 
 mod fault;
@@ -7,5 +7,5 @@ pub mod laws;
 mod lines;
 
 pub use fault::FileFault;
-pub use files::{bytes_in, circuit_in, formula_in, lassos_in, specs_in};
+pub use files::{bytes_in, formula_in, specs_in};
 pub use lines::{name_of_file, write_class, write_fault, write_limit, write_name};

@@ -5,7 +5,7 @@ ghost use Rattle.hy_base.specs.Sink.{KeepsSink, GivesWhole, FailsToGive};
 ghost use Rattle.hy_files.specs.ErrorLines.{circuit_text, class_line, class_text, fault_line, fault_of_name, kind_text, limit_line, name_line, name_of_file, plain};
 
 use crate::fault::FileFault;
-use aiger_read::AigKind;
+use aig_kind::AigKind;
 use hy_base::{BYTES_LIMIT, Kind, Sink, SinkFailed, write_all, write_pieces};
 use hy_formula::Class;
 use itoa::Buffer;

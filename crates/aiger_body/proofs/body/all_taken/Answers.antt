@@ -3,7 +3,7 @@ use Rattle.aig_order.specs.declared.gate.Gate.{Gate}
 use Rattle.aiger_body.specs.declared.content.Content.{Content}
 use Rattle.aiger_body.specs.Files.{lines, counts, plan, before}
 use Rattle.aig_order.specs.Gates.{order, Depends}
-use Rattle.aiger_body.specs.declared.error.AigKind.TheVariants.{Cycle}
+use Rattle.aig_kind.specs.declared.kind.AigKind.TheVariants.{Cycle}
 use Rattle.aiger_body.specs.declared.section.Section.TheVariants.{Gates}
 use Rattle.aiger_body.specs.Texts.{place}
 use Rattle.aiger_body.specs.Outcomes.{fault}

@@ -1,5 +1,5 @@
 use Rattle.std.proofs.Common.{◌≤◌, ◌∙◌, sym, ap, arith, Some}
-use Rattle.aiger_body.specs.declared.error.AigKind.TheVariants.{Delta}
+use Rattle.aig_kind.specs.declared.kind.AigKind.TheVariants.{Delta}
 use Rattle.aiger_body.specs.Outcomes.{fault, least, greatest}
 use Rattle.aiger_body.proofs.Groups.{group_place, group_is, group_next, group_long, group_ended, group_short, group_value, long_fault, cut_fault, too_small, too_large, just_right}
 use Rattle.aiger_body.proofs.deltas.read_delta.Goals as goal

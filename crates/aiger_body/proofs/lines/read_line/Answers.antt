@@ -1,7 +1,7 @@
 use Rattle.std.proofs.Common.{◌≡◌, ◌≤◌, ◌*◌, ◌∙◌, ℕ, suc, List, sym, ap, subst, arith, Some, Option}
 use Rattle.std.specs.Prelude.{option_to_list, slice_index}
 use Rattle.aiger_body.specs.declared.content.Content.{Content}
-use Rattle.aiger_body.specs.declared.error.AigKind.TheVariants.{Redefined}
+use Rattle.aig_kind.specs.declared.kind.AigKind.TheVariants.{Redefined}
 use Rattle.aiger_body.specs.declared.header.Header.{Header}
 use Rattle.aiger_body.specs.declared.section.Section.{Section}
 use Rattle.aiger_body.specs.Answers.{Fits}

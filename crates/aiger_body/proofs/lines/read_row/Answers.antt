@@ -1,7 +1,7 @@
 use Rattle.std.proofs.Common.{◌≡◌, ◌<◌, ◌++◌, ◌∙◌, suc, sym, ap, take, true, false, length, arith, Some}
 use Rattle.aiger_body.specs.Texts.{is_ended, is_feed, line_text, numbers_of}
 use Rattle.aiger_body.specs.Files.{line, is_right, section as section_of, row as row_of}
-use Rattle.aiger_body.specs.declared.error.AigKind.TheVariants.{Literal}
+use Rattle.aig_kind.specs.declared.kind.AigKind.TheVariants.{Literal}
 use Rattle.aiger_body.specs.Outcomes.{fault}
 use Rattle.aiger_body.proofs.Rows.{row_right, row_same}
 use Rattle.aiger_body.proofs.LinesRead.{literal_fault}

@@ -1,7 +1,7 @@
 use Rattle.std.proofs.Common.{◌≡◌, ◌∙◌, ℕ, List, Bool, sym, ap, arith, Some, true, false, not}
 use Rattle.std.proofs.lemmas.Result.{err_from_is_err_and}
 use Rattle.std.specs.List.{list_any}
-use Rattle.aiger_body.specs.declared.error.AigKind.TheVariants.{Undefined}
+use Rattle.aig_kind.specs.declared.kind.AigKind.TheVariants.{Undefined}
 use Rattle.aiger_body.specs.declared.header.Header.{Header}
 use Rattle.aiger_body.specs.declared.section.Section.{Section}
 use Rattle.aiger_body.specs.Files.{used, section as section_of, row as row_of}

@@ -1,5 +1,5 @@
 use Rattle.std.proofs.Common.{◌≡◌, ℕ, ◌+◌, ◌<◌, ◌≤◌, ◌∙◌, Bool, true, false, List, length, drop, Some, Ok, sym, ap, subst, arith, suc}
-use Rattle.aiger_body.specs.declared.error.AigKind.TheVariants.{Symbol as SymbolFault}
+use Rattle.aig_kind.specs.declared.kind.AigKind.TheVariants.{Symbol as SymbolFault}
 use Rattle.aiger_body.specs.declared.header.Header.{Header}
 use Rattle.aiger_body.specs.Texts.{pieces, piece_at, place, is_feed}
 use Rattle.aiger_body.specs.Files.{tail}
