@@ -1,9 +1,8 @@
-pub mod BoundTexts
-pub mod Commanding
-pub mod Giving
+pub mod Finding
 pub mod Holding
-pub mod Ordering
 pub mod Lookups
+pub mod Names
+pub mod Numbers
 pub mod Reading
 pub mod Splitting
 pub mod Steps

@@ -11,8 +11,7 @@ use Rattle.clap.specs.Kinds.{Kinds, or_else}
 use Rattle.clap.specs.declared.error.kind.ErrorKind.TheVariants.{InvalidValue}
 use Rattle.hy_base.proofs.Truths.{same-bytes, bytes-themselves}
 use Rattle.hy_formula.specs.Quantifiers.{Each}
-use Rattle.hy_words.specs.declared.tool.Tool.{Tool}
-use Rattle.hy_words.specs.Words.{Item, file, flag, Says, nothing, behind_dashes, a_file, a_flag, an_option, joined, has, dashed, is_bare, flags_of, options_of, given_in, item_gives}
+use Rattle.hy_words.specs.Words.{Item, file, flag, Says, nothing, behind_dashes, a_file, a_flag, an_option, joined, has, dashed, is_bare, Syntax, given_in, item_gives}
 use Rattle.hy_words.specs.Words.{option as given}
 use Rattle.hy_words.specs.Parsers.{files_name}
 use Rattle.hy_words.proofs.Splitting.{IsSplit, long_word, not_dashes, bare_word, short_word, other_word, first_char}
@@ -28,14 +27,14 @@ or-empty (k ∷ a) b e = absurd (some-none e)
 pub or-nothing : (a b : Kinds) → a ≡ [] → b ≡ [] → or_else a b ≡ []
 or-nothing a b e f = rw e f
 
--- ---- the names of a tool
+-- ---- the names of flags and options
 
-module _ (tool : Tool) where
+module _ (syntax : Syntax) where
   abbrev pub flags : List Text
-  flags = flags_of tool
+  flags = syntax.flags
 
   abbrev pub options : List Text
-  options = options_of tool
+  options = syntax.options
 
   abbrev pub rules : List Rule
   rules = rules_for flags options
@@ -135,9 +134,9 @@ module _ (tool : Tool) where
   Ready h (option name) items = (h.skip ≡ 0) × (has options name ≡ true) × (h.pending ≡ Some (name, [])) × Holds h.rows items
 
   abbrev pub Reads : Waiting → List Text → List Item → Type 0
-  Reads idle words ys = Says tool words ys
-  Reads positional words ys = Says tool words ys
-  Reads (option name) words ys = Says tool (dashed name ∷ words) ys
+  Reads idle words ys = Says syntax words ys
+  Reads positional words ys = Says syntax words ys
+  Reads (option name) words ys = Says syntax (dashed name ∷ words) ys
 
   abbrev pub Comes : Held → Waiting → List Text → List Item → Type 0
   Comes h waiting words items = (ys : List Item) × Reads waiting words ys × Ends (stands h waiting false) words (items ++ ys)
@@ -147,7 +146,7 @@ module _ (tool : Tool) where
   Later words = (h : Held) (waiting : Waiting) (items : List Item) → Ready h waiting items → rest_fault (stands h waiting false) words ≡ [] → Comes h waiting words items
 
   abbrev Says-next : Held → Waiting → Text → List Text → List Item → Type 0
-  Says-next h waiting word words items = (ys : List Item) × Says tool (word ∷ words) ys × Ends (stands h waiting false) (word ∷ words) (items ++ ys)
+  Says-next h waiting word words items = (ys : List Item) × Says syntax (word ∷ words) ys × Ends (stands h waiting false) (word ∷ words) (items ++ ys)
 
   waiting_fails : IsFine → (h : Held) (name : Text) → has options name ≡ true → h.pending ≡ Some (name, []) → settle_fault rules false h ≢ []
   waiting_fails fine h name there pending e =
@@ -192,7 +191,7 @@ module _ (tool : Tool) where
             let P : Walk → Type 0 = λ walk. rest_fault walk words ≡ [] in
             let (ys, says, ends) = later (reacted rules (built_flag name) [] h) idle (items ++ flag name ∷ [])
             (skip, λ done. flag_will fine h name items ef (will settles) new) (subst P next rest) in
-            let Q : Text → Type 0 = λ word. Says tool (word ∷ words) (flag name ∷ ys) in
+            let Q : Text → Type 0 = λ word. Says syntax (word ∷ words) (flag name ∷ ys) in
             let R : Option Text → Type 0 = λ v. IsSplit text name v in
             let same : text ≡ name = subst R ev split in
             (flag name ∷ ys, subst Q (sym (spelled ∙ ap dashed same)) (a_flag name words ys ef says), ends-next h waiting word words items (flag name) _ idle next ys ends)
@@ -202,7 +201,7 @@ module _ (tool : Tool) where
             let next = w.option_next flags options h waiting word name value long other ef eo ev in
             let P : Walk → Type 0 = λ walk. rest_fault walk words ≡ [] in
             let (ys, says, ends) = later (record (settled rules h) { pending = Some (name, []) }) (option name) items (skip, eo, refl, will settles) (subst P next rest) in
-            let Q : Text → Type 0 = λ word. Says tool (word ∷ words) ys in
+            let Q : Text → Type 0 = λ word. Says syntax (word ∷ words) ys in
             let R : Option Text → Type 0 = λ v. IsSplit text name v in
             let S : Walk → Type 0 = λ walk. Ends walk words (items ++ ys) in
             let same : text ≡ name = subst R ev split in
@@ -214,7 +213,7 @@ module _ (tool : Tool) where
             let P : Walk → Type 0 = λ walk. rest_fault walk words ≡ [] in
             let (ys, says, ends) = later (reacted rules (built_option name) (v ∷ []) h) idle (items ++ given name v ∷ [])
             (skip, λ done. option_will fine (settled rules h).rows name v items eo (will settles) new) (subst P next rest) in
-            let Q : Text → Type 0 = λ word. Says tool (word ∷ words) (given name v ∷ ys) in
+            let Q : Text → Type 0 = λ word. Says syntax (word ∷ words) (given name v ∷ ys) in
             let R : Option Text → Type 0 = λ v. IsSplit text name v in
             let same : text ≡ name ++ 61 ∷ v = subst R ev split in
             (given name v ∷ ys, subst Q (sym (spelled ∙ ap dashed same)) (joined name v words ys eo says), ends-next h waiting word words items (given name v) _ idle next ys ends)
@@ -304,7 +303,7 @@ module _ (tool : Tool) where
           let next = w.dashes_next flags options h waiting word ed in
           let P : Walk → Type 0 = λ walk. rest_fault walk words ≡ [] in
           let Q : Walk → Type 0 = λ walk. Ends walk words (items ++ map file words) in
-          let R : Text → Type 0 = λ word. Says tool (word ∷ words) (map file words) in (
+          let R : Text → Type 0 = λ word. Says syntax (word ∷ words) (map file words) in (
             map file words,
             subst R (sym (same-bytes word (45 ∷ 45 ∷ []) ed)) (behind_dashes words),
             subst Q (sym next) (trailing_sound fine words h waiting items will (subst P next rest)),
@@ -353,7 +352,7 @@ module _ (tool : Tool) where
       short [] news lt = refl
       short (x ∷ olds) news lt = absurd (omega arith)
 
-  pub complete : IsFine → (words : List Text) (ys : List Item) → Says tool words ys → AreBare ys → (h : Held) (waiting : Waiting) → calm waiting → (items : List Item)
+  pub complete : IsFine → (words : List Text) (ys : List Item) → Says syntax words ys → AreBare ys → (h : Held) (waiting : Waiting) → calm waiting → (items : List Item)
       → settle_fault rules false h ≡ [] → Holds (settled rules h).rows items → ((name : Text) → length (given_in name (items ++ ys)) ≤ 1)
       → (rest_fault (stands h waiting false) words ≡ []) × Ends (stands h waiting false) words (items ++ ys)
   unfolding walk_fault

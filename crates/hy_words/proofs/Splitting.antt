@@ -19,10 +19,10 @@ keep : (b : ℕ) (text name : Text) (value : Option Text) → IsSplit text name 
 keep b text name None e = ap (λ t. b ∷ t) e
 keep b text name (Some value) e = ap (λ t. b ∷ t) e
 
-one-more : (n : ℕ) → 1 + n ≡ suc n
+pub one-more : (n : ℕ) → 1 + n ≡ suc n
 one-more n = omega arith
 
-one-more-behind : (n : ℕ) → suc n + 1 ≡ suc (n + 1)
+pub one-more-behind : (n : ℕ) → suc n + 1 ≡ suc (n + 1)
 one-more-behind n = omega arith
 
 split_at : (text : Text) → IsSplit text (name_and_value text).0 (name_and_value text).1

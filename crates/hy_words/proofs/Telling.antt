@@ -12,58 +12,20 @@ use Rattle.clap.specs.Simple.{App, matches_of, built, names_of}
 use Rattle.clap.specs.Takes.{is_given as is_row_given}
 use Rattle.clap.proofs.FaultLemmas.{leaf_fault}
 use Rattle.hy_formula.specs.Quantifiers.{Each}
-use Rattle.hy_words.specs.declared.tool.Tool.{Tool}
-use Rattle.hy_words.specs.declared.tool.Tool.TheVariants.{EaHyper, RvHyper, McHyper}
-use Rattle.hy_words.specs.Words.{Item, file, flag, Says, nothing, behind_dashes, a_file, a_flag, an_option, joined, has, dashed, is_value, is_filled, is_bare, flags_of, options_of, files_in, given_in, item_gives, IsProper}
+use Rattle.hy_words.specs.Words.{Item, file, flag, Says, nothing, behind_dashes, a_file, a_flag, an_option, joined, has, dashed, is_value, is_filled, is_bare, Syntax, files_in, given_in, item_gives, is_given, AreItems, IsProper, GiveSame}
 use Rattle.hy_words.specs.Words.{option as given}
-use Rattle.hy_words.specs.Commands.{is_given}
-use Rattle.hy_words.specs.Parsers.{files_name, parser_of}
-use Rattle.hy_words.specs.Found.{Tells, listed}
+use Rattle.hy_words.specs.Parsers.{files_name, is_syntax, parser_of}
+use Rattle.hy_words.specs.Found.{Tells, is_true, listed}
+use Rattle.hy_words.specs.declared.found.Found.{Found}
+use Rattle.hy_words.proofs.Names.{built_parser, fine, is_built}
 use Rattle.clap.specs.Matches.{found_of, first_value}
 use Rattle.clap.specs.Walk.{rows_of}
-use Rattle.clap.specs.declared.parser.matches.ArgMatches.{ArgMatches}
 use Rattle.clap.proofs.WalkLemmas.{first_value-rows, raw_values-rows}
 use Rattle.hy_base.proofs.Truths.{same-bytes, bytes-themselves}
 use Rattle.hy_words.proofs.Lookups.{more, given_values, row_there}
 use Rattle.hy_words.proofs.Holding.{held, Holds, nothing_holds}
 use Rattle.hy_words.proofs.Walking.{built_flag, built_option, built_files, rules_for, shape_for, stands}
 use Rattle.hy_words.proofs.Reading.{IsFine, end_of, rest_fault, sound, complete, AreBare, or-empty, or-nothing}
-
--- ---- the names of each tool
-
-one_of : (names : List Text) (name : Text) → has names name ≡ true → (P : Text → Type 0) → Each P names → P name
-one_of [] name there P all = absurd (true≢false (sym there))
-one_of (n ∷ names) name there P (first, all) = by (bytes_eq n name) refl (λ t. one_of names name t P all)
-  where
-    by : (b : Bool) → bytes_eq n name ≡ b → (has names name ≡ true → P name) → P name
-    by true e behind = subst P (same-bytes n name e) first
-    by false e behind = behind (sym (ap (λ b. b || has names name) e) ∙ there)
-
-pub fine : (tool : Tool) → IsFine tool
-fine EaHyper = record {
-  apart = λ name there. one_of (options_of EaHyper) name there (λ n. has (flags_of EaHyper) n ≡ false) (refl, (refl, (refl, (refl, (refl, (refl, tt))))));
-  free = refl;
-  clear = refl;
-  flag_alone = λ name there. one_of (flags_of EaHyper) name there (λ n. Rattle.clap.specs.Lexer.long_of (dashed n) ≡ Some (n, None)) (refl, tt);
-  option_alone = λ name there. one_of (options_of EaHyper) name there (λ n. Rattle.clap.specs.Lexer.long_of (dashed n) ≡ Some (n, None)) (refl, (refl, (refl, (refl, (refl, (refl, tt))))));
-  option_joined = λ name v there. one_of (options_of EaHyper) name there (λ n. Rattle.clap.specs.Lexer.long_of (dashed (n ++ 61 ∷ v)) ≡ Some (n, Some v)) (refl, (refl, (refl, (refl, (refl, (refl, tt))))));
-}
-fine RvHyper = record {
-  apart = λ name there. one_of (options_of RvHyper) name there (λ n. has (flags_of RvHyper) n ≡ false) (refl, (refl, tt));
-  free = refl;
-  clear = refl;
-  flag_alone = λ name there. one_of (flags_of RvHyper) name there (λ n. Rattle.clap.specs.Lexer.long_of (dashed n) ≡ Some (n, None)) (refl, tt);
-  option_alone = λ name there. one_of (options_of RvHyper) name there (λ n. Rattle.clap.specs.Lexer.long_of (dashed n) ≡ Some (n, None)) (refl, (refl, tt));
-  option_joined = λ name v there. one_of (options_of RvHyper) name there (λ n. Rattle.clap.specs.Lexer.long_of (dashed (n ++ 61 ∷ v)) ≡ Some (n, Some v)) (refl, (refl, tt));
-}
-fine McHyper = record {
-  apart = λ name there. one_of (options_of McHyper) name there (λ n. has (flags_of McHyper) n ≡ false) (refl, (refl, (refl, (refl, tt))));
-  free = refl;
-  clear = refl;
-  flag_alone = λ name there. one_of (flags_of McHyper) name there (λ n. Rattle.clap.specs.Lexer.long_of (dashed n) ≡ Some (n, None)) (refl, (refl, tt));
-  option_alone = λ name there. one_of (options_of McHyper) name there (λ n. Rattle.clap.specs.Lexer.long_of (dashed n) ≡ Some (n, None)) (refl, (refl, (refl, (refl, tt))));
-  option_joined = λ name v there. one_of (options_of McHyper) name there (λ n. Rattle.clap.specs.Lexer.long_of (dashed (n ++ 61 ∷ v)) ≡ Some (n, Some v)) (refl, (refl, (refl, (refl, tt))));
-}
 
 -- ---- defaults
 
@@ -170,58 +132,49 @@ defaults-fine [] (m ∷ options) rows = by (has_row m rows) refl (defaults-fine 
     by false e behind = or-nothing _ _ (rw e refl) behind
 defaults-fine (f ∷ flags) options rows = or-nothing _ _ (default-fine rows f) (defaults-fine flags options (with_default rows (built_flag f)))
 
--- the parser of a tool as it is built
-abbrev built_parser : Tool → App
-built_parser tool = record { top = shape_for (rules_for (flags_of tool) (options_of tool)); subs = [] }
-
-is_built : (tool : Tool) → built (parser_of tool) ≡ built_parser tool
-is_built EaHyper = refl
-is_built RvHyper = refl
-is_built McHyper = refl
-
 -- The faults of a parse are those of its words and of their end.
-module _ (tool : Tool) (words : List Text) where
+module _ (syntax : Syntax) (words : List Text) where
   abbrev pub start : Walk
   start = stands nothing_held idle false
 
   abbrev names : List Rule
-  names = rules_for (flags_of tool) (options_of tool)
+  names = rules_for syntax.flags syntax.options
 
-  level_is : fault_of (parser_of tool) words ≡ level_fault (shape_for names) [] nothing_held words false []
-  level_is = ap (λ a. built_fault a nothing_held words) (is_built tool) ∙ leaf_fault (built_parser tool) nothing_held words refl
+  level_is : fault_of (parser_of syntax) words ≡ level_fault (shape_for names) [] nothing_held words false []
+  level_is = ap (λ a. built_fault a nothing_held words) (is_built syntax) ∙ leaf_fault (built_parser syntax) nothing_held words refl
 
   abbrev walks : Kinds
   walks = walk_fault (shape_for names) [] start words
 
   abbrev settles : Kinds
-  settles = settle_fault names false (end_of tool start words)
+  settles = settle_fault names false (end_of syntax start words)
 
   abbrev checks : Kinds
-  checks = or_else (defaults_fault (settled names (end_of tool start words)).rows names) (check_fault (shape_for names) (finished names (end_of tool start words)) false)
+  checks = or_else (defaults_fault (settled names (end_of syntax start words)).rows names) (check_fault (shape_for names) (finished names (end_of syntax start words)) false)
 
-  pub fault_is : fault_of (parser_of tool) words ≡ [] → rest_fault tool start words ≡ []
+  pub fault_is : fault_of (parser_of syntax) words ≡ [] → rest_fault syntax start words ≡ []
   fault_is e =
       let (walked, ends) = or-empty walks (or_else settles checks) (sym level_is ∙ e) in
       or-nothing walks settles walked (or-empty settles checks ends).0
 
-  pub no_fault : rest_fault tool start words ≡ [] → fault_of (parser_of tool) words ≡ []
+  pub no_fault : rest_fault syntax start words ≡ [] → fault_of (parser_of syntax) words ≡ []
   no_fault e =
       let (walked, ends) = or-empty walks settles e in
-      let rows = (settled names (end_of tool start words)).rows in
-      let last : check_fault (shape_for names) (finished names (end_of tool start words)) false ≡ [] =
-      rw (none-required (flags_of tool) (options_of tool) (finished names (end_of tool start words))) refl in
-      level_is ∙ or-nothing walks (or_else settles checks) walked (or-nothing settles checks ends (or-nothing _ _ (defaults-fine (flags_of tool) (options_of tool) rows) last))
+      let rows = (settled names (end_of syntax start words)).rows in
+      let last : check_fault (shape_for names) (finished names (end_of syntax start words)) false ≡ [] =
+      rw (none-required syntax.flags syntax.options (finished names (end_of syntax start words))) refl in
+      level_is ∙ or-nothing walks (or_else settles checks) walked (or-nothing settles checks ends (or-nothing _ _ (defaults-fine syntax.flags syntax.options rows) last))
 
-  pub rows_are : matches_of (parser_of tool) words ≡ all_defaults (options_of tool) (flags_of tool) (settled names (end_of tool start words)).rows
-  rows_are = ap (λ a. rows_after a.top.rules (names_of a) words) (is_built tool)
+  pub rows_are : matches_of (parser_of syntax) words ≡ all_defaults syntax.options syntax.flags (settled names (end_of syntax start words)).rows
+  rows_are = ap (λ a. rows_after a.top.rules (names_of a) words) (is_built syntax)
 
 -- ---- what rows tell
 
 -- The rows of matches tell what the items give.
-pub record TellsRows (tool : Tool) (items : List Item) (rows : List Row) : Type 0 where
+pub record TellsRows (syntax : Syntax) (items : List Item) (rows : List Row) : Type 0 where
   pub files : all_of files_name rows ≡ held (files_in items)
-  pub options : (name : Text) → has (options_of tool) name ≡ true → all_of name rows ≡ held (given_in name items)
-  pub flags : (name : Text) → has (flags_of tool) name ≡ true
+  pub options : (name : Text) → has syntax.options name ≡ true → all_of name rows ≡ held (given_in name items)
+  pub flags : (name : Text) → has syntax.flags name ≡ true
       → all_of name rows ≡ Some ((if is_given (given_in name items) then codes "true" else codes "false") ∷ [])
 
 not-files : (names : List Text) (name : Text) → has names files_name ≡ false → has names name ≡ true → bytes_eq files_name name ≡ false
@@ -235,12 +188,12 @@ not-files names name gone there = by (bytes_eq files_name name) refl
 AreTrue : List Text → Type 0
 AreTrue = Each (λ v. v ≡ codes "true")
 
-module _ (tool : Tool) (name : Text) (there : has (flags_of tool) name ≡ true) where
+module _ (syntax : Syntax) (good : IsFine syntax) (name : Text) (there : has syntax.flags name ≡ true) where
   no_files : (names : List Text) → given_in name (map file names) ≡ []
   no_files [] = refl
   no_files (n ∷ names) = no_files names
 
-  flags_true : (words : List Text) (items : List Item) → Says tool words items → AreTrue (given_in name items)
+  flags_true : (words : List Text) (items : List Item) → Says syntax words items → AreTrue (given_in name items)
   unfolding AreTrue
   flags_true _ _ nothing = tt
   flags_true _ _ (behind_dashes names) = rw (no_files names) tt
@@ -253,12 +206,12 @@ module _ (tool : Tool) (name : Text) (there : has (flags_of tool) name ≡ true)
   flags_true _ _ (an_option n v words items known says) = by (bytes_eq n name) refl (flags_true words items says)
     where
       by : (b : Bool) → bytes_eq n name ≡ b → AreTrue (given_in name items) → AreTrue (cond b (v ∷ []) [] ++ given_in name items)
-      by true e behind = absurd (true≢false (sym there ∙ ap (has (flags_of tool)) (sym (same-bytes n name e)) ∙ (fine tool).apart n known))
+      by true e behind = absurd (true≢false (sym there ∙ ap (has syntax.flags) (sym (same-bytes n name e)) ∙ good.apart n known))
       by false e behind = behind
   flags_true _ _ (joined n v words items known says) = by (bytes_eq n name) refl (flags_true words items says)
     where
       by : (b : Bool) → bytes_eq n name ≡ b → AreTrue (given_in name items) → AreTrue (cond b (v ∷ []) [] ++ given_in name items)
-      by true e behind = absurd (true≢false (sym there ∙ ap (has (flags_of tool)) (sym (same-bytes n name e)) ∙ (fine tool).apart n known))
+      by true e behind = absurd (true≢false (sym there ∙ ap (has syntax.flags) (sym (same-bytes n name e)) ∙ good.apart n known))
       by false e behind = behind
 
 flag-text : (given : List Text) → length given ≤ 1 → AreTrue given
@@ -268,26 +221,26 @@ flag-text [] few all = refl
 flag-text (v ∷ []) few (first, all) = ap (λ t. Some (t ∷ [])) first
 flag-text (v ∷ w ∷ vs) few all = absurd (omega arith)
 
-told : (tool : Tool) (words : List Text) (items : List Item) → Says tool words items → Holds (settled (rules_for (flags_of tool) (options_of tool)) (end_of tool (start tool words) words)).rows items
-    → TellsRows tool items (matches_of (parser_of tool) words)
-told tool words items says holds = subst (TellsRows tool items) (sym (rows_are tool words)) record {
-  files = others_kept (options_of tool) (flags_of tool) rows files_name (fine tool).free ∙ holds.files;
-  options = λ name there. others_kept (options_of tool) (flags_of tool) rows name ((fine tool).apart name there) ∙ holds.named name (not-files (options_of tool) name (fine tool).clear there);
+told : (syntax : Syntax) → IsFine syntax → (words : List Text) (items : List Item) → Says syntax words items → Holds (settled (rules_for syntax.flags syntax.options) (end_of syntax (start syntax words) words)).rows items
+    → TellsRows syntax items (matches_of (parser_of syntax) words)
+told syntax good words items says holds = subst (TellsRows syntax items) (sym (rows_are syntax words)) record {
+  files = others_kept syntax.options syntax.flags rows files_name good.free ∙ holds.files;
+  options = λ name there. others_kept syntax.options syntax.flags rows name (good.apart name there) ∙ holds.named name (not-files syntax.options name good.clear there);
   flags = λ name there.
-      flags_filled (options_of tool) (flags_of tool) rows name there
-      ∙ ap (λ o. Some (unwrap_or o (codes "false" ∷ []))) (holds.named name (not-files (flags_of tool) name (fine tool).free there))
-      ∙ flag-text (given_in name items) (holds.once name) (flags_true tool name there words items says);
+      flags_filled syntax.options syntax.flags rows name there
+      ∙ ap (λ o. Some (unwrap_or o (codes "false" ∷ []))) (holds.named name (not-files syntax.flags name good.free there))
+      ∙ flag-text (given_in name items) (holds.once name) (flags_true syntax good name there words items says);
 }
   where
     rows : List Row
-    rows = (settled (rules_for (flags_of tool) (options_of tool)) (end_of tool (start tool words) words)).rows
+    rows = (settled (rules_for syntax.flags syntax.options) (end_of syntax (start syntax words) words)).rows
 
 -- Words that the parser takes say items, and the matches tell what these give.
-pub parsed : (tool : Tool) (words : List Text) → Each IsUtf8 words → fault_of (parser_of tool) words ≡ []
-    → (items : List Item) × Says tool words items × ((name : Text) → length (given_in name items) ≤ 1) × TellsRows tool items (matches_of (parser_of tool) words)
-parsed tool words texts e =
-    let (items, says, holds) = sound tool (fine tool) words texts nothing_held idle [] (refl, λ done. nothing_holds) (fault_is tool words e) in
-    (items, says, holds.once, told tool words items says holds)
+pub parsed : (syntax : Syntax) → IsFine syntax → (words : List Text) → Each IsUtf8 words → fault_of (parser_of syntax) words ≡ []
+    → (items : List Item) × Says syntax words items × ((name : Text) → length (given_in name items) ≤ 1) × TellsRows syntax items (matches_of (parser_of syntax) words)
+parsed syntax good words texts e =
+    let (items, says, holds) = sound syntax good words texts nothing_held idle [] (refl, λ done. nothing_holds) (fault_is syntax words e) in
+    (items, says, holds.once, told syntax good words items says holds)
 
 passes_of : (p : Text → Bool) (names : List Text) (name : Text) → has names name ≡ true → IsTrue (list_all p names) → IsTrue (p name)
 passes_of p [] name there all = absurd (true≢false (sym there))
@@ -315,33 +268,33 @@ behind-good p (v ∷ front) back all = by (p v) all (behind-good p front back)
     by false all behind = absurd (true≢false (sym all))
 
 -- Values of proper items do not begin with a dash and go on.
-bare_values : (tool : Tool) (words : List Text) (items : List Item) → Says tool words items
-    → ((name : Text) → has (options_of tool) name ≡ true → IsTrue (list_all is_value (given_in name items))) → AreBare tool items
-bare_values tool _ _ nothing good = tt
-bare_values tool _ _ (behind_dashes names) good = files-bare names
+bare_values : (syntax : Syntax) (words : List Text) (items : List Item) → Says syntax words items
+    → ((name : Text) → has syntax.options name ≡ true → IsTrue (list_all is_value (given_in name items))) → AreBare syntax items
+bare_values syntax _ _ nothing good = tt
+bare_values syntax _ _ (behind_dashes names) good = files-bare names
   where
-    files-bare : (names : List Text) → AreBare tool (map file names)
+    files-bare : (names : List Text) → AreBare syntax (map file names)
     files-bare [] = tt
     files-bare (n ∷ names) = files-bare names
-bare_values tool _ _ (a_file n words items known says) good = bare_values tool words items says good
-bare_values tool _ _ (a_flag n words items known says) good =
-    bare_values tool words items says (λ name there. behind-good is_value (item_gives name (flag n)) (given_in name items) (good name there))
-bare_values tool _ _ (an_option n v words items known says) good = (
+bare_values syntax _ _ (a_file n words items known says) good = bare_values syntax words items says good
+bare_values syntax _ _ (a_flag n words items known says) good =
+    bare_values syntax words items says (λ name there. behind-good is_value (item_gives name (flag n)) (given_in name items) (good name there))
+bare_values syntax _ _ (an_option n v words items known says) good = (
   bare-value v (given_in n items) (let P : Bool → Type 0 = λ b. IsTrue (list_all is_value (cond b (v ∷ []) [] ++ given_in n items)) in subst P (bytes-themselves n) (good n known)),
-  bare_values tool words items says (λ name there. behind-good is_value (item_gives name (given n v)) (given_in name items) (good name there)),
+  bare_values syntax words items says (λ name there. behind-good is_value (item_gives name (given n v)) (given_in name items) (good name there)),
 )
-bare_values tool _ _ (joined n v words items known says) good = (
+bare_values syntax _ _ (joined n v words items known says) good = (
   bare-value v (given_in n items) (let P : Bool → Type 0 = λ b. IsTrue (list_all is_value (cond b (v ∷ []) [] ++ given_in n items)) in subst P (bytes-themselves n) (good n known)),
-  bare_values tool words items says (λ name there. behind-good is_value (item_gives name (given n v)) (given_in name items) (good name there)),
+  bare_values syntax words items says (λ name there. behind-good is_value (item_gives name (given n v)) (given_in name items) (good name there)),
 )
 
 -- Words that say proper items are taken by the parser, and the matches tell what the items give.
-pub taken : (tool : Tool) (words : List Text) (items : List Item) → Says tool words items → IsProper tool items
-    → (fault_of (parser_of tool) words ≡ []) × TellsRows tool items (matches_of (parser_of tool) words)
-taken tool words items says proper =
-    let bare = bare_values tool words items says (λ name there. passes_of (λ n. list_all is_value (given_in n items)) (options_of tool) name there proper.values) in
-    let (rest, holds) = complete tool (fine tool) words items says bare nothing_held idle tt [] refl nothing_holds proper.once in
-    (no_fault tool words rest, told tool words items says holds)
+pub taken : (syntax : Syntax) → IsFine syntax → (words : List Text) (items : List Item) → Says syntax words items → IsProper syntax items
+    → (fault_of (parser_of syntax) words ≡ []) × TellsRows syntax items (matches_of (parser_of syntax) words)
+taken syntax good words items says proper =
+    let bare = bare_values syntax words items says (λ name there. passes_of (λ n. list_all is_value (given_in n items)) syntax.options name there proper.values) in
+    let (rest, holds) = complete syntax good words items says bare nothing_held idle tt [] refl nothing_holds proper.once in
+    (no_fault syntax words rest, told syntax good words items says holds)
 
 -- ---- what matches tell
 
@@ -365,26 +318,25 @@ unheld : (names : List Text) → names ≡ unwrap_or (held names) []
 unheld [] = refl
 unheld (n ∷ names) = refl
 
+text-true : (b : Bool) → b ≡ is_true (Some (if b then codes "true" else codes "false"))
+text-true true = refl
+text-true false = refl
+
 -- Matches with these rows tell what the rows do.
-pub tells : (tool : Tool) (items : List Item) (m : ArgMatches) (rows : List Row) → rows_of (found_of m) ≡ rows → ((name : Text) → length (given_in name items) ≤ 1)
-    → TellsRows tool items rows → Tells tool items m
-tells tool items m rows same once told =
-    let first : (name : Text) → first_value (found_of m) name ≡ option_and_then (λ vs. slice_get vs 0) (all_of name rows) =
-    λ name. first_value-rows (found_of m) name ∙ ap (first_of name) same ∙ first_from_all name rows in
+pub tells : (syntax : Syntax) (items : List Item) (found : Found) (rows : List Row) → rows_of (found_of found.matches) ≡ rows → ((name : Text) → length (given_in name items) ≤ 1)
+    → TellsRows syntax items rows → Tells syntax items found
+tells syntax items found rows same once told =
+    let first : (name : Text) → first_value (found_of found.matches) name ≡ option_and_then (λ vs. slice_get vs 0) (all_of name rows) =
+    λ name. first_value-rows (found_of found.matches) name ∙ ap (first_of name) same ∙ first_from_all name rows in
     record {
-      files = unheld (files_in items) ∙ ap (λ o. unwrap_or o []) (sym (raw_values-rows (found_of m) files_name ∙ ap (all_of files_name) same ∙ told.files));
-      options = each_from (options_of tool) _ (λ name there. one-listed (given_in name items) (once name)
+      files = unheld (files_in items) ∙ ap (λ o. unwrap_or o []) (sym (raw_values-rows (found_of found.matches) files_name ∙ ap (all_of files_name) same ∙ told.files));
+      options = each_from syntax.options _ (λ name there. one-listed (given_in name items) (once name)
           ∙ ap (λ o. listed (option_and_then (λ vs. slice_get vs 0) o)) (sym (told.options name there)) ∙ ap listed (sym (first name)));
-      flags = each_from (flags_of tool) _ (λ name there. first name ∙ ap (λ o. option_and_then (λ vs. slice_get vs 0) o) (told.flags name there));
+      flags = each_from syntax.flags _ (λ name there. text-true (is_given (given_in name items))
+          ∙ ap is_true (sym (first name ∙ ap (λ o. option_and_then (λ vs. slice_get vs 0) o) (told.flags name there))));
     }
 
 -- ---- two lists of items
-
--- Both give the tool the same.
-pub record Same (tool : Tool) (items others : List Item) : Type 0 where
-  pub files : files_in items ≡ files_in others
-  pub options : Each (λ name. given_in name items ≡ given_in name others) (options_of tool)
-  pub flags : Each (λ name. is_given (given_in name items) ≡ is_given (given_in name others)) (flags_of tool)
 
 held-same : (xs ys : List Text) → held xs ≡ held ys → xs ≡ ys
 held-same xs ys e = unheld xs ∙ ap (λ o. unwrap_or o []) e ∙ sym (unheld ys)
@@ -395,12 +347,15 @@ text-same false false e = refl
 text-same true false e = absurd cc
 text-same false true e = absurd cc
 
-pub same_items : (tool : Tool) (words : List Text) (items others : List Item) → Says tool words items → IsProper tool items → Says tool words others → IsProper tool others → Same tool items others
-same_items tool words items others says proper also fit =
-    let one = (taken tool words items says proper).1 in
-    let two = (taken tool words others also fit).1 in
+-- All items that words are give the same.
+pub same_items : (syntax : Syntax) → IsTrue (is_syntax syntax) → (words : List Text) (items others : List Item) → AreItems syntax words items
+    → AreItems syntax words others → GiveSame syntax items others
+same_items syntax is words items others (says, proper) (also, fit) =
+    let good = fine syntax is in
+    let one = (taken syntax good words items says proper).1 in
+    let two = (taken syntax good words others also fit).1 in
     record {
       files = held-same _ _ (sym one.files ∙ two.files);
-      options = each_from (options_of tool) _ (λ name there. held-same _ _ (sym (one.options name there) ∙ two.options name there));
-      flags = each_from (flags_of tool) _ (λ name there. text-same _ _ (sym (one.flags name there) ∙ two.flags name there));
+      options = each_from syntax.options _ (λ name there. held-same _ _ (sym (one.options name there) ∙ two.options name there));
+      flags = each_from syntax.flags _ (λ name there. text-same _ _ (sym (one.flags name there) ∙ two.flags name there));
     }

@@ -1,5 +1,4 @@
-pub mod Commands
 pub mod Found
+pub mod Numbers
 pub mod Parsers
-pub mod Said
 pub mod Words

@@ -1,10 +1,11 @@
--- The parser of a tool's words: one simple command without subcommands, help and version.
-use Rattle.std.specs.Prelude.{true, List, [], ◌∷◌, ◌++◌, map, codes, Some}
+-- The parser of words: one simple command without subcommands, help and version; and the names that it takes.
+use Rattle.std.specs.Prelude.{true, ◌&&◌, Bool, not, List, [], ◌∷◌, ◌++◌, map, codes, Some}
+use Rattle.std.specs.List.{list_all, list_any}
+use Rattle.clap.specs.Lexer.{has_byte}
 use Rattle.clap.specs.Simple.{App, new_rule, new_shape}
 use Rattle.clap.specs.Walk.{Rule}
 use Rattle.clap.specs.declared.builder.action.ArgAction.TheVariants.{Set, Append, SetTrue}
-use Rattle.hy_words.specs.declared.tool.Tool.{Tool}
-use Rattle.hy_words.specs.Words.{Text, flags_of, options_of}
+use Rattle.hy_words.specs.Words.{Text, Syntax, has, is_filled}
 
 -- the name under which the names of files are found
 abbrev pub files_name : Text
@@ -32,5 +33,15 @@ taking rules = record {
   subs = [];
 }
 
-abbrev pub parser_of : Tool → App
-parser_of tool = taking (map flag_rule (flags_of tool) ++ map option_rule (options_of tool) ++ files_rule ∷ [])
+abbrev pub parser_of : Syntax → App
+parser_of syntax = taking (map flag_rule syntax.flags ++ map option_rule syntax.options ++ files_rule ∷ [])
+
+-- A name is not empty, and has no equals sign.
+abbrev pub is_name : Text → Bool
+is_name name = is_filled name && not (has_byte 61 name)
+
+-- Flags and options have names, none is both, and none has the name of files.
+abbrev pub is_syntax : Syntax → Bool
+is_syntax syntax =
+    list_all is_name syntax.flags && list_all is_name syntax.options && not (list_any (has syntax.flags) syntax.options)
+    && not (has syntax.flags files_name) && not (has syntax.options files_name)

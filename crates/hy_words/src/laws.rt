@@ -1,12 +1,12 @@
-//! A law of the definitions: words are at most one command.
+//! A law of the definitions: words give one thing.
 
-ghost use Rattle.std.specs.Prelude.{◌≡◌, List};
-ghost use Rattle.hy_words.specs.Commands.{Command, IsCommand};
-ghost use Rattle.hy_words.specs.Words.{Text};
-ghost use Rattle.hy_words.specs.declared.tool.Tool.{Tool};
+ghost use Rattle.std.specs.Prelude.{List, IsTrue};
+ghost use Rattle.hy_words.specs.Parsers.{is_syntax};
+ghost use Rattle.hy_words.specs.Words.{AreItems, GiveSame, Item, Syntax, Text};
 
-/// A list of words is at most one command of a tool.
-pub fn one_command()
-    ensures { (tool : Tool) (words : List Text) (a b : Command)
-        → IsCommand tool words a → IsCommand tool words b → a ≡ b }
+/// All items that words are give the same.
+pub fn one_reading()
+    ensures { (syntax : Syntax) → IsTrue (is_syntax syntax) → (words : List Text)
+        (items others : List Item) → AreItems syntax words items → AreItems syntax words others
+        → GiveSame syntax items others }
 {}

@@ -1,12 +1,12 @@
-//! The words of a command line: which of them are a command of which tool.
+//! The words of a command line: what they say, by the names of flags and options that a tool has.
 #![tactic(auto)]
 
-mod command;
+mod found;
 pub mod laws;
-mod orders;
+mod number;
 mod parser;
-mod tool;
-mod value;
+mod syntax;
 
-pub use command::{Command, command_of};
-pub use tool::Tool;
+pub use found::{Found, found_in};
+pub use number::{number_in, number_or};
+pub use syntax::Syntax;

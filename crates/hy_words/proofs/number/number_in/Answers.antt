@@ -1,10 +1,10 @@
 use Rattle.std.proofs.Common.{◌≡◌, ℕ, ◌<◌, ◌^◌, List, Ok, ◌∙◌, arith, true≢false, Result}
 use Rattle.std.specs.Str.Parse.{ParsesUnsigned}
 use Rattle.std.proofs.lemmas.Fmt.{parse-decimal}
-use Rattle.hy_words.specs.Commands.{IsNumber}
-use Rattle.hy_words.proofs.Steps.{no_number, that_number, text_same}
-use Rattle.hy_words.proofs.value.number_in.Goals as goal
-use Rattle.hy_words.proofs.value.number_in.Goals.{then-ne-via-then-ne, then-ne-via-else-ne+then-n-least, then-ne-via-else-ne+else-n-least+then-most-n}
+use Rattle.hy_words.specs.Numbers.{IsNumber}
+use Rattle.hy_words.proofs.Numbers.{no_number, that_number, text_same}
+use Rattle.hy_words.proofs.number.number_in.Goals as goal
+use Rattle.hy_words.proofs.number.number_in.Goals.{then-ne-via-then-ne, then-ne-via-else-ne+then-n-least, then-ne-via-else-ne+else-n-least+then-most-n}
 
 read_back : {E : Type 0} (text : List ℕ) (least most n : ℕ) (r : Result ℕ E) → most < 2 ^ 32 → IsNumber text least most n → ParsesUnsigned 32 10 text r → r ≡ Ok n
 read_back text least most n r fits (same, from, to) parsed = parse-decimal 32 n text r (omega arith) (omega arith) same parsed
