@@ -1,5 +1,4 @@
 pub mod Checking
-pub mod Classes
 pub mod Deciding
 pub mod Driving
 pub mod Dropping
