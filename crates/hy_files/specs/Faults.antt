@@ -1,5 +1,5 @@
 -- The faults of files: which of them stands for what a reader says.
-use Rattle.std.specs.Prelude.{◌≡◌, ℕ}
+use Rattle.std.specs.Prelude.{◌≡◌}
 use Rattle.hy_base.specs.Limits.{most}
 use Rattle.hy_base.specs.declared.limit.Kind.TheVariants.{Length}
 use Rattle.hy_base.specs.declared.reading.FileError.{FileError}

@@ -1,5 +1,5 @@
 -- What the parser makes of names, where flags and options have names that it can tell apart.
-use Rattle.std.proofs.Common.{suc, ◌+◌, ◌≡◌, ℕ, ◌||◌, ◌&&◌, ◌==◌, Bool, true, false, not, List, [], ◌∷◌, ◌++◌, map, Option, Some, None, is_some, refl, sym, ap, ◌∙◌, true≢false}
+use Rattle.std.proofs.Common.{◌≡◌, ◌||◌, ◌&&◌, ◌==◌, Bool, true, false, not, List, [], ◌∷◌, ◌++◌, map, Option, Some, None, is_some, refl, sym, ap, ◌∙◌, true≢false}
 use Rattle.std.specs.Bool.{IsTrue}
 use Rattle.std.specs.List.{count_by, list_any, list_all}
 use Rattle.std.specs.Str.{bytes_eq}
@@ -12,7 +12,7 @@ use Rattle.hy_words.specs.Words.{Text, Syntax, dashed, has, is_filled}
 use Rattle.hy_words.specs.Parsers.{files_name, files_rule, flag_rule, is_name, is_syntax, option_rule, parser_of}
 use Rattle.hy_words.proofs.Reading.{IsFine}
 use Rattle.hy_words.proofs.Splitting.{one-more, one-more-behind}
-use Rattle.hy_words.proofs.Walking.{built_files, built_flag, built_option, rules_for, shape_for}
+use Rattle.hy_words.proofs.Walking.{built_flag, built_option, rules_for, shape_for}
 
 -- ---- truths of several
 

@@ -8,11 +8,11 @@ use Rattle.std.proofs.lemmas.Bool.{or_right}
 use Rattle.clap.specs.Walk.{Row, Rule, Text, all_of, first_of, with_default, settled, has_row, nothing_held, idle, finished, Walk, rows_after}
 use Rattle.clap.specs.Faults.{built_fault, level_fault, fault_of, defaults_fault, check_fault, walk_fault, settle_fault}
 use Rattle.clap.specs.Kinds.{Kinds, or_else}
-use Rattle.clap.specs.Simple.{App, matches_of, built, names_of}
+use Rattle.clap.specs.Simple.{matches_of, names_of}
 use Rattle.clap.specs.Takes.{is_given as is_row_given}
 use Rattle.clap.proofs.FaultLemmas.{leaf_fault}
 use Rattle.hy_formula.specs.Quantifiers.{Each}
-use Rattle.hy_words.specs.Words.{Item, file, flag, Says, nothing, behind_dashes, a_file, a_flag, an_option, joined, has, dashed, is_value, is_filled, is_bare, Syntax, files_in, given_in, item_gives, is_given, AreItems, IsProper, GiveSame}
+use Rattle.hy_words.specs.Words.{Item, file, flag, Says, nothing, behind_dashes, a_file, a_flag, an_option, joined, has, is_value, is_filled, is_bare, Syntax, files_in, given_in, item_gives, is_given, AreItems, IsProper, GiveSame}
 use Rattle.hy_words.specs.Words.{option as given}
 use Rattle.hy_words.specs.Parsers.{files_name, is_syntax, parser_of}
 use Rattle.hy_words.specs.Found.{Tells, is_true, listed}
