@@ -8,7 +8,9 @@ use Rattle.hy_finite.specs.Traces.{Trace}
 use Rattle.fin_monitor.specs.Machines.{Machine}
 use Rattle.trace_trie.specs.Numbered.{Numbered}
 use Rattle.rv_core.specs.Arrivals.{AreNext, IsNext, over, last}
+use Rattle.rv_core.specs.Held.{spec_of}
 use Rattle.rv_core.specs.Keeping.{kept_at}
+use Rattle.rv_core.specs.Masks.{masked}
 use Rattle.rv_core.proofs.Places.{each-from}
 use Rattle.rv_core.proofs.Seeing.{kept-there}
 use Rattle.rv_core.proofs.Sifting.{left-each}
@@ -56,5 +58,5 @@ next-below rule drop ms n t old new next below =
     let (m, there) = machine-some ms s (omega (arith, within, next.long)) in
     let P : List Numbered → Type 0 = Below (n + 1) in
     subst P (kept-there new s list at)
-    (one-below rule drop m t n (kept_at old s) (kept_at new s) (next.right s m there)
-    (below-at n old s below)))
+    (one-below rule drop m (masked (spec_of m) t) n (kept_at old s) (kept_at new s)
+    (next.right s m there) (below-at n old s below)))

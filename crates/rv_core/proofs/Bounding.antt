@@ -4,13 +4,16 @@ use Rattle.std.specs.List.{Contains}
 use Rattle.std.proofs.lemmas.List.Sums.{sum_by_more, sum_by-take-le}
 use Rattle.std.proofs.lemmas.Nat.{mul-le}
 use Rattle.hy_base.proofs.Members.{contains-here}
+use Rattle.hy_formula.specs.Quantifiers.{IsTuple}
+use Rattle.hy_formula.proofs.Each.{each-like}
 use Rattle.hy_finite.specs.declared.lengths.Lengths.{Lengths}
 use Rattle.hy_finite.specs.Traces.{Trace}
 use Rattle.fin_monitor.specs.Machines.{Machine}
 use Rattle.tuple_walk.specs.JointPrefixes.{Row, IsJointPrefix, IsFirstPrefix}
 use Rattle.tuple_walk.specs.Finds.{traces_of}
-use Rattle.rv_core.specs.Held.{Held}
+use Rattle.rv_core.specs.Held.{Held, spec_of}
 use Rattle.rv_core.specs.Keeping.{kept_at}
+use Rattle.rv_core.specs.Masks.{masked}
 use Rattle.rv_core.specs.StepBounds.{IsBound, by_joint, by_first, IsSpecBound, AreBounds}
 use Rattle.rv_core.specs.Watched.{IsExact}
 use Rattle.rv_core.proofs.Below.{machine-some}
@@ -24,6 +27,32 @@ joint-of rule list t n rows is = record {
   one = contains-here t is.others;
   prefix = is.prefix;
 }
+
+-- members of fewer traces are members of more
+tuple-among : (few list : List Trace) → ((u : Trace) → Contains few u → Contains list u) → (n : ℕ)
+    (tuple : List Trace) → IsTuple (Contains few) n tuple → IsTuple (Contains list) n tuple
+tuple-among few list among n tuple is = record {
+  count = is.count;
+  members = each-like (Contains few) (Contains list) among tuple is.members;
+}
+
+-- a bound for more traces is one for fewer of them
+pub bound-fewer : (rule : Lengths) (m : Machine) (t : Trace) (few list : List Trace)
+    → ((u : Trace) → Contains few u → Contains list u) → (bound : ℕ) → IsBound rule m list t bound
+    → IsBound rule m few t bound
+bound-fewer rule m t few list among bound (by_joint prefixes all) =
+    by_joint prefixes (λ rows is. all rows (record {
+      tuple = is.tuple;
+      members = tuple-among few list among m.variables is.tuple is.members;
+      one = is.one;
+      prefix = is.prefix;
+    }))
+bound-fewer rule m t few list among bound (by_first prefixes same all) =
+    by_first prefixes same (λ rows is. all rows (record {
+      others = is.others;
+      members = tuple-among few list among m.variables (t ∷ is.others) is.members;
+      prefix = is.prefix;
+    }))
 
 -- of a search for tuples with the trace first
 pub first-bound : (rule : Lengths) (m : Machine) (list : List Trace) (t : Trace) (old new : ℕ)
@@ -56,7 +85,8 @@ module _ (m : Held) (t : Trace) (bounds : List ℕ) (are : AreBounds m t bounds)
   pub bounds-more : (i : ℕ) → i < length m.machines → (before after : ℕ)
       → before ≤ start + sum (take i bounds)
       → ((q : Machine) (bound : ℕ) → slice_get m.machines i ≡ Some q
-      → IsSpecBound m.rule q (traces_of (kept_at m.kept i)) t bound → after ≤ before + bound)
+      → IsSpecBound m.rule q (traces_of (kept_at m.kept i)) (masked (spec_of q) t) bound
+      → after ≤ before + bound)
       → after ≤ start + sum (take (i + 1) bounds)
   bounds-more i lt before after within one =
       let (q, there) = machine-some m.machines i lt in

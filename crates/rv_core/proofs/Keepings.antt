@@ -1,8 +1,8 @@
 -- What is kept of a list is of it, and covers it.
-use Rattle.std.proofs.Common.{◌≡◌, ℕ, ◌<◌, Bool, true, false, nat_eq, List, [], ◌∷◌, ◌++◌, length, if◌then◌else◌, inl, inr, refl, sym, ap, ◌∙◌, subst}
+use Rattle.std.proofs.Common.{◌≡◌, ℕ, ◌<◌, Bool, true, false, nat_eq, List, [], ◌∷◌, ◌++◌, length, map, if◌then◌else◌, inl, inr, refl, sym, ap, ◌∙◌, subst}
 use Rattle.std.specs.List.{Contains}
 use Rattle.std.proofs.lemmas.List.{length-map}
-use Rattle.hy_base.proofs.Members.{contains-here, contains-later, contains-cases, contains-none}
+use Rattle.hy_base.proofs.Members.{contains-here, contains-later, contains-cases, contains-none, map-of}
 use Rattle.hy_formula.specs.Quantifiers.{Each}
 use Rattle.hy_formula.proofs.Each.{each-from}
 use Rattle.hy_finite.specs.declared.lengths.Lengths.{Lengths}
@@ -19,6 +19,9 @@ use Rattle.rv_core.specs.Endings.{Spec, spec_at}
 use Rattle.rv_core.specs.Held.{Held, specs_of, StandsFor, kept_count}
 use Rattle.rv_core.specs.Histories.{History}
 use Rattle.rv_core.specs.Keeping.{is_dropping, CoversIf, Covers, members_of, IsKept, IsKeptCount, kept_at}
+use Rattle.rv_core.specs.Masks.{masked, masked_list}
+use Rattle.rv_core.proofs.Masking.{dominates-masked}
+use Rattle.rv_core.proofs.Unmasking.{member, unmasked-leaders}
 
 -- ---- pairs and their traces
 
@@ -145,18 +148,22 @@ module _ (m : Held) (h : History) (s : ℕ) (stands : StandsFor m h)
     (lt : s < length (specs_of m)) where
   pub keeps-count : IsKeptCount m.rule m.drop (spec_at (specs_of m) s) h.present.arrived
       (kept_count m s)
-  keeps-count = by m.drop (stands.kept.right s lt)
+  keeps-count =
+      by m.drop (spec_at (specs_of m) s) h.present.arrived (stands.kept.right s lt) stands.count
     where
-      by : (b : Bool)
-          → IsKept m.rule b (spec_at (specs_of m) s) h.present.arrived (kept_at m.kept s)
-          → IsKeptCount m.rule b (spec_at (specs_of m) s) h.present.arrived
-          (if b then length (kept_at m.kept s) else m.arrived)
-      by false is = stands.count
-      by true is = (
-        members_of (kept_at m.kept s),
-        is,
-        sym (length-map (kept_at m.kept s) (λ (p : Numbered). numbered p.0 p.1)),
-      )
+      by : (b : Bool) (spec : Spec) (list : List Trace)
+          → IsKept m.rule b spec (masked_list spec list) (kept_at m.kept s)
+          → m.arrived ≡ length list
+          → IsKeptCount m.rule b spec list (if b then length (kept_at m.kept s) else m.arrived)
+      by false spec list is count = count
+      by true spec list is count =
+          let kept = members_of (kept_at m.kept s) in (
+            map (member list) kept,
+            unmasked-leaders (masked spec) (Dominates m.rule spec.variables spec.body)
+                (dominates-masked m.rule spec) list kept is,
+            sym (length-map kept (member list)
+                ∙ length-map (kept_at m.kept s) (λ (p : Numbered). numbered p.0 p.1)),
+          )
 
   pub keeps-apart : (p q : Numbered) → Contains (kept_at m.kept s) p → Contains (kept_at m.kept s) q
       → Covers m.rule m.drop (spec_at (specs_of m) s) p.1 q.1 → p ≡ q
@@ -165,13 +172,15 @@ module _ (m : Held) (h : History) (s : ℕ) (stands : StandsFor m h)
       let kept = kept_at m.kept s in
       ap (λ (x : leaders.Numbered Trace). (x.number, x.item))
       (kept-apart (Covers m.rule m.drop spec) (covers-itself m.rule m.drop spec)
-      (covers-through m.rule m.drop spec) h.present.arrived (members_of kept)
+      (covers-through m.rule m.drop spec) (masked_list spec h.present.arrived) (members_of kept)
       (stands.kept.right s lt) (numbered p.0 p.1) (numbered q.0 q.1) (member-of kept p in_p)
       (member-of kept q in_q) over)
 
   pub keeps-covers : (t : Trace) → Contains h.present.arrived t
       → (u : Trace) × Contains (traces_of (kept_at m.kept s)) u
-      × Covers m.rule m.drop (spec_at (specs_of m) s) u t
-  keeps-covers =
-      covered m.rule m.drop (spec_at (specs_of m) s) h.present.arrived (kept_at m.kept s)
-      (stands.kept.right s lt)
+      × Covers m.rule m.drop (spec_at (specs_of m) s) u (masked (spec_at (specs_of m) s) t)
+  keeps-covers t c =
+      let spec = spec_at (specs_of m) s in
+      let list = h.present.arrived in
+      covered m.rule m.drop spec (masked_list spec list) (kept_at m.kept s)
+      (stands.kept.right s lt) (masked spec t) (map-of (masked spec) list t c)

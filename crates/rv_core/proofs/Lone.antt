@@ -17,6 +17,7 @@ use Rattle.rv_core.specs.Arrivals.{IsOver, none, IsNext, over, last, IsOutcome}
 use Rattle.rv_core.specs.Held.{spec_of}
 use Rattle.rv_core.specs.Keeping.{is_dropping, CoversIf}
 use Rattle.rv_core.specs.StepBounds.{IsBound, by_joint, by_first, IsSpecBound}
+use Rattle.rv_core.proofs.Bounding.{bound-fewer}
 use Rattle.rv_core.proofs.Keepings.{traces-from}
 use Rattle.rv_core.proofs.Sifting.{rest-start}
 
@@ -51,19 +52,6 @@ module _ (rule : Lengths) (m : Machine) (t : Trace) (one : m.variables ≡ 1) wh
   lone-steps list old new joint bound (by_first prefixes same all) =
       absurd (omega (arith, one, same.two))
 
-  -- a bound for more traces is one for the trace alone
-  pub lone-bound : (list : List Trace) → Contains list t → (bound : ℕ)
-      → IsBound rule m list t bound → IsBound rule m (t ∷ []) t bound
-  lone-bound list has bound (by_joint prefixes all) =
-      by_joint prefixes (λ rows is. all rows (record {
-        tuple = is.tuple;
-        members = tuple-of-one t m.variables is.tuple list has is.members;
-        one = is.one;
-        prefix = is.prefix;
-      }))
-  lone-bound list has bound (by_first prefixes same all) =
-      absurd (omega (arith, one, same.two))
-
   -- steps of the walk, where no equal one is kept
   pub lone-walk : (old : List Numbered) (u : Trace) (start end : ℕ) → u ≡ t → (¬ IsHeld t old)
       → ((bound : ℕ) → IsBound rule m (u ∷ []) u bound → end ≤ start + bound)
@@ -73,7 +61,9 @@ module _ (rule : Lengths) (m : Machine) (t : Trace) (one : m.variables ≡ 1) wh
   lone-walk old u start end same absent steps bound (inr b) =
       let P : Trace → Type 0 = λ v. IsBound rule m (v ∷ []) v bound in
       let whole = traces_of old ++ t ∷ [] in
-      steps bound (subst P (sym same) (lone-bound whole (Contains-push (traces_of old) t) bound b))
+      let has = Contains-push (traces_of old) t in
+      steps bound (subst P (sym same)
+      (bound-fewer rule m t (t ∷ []) whole (λ v c. of-one t v whole has c) bound b))
 
   -- the one tuple meets the body, among whatever traces
   pub lone-meets : AllMeet m rule (t ∷ []) t → (list : List Trace) → AllMeet m rule list t

@@ -7,7 +7,9 @@ use Rattle.hy_finite.specs.Traces.{Trace}
 use Rattle.fin_monitor.specs.Machines.{Machine}
 use Rattle.trace_trie.specs.Numbered.{Numbered}
 use Rattle.rv_core.specs.Arrivals.{IsPassed, IsNext, AreNext}
+use Rattle.rv_core.specs.Held.{spec_of}
 use Rattle.rv_core.specs.Keeping.{kept_at}
+use Rattle.rv_core.specs.Masks.{masked}
 
 -- ---- another one at a place
 
@@ -33,7 +35,7 @@ length-set (y ∷ ys) zero x = refl
 length-set (y ∷ ys) (suc i) x = ap suc (length-set ys i x)
 
 -- what holds up to a place and there
-more-there : {A : Type 0} (P : ℕ → A → Type 0) (xs : List A) (i : ℕ) (x : A)
+pub more-there : {A : Type 0} (P : ℕ → A → Type 0) (xs : List A) (i : ℕ) (x : A)
     → slice_get xs i ≡ Some x → P i x
     → ((s : ℕ) (y : A) → s < i → slice_get xs s ≡ Some y → P s y)
     → (s : ℕ) (y : A) → s < i + 1 → slice_get xs s ≡ Some y → P s y
@@ -53,9 +55,9 @@ module _ (rule : Lengths) (drop : Bool) (ms : List Machine) (n : ℕ) (t : Trace
   pub record AreMade (i : ℕ) (made : List (List Numbered)) : Type 0 where
     pub long : length made ≡ length old
     pub passed : (s : ℕ) (m : Machine) → s < i → slice_get ms s ≡ Some m
-        → IsPassed rule m t (kept_at old s)
+        → IsPassed rule m (masked (spec_of m) t) (kept_at old s)
     pub right : (s : ℕ) (m : Machine) → s < i → slice_get ms s ≡ Some m
-        → IsNext rule drop m t n (kept_at old s) (kept_at made s)
+        → IsNext rule drop m (masked (spec_of m) t) n (kept_at old s) (kept_at made s)
     pub later : (s : ℕ) → i ≤ s → kept_at made s ≡ kept_at old s
 
   pub made-none : AreMade 0 old
@@ -68,35 +70,39 @@ module _ (rule : Lengths) (drop : Bool) (ms : List Machine) (n : ℕ) (t : Trace
 
   module _ (i : ℕ) (made : List (List Numbered)) (are : AreMade i made) where
     module _ (m : Machine) (at : slice_get ms i ≡ Some m)
-        (passes : IsPassed rule m t (kept_at old i)) where
+        (passes : IsPassed rule m (masked (spec_of m) t) (kept_at old i)) where
       passed-more : (s : ℕ) (q : Machine) → s < i + 1 → slice_get ms s ≡ Some q
-          → IsPassed rule q t (kept_at old s)
+          → IsPassed rule q (masked (spec_of q) t) (kept_at old s)
       passed-more =
-          more-there (λ s q. IsPassed rule q t (kept_at old s)) ms i m at passes are.passed
+          more-there (λ s q. IsPassed rule q (masked (spec_of q) t) (kept_at old s)) ms i m at passes
+          are.passed
 
-      pub made-stays : IsNext rule drop m t n (kept_at old i) (kept_at old i) → AreMade (i + 1) made
+      -- what is kept for a spec
+      abbrev Next : Machine → ℕ → List Numbered → Type 0
+      Next q s = IsNext rule drop q (masked (spec_of q) t) n (kept_at old s)
+
+      pub made-stays : Next m i (kept_at old i) → AreMade (i + 1) made
       made-stays next =
-          let P : List Numbered → Type 0 = IsNext rule drop m t n (kept_at old i) in
+          let P : List Numbered → Type 0 = Next m i in
           record {
             long = are.long;
             passed = passed-more;
-            right = more-there (λ s q. IsNext rule drop q t n (kept_at old s) (kept_at made s)) ms i
-                m at (subst P (sym (are.later i (omega arith))) next) are.right;
+            right = more-there (λ s q. Next q s (kept_at made s)) ms i m at
+                (subst P (sym (are.later i (omega arith))) next) are.right;
             later = λ s le. are.later s (omega (arith, le));
           }
 
       pub made-passes : (x : List Numbered) → i < length old
-          → IsNext rule drop m t n (kept_at old i) x → AreMade (i + 1) (slice_set made i x)
+          → Next m i x → AreMade (i + 1) (slice_set made i x)
       made-passes x lt next =
-          let P : List Numbered → Type 0 = IsNext rule drop m t n (kept_at old i) in
+          let P : List Numbered → Type 0 = Next m i in
           record {
             long = length-set made i x ∙ are.long;
             passed = passed-more;
-            right = more-there
-                (λ s q. IsNext rule drop q t n (kept_at old s) (kept_at (slice_set made i x) s)) ms i
-                m at (subst P (sym (set-there made i x (omega (arith, lt, are.long)))) next)
+            right = more-there (λ s q. Next q s (kept_at (slice_set made i x) s)) ms i m at
+                (subst P (sym (set-there made i x (omega (arith, lt, are.long)))) next)
                 (λ s q below there.
-                let Q : List Numbered → Type 0 = IsNext rule drop q t n (kept_at old s) in
+                let Q : List Numbered → Type 0 = Next q s in
                 let elsewhere = set-elsewhere made i x s (λ e. absurd (omega (arith, e, below))) in
                 subst Q (sym elsewhere) (are.right s q below there));
             later = λ s le.

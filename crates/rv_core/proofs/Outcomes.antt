@@ -1,7 +1,7 @@
 -- What comes of a trace for one spec.
-use Rattle.std.proofs.Common.{◌≡◌, ◌↔◌, ◌≤◌, ◌<◌, ◌+◌, ℕ, zero, suc, Bool, true, false, IsTrue, List, [], ◌∷◌, ◌++◌, length, slice_get, Option, Some, None, option_to_list, inl, inr, refl, sym, ◌∙◌, subst, arith}
+use Rattle.std.proofs.Common.{◌≡◌, ◌↔◌, ◌≤◌, ◌+◌, ℕ, Bool, true, false, IsTrue, List, [], ◌∷◌, ◌++◌, length, slice_get, Some, inl, inr, refl, sym, ap, ◌∙◌, subst}
 use Rattle.std.specs.List.{Contains}
-use Rattle.std.proofs.lemmas.Option.{slice_get_within, same_Some}
+use Rattle.std.proofs.lemmas.Option.{same_Some}
 use Rattle.hy_base.proofs.Members.{contains-here, contains-later}
 use Rattle.hy_formula.specs.Quantifiers.{Each}
 use Rattle.hy_formula.proofs.Each.{each-from}
@@ -13,25 +13,15 @@ use Rattle.tuple_walk.specs.Finds.{AllMeet, traces_of}
 use Rattle.rv_core.specs.declared.arrival.Outcome.{Outcome}
 use Rattle.rv_core.specs.declared.arrival.Outcome.TheVariants.{Stays, Passes}
 use Rattle.rv_core.specs.declared.watch.Watch.{Watch}
-use Rattle.rv_core.specs.Arrivals.{IsPassed, IsOver, AreLeft, none, stays, IsNext, over, last, IsOutcome, AreNext}
+use Rattle.rv_core.specs.Arrivals.{IsPassed, IsOver, AreLeft, none, stays, IsNext, over, last, IsOutcome, AreHeld, AreNext}
+use Rattle.rv_core.specs.Endings.{Spec}
 use Rattle.rv_core.specs.Held.{spec_of}
 use Rattle.rv_core.specs.Keeping.{is_dropping, kept_at}
+use Rattle.rv_core.specs.Masks.{masked}
 use Rattle.rv_core.specs.Seen.{watched, watched_by}
 use Rattle.rv_core.specs.StepBounds.{IsBound, IsSpecBound}
 use Rattle.rv_core.proofs.Keepings.{covers-itself, covers-equal, traces-from, traces-push}
-use Rattle.rv_core.proofs.Seeing.{seen-at, kept-there}
-
--- Where the only version has no such trace, none is held.
-pub only-not-held : (t : Trace) (first : Option (List Numbered)) (others : List (List Numbered))
-    → length others ≡ 0 → (spec : ℕ) (version : List Numbered)
-    → slice_get (option_to_list first ++ others) spec ≡ Some version
-    → (¬ Each (IsHeld t) (option_to_list first ++ others)) → ¬ IsHeld t version
-only-not-held t None [] alone spec version at not_all held = absurd (cc)
-only-not-held t (Some first) [] alone zero version at not_all held =
-    let same : first ≡ version = cc in
-    not_all (subst (IsHeld t) (sym same) held, tt)
-only-not-held t (Some first) [] alone (suc spec) version at not_all held = absurd (cc)
-only-not-held t first (o ∷ os) alone spec version at not_all held = absurd (cc)
+use Rattle.rv_core.proofs.Seeing.{seen-at, same-watched, kept-there}
 
 module _ (rule : Lengths) (m : Machine) (n : ℕ) (t : Trace) (old : List Numbered) where
   -- an equal one is kept
@@ -95,11 +85,22 @@ module _ (rule : Lengths) (m : Machine) (n : ℕ) (t : Trace) (old : List Number
         let Q : List Numbered → Type 0 = λ ps. IsBound rule m (traces_of ps) t bound in
         steps bound (subst P (sym same) (subst Q (sym added) (walk-bound bound b)))
 
-pub not-held : (b : Bool) (u t : Trace) (old : List Numbered) → IsTrue b ↔ IsHeld u old → u ≡ t
-    → b ≡ false → ¬ IsHeld t old
-not-held b u t old holds same is_false held =
-    let P : Trace → Type 0 = λ v. IsHeld v old in
-    let yes : b ≡ true = holds.1 (subst P (sym same) held) in
+-- What the watch of a spec sees of a trace, the spec does.
+pub seen-by : (watches : List Watch) (s : ℕ) (w : Watch) (m : Machine)
+    → slice_get watches s ≡ Some w → slice_get (watched_by watches) s ≡ Some m → (t x : Trace)
+    → x ≡ masked (spec_of (watched w)) t → x ≡ masked (spec_of m) t
+seen-by watches s w m at there t x e =
+    e ∙ ap (λ (q : Machine). masked (spec_of q) t) (same-watched watches s w m at there)
+
+-- Where the look-up fails, the trace as the spec sees it is not kept.
+pub not-held : (b : Bool) (u t x : Trace) (spec : Spec) (old kept : List Numbered)
+    → IsTrue b ↔ IsHeld (masked spec u) old → u ≡ t → old ≡ kept → x ≡ masked spec t → b ≡ false
+    → ¬ IsHeld x kept
+not-held b u t x spec old kept holds same is seen is_false held =
+    let P : Trace → Type 0 = λ v. IsHeld (masked spec v) old in
+    let Q : List Numbered → Type 0 = IsHeld (masked spec t) in
+    let R : Trace → Type 0 = λ v. IsHeld v kept in
+    let yes : b ≡ true = holds.1 (subst P (sym same) (subst Q (sym is) (subst R seen held))) in
     absurd (cc)
 
 -- ---- the spec with a number
@@ -130,23 +131,17 @@ module _ (rule : Lengths) (watches : List Watch) (kept : List (List Numbered)) (
 
 -- an equal one is kept for each
 pub all-known : (rule : Lengths) (drop : Bool) (ms : List Machine) (n : ℕ) (t u : Trace)
-    (kept : List (List Numbered)) → u ≡ t → length kept ≡ length ms → Each (IsHeld u) kept
+    (kept : List (List Numbered)) → u ≡ t → length kept ≡ length ms → AreHeld ms u kept
     → AreNext rule drop ms n t kept kept
-all-known rule drop ms n t u kept same long holds = record {
+all-known rule drop ms n t u kept same long held = record {
   long = long;
   passed = λ s m there. (passes s m there).0;
   right = λ s m there. (passes s m there).1;
 }
   where
-    each-kept : (lists : List (List Numbered)) (s : ℕ) → s < length lists → Each (IsHeld u) lists
-        → IsHeld u (kept_at lists s)
-    each-kept [] s lt h = absurd (omega arith)
-    each-kept (list ∷ lists) zero lt h = h.0
-    each-kept (list ∷ lists) (suc s) lt h = each-kept lists s (omega arith) h.1
-
     passes : (s : ℕ) (m : Machine) → slice_get ms s ≡ Some m
-        → IsOutcome rule drop m t n (kept_at kept s) Stays
+        → IsOutcome rule drop m (masked (spec_of m) t) n (kept_at kept s) Stays
     passes s m there =
-        let P : Trace → Type 0 = λ v. IsHeld v (kept_at kept s) in
-        let lt : s < length kept = omega (arith, slice_get_within ms s m there, long) in
-        held-stays rule m n t (kept_at kept s) drop (subst P same (each-kept kept s lt holds))
+        let P : Trace → Type 0 = λ v. AreHeld ms v kept in
+        held-stays rule m n (masked (spec_of m) t) (kept_at kept s) drop
+        (subst P same held s m there)

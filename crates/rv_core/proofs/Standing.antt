@@ -15,10 +15,13 @@ use Rattle.rv_core.specs.Endings.{Spec, spec_at, ViolatesSpec, IsClean}
 use Rattle.rv_core.specs.Opened.{Open}
 use Rattle.rv_core.specs.Keeping.{IsKept, AreKept, AreBelow, kept_at}
 use Rattle.rv_core.specs.Held.{Held, spec_of, specs_of, AreSessions, AreSaves, StandsFor, AreWithin}
-use Rattle.rv_core.specs.Arrivals.{IsPassed, AreNext, FirstFound}
+use Rattle.tuple_walk.specs.Finds.{AreViolating}
+use Rattle.rv_core.specs.Arrivals.{IsPassed, IsNext, AreNext, FirstFound}
+use Rattle.rv_core.specs.Masks.{masked, masked_list}
 use Rattle.rv_core.specs.Replies.{IsFound, IsViolatedBy}
 use Rattle.rv_core.proofs.Arriving.{found-in, stays-clean}
 use Rattle.rv_core.proofs.Leading.{next-kept}
+use Rattle.rv_core.proofs.Masking.{masked-some, masked-all-some, masked-push, violates-masked, violates-unmasked, violated-unmasked}
 
 -- ---- specs by their numbers
 
@@ -43,27 +46,33 @@ spec-below ms k m at = omega (arith, slice_get_within ms k m at, length-map ms s
 module _ (rule : Lengths) (drop : Bool) (ms : List Machine) (list : List Trace)
     (kept : List (List Numbered)) (are : AreKept rule drop (map spec_of ms) list kept)
     (t : Trace) where
-  kept-of : (s : ℕ) (m : Machine) → slice_get ms s ≡ Some m
-      → IsKept rule drop (spec_of m) list (kept_at kept s)
+  pub kept-of : (s : ℕ) (m : Machine) → slice_get ms s ≡ Some m
+      → IsKept rule drop (spec_of m) (masked_list (spec_of m) list) (kept_at kept s)
   kept-of s m at =
-      let P : Spec → Type 0 = λ q. IsKept rule drop q list (kept_at kept s) in
+      let P : Spec → Type 0 = λ q. IsKept rule drop q (masked_list q list) (kept_at kept s) in
       subst P (spec-there ms s m at) (are.right s (spec-below ms s m at))
 
   module _ (some : Each IsTrace list) (more : IsTrace t)
       (clean : IsClean rule (map spec_of ms) list) where
     passed-clean : (s : ℕ) (m : Machine) → slice_get ms s ≡ Some m
-        → IsPassed rule m t (kept_at kept s)
+        → IsPassed rule m (masked (spec_of m) t) (kept_at kept s)
         → ¬ ViolatesSpec rule (list ++ t ∷ []) (spec_at (map spec_of ms) s)
     passed-clean s m at passed =
+        let spec = spec_of m in
+        let P : List Trace → Type 0 = λ us. ViolatesSpec rule us spec in
         let Q : Spec → Type 0 = λ q. ¬ ViolatesSpec rule list q in
         let R : Spec → Type 0 = λ q. ¬ ViolatesSpec rule (list ++ t ∷ []) q in
-        subst R (sym (spec-there ms s m at))
-        (stays-clean rule drop m list t (kept_at kept s) (kept-of s m at)
-        (subst Q (spec-there ms s m at) (clean s (spec-below ms s m at))) some more passed)
+        let before = subst Q (spec-there ms s m at) (clean s (spec-below ms s m at)) in
+        let after = stays-clean rule drop m (masked_list spec list) (masked spec t)
+        (kept_at kept s) (kept-of s m at) (λ v. before (violates-unmasked rule spec list v))
+        (masked-all-some spec list some) (masked-some spec t more) passed in
+        subst R (sym (spec-there ms s m at)) (λ v.
+        after (subst P (masked-push spec list t)
+        (violates-masked rule spec (list ++ t ∷ []) v)))
 
     -- an arrival that each spec passes is clean
     pub all-clean : ((s : ℕ) (m : Machine) → slice_get ms s ≡ Some m
-        → IsPassed rule m t (kept_at kept s)) → IsClean rule (map spec_of ms) (list ++ t ∷ [])
+        → IsPassed rule m (masked (spec_of m) t) (kept_at kept s)) → IsClean rule (map spec_of ms) (list ++ t ∷ [])
     all-clean passed s lt =
         let (m, at) = spec-some ms s lt in passed-clean s m at (passed s m at)
 
@@ -71,11 +80,19 @@ module _ (rule : Lengths) (drop : Bool) (ms : List Machine) (list : List Trace)
     pub found-first : (k : ℕ) (tuple : List ℕ) → FirstFound rule ms (length list) t kept k tuple
         → IsFound rule (map spec_of ms) (list ++ t ∷ []) k (length list) tuple
     found-first k tuple f =
+        let spec = spec_of f.machine in
+        let seen = masked spec t in
+        let N : ℕ → Type 0 =
+        λ n. AreViolating f.machine rule (kept_at kept k ++ (n, seen) ∷ []) tuple in
+        let P : List Trace → Type 0 = λ us. IsViolatedBy rule spec us tuple in
         let Q : Spec → Type 0 = λ q. IsViolatedBy rule q (list ++ t ∷ []) tuple in
+        let found = found-in rule drop f.machine (masked_list spec list) seen (kept_at kept k)
+        (kept-of k f.machine f.there) tuple
+        (subst N (sym (length-map list (masked spec))) f.violating) in
         let by_tuple : Q (spec_at (map spec_of ms) k) =
         subst Q (sym (spec-there ms k f.machine f.there))
-        (found-in rule drop f.machine list t (kept_at kept k) (kept-of k f.machine f.there) tuple
-        f.violating) in
+        (violated-unmasked rule spec (list ++ t ∷ []) tuple
+        (subst P (sym (masked-push spec list t)) found)) in
         let below = spec-below ms k f.machine f.there in
         let long = length-append list (t ∷ []) in
         record {
@@ -97,10 +114,16 @@ module _ (rule : Lengths) (drop : Bool) (ms : List Machine) (list : List Trace)
     long = next.long ∙ sym (length-map ms spec_of);
     right = λ s lt.
         let (m, at) = spec-some ms s lt in
-        let Q : Spec → Type 0 = λ q. IsKept rule drop q (list ++ t ∷ []) (kept_at new s) in
+        let spec = spec_of m in
+        let seen = masked spec t in
+        let N : ℕ → Type 0 = λ n. IsNext rule drop m seen n (kept_at kept s) (kept_at new s) in
+        let P : List Trace → Type 0 = λ us. IsKept rule drop spec us (kept_at new s) in
+        let Q : Spec → Type 0 =
+        λ q. IsKept rule drop q (masked_list q (list ++ t ∷ [])) (kept_at new s) in
         subst Q (sym (spec-there ms s m at))
-        (next-kept rule drop m t list (kept_at kept s) (kept_at new s) (kept-of s m at)
-        (next.right s m at));
+        (subst P (sym (masked-push spec list t))
+        (next-kept rule drop m seen (masked_list spec list) (kept_at kept s) (kept_at new s)
+        (kept-of s m at) (subst N (sym (length-map list (masked spec))) (next.right s m at))));
   }
 
 -- ---- saves

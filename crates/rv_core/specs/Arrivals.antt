@@ -13,6 +13,7 @@ use Rattle.rv_core.specs.declared.arrival.Arrival.{Arrival}
 use Rattle.rv_core.specs.declared.arrival.Arrival.TheVariants.{Same, Clean, Violation}
 use Rattle.rv_core.specs.Held.{Held, spec_of}
 use Rattle.rv_core.specs.Keeping.{Covers, AreBelow, kept_at}
+use Rattle.rv_core.specs.Masks.{masked}
 
 -- ---- one spec
 
@@ -51,25 +52,31 @@ module _ (rule : Lengths) (drop : Bool) (m : Machine) (t : Trace) where
   IsOutcome n old (Passes new) = IsPassed rule m t old × IsNext n old new
   IsOutcome n old (Violates tuple) = AreViolating m rule (old ++ (n, t) ∷ []) tuple
 
--- ---- all specs
+-- ---- all specs, for each of which the trace has the names alone that the spec has
+
+-- Each spec keeps an equal one.
+abbrev pub AreHeld : List Machine → Trace → List (List Numbered) → Type 0
+AreHeld machines t kept = (s : ℕ) (m : Machine) → slice_get machines s ≡ Some m
+    → IsHeld (masked (spec_of m) t) (kept_at kept s)
 
 -- Each spec is passed, and this is kept then.
 pub record AreNext (rule : Lengths) (drop : Bool) (machines : List Machine) (n : ℕ) (t : Trace)
     (old new : List (List Numbered)) : Type 0 where
   pub long : length new ≡ length machines
   pub passed : (s : ℕ) (m : Machine) → slice_get machines s ≡ Some m
-      → IsPassed rule m t (kept_at old s)
+      → IsPassed rule m (masked (spec_of m) t) (kept_at old s)
   pub right : (s : ℕ) (m : Machine) → slice_get machines s ≡ Some m
-      → IsNext rule drop m t n (kept_at old s) (kept_at new s)
+      → IsNext rule drop m (masked (spec_of m) t) n (kept_at old s) (kept_at new s)
 
 -- The spec with this number is violated by this tuple, and those before it are passed.
 pub record FirstFound (rule : Lengths) (machines : List Machine) (n : ℕ) (t : Trace)
     (old : List (List Numbered)) (k : ℕ) (tuple : List ℕ) : Type 0 where
   pub machine : Machine
   pub there : slice_get machines k ≡ Some machine
-  pub violating : AreViolating machine rule (kept_at old k ++ (n, t) ∷ []) tuple
+  pub violating :
+      AreViolating machine rule (kept_at old k ++ (n, masked (spec_of machine) t) ∷ []) tuple
   pub before : (s : ℕ) (m : Machine) → s < k → slice_get machines s ≡ Some m
-      → IsPassed rule m t (kept_at old s)
+      → IsPassed rule m (masked (spec_of m) t) (kept_at old s)
 
 -- what is kept then, where it changes, or else now
 abbrev pub kept_or : List (List Numbered) → Option (List (List Numbered)) → List (List Numbered)

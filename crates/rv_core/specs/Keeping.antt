@@ -1,5 +1,5 @@
--- What is kept of the traces that arrived, for a spec: those that no other one covers, of equal
--- ones the first.
+-- What is kept of the traces that arrived, for a spec, each of them masked: those that no other one
+-- covers, of equal ones the first.
 use Rattle.std.specs.Prelude.{◌≡◌, ℕ, ◌<◌, Bool, true, false, ◌||◌, nat_eq, List, [], ◌∷◌, length, map, slice_index_or}
 use Rattle.std.specs.Coded.{×_prop, Unit-prop, le_prop, Coded-set, coded_ℕ}
 use Rattle.hy_formula.specs.Quantifiers.{Each}
@@ -10,6 +10,7 @@ use Rattle.dominance.specs.Dominance.{Dominates}
 use Rattle.dominance.specs.Leaders.{AreLeaders, numbered}
 use Rattle.dominance.specs.Leaders as leaders
 use Rattle.rv_core.specs.Endings.{Spec, spec_at}
+use Rattle.rv_core.specs.Masks.{masked_list}
 
 -- Dominated traces of the spec are dropped: where that is asked for, and where there is one variable.
 -- Then each trace is judged by itself, and one that satisfies the body dominates each other one.
@@ -45,11 +46,12 @@ IsKeptCount rule true spec list n =
 abbrev pub kept_at : List (List Numbered) → ℕ → List Numbered
 kept_at kept s = slice_index_or kept s []
 
--- It is what is kept of a list for each spec.
+-- It is what is kept of a list for each spec, with the names alone that the spec has.
 pub record AreKept (rule : Lengths) (drop : Bool) (specs : List Spec) (list : List Trace)
     (kept : List (List Numbered)) : Type 0 where
   pub long : length kept ≡ length specs
-  pub right : (s : ℕ) → s < length specs → IsKept rule drop (spec_at specs s) list (kept_at kept s)
+  pub right : (s : ℕ) → s < length specs
+      → IsKept rule drop (spec_at specs s) (masked_list (spec_at specs s) list) (kept_at kept s)
 
 -- For each of so many specs traces are kept, by numbers below n.
 abbrev pub AreBelow : ℕ → ℕ → List (List Numbered) → Type 0

@@ -4,6 +4,7 @@ pub mod Endings
 pub mod Held
 pub mod Histories
 pub mod Keeping
+pub mod Masks
 pub mod Opened
 pub mod Replies
 pub mod Seen

@@ -9,8 +9,9 @@ use Rattle.fin_monitor.specs.Machines.{Machine}
 use Rattle.dominance.specs.Dominance.{IsSymmetric}
 use Rattle.tuple_walk.specs.Finds.{traces_of}
 use Rattle.tuple_walk.specs.JointPrefixes.{Row, IsJointPrefix, IsFirstPrefix}
-use Rattle.rv_core.specs.Held.{Held}
+use Rattle.rv_core.specs.Held.{Held, spec_of}
 use Rattle.rv_core.specs.Keeping.{kept_at}
+use Rattle.rv_core.specs.Masks.{masked}
 use Rattle.rv_core.specs.Opened.{letters_in}
 
 -- The trace arrives by the event.
@@ -38,8 +39,9 @@ abbrev pub IsSpecBound : Lengths → Machine → List Trace → Trace → ℕ �
 IsSpecBound rule m kept t bound =
     (Contains kept t × (bound ≡ 0)) ⊎ IsBound rule m (kept ++ t ∷ []) t bound
 
--- Each spec has its bound.
+-- Each spec has its bound, for the trace with the names alone that it has.
 pub record AreBounds (m : Held) (t : Trace) (bounds : List ℕ) : Type 0 where
   pub long : length bounds ≡ length m.machines
   pub right : (s : ℕ) (q : Machine) → slice_get m.machines s ≡ Some q
-      → IsSpecBound m.rule q (traces_of (kept_at m.kept s)) t (slice_index_or bounds s 0)
+      → IsSpecBound m.rule q (traces_of (kept_at m.kept s)) (masked (spec_of q) t)
+      (slice_index_or bounds s 0)

@@ -1,13 +1,14 @@
 //! What comes of a trace that arrives.
 
-ghost use Rattle.std.specs.Prelude.{◌≡◌, ◌+◌, ◌<◌, ◌≤◌, ◌^◌, ℕ, List, length, sum, slice_get, Some, IfOk};
-ghost use Rattle.hy_formula.specs.Quantifiers.{Each};
+ghost use Rattle.std.specs.Prelude.{◌≡◌, ◌↔◌, ◌+◌, ◌<◌, ◌≤◌, ◌^◌, ℕ, List, length, sum, slice_get, Some, IfOk, IsTrue};
 ghost use Rattle.trace_trie.specs.Numbered.{Numbered, IsHeld};
 ghost use Rattle.fin_monitor.specs.Machines.{Machine};
 ghost use Rattle.tuple_walk.specs.Finds.{traces_of};
-ghost use Rattle.rv_core.specs.Arrivals.{IsOutcome, IsArrival, FitsIn, after_arrival, kept_or};
+ghost use Rattle.rv_core.specs.Arrivals.{AreHeld, IsOutcome, IsArrival, FitsIn, after_arrival, kept_or};
 ghost use Rattle.rv_core.specs.declared.arrival.Arrival.TheVariants.{Same};
+ghost use Rattle.rv_core.specs.Held.{spec_of};
 ghost use Rattle.rv_core.specs.Keeping.{kept_at};
+ghost use Rattle.rv_core.specs.Masks.{masked};
 ghost use Rattle.rv_core.specs.Replies.{IsReplyTo};
 ghost use Rattle.rv_core.specs.Seen.{watched_by};
 ghost use Rattle.rv_core.specs.StepBounds.{IsSpecBound, AreBounds};
@@ -16,6 +17,7 @@ use crate::kept::Kept;
 use crate::reply::Reply;
 use crate::rv::Rv;
 use hy_base::{M, Steps};
+use hy_bits::LetterMask;
 use hy_finite::Trace;
 use std::alloc::Global;
 use std::sync::ledger::Ledger;
@@ -47,6 +49,33 @@ pub(crate) enum Arrival {
 impl Rv {
     ghost use Rattle.rv_core.specs.Seen.{held};
 
+    /// Whether each spec keeps a trace that is this one as far as its names go. Takes no memory, and
+    /// time as `Watch::holds` for each spec.
+    pub(crate) fn all_hold(&self, trace: &[LetterMask]) -> bool
+        ensures { IsTrue result ↔ AreHeld (watched_by self.now.watches) trace.now self.now.kept }
+    {
+        for spec in 0..self.watches.len() {
+            if !self.watches.at(spec).holds(self.kept.at(spec), trace) {
+                return false;
+            }
+        }
+        true
+    }
+
+    /// As `all_hold`, for one spec. Not each spec keeps such a trace: so where there is one alone
+    /// nothing is looked for.
+    fn is_held(&self, spec: usize, trace: &[LetterMask]) -> bool
+        requires there { spec < length self.now.watches }
+        requires not_all { ¬ AreHeld (watched_by self.now.watches) trace.now self.now.kept }
+        ensures { (m : Machine) → slice_get (watched_by self.now.watches) spec ≡ Some m
+            → IsTrue result ↔ IsHeld (masked (spec_of m) trace.now) (kept_at self.now.kept spec) }
+    {
+        if self.watches.len() == 1 {
+            return false;
+        }
+        self.watches.at(spec).holds(self.kept.at(spec), trace)
+    }
+
     /// What would come of the trace, where not each spec keeps an equal one. It takes all memory that
     /// its arrival takes.
     pub(crate) fn arrival<L: Ledger>(
@@ -56,7 +85,7 @@ impl Rv {
         steps: &mut Steps<L>,
     ) -> M<Arrival>
         requires few { (held self.now).arrived < 2 ^ 31 }
-        requires not_all { ¬ Each (IsHeld trace.now) self.now.kept }
+        requires not_all { ¬ AreHeld (watched_by self.now.watches) trace.now self.now.kept }
         ensures arrival { IfOk result (IsArrival (held self.now) trace.now) }
         ensures below { IfOk result
             (FitsIn (length self.now.watches) ((held self.now).arrived + 1)) }
@@ -96,11 +125,8 @@ impl Rv {
     }
 
     /// What would come of the trace for the spec with this number, where not each spec keeps an equal
-    /// one.
-    ///
-    /// Where an equal one is kept there are no new tuples, and none is walked. Else, with one variable
-    /// the trace is judged by itself. With more it is put with those that are kept and its tuples
-    /// are walked; and where dominated ones are dropped, it is compared with those.
+    /// one. The spec sees its own names of it alone. Where it keeps an equal one, there are no new
+    /// tuples, and none is walked.
     fn outcome<L: Ledger>(
         &self,
         alloc: Global,
@@ -110,7 +136,43 @@ impl Rv {
     ) -> M<Outcome>
         requires few { (held self.now).arrived < 2 ^ 31 }
         requires there { spec < length self.now.watches }
-        requires not_all { ¬ Each (IsHeld trace.now) self.now.kept }
+        requires not_all { ¬ AreHeld (watched_by self.now.watches) trace.now self.now.kept }
+        ensures outcome { (m : Machine) → slice_get (watched_by self.now.watches) spec ≡ Some m
+            → IfOk result (IsOutcome self.now.rule self.now.drop_dominated m
+            (masked (spec_of m) trace.now) self.now.traces (kept_at self.now.kept spec)) }
+        ensures counted { steps.old ≤ steps.new }
+        ensures bounded { (m : Machine) (bound : ℕ)
+            → slice_get (watched_by self.now.watches) spec ≡ Some m
+            → IsSpecBound self.now.rule m (traces_of (kept_at self.now.kept spec))
+            (masked (spec_of m) trace.now) bound → steps.new ≤ steps.old + bound }
+    {
+        let letters = trace.as_slice();
+        if self.is_held(spec, letters) {
+            return Ok(Outcome::Stays);
+        }
+        let watch = self.watches.at(spec);
+        if watch.sees_all(letters) {
+            return self.new_outcome(alloc, spec, trace, steps);
+        }
+        let masked = watch.masked(alloc, trace)?;
+        self.new_outcome(alloc, spec, &masked, steps)
+    }
+
+    /// What would come of the trace for the spec with this number, which keeps no equal one.
+    ///
+    /// With one variable the trace is judged by itself. With more it is put with those that are kept
+    /// and its tuples are walked; and where dominated ones are dropped, it is compared with those.
+    fn new_outcome<L: Ledger>(
+        &self,
+        alloc: Global,
+        spec: usize,
+        trace: &Trace,
+        steps: &mut Steps<L>,
+    ) -> M<Outcome>
+        requires few { (held self.now).arrived < 2 ^ 31 }
+        requires there { spec < length self.now.watches }
+        requires absent { (version : List Numbered) → slice_get self.now.kept spec ≡ Some version
+            → ¬ IsHeld trace.now version }
         ensures outcome { (m : Machine) → slice_get (watched_by self.now.watches) spec ≡ Some m
             → IfOk result (IsOutcome self.now.rule self.now.drop_dominated m trace.now
             self.now.traces (kept_at self.now.kept spec)) }
@@ -124,9 +186,6 @@ impl Rv {
         let kept = self.kept.at(spec);
         let number = self.traces;
         let letters = trace.as_slice();
-        if self.kept.is_held(spec, letters) {
-            return Ok(Outcome::Stays);
-        }
         if watch.has_one_variable() {
             return self.lone_outcome(alloc, spec, trace, steps);
         }
@@ -141,7 +200,7 @@ impl Rv {
         }
     }
 
-    /// As `outcome`, where the body has one variable: the trace is judged by itself, and one of those
+    /// As `new_outcome`, where the body has one variable: the trace is judged by itself, and one of those
     /// that satisfy the body is kept, which does as well as any other.
     fn lone_outcome<L: Ledger>(
         &self,

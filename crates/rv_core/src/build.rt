@@ -9,6 +9,7 @@ ghost use Rattle.rv_core.specs.Held.{spec_of};
 ghost use Rattle.rv_core.specs.Seen.{watched, watched_by};
 
 use crate::kept::Kept;
+use crate::names::Names;
 use crate::rv::Rv;
 use crate::rv_error::RvNewError;
 use crate::sessions::Sessions;
@@ -25,8 +26,9 @@ impl Rv {
     ghost use Rattle.rv_core.specs.Seen.{held};
 
     /// The monitor of formulas, which number their specs from 0, before all events. Tuples of
-    /// traces are judged by the rule. Of equal traces that arrive the first is kept; with
-    /// `drop_dominated` leaders alone are: those that no other one dominates.
+    /// traces are judged by the rule. Of traces that arrive, each spec keeps its own names alone, and
+    /// of equal ones the first; with `drop_dominated` leaders alone are kept: those that no other one
+    /// dominates.
     ///
     /// `Prefix` names the first formula that is not universal. Else `Limit` comes exactly where a
     /// closure has more than 1,024 members; or else a body more than 16 indexed atoms; or else more
@@ -114,7 +116,8 @@ fn watch_of(alloc: Global, formula: &Formula) -> Result<Watch, MonitorError>
     ensures refused { IfErr result (IsRefusal (tree_of formula.now.body)) }
 {
     let monitor = Monitor::build(alloc, &formula.body, formula.prefix.len() as u8)?;
-    Ok(Watch::new(alloc, monitor)?)
+    let names = Names::of(alloc, &formula.body)?;
+    Ok(Watch::new(alloc, names, monitor)?)
 }
 
 /// Of two kinds that are refused the one that is answered.

@@ -28,26 +28,25 @@ impl Rv {
     /// A whole trace arrives. A letter opens its session or goes last in it. An end closes its
     /// session, and its letters are a trace that arrives. A save puts aside the traces that have
     /// arrived and the open sessions, and a back brings those that were put aside last. A trace
-    /// that arrives is judged for each spec up to the first that is violated: where an equal one is
-    /// kept nothing comes of it; else its tuples with what is kept are walked, and it is kept too
-    /// or, where dominated traces are dropped, compared with what is kept. With one variable it is
-    /// judged by itself, and no more than one trace is kept.
+    /// that arrives is judged for each spec up to the first that is violated, by the names alone that
+    /// stand in its body: where an equal one is kept nothing comes of it; else its tuples with what
+    /// is kept are walked, and it is kept too or, where dominated traces are dropped, compared with
+    /// what is kept. With one variable it is judged by itself, and no more than one trace is kept.
     ///
     /// `NoLetter` where the session that ends is not open, `NoSave` where there is nothing put
     /// aside; `Limit` where a session has 1,024 letters already, 1,024 sessions are open, or 64
-    /// saves are put aside. Where it is refused, for memory too, all is as before, what is
-    /// kept too. A back takes no
-    /// memory. After a violation the monitor takes no more events.
+    /// saves are put aside. Where it is refused, for memory too, all is as before, what is kept too.
+    /// A back takes no memory. After a violation the monitor takes no more events.
     ///
     /// Where it brings a trace the steps grow at most by a bound for each spec, and by none for a
     /// spec that keeps an equal one; else they do not grow, also where the event is refused. The
     /// newest trace waits to be put with those that are kept until the next trace arrives or a save
     /// comes, which pay for it. Apart from that a whole trace that each spec keeps already takes no
-    /// memory, and for each time linear in its letters. A save takes time linear in the number of
-    /// specs, and memory for them where there is more than one: it shares what is kept and the open
-    /// sessions. So the first letter or end after it takes time and memory linear in the open
-    /// sessions, the first letter of a session in its letters too, and any other letter constant time
-    /// but for growth. A back frees what no save shares.
+    /// memory, and for each time linear in its letters, times the spec's names where it has others. A
+    /// save takes time linear in the number of specs, and memory for them where there is more than
+    /// one: it shares what is kept and the open sessions. So the first letter or end after it takes
+    /// time and memory linear in the open sessions, the first letter of a session in its letters too,
+    /// and any other letter constant time but for growth. A back frees what no save shares.
     pub fn event<L: Ledger>(
         &mut self,
         alloc: Global,
@@ -91,7 +90,7 @@ impl Rv {
             → steps.new ≤ steps.old + sum bounds }
     {
         prove!(trace.len() > 0);
-        if self.kept.all_hold(trace.as_slice()) {
+        if self.all_hold(trace.as_slice()) {
             return Ok(self.take_same());
         }
         self.kept.settle()?;
@@ -139,7 +138,7 @@ impl Rv {
             return Err(RvError::NoLetter);
         };
         let trace = Trace::new(letters.copy(alloc)?).unwrap();
-        if self.kept.all_hold(trace.as_slice()) {
+        if self.all_hold(trace.as_slice()) {
             self.sessions.close(session)?;
             return Ok(self.take_same());
         }

@@ -1,11 +1,8 @@
 //! What is kept of the traces that arrived, for each spec.
 
-ghost use Rattle.std.specs.Prelude.{◌≡◌, ◌↔◌, ◌<◌, ◌++◌, ◌∷◌, [], List, length, replicate, slice_get, slice_set, Some, IfOk, OnOk, OnErr, IsTrue};
-ghost use Rattle.hy_formula.specs.Quantifiers.{Each};
-ghost use Rattle.trace_trie.specs.Numbered.{Numbered, IsHeld};
+ghost use Rattle.std.specs.Prelude.{◌≡◌, ◌<◌, ◌++◌, ◌∷◌, [], length, replicate, slice_get, slice_set, Some, IfOk, OnOk, OnErr};
 
 use hy_base::M;
-use hy_bits::LetterMask;
 use std::alloc::Global;
 use std::marker::Model;
 use trace_trie::Version;
@@ -114,39 +111,6 @@ impl Kept {
             Some(first) if spec == 0 => first,
             _ => &self.others[spec - 1],
         }
-    }
-
-    /// Whether these letters are those of some trace for each spec. Takes no memory, and time as
-    /// `Version::holds` for each spec.
-    pub(crate) fn all_hold(&self, letters: &[LetterMask]) -> bool
-        ensures { IsTrue result ↔ Each (IsHeld letters.now) self.now }
-    {
-        if let Some(first) = &self.first {
-            if !first.holds(letters) {
-                return false;
-            }
-        }
-        for version in &self.others {
-            if !version.holds(letters) {
-                return false;
-            }
-        }
-        true
-    }
-
-    /// Whether these letters are those of some trace for a spec. Not each spec has such a trace: so
-    /// where there is one alone nothing is looked for. Takes no memory, and else time as
-    /// `Version::holds`.
-    pub(crate) fn is_held(&self, spec: usize, letters: &[LetterMask]) -> bool
-        requires there { spec < length self.now }
-        requires not_all { ¬ Each (IsHeld letters.now) self.now }
-        ensures { (version : List Numbered) → slice_get self.now spec ≡ Some version
-            → IsTrue result ↔ IsHeld letters.now version }
-    {
-        if self.others.as_slice().is_empty() {
-            return false;
-        }
-        self.at(spec).holds(letters)
     }
 }
 

@@ -7,6 +7,8 @@ mod build;
 mod events;
 mod kept;
 pub mod laws;
+mod masks;
+mod names;
 mod reply;
 mod rv;
 mod rv_error;

@@ -9,10 +9,12 @@ ghost use Rattle.hy_finite.specs.declared.lengths.Lengths.{Lengths as Rule};
 ghost use Rattle.fin_monitor.specs.Seen.{machine_of};
 ghost use Rattle.dominance.specs.Dominance.{Dominates};
 ghost use Rattle.tuple_walk.specs.Finds.{AreViolating, AllMeet, traces_of};
+ghost use Rattle.rv_core.specs.Masks.{AreNamesOf, AreNamesOf-prop};
 ghost use Rattle.rv_core.specs.Watched.{MayTurn, MayTurn-prop, IsExact, IsExact-prop};
 ghost use Rattle.rv_core.specs.Arrivals.{IsNext};
 ghost use Rattle.rv_core.specs.StepBounds.{IsBound};
 
+use crate::names::Names;
 use dominance::{Compare, dominates, symmetric};
 use fin_monitor::Monitor;
 use hy_base::{M, Steps};
@@ -27,9 +29,12 @@ use tuple_walk::{CountedMonitor, Tuple, find, find_alone, find_first};
 #[derive(Drop)]
 pub(crate) struct Watch {
     pub(crate) monitor: Monitor,
+    /// The names that stand in the body.
+    pub(crate) names: Names,
     /// Exchanging two traces never changes the verdict.
     symmetric: bool,
     ghost some: { 1 ≤ (machine_of monitor).variables },
+    ghost named: { AreNamesOf names (machine_of monitor).body } by { AreNamesOf-prop names (machine_of monitor).body },
     ghost turns: { IsTrue symmetric → MayTurn (machine_of monitor) } by { →_prop (MayTurn-prop (machine_of monitor)) },
     ghost exact: { IsExact symmetric (machine_of monitor) } by { IsExact-prop symmetric (machine_of monitor) },
 }
@@ -37,13 +42,18 @@ pub(crate) struct Watch {
 impl Watch {
     ghost use Rattle.rv_core.specs.Seen.{watched};
 
-    /// A watch by a monitor. In time as `symmetric`.
-    pub(crate) fn new(alloc: Global, monitor: Monitor) -> M<Watch>
-        requires { 1 ≤ (machine_of monitor).variables }
+    /// A watch by the monitor of a body that has these names. In time as `symmetric`.
+    pub(crate) fn new(alloc: Global, names: Names, monitor: Monitor) -> M<Watch>
+        requires some { 1 ≤ (machine_of monitor).variables }
+        requires named { AreNamesOf names (machine_of monitor).body }
         ensures { IfOk result (λ made. watched made ≡ machine_of monitor) }
     {
         let symmetric = symmetric(alloc, &monitor)?;
-        Ok(Watch { monitor, symmetric })
+        Ok(Watch {
+            monitor,
+            names,
+            symmetric,
+        })
     }
 
     /// A tuple of traces of the version that violates the body, where the trace with this number is

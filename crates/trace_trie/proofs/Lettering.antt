@@ -1,10 +1,9 @@
 -- Letters are equal where the test says so.
-use Rattle.std.proofs.Common.{◌≡◌, ℕ, ◌+◌, ◌<◌, List, [], ◌∷◌, length, drop, slice_get, Some, true, false, refl, sym, ap, ◌∙◌, subst, inl, inr}
+use Rattle.std.proofs.Common.{◌≡◌, ℕ, ◌<◌, List, [], ◌∷◌, length, drop, true, false, refl, sym, ap, ◌∙◌, inl, inr}
 use Rattle.std.proofs.lemmas.Bool.{and_parts, and_from, cases_Bool}
 use Rattle.std.specs.FinSet.{is_subset, contains, is_subset-contains, contains-is_subset, same_set, nat_cmp-IsAntisymmetric}
 use Rattle.std.specs.Cmp.{nat_cmp_total}
 use Rattle.hy_base.proofs.Truths.{same-truth}
-use Rattle.hy_base.proofs.Places.{drop-at}
 use Rattle.hy_bits.specs.Letter.{Letter}
 use Rattle.hy_bits.specs.Sets.{AreBelow}
 use Rattle.trace_trie.specs.Numbered.{same_letter}
@@ -46,20 +45,3 @@ drop-end t i e = ap (λ k. drop k t) e ∙ all t
     all : {A : Type 0} (t : List A) → drop (length t) t ≡ []
     all [] = refl
     all (b ∷ t) = all t
-
--- ---- two traces at a place
-
-module _ (s t : List Letter) (i : ℕ) {a b : Letter} (at : slice_get s i ≡ Some a)
-    (bt : slice_get t i ≡ Some b) where
-  pub same-at : s ≡ t → same_letter a b ≡ true
-  same-at e =
-      let P : Letter → Type 0 = λ q. same_letter a q ≡ true in
-      let is : a ≡ b = cc in
-      subst P is (letter-itself a)
-
-  pub same-from : same_letter a b ≡ true → drop (i + 1) s ≡ drop (i + 1) t → drop i s ≡ drop i t
-  same-from e rest =
-      let is = equal-letter a b e in
-      let left = drop-at s i a at in
-      let other = drop-at t i b bt in
-      cc

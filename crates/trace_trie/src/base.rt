@@ -1,8 +1,8 @@
 //! Traces that were put together: by number, and as a trie.
 
-ghost use Rattle.std.specs.Prelude.{◌≡◌, ◌↔◌, List, [], ◌∷◌, ◌++◌, Some, None, IfOk, IfSome, IfNone, IsTrue, OnOk, OnErr};
+ghost use Rattle.std.specs.Prelude.{◌≡◌, List, [], ◌∷◌, ◌++◌, Some, None, IfOk, IfSome, IfNone, OnOk, OnErr};
 ghost use Rattle.hy_formula.specs.Quantifiers.{Each};
-ghost use Rattle.trace_trie.specs.Numbered.{Numbered, IsHeld, rest_from, with_number, without_number};
+ghost use Rattle.trace_trie.specs.Numbered.{Numbered, rest_from, with_number, without_number};
 ghost use Rattle.trace_trie.specs.Cursors.{left_waiting, rests_at};
 ghost use Rattle.trace_trie.specs.Newests.{waiting, IsLast};
 
@@ -90,13 +90,6 @@ impl Base {
             Some(found) => Some(found),
             None => Newest::next(&self.last, from),
         }
-    }
-
-    /// Whether some trace has these letters. As `Node::holds`.
-    pub(crate) fn holds(&self, letters: &[LetterMask]) -> bool
-        ensures { IsTrue result ↔ IsHeld letters.now self.now }
-    {
-        self.node.holds(letters)
     }
 
     /// The traces without that of a number, which is this one. In time and memory linear in its

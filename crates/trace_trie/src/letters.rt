@@ -1,6 +1,6 @@
 //! Letters beside one another.
 
-ghost use Rattle.std.specs.Prelude.{◌≡◌, ◌↔◌, ◌<◌, IfSome, IfNone, IsTrue, Some, None, not};
+ghost use Rattle.std.specs.Prelude.{◌≡◌, ◌<◌, IfSome, IfNone, Some, None, not};
 ghost use Rattle.std.specs.FinSet.{contains};
 ghost use Rattle.trace_trie.specs.Numbered.{same_letter};
 
@@ -11,21 +11,6 @@ pub(crate) fn same(a: LetterMask, b: LetterMask) -> bool
     ensures { result ≡ same_letter a b }
 {
     a.is_subset(&b) && b.is_subset(&a)
-}
-
-/// Whether both are the same letters, in the same order. Takes no memory, and time linear in them.
-pub(crate) fn same_letters(a: &[LetterMask], b: &[LetterMask]) -> bool
-    ensures { IsTrue result ↔ a.now ≡ b.now }
-{
-    if a.len() != b.len() {
-        return false;
-    }
-    for i in 0..a.len() {
-        if !same(a[i], b[i]) {
-            return false;
-        }
-    }
-    true
 }
 
 /// A name that one of the letters has and the other lacks. `None` where they are the same.

@@ -1,10 +1,9 @@
 //! The newest trace, while it waits to be put with the others.
 
-ghost use Rattle.std.specs.Prelude.{◌≡◌, ◌↔◌, List, [], ◌∷◌, Some, None, IfOk, IfSome, IfNone, IsTrue};
-ghost use Rattle.trace_trie.specs.Numbered.{Numbered, IsHeld, rest_from, with_number, without_number};
+ghost use Rattle.std.specs.Prelude.{◌≡◌, List, [], ◌∷◌, Some, None, IfOk, IfSome, IfNone};
+ghost use Rattle.trace_trie.specs.Numbered.{Numbered, rest_from, with_number, without_number};
 ghost use Rattle.trace_trie.specs.Cursors.{left_waiting};
 
-use crate::letters::same_letters;
 use hy_base::M;
 use hy_bits::LetterMask;
 use hy_finite::Trace;
@@ -45,16 +44,6 @@ impl Newest {
         match newest {
             Some(newest) if newest.number == number => Ok(None),
             _ => Newest::share(newest),
-        }
-    }
-
-    /// Whether a trace waits that has these letters. Takes no memory, and time linear in them.
-    pub(crate) fn holds(newest: &Option<Newest>, letters: &[LetterMask]) -> bool
-        ensures { IsTrue result ↔ IsHeld letters.now (waiting newest.now) }
-    {
-        match newest {
-            Some(newest) => same_letters(newest.trace.as_slice(), letters),
-            None => false,
         }
     }
 

@@ -1,21 +1,18 @@
-//! Nodes, the walk down them by letters, and nodes with a trace more or less: only those of its path
-//! are built.
+//! Nodes, and nodes with a trace more or less: only those of its path are built.
 
-ghost use Rattle.std.specs.Prelude.{◌≡◌, ◌↔◌, ℕ, ◌<◌, ◌≤◌, List, [], ◌∷◌, ◌++◌, length, drop, IfOk, IsTrue, OnOk, OnErr};
+ghost use Rattle.std.specs.Prelude.{◌≡◌, ℕ, ◌<◌, ◌≤◌, List, [], ◌∷◌, ◌++◌, length, drop, IfOk, OnOk, OnErr};
 ghost use Rattle.hy_formula.specs.Quantifiers.{Each};
-ghost use Rattle.trace_trie.specs.Numbered.{Numbered, IsHeld, in_order, without_number};
+ghost use Rattle.trace_trie.specs.Numbered.{Numbered, in_order, without_number};
 ghost use Rattle.trace_trie.specs.Newests.{waiting, IsLast};
 ghost use Rattle.trace_trie.specs.Kids.{IsMore};
 ghost use Rattle.trace_trie.specs.Forests.{passing};
 ghost use Rattle.trace_trie.specs.Grown.{left_in};
 
 use crate::forest::Forest;
-use crate::grown::{Grown, left};
-use crate::letters::same_letters;
+use crate::grown::Grown;
 use crate::newest::Newest;
 use crate::numbers::Numbers;
 use hy_base::M;
-use hy_bits::LetterMask;
 use hy_finite::Trace;
 use std::alloc::Global;
 use std::rc::Rc;
@@ -59,29 +56,6 @@ impl Node {
             }),
             Grown::Tail(number, trace, at) => Ok(Node::alone(number, trace.clone()?, at)),
         }
-    }
-
-    /// Whether some trace has these letters. Takes no memory, and time linear in them, at most 64
-    /// steps for each.
-    pub(crate) fn holds(&self, letters: &[LetterMask]) -> bool
-        ensures { IsTrue result ↔ IsHeld letters.now (passing self.now.ends self.now.children) }
-    {
-        let mut ends = &self.ends;
-        let mut children = &self.children;
-        for i in 0..letters.len() {
-            children.kids_differ();
-            match children.get(letters[i]) {
-                None => return false,
-                Some(Grown::Node(below_ends, below)) => {
-                    ends = below_ends;
-                    children = below;
-                }
-                Some(Grown::Tail(_, trace, at)) => {
-                    return same_letters(left(trace, at), &letters[i + 1..]);
-                }
-            }
-        }
-        !ends.is_empty()
     }
 
     /// Puts in a trace more, whose number is above all. In time and memory as `Forest::plant`.

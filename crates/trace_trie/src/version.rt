@@ -1,15 +1,14 @@
 //! Versions of a trie.
 
-ghost use Rattle.std.specs.Prelude.{◌≡◌, ◌↔◌, ℕ, ◌<◌, List, [], ◌∷◌, ◌++◌, Some, None, IfOk, IfSome, IfNone, IsSome, IsTrue, is_some, option_map};
+ghost use Rattle.std.specs.Prelude.{◌≡◌, ℕ, ◌<◌, List, [], ◌∷◌, ◌++◌, Some, None, IfOk, IfSome, IfNone, IsSome, is_some, option_map};
 ghost use Rattle.hy_formula.specs.Quantifiers.{Each};
-ghost use Rattle.trace_trie.specs.Numbered.{Numbered, IsAscending, AreTraces, IsHeld, rest_from, with_number, without_number};
+ghost use Rattle.trace_trie.specs.Numbered.{Numbered, IsAscending, AreTraces, rest_from, with_number, without_number};
 ghost use Rattle.trace_trie.specs.Cursors.{rests_at};
 
 use crate::base::Base;
 use crate::cursor::Cursor;
 use crate::newest::Newest;
 use hy_base::{M, Remake};
-use hy_bits::LetterMask;
 use hy_finite::Trace;
 use std::alloc::Global;
 use std::marker::Model;
@@ -147,14 +146,6 @@ impl Version {
                 })
             }
         }
-    }
-
-    /// Whether some trace has these letters. Takes no memory, and time linear in them, at most 64
-    /// steps for each.
-    pub fn holds(&self, letters: &[LetterMask]) -> bool
-        ensures { IsTrue result ↔ IsHeld letters.now self.now }
-    {
-        self.base.holds(letters) || Newest::holds(&self.newest, letters)
     }
 
     /// Whether there is a trace with the number. Takes no memory, and time logarithmic in the

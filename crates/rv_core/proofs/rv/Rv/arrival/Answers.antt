@@ -3,7 +3,9 @@ use Rattle.std.proofs.lemmas.List.{length-map}
 use Rattle.trace_trie.specs.Numbered.{Numbered}
 use Rattle.rv_core.specs.declared.arrival.Outcome.{Outcome}
 use Rattle.rv_core.specs.Arrivals.{IsOutcome, AreNext, kept_or}
+use Rattle.rv_core.specs.Held.{spec_of}
 use Rattle.rv_core.specs.Keeping.{kept_at}
+use Rattle.rv_core.specs.Masks.{masked}
 use Rattle.rv_core.specs.Seen.{watched, watched_by, held}
 use Rattle.rv_core.proofs.Below.{machine-some, next-below}
 use Rattle.rv_core.proofs.Bounding.{bounds-more, bounds-all}
@@ -34,7 +36,7 @@ loop-i-preserved g c =
     let within : i < length rv.kept = omega (arith, rv.below.0, c.loop-i-test.true) in
     let (m, there) = machine-some ms i lt in
     let P : Outcome → Type 0 =
-    IsOutcome rv.rule rv.drop_dominated m t rv.traces (kept_at rv.kept i) in
+    IsOutcome rv.rule rv.drop_dominated m (masked (spec_of m) t) rv.traces (kept_at rv.kept i) in
     let R : List (List Numbered) → Type 0 =
     AreMade rv.rule rv.drop_dominated ms rv.traces t rv.kept (i + 1) in
     let Q : Option (List (List Numbered)) → Type 0 = λ next. R (kept_or rv.kept next) in
@@ -71,7 +73,7 @@ returns-in-Violates-clause-arrival g c =
     machine-some (watched_by rv.watches) i
     (omega (arith, length-map rv.watches watched, c.loop-i-test.true)) in
     let P : Outcome → Type 0 =
-    IsOutcome rv.rule rv.drop_dominated m t rv.traces (kept_at rv.kept i) in
+    IsOutcome rv.rule rv.drop_dominated m (masked (spec_of m) t) rv.traces (kept_at rv.kept i) in
     record {
       machine = m;
       there = there;

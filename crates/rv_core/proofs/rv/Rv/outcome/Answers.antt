@@ -1,176 +1,101 @@
-use Rattle.std.proofs.Common.{◌≡◌, ◌<◌, List, Bool, sym, ◌∙◌, subst, arith}
-use Rattle.std.proofs.lemmas.Bool.{eqb-true}
-use Rattle.fin_monitor.specs.Machines.{Machine}
-use Rattle.rv_core.specs.Held.{spec_of}
-use Rattle.rv_core.proofs.Keepings.{not-dropping}
-use Rattle.rv_core.proofs.Seeing.{same-watched}
-use Rattle.std.specs.List.{Contains}
-use Rattle.std.proofs.lemmas.List.Elements.{Contains-push}
-use Rattle.hy_formula.specs.Quantifiers.{Each}
+use Rattle.std.proofs.Common.{◌≡◌, IfOk, sym, subst}
 use Rattle.hy_finite.specs.Traces.{Trace}
-use Rattle.trace_trie.specs.Numbered.{Numbered, IsHeld}
-use Rattle.tuple_walk.specs.Finds.{AreViolating, AllMeet, traces_of}
-use Rattle.rv_core.specs.declared.arrival.Outcome.TheVariants.{Stays, Passes, Violates}
-use Rattle.rv_core.specs.Arrivals.{IsOutcome}
-use Rattle.rv_core.specs.Seen.{watched}
-use Rattle.rv_core.proofs.Places.{each-at}
-use Rattle.rv_core.proofs.Outcomes.{held-stays, leaders-pass, all-pass, walk-steps, not-held, outcome-at, bound-at}
+use Rattle.trace_trie.specs.Numbered.{IsHeld}
+use Rattle.tuple_walk.specs.Finds.{traces_of}
+use Rattle.rv_core.specs.Arrivals.{AreHeld, IsOutcome}
+use Rattle.rv_core.specs.Held.{spec_of}
+use Rattle.rv_core.specs.Keeping.{kept_at}
+use Rattle.rv_core.specs.Masks.{masked}
+use Rattle.rv_core.specs.Seen.{watched, watched_by}
+use Rattle.rv_core.specs.StepBounds.{IsSpecBound}
+use Rattle.rv_core.proofs.Outcomes.{held-stays, not-held, seen-by}
+use Rattle.rv_core.proofs.Seeing.{seen-at, kept-there}
 use Rattle.rv_core.proofs.rv.Rv.outcome.Goals as goal
-
-pub insert-requires : goal.insert-requires
-insert-requires g c =
-    let n = c.args.self.now.traces in
-    each-at (λ (list : List Numbered). Each (λ (p : Numbered). p.0 < n) list)
-    c.args.self.now.kept c.args.spec c.at-kept.result.now c.args.self.now.below.1 c.at-kept.ensures
-
-pub leaders-requires : goal.leaders-requires
-leaders-requires g c =
-    let n = c.args.self.now.traces in
-    each-at (λ (list : List Numbered). Each (λ (p : Numbered). p.0 < n) list)
-    c.args.self.now.kept c.args.spec c.at-kept.result.now c.args.self.now.below.1 c.at-kept.ensures
-
-pub find-requires : goal.find-requires
-find-requires g c =
-    let n = c.args.self.now.traces in
-    let P : Trace → Type 0 = λ t. Contains c.in_ok-all.all (n, t) in
-    let Q : List Numbered → Type 0 = λ ps. Contains ps (n, c.args.trace.now) in
-    subst P (sym c.as_slice-letters.ensures)
-    (subst Q (sym c.in_ok-all.ensures) (Contains-push c.at-kept.result.now (n, c.args.trace.now)))
 
 pub returns-then-is_held-clause-outcome : goal.returns-then-is_held-clause-outcome
 returns-then-is_held-clause-outcome g c m there =
     let rv = c.args.self.now in
     let t = c.args.trace.now in
-    let w = c.at-watch.result.now in
-    let old = c.at-kept.result.now in
-    let P : Trace → Type 0 = λ u. IsHeld u old in
-    outcome-at rv.rule rv.watches rv.kept t c.args.spec w old c.at-watch.ensures c.at-kept.ensures
-    m there rv.drop_dominated rv.traces Stays
-    (held-stays rv.rule (watched w) rv.traces t old rv.drop_dominated
-    (subst P c.as_slice-letters.ensures
-    ((c.is_held.ensures old c.at-kept.ensures).0 c.if-is_held.true)))
+    let old = kept_at rv.kept c.args.spec in
+    let P : Trace → Type 0 = λ u. IsHeld (masked (spec_of m) u) old in
+    held-stays rv.rule m rv.traces (masked (spec_of m) t) old rv.drop_dominated
+    (subst P c.as_slice-letters.ensures ((c.is_held.ensures m there).0 c.if-is_held.true))
 
-pub returns-in-Some-clause-outcome : goal.returns-in-Some-clause-outcome
-returns-in-Some-clause-outcome g c m there =
+-- ---- a trace that the spec sees whole
+
+pub new_outcome-requires-clause-absent : goal.new_outcome-requires-clause-absent
+new_outcome-requires-clause-absent g c version at =
     let rv = c.args.self.now in
-    let t = c.args.trace.now in
     let w = c.at-watch.result.now in
-    let old = c.at-kept.result.now in
-    let P : List Numbered → Type 0 = λ ps. AreViolating (watched w) rv.rule ps c.in-Some.tuple in
-    outcome-at rv.rule rv.watches rv.kept t c.args.spec w old c.at-watch.ensures c.at-kept.ensures
-    m there rv.drop_dominated rv.traces (Violates c.in-Some.tuple)
-    (subst P c.in_ok-all.ensures c.in-Some.ensures.found)
-
-pub returns-in_ok-left-in-None-clause-outcome : goal.returns-in_ok-left-in-None-clause-outcome
-returns-in_ok-left-in-None-clause-outcome g c m there =
-    let rv = c.args.self.now in
-    let t = c.args.trace.now in
-    let w = c.at-watch.result.now in
-    let old = c.at-kept.result.now in
-    let made = c.in_ok-left-in-None.left in
-    let P : Trace → Type 0 = AllMeet (watched w) rv.rule (traces_of c.in_ok-all.all) in
-    let Q : Bool → Type 0 = λ b. IsOutcome rv.rule b (watched w) t rv.traces old (Passes made) in
-    outcome-at rv.rule rv.watches rv.kept t c.args.spec w old c.at-watch.ensures c.at-kept.ensures
-    m there rv.drop_dominated rv.traces (Passes made)
-    (subst Q (sym c.if-self.true)
-    (leaders-pass rv.rule (watched w) rv.traces t old c.in_ok-all.all made
-    (subst P c.as_slice-letters.ensures c.in-None.ensures.none) c.in_ok-all.ensures
-    c.in_ok-left-in-None.ensures))
-
-pub returns-in-None-2-clause-outcome : goal.returns-in-None-2-clause-outcome
-returns-in-None-2-clause-outcome g c m there =
-    let rv = c.args.self.now in
-    let t = c.args.trace.now in
-    let w = c.at-watch.result.now in
-    let old = c.at-kept.result.now in
-    let made = c.in_ok-all.all in
-    let P : Trace → Type 0 = AllMeet (watched w) rv.rule (traces_of made) in
-    let absent = not-held c.is_held.result c.as_slice-letters.result.now t old (c.is_held.ensures old c.at-kept.ensures)
-    c.as_slice-letters.ensures c.if-is_held.false in
-    let equal = not-dropping rv.drop_dominated (spec_of (watched w)) c.if-self.false
-    (sym c.has_one_variable.ensures ∙ c.if-has_one_variable.false) in
-    outcome-at rv.rule rv.watches rv.kept t c.args.spec w old c.at-watch.ensures c.at-kept.ensures
-    m there rv.drop_dominated rv.traces (Passes made)
-    (all-pass rv.rule (watched w) rv.traces t old absent rv.drop_dominated equal made
-    (subst P c.as_slice-letters.ensures c.in-None.ensures.none) c.in_ok-all.ensures)
-
-pub returns-in-Some-clause-bounded : goal.returns-in-Some-clause-bounded
-returns-in-Some-clause-bounded g c m bound there b =
-    let rv = c.args.self.now in
-    let t = c.args.trace.now in
-    let u = c.as_slice-letters.result.now in
-    let w = c.at-watch.result.now in
-    let old = c.at-kept.result.now in
-    let absent = not-held c.is_held.result u t old (c.is_held.ensures old c.at-kept.ensures) c.as_slice-letters.ensures
-    c.if-is_held.false in
-    walk-steps rv.rule (watched w) rv.traces t old absent c.in_ok-all.all u c.args.steps.now
-    c.find.new.steps c.in_ok-all.ensures c.as_slice-letters.ensures c.find.ensures.bounded bound
-    (bound-at rv.rule rv.watches rv.kept t c.args.spec w old c.at-watch.ensures
-    c.at-kept.ensures m there bound b)
-
-pub returns-in_err-left-in-None-clause-bounded : goal.returns-in_err-left-in-None-clause-bounded
-returns-in_err-left-in-None-clause-bounded g c m bound there b =
-    let rv = c.args.self.now in
-    let t = c.args.trace.now in
-    let u = c.as_slice-letters.result.now in
-    let w = c.at-watch.result.now in
-    let old = c.at-kept.result.now in
-    let absent = not-held c.is_held.result u t old (c.is_held.ensures old c.at-kept.ensures) c.as_slice-letters.ensures
-    c.if-is_held.false in
-    walk-steps rv.rule (watched w) rv.traces t old absent c.in_ok-all.all u c.args.steps.now
-    c.find.new.steps c.in_ok-all.ensures c.as_slice-letters.ensures c.find.ensures.bounded bound
-    (bound-at rv.rule rv.watches rv.kept t c.args.spec w old c.at-watch.ensures
-    c.at-kept.ensures m there bound b)
-
-pub returns-in_ok-left-in-None-clause-bounded : goal.returns-in_ok-left-in-None-clause-bounded
-returns-in_ok-left-in-None-clause-bounded g c m bound there b =
-    let rv = c.args.self.now in
-    let t = c.args.trace.now in
-    let u = c.as_slice-letters.result.now in
-    let w = c.at-watch.result.now in
-    let old = c.at-kept.result.now in
-    let absent = not-held c.is_held.result u t old (c.is_held.ensures old c.at-kept.ensures) c.as_slice-letters.ensures
-    c.if-is_held.false in
-    walk-steps rv.rule (watched w) rv.traces t old absent c.in_ok-all.all u c.args.steps.now
-    c.find.new.steps c.in_ok-all.ensures c.as_slice-letters.ensures c.find.ensures.bounded bound
-    (bound-at rv.rule rv.watches rv.kept t c.args.spec w old c.at-watch.ensures
-    c.at-kept.ensures m there bound b)
-
-pub returns-in-None-2-clause-bounded : goal.returns-in-None-2-clause-bounded
-returns-in-None-2-clause-bounded g c m bound there b =
-    let rv = c.args.self.now in
-    let t = c.args.trace.now in
-    let u = c.as_slice-letters.result.now in
-    let w = c.at-watch.result.now in
-    let old = c.at-kept.result.now in
-    let absent = not-held c.is_held.result u t old (c.is_held.ensures old c.at-kept.ensures) c.as_slice-letters.ensures
-    c.if-is_held.false in
-    walk-steps rv.rule (watched w) rv.traces t old absent c.in_ok-all.all u c.args.steps.now
-    c.find.new.steps c.in_ok-all.ensures c.as_slice-letters.ensures c.find.ensures.bounded bound
-    (bound-at rv.rule rv.watches rv.kept t c.args.spec w old c.at-watch.ensures
-    c.at-kept.ensures m there bound b)
-
-pub is_held-requires-clause-there : goal.is_held-requires-clause-there
-is_held-requires-clause-there g c =
-    let long = c.args.self.now.below.0 in
-    let there = c.requires.there in
-    omega (arith, long, there)
+    let spec = spec_of (watched w) in
+    let P : Trace → Type 0 = λ u. masked spec u ≡ u in
+    not-held c.is_held.result c.as_slice-letters.result.now c.args.trace.now c.args.trace.now spec
+    (kept_at rv.kept c.args.spec) version
+    (c.is_held.ensures (watched w) (seen-at rv.watches c.args.spec w c.at-watch.ensures))
+    c.as_slice-letters.ensures (kept-there rv.kept c.args.spec version at)
+    (sym (subst P c.as_slice-letters.ensures (c.sees_all.ensures c.if-sees_all.true)))
+    c.if-is_held.false
 
 pub is_held-requires-clause-not_all : goal.is_held-requires-clause-not_all
 is_held-requires-clause-not_all g c =
-    let P : Trace → Type 0 = λ t. ¬ Each (IsHeld t) c.args.self.now.kept in
+    let rv = c.args.self.now in
+    let P : Trace → Type 0 = λ t. ¬ AreHeld (watched_by rv.watches) t rv.kept in
     subst P (sym c.as_slice-letters.ensures) c.requires.not_all
 
-pub lone_outcome-requires-clause-absent : goal.lone_outcome-requires-clause-absent
-lone_outcome-requires-clause-absent g c version at =
+pub returns-then-sees_all-clause-outcome : goal.returns-then-sees_all-clause-outcome
+returns-then-sees_all-clause-outcome g c m there =
+    let rv = c.args.self.now in
     let t = c.args.trace.now in
-    not-held c.is_held.result c.as_slice-letters.result.now t version (c.is_held.ensures version at)
-    c.as_slice-letters.ensures c.if-is_held.false
+    let w = c.at-watch.result.now in
+    let P : Trace → Type 0 = λ u. masked (spec_of (watched w)) u ≡ u in
+    let Q : Trace → Type 0 = λ u. IfOk c.new_outcome.result
+    (IsOutcome rv.rule rv.drop_dominated m u rv.traces (kept_at rv.kept c.args.spec)) in
+    let whole = subst P c.as_slice-letters.ensures (c.sees_all.ensures c.if-sees_all.true) in
+    subst Q
+    (seen-by rv.watches c.args.spec w m c.at-watch.ensures there t t (sym whole))
+    (c.new_outcome.ensures.outcome m there)
 
-pub lone_outcome-requires-clause-one : goal.lone_outcome-requires-clause-one
-lone_outcome-requires-clause-one g c m there =
+pub returns-then-sees_all-clause-bounded : goal.returns-then-sees_all-clause-bounded
+returns-then-sees_all-clause-bounded g c m bound there b =
+    let rv = c.args.self.now in
+    let t = c.args.trace.now in
+    let w = c.at-watch.result.now in
+    let P : Trace → Type 0 = λ u. masked (spec_of (watched w)) u ≡ u in
+    let Q : Trace → Type 0 =
+    λ u. IsSpecBound rv.rule m (traces_of (kept_at rv.kept c.args.spec)) u bound in
+    let whole = subst P c.as_slice-letters.ensures (c.sees_all.ensures c.if-sees_all.true) in
+    c.new_outcome.ensures.bounded m bound there
+    (subst Q (sym (seen-by rv.watches c.args.spec w m c.at-watch.ensures there t t (sym whole))) b)
+
+-- ---- a trace that is masked
+
+pub new_outcome-requires-2-clause-absent : goal.new_outcome-requires-2-clause-absent
+new_outcome-requires-2-clause-absent g c version at =
     let rv = c.args.self.now in
     let w = c.at-watch.result.now in
-    let P : Machine → Type 0 = λ q. q.variables ≡ 1 in
-    subst P (same-watched rv.watches c.args.spec w m c.at-watch.ensures there)
-    (eqb-true (watched w).variables 1 (sym c.has_one_variable.ensures ∙ c.if-has_one_variable.true))
+    not-held c.is_held.result c.as_slice-letters.result.now c.args.trace.now
+    c.in_ok-masked.masked (spec_of (watched w)) (kept_at rv.kept c.args.spec) version
+    (c.is_held.ensures (watched w) (seen-at rv.watches c.args.spec w c.at-watch.ensures))
+    c.as_slice-letters.ensures (kept-there rv.kept c.args.spec version at)
+    c.in_ok-masked.ensures c.if-is_held.false
+
+pub returns-clause-outcome : goal.returns-clause-outcome
+returns-clause-outcome g c m there =
+    let rv = c.args.self.now in
+    let w = c.at-watch.result.now in
+    let Q : Trace → Type 0 = λ u. IfOk c.new_outcome-2.result
+    (IsOutcome rv.rule rv.drop_dominated m u rv.traces (kept_at rv.kept c.args.spec)) in
+    subst Q
+    (seen-by rv.watches c.args.spec w m c.at-watch.ensures there c.args.trace.now
+    c.in_ok-masked.masked c.in_ok-masked.ensures)
+    (c.new_outcome-2.ensures.outcome m there)
+
+pub returns-clause-bounded : goal.returns-clause-bounded
+returns-clause-bounded g c m bound there b =
+    let rv = c.args.self.now in
+    let w = c.at-watch.result.now in
+    let Q : Trace → Type 0 =
+    λ u. IsSpecBound rv.rule m (traces_of (kept_at rv.kept c.args.spec)) u bound in
+    c.new_outcome-2.ensures.bounded m bound there
+    (subst Q (sym (seen-by rv.watches c.args.spec w m c.at-watch.ensures there c.args.trace.now
+    c.in_ok-masked.masked c.in_ok-masked.ensures)) b)

@@ -3,8 +3,8 @@ use Rattle.std.proofs.lemmas.List.{length-map}
 use Rattle.std.proofs.lemmas.Result.{err_from_is_err_and}
 use Rattle.hy_finite.specs.declared.event.Event.TheVariants as event
 use Rattle.hy_finite.specs.Traces.{Trace}
-use Rattle.hy_formula.specs.Quantifiers.{Each}
-use Rattle.trace_trie.specs.Numbered.{Numbered, IsHeld}
+use Rattle.trace_trie.specs.Numbered.{Numbered}
+use Rattle.rv_core.specs.Arrivals.{AreHeld}
 use Rattle.rv_core.specs.declared.arrival.Arrival.TheVariants.{Same}
 use Rattle.rv_core.specs.Held.{Held}
 use Rattle.rv_core.specs.declared.rv_error.RvError.TheVariants as error
@@ -29,8 +29,9 @@ returns-then-all_hold-clause-answers g c =
 
 pub arrival-requires-clause-not_all : goal.arrival-requires-clause-not_all
 arrival-requires-clause-not_all g c =
-    let P : Trace → Type 0 = λ t. ¬ Each (IsHeld t) c.args.self.now.kept in
-    let Q : List (List Numbered) → Type 0 = λ kept. ¬ Each (IsHeld c.args.trace.now) kept in
+    let ms = watched_by c.args.self.now.watches in
+    let P : Trace → Type 0 = λ t. ¬ AreHeld ms t c.args.self.now.kept in
+    let Q : List (List Numbered) → Type 0 = λ kept. ¬ AreHeld ms c.args.trace.now kept in
     subst Q (sym c.settle.ensures)
     (subst P c.as_slice.ensures
     (λ all. let yes = c.all_hold.ensures.1 all in let no = c.if-all_hold.false in absurd (cc (yes, no))))

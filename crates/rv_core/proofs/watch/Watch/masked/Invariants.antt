@@ -1,0 +1,9 @@
+use Rattle.std.proofs.Common.{◌≡◌, take}
+use Rattle.rv_core.specs.Held.{spec_of}
+use Rattle.rv_core.specs.Masks.{masked}
+use Rattle.rv_core.specs.Seen.{watched}
+use Rattle.rv_core.proofs.watch.Watch.masked.Given as goal
+
+abbrev pub invariant-loop-letter : goal.invariant-loop-letter
+invariant-loop-letter l =
+    l.letters ≡ masked (spec_of (watched l.self)) (take l.letter-index l.whole)
