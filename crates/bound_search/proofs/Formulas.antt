@@ -27,18 +27,18 @@ use Rattle.bound_search.specs.declared.frame.Frame.{Frame}
 use Rattle.bound_search.specs.declared.sheets.Sheet.{Sheet}
 use Rattle.bound_search.specs.Rows.{Row, first_or}
 use Rattle.bound_search.specs.Choices.{chosen_gates}
-use Rattle.bound_search.specs.Sheets.{variables_in, row_of, sheet_gates}
+use Rattle.bound_search.specs.Sheets.{variables_in, row_of, first_gates}
 use Rattle.bound_search.specs.Drawings.{never}
 use Rattle.bound_search.specs.Queries.{round, places, variables_of_member, letter_variable, first_gate, letters_row, frame_of, tuple_literal, formula_literal}
 use Rattle.bound_search.proofs.Atoms.{EachAtom, atoms-like}
 use Rattle.bound_search.proofs.RightGates.{Gives, gives-plain, gives-followed}
 use Rattle.bound_search.proofs.Saying.{Says, says-variable}
 use Rattle.bound_search.proofs.Telling.{IsTold, told-listed}
-use Rattle.bound_search.proofs.SheetRows.{IsAtomTold, TellsSheet, row-told, sheet-told}
+use Rattle.bound_search.proofs.SheetRows.{IsAtomTold, TellsSheet, row-told, first-sheet-told}
 use Rattle.bound_search.proofs.Picking.{IsChoice}
 use Rattle.bound_search.proofs.Fitting.{Fits, fits-plain, fits-followed, literal-more}
 use Rattle.bound_search.proofs.RowFits.{IsRow, first-literal}
-use Rattle.bound_search.proofs.SheetFits.{IsSheetFor, row-chosen, fits-sheet}
+use Rattle.bound_search.proofs.SheetFits.{IsSheetFor, row-chosen, fits-first-sheet}
 use Rattle.bound_search.proofs.Choosing.{IsMember, says-chosen, fits-chosen}
 use Rattle.bound_search.proofs.Naming.{IsAtomOf, own-atoms, place-within}
 use Rattle.bound_search.specs.Spelling.{Spells}
@@ -94,24 +94,24 @@ module _ (bound : Bound) (ok : IsBound bound) (prefix : List Quant) (body : Tree
 
   -- The literal of a tuple is one of its sheet.
   fits-tuple : (m : ℕ) → 0 < m → (sheet : Sheet) →
-      IsSheetFor frame ok.some_traces (places bound) (variables_in body) m sheet →
+      IsSheetFor frame ok.some_traces 1 (variables_in body) m sheet →
       (tuple : List ℕ) → Chosen tuple → Fits (tuple_literal frame sheet tuple) m 0 IsLiteral
   fits-tuple m up sheet s tuple choice =
       let row = row_of frame sheet tuple in
-      let r = row-chosen frame ok.some_traces (places bound) (variables_in body) m sheet s tuple
+      let r = row-chosen frame ok.some_traces 1 (variables_in body) m sheet s tuple
       choice in
       fits-plain (first_or never row) m IsLiteral (λ o le.
       literal-more m o (first_or never row) le
-      (first-literal (places bound) m never row (omega arith, omega arith) r))
+      (first-literal 1 m never row (omega arith, omega arith) r))
 
   pub fits-formula : Fits (formula_literal names bound prefix body) first
-      (sheet_gates bound.traces (places bound) (round bound) body
+      (first_gates bound.traces (places bound) (round bound) body
       + chosen_gates bound.traces 0 (length prefix)) IsLiteral
   fits-formula =
-      fits-followed _ _ first (sheet_gates bound.traces (places bound) (round bound) body)
+      fits-followed _ _ first (first_gates bound.traces (places bound) (round bound) body)
       (chosen_gates bound.traces 0 (length prefix)) _
-      (IsSheetFor frame ok.some_traces (places bound) (variables_in body)) IsLiteral refl
-      (fits-sheet frame ok.some_traces (round bound) first (omega arith)
+      (IsSheetFor frame ok.some_traces 1 (variables_in body)) IsLiteral refl
+      (fits-first-sheet frame ok.some_traces (round bound) first (omega arith)
       (common-some bound.cycle ok.short_cycle) refl (letters_row names bound) body
       (atoms-like (IsAtomOf names (length prefix)) _ letters-right body (own-atoms
       (length prefix) body known)))
@@ -191,20 +191,18 @@ module _ (bound : Bound) (ok : IsBound bound) (prefix : List Quant) (body : Tree
 
     says-tuple : (sheet : Sheet) →
         TellsSheet a sure_is frame ok.some_traces (round bound) refl words repeats alike
-        (letters_row names bound) body sheet → (tuple : List ℕ) → Chosen tuple →
+        (letters_row names bound) 1 body sheet → (tuple : List ℕ) → Chosen tuple →
         Gives a (tuple_literal frame sheet tuple) (λ l. Says a l (Meets body (tuple_of tuple)))
     says-tuple sheet t tuple choice =
-        let r = repeats tuple choice in
-        gives-plain a _ _ (first-says _ (places bound) (row_of frame sheet tuple)
-        (omega (arith, r.some))
+        gives-plain a _ _ (first-says _ 1 (row_of frame sheet tuple) (omega arith)
         (row-told a sure_is frame ok.some_traces (round bound) refl words repeats alike
-        (letters_row names bound) body atoms sheet t tuple choice))
+        (letters_row names bound) 1 body atoms sheet t tuple choice))
 
     pub says-formula : Gives a (formula_literal names bound prefix body)
         (λ l. Says a l (Quantified (IsMember bound.traces member) (Meets body) prefix))
     says-formula =
         gives-followed a _ _ _ _
-        (sheet-told a sure_is frame ok.some_traces (round bound) refl words repeats alike
+        (first-sheet-told a sure_is frame ok.some_traces (round bound) refl words repeats alike
         (letters_row names bound) body atoms)
         (λ sheet t. says-chosen a sure_is bound.traces member prefix _ (Meets body)
         (λ tuple long each. says-tuple sheet t tuple (long, each)))

@@ -1,23 +1,20 @@
 -- The sheets that code draws: choices and their places, step by step.
-use Rattle.std.proofs.Common.{◌≡◌, ℕ, zero, suc, ◌+◌, ◌-◌, ◌*◌, ◌/◌, ◌%◌, ◌^◌, ◌<◌, ◌≤◌, Bool, true, false, cond, nat_eq, List, [], ◌∷◌, ◌++◌, length, get_or, take, drop, slice_get, Some, All, refl, sym, ap, ◌∙◌, subst, arith, length-append}
+use Rattle.std.proofs.Common.{◌≡◌, ℕ, zero, suc, ◌+◌, ◌-◌, ◌*◌, ◌/◌, ◌%◌, ◌^◌, ◌<◌, ◌≤◌, Bool, true, false, cond, nat_eq, List, [], ◌∷◌, ◌++◌, length, map, get_or, replicate, take, drop, slice_get, Some, All, refl, sym, ap, ◌∙◌, subst, arith, length-append}
 use Rattle.std.proofs.Math.Nat.{mul-le-mul_right, pow-le-pow_right, pow-suc, pow-zero}
-use Rattle.std.proofs.lemmas.List.{get_or_default, take_more}
+use Rattle.std.proofs.lemmas.List.{get_or_default, map-append, take_more}
 use Rattle.std.proofs.lemmas.Option.{get_or_from_slice_get}
 use Rattle.std.proofs.lemmas.List.Elements.{All-push}
 use Rattle.hy_base.proofs.Places.{drop-at}
-use Rattle.hy_formula.specs.Trees.{Tree}
-use Rattle.bound_search.specs.declared.asked.Asked.{Asked}
 use Rattle.bound_search.specs.declared.connectives.Binary.{Binary}
 use Rattle.bound_search.specs.declared.connectives.Unary.{Unary}
 use Rattle.bound_search.specs.declared.frame.Frame.{Frame}
 use Rattle.bound_search.specs.declared.gates.Gates.{Gates}
 use Rattle.bound_search.specs.declared.sheets.Sheet.{Sheet}
-use Rattle.bound_search.specs.Drawings.{Drawing, plain, followed}
+use Rattle.bound_search.specs.Drawings.{Drawing, plain, followed, never}
 use Rattle.bound_search.specs.Making.{Draws, row_by_one, row_by_two}
 use Rattle.bound_search.specs.Names.{with_name}
-use Rattle.bound_search.specs.Rows.{Row}
-use Rattle.bound_search.specs.Sheets.{with_all, place_among, member_at, tuple_at, row_of, listing, sheet_for, by_row, by_choice, of_one, of_two}
-use Rattle.bound_search.specs.Tuples.{asked_frame, asked_sheet}
+use Rattle.bound_search.specs.Rows.{Row, first_or}
+use Rattle.bound_search.specs.Sheets.{with_all, place_among, member_at, tuple_at, row_of, listing, sheet_for, by_row, by_choice, of_one, of_two, first_places}
 use Rattle.bound_search.proofs.Making.{draws-plain, draws-followed}
 
 -- ---- the variables of two parts
@@ -114,30 +111,47 @@ choice-drawn frame draw left right variables place tuple l r x old new e f g p =
     λ z. Draws (draw (row_of frame left (tuple_at frame variables place)) z) old new x in
     subst Q (g ∙ ap (row_of frame right) e) (subst P (f ∙ ap (row_of frame left) e) p)
 
--- ---- sheets of parts
-
-module _ (asked : Asked) (frame : Frame) (is : frame ≡ asked_frame asked) where
-  pub one-drawn : (f : Tree) (op : Unary) (old mid new : Gates) (part made : Sheet) →
-      Draws (asked_sheet asked f) old mid part →
-      Draws (by_row (row_by_one op frame.stem) part) mid new made →
-      Draws (of_one (asked_sheet asked f) (row_by_one op asked.bound.stem)) old new made
-  one-drawn f op old mid new part made p q =
+-- by a frame that is the wanted one
+module _ (frame wanted : Frame) (is : frame ≡ wanted) where
+  pub one-drawn : (first : Drawing Sheet) (op : Unary) (old mid new : Gates) (part made : Sheet) →
+      Draws first old mid part → Draws (by_row (row_by_one op frame.stem) part) mid new made →
+      Draws (of_one first (row_by_one op wanted.stem)) old new made
+  one-drawn first op old mid new part made p q =
       let P : Frame → Type 0 = λ z. Draws (by_row (row_by_one op z.stem) part) mid new made in
-      draws-followed (asked_sheet asked f) (by_row (row_by_one op asked.bound.stem)) old mid new
-      part made p (subst P is q)
+      draws-followed first (by_row (row_by_one op wanted.stem)) old mid new part made p
+      (subst P is q)
 
-  pub two-drawn : (f g : Tree) (op : Binary) (old mid late new : Gates)
-      (left right made : Sheet) → Draws (asked_sheet asked f) old mid left →
-      Draws (asked_sheet asked g) mid late right →
+  pub two-drawn : (first second : Drawing Sheet) (op : Binary) (old mid late new : Gates)
+      (left right made : Sheet) → Draws first old mid left → Draws second mid late right →
       Draws (by_choice frame (row_by_two op frame.stem) left right) late new made →
-      Draws (of_two (asked_frame asked) (asked_sheet asked f) (asked_sheet asked g)
-      (row_by_two op asked.bound.stem)) old new made
-  two-drawn f g op old mid late new left right made p q r =
+      Draws (of_two wanted first second (row_by_two op wanted.stem)) old new made
+  two-drawn first second op old mid late new left right made p q r =
       let P : Frame → Type 0 =
       λ z. Draws (by_choice z (row_by_two op z.stem) left right) late new made in
-      let join : Sheet → Sheet → Drawing Sheet =
-      by_choice (asked_frame asked) (row_by_two op asked.bound.stem) in
-      draws-followed (asked_sheet asked f)
-      (λ left. followed (asked_sheet asked g) (λ right. join left right)) old mid new left made p
-      (draws-followed (asked_sheet asked g) (λ right. join left right) mid late new right made q
+      let join : Sheet → Sheet → Drawing Sheet = by_choice wanted (row_by_two op wanted.stem) in
+      draws-followed first (λ left. followed second (λ right. join left right)) old mid new left
+      made p
+      (draws-followed second (λ right. join left right) mid late new right made q
       (subst P is r))
+
+-- the first places of a sheet that was drawn
+pub first-drawn : (first : Drawing Sheet) (old new : Gates) (part made : Sheet) →
+    Draws first old new part → made ≡ first_places part →
+    Draws (followed first (λ part. plain (first_places part))) old new made
+first-drawn first old new part made p e =
+    draws-followed first (λ part. plain (first_places part)) old new new part made p
+    (draws-plain (first_places part) made new e)
+
+-- a row's first place
+pub first-of : (row : Row) → 0 < length row → replicate 1 (first_or never row) ≡ take 1 row
+first-of [] some = absurd (omega arith)
+first-of (l ∷ row) some = refl
+
+pub firsts-more : (items rows more : List Row) (k : ℕ) (row d x : Row) → k < length items →
+    row ≡ get_or items k d → rows ≡ map (take 1) (take k items) → x ≡ take 1 row →
+    more ≡ rows ++ x ∷ [] → more ≡ map (take 1) (take (k + 1) items)
+firsts-more items rows more k row d x lt at e f g =
+    let one : take (k + 1) items ≡ take k items ++ row ∷ [] =
+    take_more items k d lt ∙ ap (λ r. take k items ++ r ∷ []) (sym at) in
+    g ∙ ap (λ l. l ++ x ∷ []) e ∙ ap (λ y. map (take 1) (take k items) ++ y ∷ []) f
+    ∙ sym (map-append (take 1) (take k items) (row ∷ [])) ∙ ap (map (take 1)) (sym one)

@@ -1,24 +1,25 @@
 -- Which gates the sheets of bodies are drawn by.
-use Rattle.std.proofs.Common.{◌≡◌, ℕ, zero, suc, ◌+◌, ◌*◌, ◌^◌, ◌<◌, ◌≤◌, List, [], ◌∷◌, length, get_or, replicate, refl, sym, ap, ◌∙◌, subst, arith}
+use Rattle.std.proofs.Common.{◌≡◌, ℕ, zero, suc, ◌+◌, ◌*◌, ◌^◌, ◌<◌, ◌≤◌, List, [], ◌∷◌, length, get_or, replicate, take, refl, sym, ap, ◌∙◌, subst, arith}
 use Rattle.std.specs.Prelude.{ℤ}
+use Rattle.std.proofs.lemmas.List.{length-map}
 use Rattle.std.proofs.Math.Nat.{pow-zero}
 use Rattle.hy_base.specs.Rows.{listed}
 use Rattle.hy_base.proofs.Listed.{length-listed}
 use Rattle.hy_formula.specs.Quantifiers.{Each}
 use Rattle.hy_formula.specs.Trees as tree
 use Rattle.hy_formula.specs.Trees.{Tree}
-use Rattle.hy_formula.proofs.Each.{each-place}
+use Rattle.hy_formula.proofs.Each.{each-like, each-map, each-place}
 use Rattle.chain_check.specs.Clauses.{IsLiteral}
 use Rattle.bound_search.specs.declared.frame.Frame.{Frame}
 use Rattle.bound_search.specs.declared.sheets.Sheet.{Sheet}
 use Rattle.bound_search.specs.Drawings.{Drawing, plain, followed, sure, never}
 use Rattle.bound_search.specs.Rows.{Row, turned, next_row, both_here, either_here, alike_here, pairs, until_row, finally_row, release_row, globally_row, implies_row, weak_row}
-use Rattle.bound_search.specs.Sheets.{with_all, variables_in, place_among, tuple_at, row_of, sheet_for, by_row, by_choice, of_one, of_two, sheet, more_gates, sheet_gates}
+use Rattle.bound_search.specs.Sheets.{with_all, variables_in, place_among, tuple_at, row_of, sheet_for, by_row, by_choice, of_one, of_two, first_places, first_sheet, sheet, more_gates, first_gates, sheet_gates}
 use Rattle.bound_search.proofs.Atoms.{EachAtom}
 use Rattle.bound_search.proofs.Fitting.{Fits, fits-plain, fits-followed, fits-later, fits-counted, literal-more, fits-both, fits-alike}
 use Rattle.bound_search.proofs.Listing.{AreMany, many-later, fits-listing}
 use Rattle.bound_search.proofs.Picking.{IsChoice, pow-one, each-listed, member-below, place-below, tuple-choice}
-use Rattle.bound_search.proofs.RowFits.{IsRow, IsHere, row-more, row-same, row-next, either-here, never-literal, sure-literal, fits-pairs, fits-turned, fits-until, fits-finally, fits-release, fits-globally, fits-implies, fits-weak}
+use Rattle.bound_search.proofs.RowFits.{IsRow, IsHere, row-more, row-same, row-next, row-one, either-here, never-literal, sure-literal, fits-pairs, fits-turned, fits-until, fits-finally, fits-release, fits-globally, fits-implies, fits-weak}
 
 module _ (frame : Frame) (some : 0 < frame.traces) (w : ℕ) where
   abbrev n : ℕ
@@ -235,3 +236,78 @@ module _ (frame : Frame) (some : 0 < frame.traces) (c m : ℕ) (up : 0 < m) (gon
       two f g (weak_row s) (1 * w + 2 * (c + w)) _ (two-count f g _ _ (omega arith))
       (λ o left right less p q. fits-weak s c o less left right p q) (fits-sheet f h.0)
       (fits-sheet g h.1)
+
+  -- ---- first places
+
+  abbrev first : Tree → ℕ
+  first = first_gates frame.traces w c
+
+  abbrev pub FitsFirst : Tree → Type 0
+  FitsFirst f =
+      Fits (first_sheet frame letters f) m (first f) (IsSheetFor frame some 1 (variables_in f))
+
+  first-two : (f g : Tree) (draw : Row → Row → Drawing Row) (k : ℕ) →
+      ((o : ℕ) (left right : Row) → 0 < o → IsRow 1 o left → IsRow 1 o right →
+      Fits (draw left right) o k (IsRow 1)) → FitsFirst f → FitsFirst g →
+      Fits (of_two frame (first_sheet frame letters f) (first_sheet frame letters g) draw) m
+      (more_gates frame.traces (first f + first g) (with_all (variables_in f) (variables_in g)) k)
+      (IsSheetFor frame some 1 (with_all (variables_in f) (variables_in g)))
+  first-two f g draw k h p q =
+      fits-two frame some 1 (variables_in f) (variables_in g) _ _ draw m (first f) (first g) k _ up
+      refl h p q
+
+  first-rest : (f : Tree) → FitsPart f →
+      Fits (followed (sheet frame letters f) (λ part. plain (first_places part))) m (gates f)
+      (IsSheetFor frame some 1 (variables_in f))
+  first-rest f p =
+      fits-followed _ _ m (gates f) 0 (gates f) (IsSheetFor frame some w (variables_in f))
+      (IsSheetFor frame some 1 (variables_in f)) (omega arith) p (λ o part le s.
+      fits-plain (first_places part) o (IsSheetFor frame some 1 (variables_in f)) (λ u more.
+      record {
+        own = s.own;
+        rows = record {
+          many = length-map part.rows (take 1) ∙ s.rows.many;
+          each = each-map (IsRow 1 u) (take 1) part.rows (each-like (IsRow w o) _
+              (λ row r. row-more 1 o u _ more (row-one w o row (omega arith) r)) part.rows
+              s.rows.each);
+        };
+      }))
+
+  pub fits-first-sheet : (f : Tree) →
+      EachAtom (λ name v. (t : ℕ) → t < frame.traces → IsRow w m (letters name t)) f → FitsFirst f
+  fits-first-sheet (tree.not f) h =
+      fits-one frame some 1 (variables_in f) _ _ m (first f) 0 (first f) up (omega arith)
+      (λ o row _ r. fits-turned 1 o row r) (fits-first-sheet f h)
+  fits-first-sheet (tree.and f g) h =
+      first-two f g (pairs both_here) 1 (λ o left right less p q.
+      fits-pairs both_here 1 (λ u l r _ i j _. fits-both u l r i j) left right 1 o less p q)
+      (fits-first-sheet f h.0) (fits-first-sheet g h.1)
+  fits-first-sheet (tree.or f g) h =
+      first-two f g (pairs either_here) 1 (λ o left right less p q.
+      fits-pairs either_here 1 either-here left right 1 o less p q)
+      (fits-first-sheet f h.0) (fits-first-sheet g h.1)
+  fits-first-sheet (tree.implies f g) h =
+      first-two f g implies_row 1 (λ o left right less p q. fits-implies 1 o less left right p q)
+      (fits-first-sheet f h.0) (fits-first-sheet g h.1)
+  fits-first-sheet (tree.iff f g) h =
+      first-two f g (pairs alike_here) 3 (λ o left right less p q.
+      fits-pairs alike_here 3 (λ u l r _ i j _. fits-alike u l r i j) left right 1 o less p q)
+      (fits-first-sheet f h.0) (fits-first-sheet g h.1)
+  fits-first-sheet tree.always h =
+      first-rest tree.always (fits-sheet tree.always h)
+  fits-first-sheet tree.never h =
+      first-rest tree.never (fits-sheet tree.never h)
+  fits-first-sheet (tree.atom name v) h =
+      first-rest (tree.atom name v) (fits-sheet (tree.atom name v) h)
+  fits-first-sheet (tree.next f) h =
+      first-rest (tree.next f) (fits-sheet (tree.next f) h)
+  fits-first-sheet (tree.finally f) h =
+      first-rest (tree.finally f) (fits-sheet (tree.finally f) h)
+  fits-first-sheet (tree.globally f) h =
+      first-rest (tree.globally f) (fits-sheet (tree.globally f) h)
+  fits-first-sheet (tree.until f g) h =
+      first-rest (tree.until f g) (fits-sheet (tree.until f g) h)
+  fits-first-sheet (tree.release f g) h =
+      first-rest (tree.release f g) (fits-sheet (tree.release f g) h)
+  fits-first-sheet (tree.weak f g) h =
+      first-rest (tree.weak f g) (fits-sheet (tree.weak f g) h)

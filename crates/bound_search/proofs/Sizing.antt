@@ -17,7 +17,7 @@ use Rattle.bound_search.specs.declared.bound.Bound.{Bound}
 use Rattle.bound_search.specs.Bounds.{IsBound}
 use Rattle.bound_search.specs.Names.{names_of}
 use Rattle.bound_search.specs.Drawings.{Gate, Drawn, gate_clauses}
-use Rattle.bound_search.specs.Sheets.{variables_in, more_gates, sheet_gates}
+use Rattle.bound_search.specs.Sheets.{variables_in, more_gates, first_gates, sheet_gates}
 use Rattle.bound_search.specs.Choices.{chosen_gates}
 use Rattle.bound_search.specs.Queries.{round, places, first_gate, repeat_clauses, cycle_clauses, some_cycle, member_clauses, formula_drawn, clauses_of, variables_of}
 use Rattle.bound_search.proofs.Atoms.{EachAtom, atoms-like}
@@ -169,6 +169,44 @@ module _ (t k w c : ℕ) (some : 0 < t) (le : c ≤ w) where
       two f g (tree.weak f g) (w + 2 * (c + w)) h (omega (arith, le)) (gates-few f h.0)
       (gates-few g h.1)
 
+module _ (t k w c : ℕ) (some : 0 < t) (le : c ≤ w) (wide : 0 < w) where
+  -- those of the first places
+  abbrev FewFirst : Tree → Type 0
+  FewFirst f = first_gates t w c f ≤ t ^ k * (5 * (w * nodes f))
+
+  first-two : (f g whole : Tree) (e : ℕ) → Below t k w c some le whole → e ≤ 5 * w →
+      FewFirst f → FewFirst g →
+      more_gates t (first_gates t w c f + first_gates t w c g) (variables_in whole) e
+      ≤ t ^ k * (5 * (w * suc (nodes f + nodes g)))
+  first-two f g whole e h each p q =
+      more-few (t ^ k) w _ _ e (nodes f + nodes g) (omega (arith, p, q))
+      (choices-few t k w c some le whole h) each
+
+  first-few : (f : Tree) → Below t k w c some le f → FewFirst f
+  first-few (tree.not f) h =
+      let p = first-few f h in
+      let up : t ^ k * (5 * (w * nodes f)) ≤ t ^ k * (5 * (w * suc (nodes f))) =
+      mul-le-mul_left (t ^ k) (omega arith) in
+      omega (arith, p, up)
+  first-few (tree.and f g) h =
+      first-two f g (tree.and f g) 1 h (omega (arith, wide)) (first-few f h.0) (first-few g h.1)
+  first-few (tree.or f g) h =
+      first-two f g (tree.or f g) 1 h (omega (arith, wide)) (first-few f h.0) (first-few g h.1)
+  first-few (tree.implies f g) h =
+      first-two f g (tree.implies f g) 1 h (omega (arith, wide)) (first-few f h.0)
+      (first-few g h.1)
+  first-few (tree.iff f g) h =
+      first-two f g (tree.iff f g) 3 h (omega (arith, wide)) (first-few f h.0) (first-few g h.1)
+  first-few tree.always h = gates-few t k w c some le tree.always h
+  first-few tree.never h = gates-few t k w c some le tree.never h
+  first-few (tree.atom name v) h = gates-few t k w c some le (tree.atom name v) h
+  first-few (tree.next f) h = gates-few t k w c some le (tree.next f) h
+  first-few (tree.finally f) h = gates-few t k w c some le (tree.finally f) h
+  first-few (tree.globally f) h = gates-few t k w c some le (tree.globally f) h
+  first-few (tree.until f g) h = gates-few t k w c some le (tree.until f g) h
+  first-few (tree.release f g) h = gates-few t k w c some le (tree.release f g) h
+  first-few (tree.weak f g) h = gates-few t k w c some le (tree.weak f g) h
+
 power-some : (t : ℕ) → 0 < t → (n : ℕ) → 0 < t ^ n
 power-some t some zero = omega (arith, pow-zero t)
 power-some t some (suc n) =
@@ -226,8 +264,8 @@ module _ (bound : Bound) (ok : IsBound bound) (prefix : List Quant) (body : Tree
       let gone = common-some bound.cycle ok.short_cycle in
       let below : EachAtom (λ name v. v < n) body =
       atoms-like (IsAtomOf (names_of body) n) _ (λ name v h. h.1) body (own-atoms n body known) in
-      let parts : sheet_gates bound.traces W c body ≤ m * (5 * (W * nodes body)) =
-      gates-few bound.traces n W c ok.some_traces (omega arith) body below in
+      let parts : first_gates bound.traces W c body ≤ m * (5 * (W * nodes body)) =
+      first-few bound.traces n W c ok.some_traces (omega arith) (omega (arith, gone)) body below in
       let choices : chosen_gates bound.traces 0 n ≤ m * (0 + n) =
       chosen-few bound.traces 0 ok.some_traces n in
       summands bound.traces names (nodes body) W n bound.cycle m _ _ ok.some_traces
@@ -289,7 +327,7 @@ module _ (bound : Bound) (ok : IsBound bound) (prefix : List Quant) (body : Tree
     (own parts choices gates member : ℕ) (named : names ≡ names_of body)
     (before : own ≡ first_gate names bound)
     (in_parts : parts
-    ≡ min (sheet_gates bound.traces (places bound) (round bound) body) most_gates)
+    ≡ min (first_gates bound.traces (places bound) (round bound) body) most_gates)
     (in_choices : choices ≡ min (chosen_gates bound.traces 0 (length prefix)) most_gates)
     (in_all : gates ≡ min (parts + choices) most_gates)
     (in_member : member ≡ member_literals (length names) bound) where

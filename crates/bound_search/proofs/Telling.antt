@@ -126,6 +126,12 @@ module _ (a : Assignment) where
   told-one P Q i j (l ∷ row) some t same =
       record { long = refl; told = (says-like a l _ _ same.0 same.1 t.0, tt) }
 
+  -- a row's first place alone
+  pub told-first : (P : ℕ → Type 0) (n : ℕ) (row : Row) → 0 < n → IsTold a P 0 n row →
+      IsTold a P 0 1 (take 1 row)
+  told-first P n row some t =
+      told-one P P 0 0 row (omega (arith, t.long, some)) t.told (λ h. h, λ h. h)
+
   pub told-next : (P : ℕ → Type 0) (s c : ℕ) → 0 < c → Steady s c P → (row : Row) →
       IsTold a P 0 (s + c) row → IsTold a (λ k. P (k + 1)) 0 (s + c) (next_row s row)
   told-next P s c some steady row t =

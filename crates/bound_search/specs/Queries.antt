@@ -19,7 +19,7 @@ use Rattle.bound_search.specs.Drawings.{Drawn, Drawing, plain, followed, sure, n
 use Rattle.bound_search.specs.Rows.{Row, first_or}
 use Rattle.bound_search.specs.declared.frame.Frame.{Frame}
 use Rattle.bound_search.specs.declared.sheets.Sheet.{Sheet}
-use Rattle.bound_search.specs.Sheets.{row_of, sheet}
+use Rattle.bound_search.specs.Sheets.{row_of, first_sheet}
 use Rattle.bound_search.specs.Choices.{chosen}
 use Rattle.bound_search.specs.Names.{names_of, name_place}
 
@@ -100,7 +100,7 @@ frame_of bound quantifiers = record {
   places = places bound;
 }
 
--- what a body says of a tuple at its first place, where this is its sheet
+-- what a body says of a tuple at its first place, where this is the sheet of its first places
 abbrev pub tuple_literal : Frame → Sheet → List ℕ → Drawing ℤ
 tuple_literal frame sheet tuple = plain (first_or never (row_of frame sheet tuple))
 
@@ -108,7 +108,7 @@ tuple_literal frame sheet tuple = plain (first_or never (row_of frame sheet tupl
 abbrev pub formula_literal : List ℕ → Bound → List Quant → Tree → Drawing ℤ
 formula_literal names bound prefix body =
     let frame = frame_of bound (length prefix) in
-    followed (sheet frame (letters_row names bound) body) (λ drawn.
+    followed (first_sheet frame (letters_row names bound) body) (λ drawn.
     chosen bound.traces (tuple_literal frame drawn) prefix)
 
 abbrev pub formula_drawn : List ℕ → Bound → List Quant → Tree → Drawn ℤ

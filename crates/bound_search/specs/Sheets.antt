@@ -1,6 +1,6 @@
 -- The sheet of a part of a body: its rows, one for each choice of members for its variables. A
 -- tuple has the number of a member for each quantifier.
-use Rattle.std.specs.Prelude.{ℕ, ℤ, zero, suc, ◌+◌, ◌*◌, ◌/◌, ◌%◌, ◌^◌, List, [], ◌∷◌, ◌++◌, cond, nat_eq, length, replicate, slice_index_or}
+use Rattle.std.specs.Prelude.{ℕ, ℤ, zero, suc, ◌+◌, ◌*◌, ◌/◌, ◌%◌, ◌^◌, List, [], ◌∷◌, ◌++◌, cond, nat_eq, length, map, replicate, slice_index_or, take}
 use Rattle.hy_base.specs.Rows.{listed}
 use Rattle.hy_formula.specs.Trees as tree
 use Rattle.hy_formula.specs.Trees.{Tree}
@@ -130,6 +130,25 @@ sheet frame letters (tree.release f g) =
 sheet frame letters (tree.weak f g) =
     of_two frame (sheet frame letters f) (sheet frame letters g) (weak_row frame.stem)
 
+-- the first places of the rows alone
+abbrev pub first_places : Sheet → Sheet
+first_places part = record { variables = part.variables; rows = map (take 1) part.rows }
+
+-- The first places of the sheet of a body. Above the temporal operators no other is needed.
+abbrev pub first_sheet : Frame → (ℕ → ℕ → Row) → Tree → Drawing Sheet
+first_sheet frame letters (tree.not f) =
+    of_one (first_sheet frame letters f) (λ row. plain (turned row))
+first_sheet frame letters (tree.and f g) =
+    of_two frame (first_sheet frame letters f) (first_sheet frame letters g) (pairs both_here)
+first_sheet frame letters (tree.or f g) =
+    of_two frame (first_sheet frame letters f) (first_sheet frame letters g) (pairs either_here)
+first_sheet frame letters (tree.implies f g) =
+    of_two frame (first_sheet frame letters f) (first_sheet frame letters g) implies_row
+first_sheet frame letters (tree.iff f g) =
+    of_two frame (first_sheet frame letters f) (first_sheet frame letters g) (pairs alike_here)
+first_sheet frame letters f =
+    followed (sheet frame letters f) (λ part. plain (first_places part))
+
 -- ---- how many gates
 
 -- those of parts, and so many for each choice of n members for these variables
@@ -162,3 +181,16 @@ module _ (n w c : ℕ) where
   sheet_gates (tree.weak f g) =
       more_gates n (sheet_gates f + sheet_gates g) (variables_in (tree.weak f g))
       (w + 2 * (c + w))
+
+  -- how many that of its first places has
+  abbrev pub first_gates : Tree → ℕ
+  first_gates (tree.not f) = first_gates f
+  first_gates (tree.and f g) =
+      more_gates n (first_gates f + first_gates g) (variables_in (tree.and f g)) 1
+  first_gates (tree.or f g) =
+      more_gates n (first_gates f + first_gates g) (variables_in (tree.or f g)) 1
+  first_gates (tree.implies f g) =
+      more_gates n (first_gates f + first_gates g) (variables_in (tree.implies f g)) 1
+  first_gates (tree.iff f g) =
+      more_gates n (first_gates f + first_gates g) (variables_in (tree.iff f g)) 3
+  first_gates f = sheet_gates f

@@ -12,7 +12,7 @@ use Rattle.bound_search.specs.declared.bound.Bound.{Bound}
 use Rattle.bound_search.specs.declared.counting.Counted.{Counted}
 use Rattle.bound_search.specs.declared.counting.Counter.{Counter}
 use Rattle.bound_search.specs.Names.{names_of}
-use Rattle.bound_search.specs.Sheets.{sheet_gates}
+use Rattle.bound_search.specs.Sheets.{first_gates, sheet_gates}
 use Rattle.bound_search.specs.Choices.{chosen_gates}
 use Rattle.bound_search.specs.Queries.{round, places, first_gate, clauses_of, variables_of}
 
@@ -36,7 +36,7 @@ nodes (weak f g) = suc (nodes f + nodes g)
 -- how many gates there are
 abbrev pub query_gates : Bound → List Quant → Tree → ℕ
 query_gates bound prefix body =
-    sheet_gates bound.traces (places bound) (round bound) body
+    first_gates bound.traces (places bound) (round bound) body
     + chosen_gates bound.traces 0 (length prefix)
 
 abbrev pub query_variables : Bound → List Quant → Tree → ℕ
@@ -72,6 +72,10 @@ pub record IsCounter (counter : Counter) : Type 0 where
 -- the gates of the sheet of a body
 abbrev pub counter_gates : Counter → Tree → ℕ
 counter_gates counter = sheet_gates counter.traces counter.places counter.round
+
+-- those of the sheet of its first places
+abbrev pub counter_first_gates : Counter → Tree → ℕ
+counter_first_gates counter = first_gates counter.traces counter.places counter.round
 
 -- These are the variables, and there are so many gates, or more than are counted.
 pub record IsCounted (own : List ℕ) (all : ℕ) (counted : Counted) : Type 0 where

@@ -61,7 +61,7 @@ fn admit_query(alloc: Global, f: &Formula, bound: Bound) -> Result<(), BoundErro
         places: bound.places() as u64,
         round: bound.round() as u64,
     };
-    let parts = counter.count(alloc, &f.body)?.gates;
+    let parts = counter.count_first(alloc, &f.body)?.gates;
     let choices = chosen_gates(bound.traces as u64, 0, f.prefix.len());
     let gates = capped(parts + choices) as u128;
     let variables = own_variables(&names, bound) + gates;
@@ -108,7 +108,7 @@ fn make_gates(alloc: Global, f: &Formula, bound: Bound) -> M<Gates>
         names: &names,
         bound,
     };
-    let sheet = gates.sheet(alloc, &asked, &f.body)?;
+    let sheet = gates.first_sheet(alloc, &asked, &f.body)?;
     let root = gates.chosen(alloc, &asked, &sheet, &mut List::new(alloc))?;
     add_alone(&mut gates.clauses, root)?;
     Ok(gates)

@@ -2,14 +2,14 @@
 
 ghost use Rattle.std.specs.Prelude.{◌≡◌, ◌<◌, ◌^◌, ◌++◌, ◌∷◌, [], All, cond, length, IfOk};
 ghost use Rattle.bound_search.specs.Drawings.{never, sure};
-ghost use Rattle.bound_search.specs.Making.{IsFrame, IsSheet};
-ghost use Rattle.bound_search.specs.Sheets.{constant, row_of};
+ghost use Rattle.bound_search.specs.Making.{IsFrame, IsSheet, first_place};
+ghost use Rattle.bound_search.specs.Sheets.{constant, first_places, row_of};
 
 use crate::connectives::{Binary, Unary};
 use crate::frame::Frame;
 use crate::gates::Gates;
 use crate::names::with_all;
-use crate::rows::{Row, constant};
+use crate::rows::{Row, constant, first_place};
 use crate::tuples::{choices, place_among, tuple_at};
 use hy_base::{List, M, NumList};
 use std::alloc::Global;
@@ -31,6 +31,23 @@ impl Sheet {
         rows.push(constant(alloc, value, frame.places)?)?;
         Ok(Sheet {
             variables: List::new(alloc),
+            rows,
+        })
+    }
+
+    /// The first places of its rows alone.
+    pub fn first_places(&self, alloc: Global, frame: Frame) -> M<Sheet>
+        requires frame { IsFrame frame }
+        requires right { IsSheet frame self.now }
+        ensures sheet { IfOk result (λ made. made ≡ first_places self.now) }
+        ensures right { IfOk result (IsSheet (first_place frame)) }
+    {
+        let mut rows = List::new(alloc);
+        for row in self.rows.as_slice() {
+            rows.push(first_place(alloc, row)?)?;
+        }
+        Ok(Sheet {
+            variables: self.variables.copy(alloc)?,
             rows,
         })
     }
