@@ -1,10 +1,10 @@
 //! `eahyper` decides and judges HyperLTL formulas over lassos.
 #![tactic(auto)]
 
-use hy_top::run_here;
-use hy_words::Tool;
+use ea_tool::EaHyper;
+use hy_run::run_here;
 use std::process::ExitCode;
 
 fn main(rt: HostRuntime) -> ExitCode {
-    run_here(&rt, Tool::EaHyper)
+    run_here(&rt, &EaHyper)
 }

@@ -1,10 +1,10 @@
 //! `rvhyper SPECS TRACES` monitors a file of finite traces.
 #![tactic(auto)]
 
-use hy_top::run_here;
-use hy_words::Tool;
+use hy_run::run_here;
+use rv_tool::RvHyper;
 use std::process::ExitCode;
 
 fn main(rt: HostRuntime) -> ExitCode {
-    run_here(&rt, Tool::RvHyper)
+    run_here(&rt, &RvHyper)
 }

@@ -1,0 +1,9 @@
+mod Agreements
+mod Asking
+mod BoundTexts
+mod Decisions
+mod Judgements
+mod LassoFiles
+mod Once
+mod Reading
+mod Searches

@@ -1,0 +1,111 @@
+-- What is answered for a formula that is decided, and for two formulas of which one is to imply the other, or that are
+-- to be equivalent.
+use Rattle.std.specs.Prelude.{◌⊎◌, ℕ, Bool, cond, List, [], ◌∷◌, Ok, Err}
+use Rattle.std.specs.List.{Contains}
+use Rattle.hy_base.specs.Limits.{most}
+use Rattle.hy_base.specs.declared.limit.Kind.TheVariants.{Instances, Closure}
+use Rattle.hy_bits.specs.Letter.{Letter}
+use Rattle.hy_formula.specs.Quantifiers.{Each}
+use Rattle.hy_formula.specs.declared.classes.Class.{Class}
+use Rattle.hy_formula.specs.Lassos.{Lasso}
+use Rattle.hy_formula.specs.Formulas.{Plain}
+use Rattle.ea_reduce.specs.Plans.{PlainPlan, implication, reduction}
+use Rattle.ea_reduce.specs.Refused.{HasFewMaps, HasManyMaps}
+use Rattle.rank_proofs.specs.declared.rank_proof.RankProof.{RankProof}
+use Rattle.rank_proofs.specs.Counts.{HasManyMembers}
+use Rattle.ea_core.specs.declared.decision.Decision.TheVariants as decisions
+use Rattle.ea_core.specs.declared.decision.Both.TheVariants as both
+use Rattle.ea_core.specs.declared.ea_error.EaError.{EaError}
+use Rattle.ea_core.specs.declared.ea_error.EaError.TheVariants as errors
+use Rattle.ea_core.specs.Decided.{Decides, DecidesImplication, DecidesEquivalence, Implies}
+use Rattle.ea_core.specs.Undecided.{IsCounted, IsWithin, AreWithin, HasFewBranches, HasManyBranches}
+use Rattle.hy_run.specs.Classes.{FirstUntaken, AreTaken, by_class, is_decided, is_of_one_kind}
+use Rattle.hy_run.specs.Runs.{Answer}
+use Rattle.hy_run.specs.declared.refusal.Refusal.{Refusal}
+use Rattle.hy_run.specs.declared.refusal.Refusal.TheVariants.{Prefix, Limit, Own, Memory}
+use Rattle.ea_tool.specs.declared.verdict.EaFault.{EaFault}
+use Rattle.ea_tool.specs.declared.verdict.EaFault.TheVariants.{States}
+use Rattle.ea_tool.specs.declared.verdict.EaVerdict.{EaVerdict}
+use Rattle.ea_tool.specs.declared.verdict.EaVerdict.TheVariants.{Sat, Unsat, Implied, NotImplied, Equivalent, NotEquivalent}
+use Rattle.ea_tool.specs.declared.verdict.Relation.{Relation}
+use Rattle.ea_tool.specs.declared.verdict.Relation.TheVariants.{Implication, Equivalence}
+
+-- the plan of a formula, and that of the claim that one does not imply another
+abbrev pub plan_of : Plain → PlainPlan
+plan_of f = reduction f.prefix f.body
+
+abbrev pub plan_against : Plain → Plain → PlainPlan
+plan_against f g = implication f.prefix f.body g.prefix g.body
+
+-- A formula is satisfiable or not, or its plan reaches more than n branches.
+pub data DecidesOne (f : Plain) (n : ℕ) : Answer EaVerdict EaFault → Type 0 where
+  sat : (list : List (Lasso Letter)) → Decides f.prefix f.body (decisions.Sat list) → IsWithin (plan_of f) n
+      → DecidesOne f n (Ok (Sat list))
+  unsat : (proof : RankProof) → Decides f.prefix f.body (decisions.Unsat proof) → IsWithin (plan_of f) n
+      → DecidesOne f n (Ok (Unsat proof))
+  beyond : HasManyBranches (plan_of f) n → DecidesOne f n (Err (Own (States n)))
+
+-- A formula implies another or not, or the plan of that reaches more than n branches.
+pub data DecidesTwo (f g : Plain) (n : ℕ) : Answer EaVerdict EaFault → Type 0 where
+  implied : (proof : RankProof) → DecidesImplication f.prefix f.body g.prefix g.body (decisions.Unsat proof)
+      → IsWithin (plan_against f g) n → DecidesTwo f g n (Ok (Implied proof))
+  not_implied : (list : List (Lasso Letter)) → DecidesImplication f.prefix f.body g.prefix g.body (decisions.Sat list)
+      → IsWithin (plan_against f g) n → DecidesTwo f g n (Ok (NotImplied list))
+  beyond : HasManyBranches (plan_against f g) n → DecidesTwo f g n (Err (Own (States n)))
+
+-- Two formulas are equivalent, or one alone is satisfied by a list, the first before the second; or a plan reaches more
+-- than n branches, that of the second direction where the first formula implies the second.
+pub data ComparesTwo (f g : Plain) (n : ℕ) : Answer EaVerdict EaFault → Type 0 where
+  equivalent : (first second : RankProof) → DecidesEquivalence f.prefix f.body g.prefix g.body (both.Same first second)
+      → AreWithin f.prefix f.body g.prefix g.body n (both.Same first second)
+      → ComparesTwo f g n (Ok (Equivalent first second))
+  first_alone : (list : List (Lasso Letter)) → DecidesEquivalence f.prefix f.body g.prefix g.body (both.First list)
+      → AreWithin f.prefix f.body g.prefix g.body n (both.First list)
+      → ComparesTwo f g n (Ok (NotEquivalent 0 list))
+  second_alone : (list : List (Lasso Letter)) → DecidesEquivalence f.prefix f.body g.prefix g.body (both.Second list)
+      → AreWithin f.prefix f.body g.prefix g.body n (both.Second list)
+      → ComparesTwo f g n (Ok (NotEquivalent 1 list))
+  many_branches : HasManyBranches (plan_against f g) n
+      ⊎ (HasFewBranches (plan_against f g) n × Implies f.prefix f.body g.prefix g.body × HasManyBranches (plan_against g f) n)
+      → ComparesTwo f g n (Err (Own (States n)))
+
+-- What a question about formulas comes to that is decided by these plans: the first of these that is met, or memory ran
+-- out. A class is not taken; some plan has a job of too many maps; some plan's closure has too many members; or the answer
+-- is as `decides` says.
+pub data Outcome (takes : Class → Bool) (formulas : List Plain) (plans : List PlainPlan) (decides : Answer EaVerdict EaFault → Type 0)
+    : Answer EaVerdict EaFault → Type 0 where
+  untaken : (place : ℕ) (class : Class) → FirstUntaken (by_class takes) formulas place class
+      → Outcome takes formulas plans decides (Err (Prefix place class))
+  many_instances : AreTaken (by_class takes) formulas → (plan : PlainPlan) → Contains plans plan → HasManyMaps plan
+      → Outcome takes formulas plans decides (Err (Limit Instances (most Instances)))
+  large_closure : AreTaken (by_class takes) formulas → Each HasFewMaps plans → (plan : PlainPlan)
+      → Contains plans plan → HasManyMembers plan
+      → Outcome takes formulas plans decides (Err (Limit Closure (most Closure)))
+  done : (answer : Answer EaVerdict EaFault) → AreTaken (by_class takes) formulas → Each IsCounted plans → decides answer
+      → Outcome takes formulas plans decides answer
+  spent : Outcome takes formulas plans decides (Err Memory)
+
+-- By at most n branches the decision of a formula comes to this answer.
+abbrev pub IsDecision : Plain → ℕ → Answer EaVerdict EaFault → Type 0
+IsDecision f n answer = Outcome is_decided (f ∷ []) (plan_of f ∷ []) (DecidesOne f n) answer
+
+-- By so many, whether the first formula implies the second.
+abbrev pub IsImplication : Plain → Plain → ℕ → Answer EaVerdict EaFault → Type 0
+IsImplication f g n answer = Outcome is_of_one_kind (f ∷ g ∷ []) (plan_against f g ∷ []) (DecidesTwo f g n) answer
+
+-- By so many for each direction, whether the formulas are equivalent.
+abbrev pub IsComparison : Plain → Plain → ℕ → Answer EaVerdict EaFault → Type 0
+IsComparison f g n answer =
+    Outcome is_of_one_kind (f ∷ g ∷ []) (plan_against f g ∷ plan_against g f ∷ []) (ComparesTwo f g n) answer
+
+-- Whether the formulas stand in the relation.
+abbrev pub IsRelated : Relation → Plain → Plain → ℕ → Answer EaVerdict EaFault → Type 0
+IsRelated Implication f g n answer = IsImplication f g n answer
+IsRelated Equivalence f g n answer = IsComparison f g n answer
+
+-- how an error of a decision is answered
+abbrev pub decision_refusal : ℕ → EaError → Refusal EaFault
+decision_refusal states (errors.Prefix second class) = Prefix (cond second 1 0) class
+decision_refusal states (errors.Limit limit) = Limit limit.kind limit.limit
+decision_refusal states errors.States = Own (States states)
+decision_refusal states errors.Memory = Memory

@@ -1,0 +1,73 @@
+//! What `eahyper` is asked, what it says, and what it alone refuses.
+
+use bound_search::Bound;
+use chain_check::Log;
+use hy_lasso::LassoList;
+use rank_proofs::RankProof;
+
+/// What is asked of two formulas.
+#[derive(Clone, Copy)]
+pub enum Relation {
+    /// Whether the first implies the second.
+    Implication,
+    /// Whether each implies the other.
+    Equivalence,
+}
+
+/// What is asked of the files of a command. `states` is the most states that a decision may visit,
+/// from 1 to 4,194,304, and `proof` asks for a proof beside the verdict.
+#[derive(Clone, Copy)]
+pub enum Question {
+    /// Whether the lassos of the second file satisfy the formula of the first.
+    Judge,
+    /// Whether the formula is satisfiable.
+    Decide {
+        states: u32,
+        proof: bool,
+    },
+    /// Whether the formulas of the two files stand in a relation.
+    Relate {
+        relation: Relation,
+        states: u32,
+        proof: bool,
+    },
+    /// Which list of lassos within a bound satisfies the formula, by a query of at most `conflicts`
+    /// conflicts, up to 1,000,000,000.
+    Find {
+        bound: Bound,
+        conflicts: u32,
+    },
+}
+
+/// What is said where nothing is refused.
+#[derive(Drop)]
+pub enum EaVerdict {
+    /// The formula is satisfiable: these lassos satisfy it.
+    Sat { list: LassoList },
+    /// No list of lassos satisfies the formula.
+    Unsat { proof: RankProof },
+    /// No list of lassos within the bound satisfies the formula. The log's last clause is empty.
+    NoneWithin { log: Log },
+    /// A search within a bound learned as many clauses as it may: those of the log.
+    Spent { conflicts: u32, log: Log },
+    /// The first formula implies the second: no list satisfies the first and not the second.
+    Implied { proof: RankProof },
+    /// The first formula does not imply the second: these lassos satisfy the first alone.
+    NotImplied { list: LassoList },
+    /// The formulas are equivalent: the first implies the second, and the second the first.
+    Equivalent { first: RankProof, second: RankProof },
+    /// The formulas are not equivalent: these lassos satisfy one alone, the first for side 0, the
+    /// second for side 1.
+    NotEquivalent { side: u8, list: LassoList },
+    /// The given lassos satisfy the formula.
+    OnTrue,
+    /// The given lassos do not satisfy the formula.
+    OnFalse,
+}
+
+/// What no other tool refuses.
+#[derive(Drop)]
+pub enum EaFault {
+    /// More than `n` branches are reachable.
+    States { n: u32 },
+}

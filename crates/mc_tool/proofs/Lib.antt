@@ -1,0 +1,6 @@
+mod Asking
+mod Checking
+mod Driving
+mod Following
+mod Once
+mod Turns

@@ -1,0 +1,10 @@
+mod Asking
+mod Counting
+mod EventFiles
+mod EventSteps
+mod FirstSpecs
+mod Following
+mod Outcomes
+mod Printed
+mod Settled
+mod Sources

@@ -1,0 +1,6 @@
+pub mod Agreeing
+pub mod Monitoring
+pub mod Rules
+pub mod Texts
+pub mod Watching
+pub mod Words

@@ -1,0 +1,14 @@
+//! `rvhyper` as a tool: what its words ask, and what that comes to.
+#![tactic(auto)]
+
+pub mod laws;
+mod monitoring;
+mod source;
+mod texts;
+mod tool;
+mod verdict;
+mod watching;
+mod words;
+
+pub use tool::RvHyper;
+pub use verdict::{Question, RvFault, RvVerdict};
