@@ -1,17 +1,16 @@
 -- Which question words ask: as what is found in them tells, and one.
-use Rattle.std.proofs.Common.{◌≡◌, ℕ, ◌<◌, ◌≤◌, ◌^◌, Bool, true≢false, List, [], ◌∷◌, map, length, slice_index_or, Bor, Option, Some, None, IfSome, IfNone, codes, refl, sym, ap, subst, ◌∙◌, arith}
+use Rattle.std.proofs.Common.{◌≡◌, ℕ, ◌<◌, ◌≤◌, ◌^◌, Bool, true≢false, List, [], ◌∷◌, map, length, slice_index_or, Bor, Option, Some, None, IfNone, codes, refl, sym, ap, subst, ◌∙◌, arith}
 use Rattle.std.specs.Str.{bytes_eq}
-use Rattle.std.proofs.lemmas.List.{length-map}
 use Rattle.hy_finite.specs.declared.lengths.Lengths.{Lengths}
 use Rattle.hy_finite.specs.declared.lengths.Lengths.TheVariants.{Min, Pad}
 use Rattle.hy_files.specs.ErrorLines.{name_of_file}
 use Rattle.hy_words.specs.Numbers.{IsNumber}
-use Rattle.hy_words.specs.Found.{Tells, found_files, found_value, listed_slice}
+use Rattle.hy_words.specs.Found.{Tells}
 use Rattle.hy_words.specs.declared.found.Found.{Found}
 use Rattle.hy_words.specs.Words.{AreItems, GiveSame, Item, given_in}
 use Rattle.hy_words.proofs.Numbers.{same-number}
 use Rattle.hy_words.proofs.Telling.{same_items}
-use Rattle.hy_run.specs.Names.{Text, names_in}
+use Rattle.hy_run.specs.Names.{Text}
 use Rattle.hy_run.specs.declared.order.Order.{Order}
 use Rattle.rv_tool.specs.Words.{IsRule, Monitors, Orders, asks, rv_syntax}
 use Rattle.rv_tool.specs.declared.verdict.Question.{Question}
@@ -19,15 +18,7 @@ use Rattle.rv_tool.specs.declared.verdict.Question.TheVariants.{Monitor, Monitor
 
 -- ---- what was found
 
--- Where a question was found in words, these ask it.
-pub question_is : (words : List Text) (found : Found) (o : Option (Order Question)) → ((items : List Item) × AreItems rv_syntax words items)
-    → ((items : List Item) → AreItems rv_syntax words items → Tells rv_syntax items found)
-    → IfSome o (λ order. (items : List Item) → Tells rv_syntax items found → Orders items order.question (names_in order.files))
-    → IfSome o (λ order. asks words order.question (names_in order.files))
-question_is words found None some told orders = tt
-question_is words found (Some order) (items, are) told orders = (items, are, orders items (told items are))
-
--- Where none was found they ask none.
+-- Where no question was found in words, these ask none.
 pub question_none : (words : List Text) (found : Found) (o : Option (Order Question))
     → ((items : List Item) → AreItems rv_syntax words items → Tells rv_syntax items found)
     → IfNone o ((items : List Item) (question : Question) (names : List Text) → Tells rv_syntax items found → ¬ Orders items question names)
@@ -38,52 +29,12 @@ question_none words found None told none = λ question files (items, are, orders
 some-nothing : {A : Type 0} {x : A} {xs : List A} → x ∷ xs ≡ [] → ⊥
 some-nothing e = cc
 
-module _ (items : List Item) (found : Found) (tells : Tells rv_syntax items found) where
-  -- The text of the option is no rule of lengths.
-  pub no_rule : (o : Option (Bor Text)) → listed_slice o ≡ found_value found (codes "lengths") → ((rule : Lengths) → ¬ IsRule (listed_slice o) rule)
-      → (question : Question) (names : List Text) → ¬ Orders items question names
-  no_rule o is none (Monitor lengths drop) names (monitors, two) =
-      none lengths (subst (λ vs. IsRule vs lengths) (tells.options.0 ∙ sym is) monitors.rule)
-  no_rule o is none (MonitorMade count lengths drop) names (text, monitors, number, one) =
-      none lengths (subst (λ vs. IsRule vs lengths) (tells.options.0 ∙ sym is) monitors.rule)
-
-  -- The text of the option is no count.
-  pub no_count : (given : Bor Text) → listed_slice (Some given) ≡ found_value found (codes "make") → ((n : ℕ) → ¬ IsNumber given.now 1 1000000 n)
-      → (question : Question) (names : List Text) → ¬ Orders items question names
-  no_count given is none (Monitor lengths drop) names (monitors, two) =
-      some-nothing (is ∙ sym tells.options.1.0 ∙ monitors.make)
-  no_count given is none (MonitorMade count lengths drop) names (text, monitors, number, one) =
-      let same : text ∷ [] ≡ given.now ∷ [] = sym monitors.make ∙ tells.options.1.0 ∙ sym is in
-      let texts : text ≡ given.now = cc in
-      none count (subst (λ t. IsNumber t 1 1000000 count) texts number)
-
-  -- There are not so many files as the options want.
-  pub no_files : (files : List (Bor Text)) (o : Option (Bor Text)) → map (λ n. n.now) files ≡ found_files found
-      → listed_slice o ≡ found_value found (codes "make") → (length files ≡ 2 → ¬ (o ≡ None))
-      → ((given : Bor Text) → length files ≡ 1 → ¬ (o ≡ Some given)) → (question : Question) (names : List Text)
-      → ¬ Orders items question names
-  no_files files None are is two one (Monitor lengths drop) names (monitors, long) =
-      two (sym (length-map _ files) ∙ ap length (are ∙ sym tells.files ∙ monitors.files) ∙ long) refl
-  no_files files (Some given) are is two one (Monitor lengths drop) names (monitors, long) =
-      some-nothing (is ∙ sym tells.options.1.0 ∙ monitors.make)
-  no_files files None are is two one (MonitorMade count lengths drop) names (text, monitors, number, long) =
-      some-nothing (sym (is ∙ sym tells.options.1.0 ∙ monitors.make))
-  no_files files (Some given) are is two one (MonitorMade count lengths drop) names (text, monitors, number, long) =
-      one given (sym (length-map _ files) ∙ ap length (are ∙ sym tells.files ∙ monitors.files) ∙ long) refl
-
 -- ---- files
 
 pub one_file : (files : List (Bor Text)) (d : Bor Text) → 1 ≤ length files → length files < 2 → map (λ n. n.now) files ≡ (slice_index_or files 0 d).now ∷ []
 one_file [] d some few = absurd (omega arith)
 one_file (a ∷ []) d some few = refl
 one_file (a ∷ b ∷ files) d some few = absurd (omega arith)
-
-pub two_files : (files : List (Bor Text)) (d : Bor Text) → 2 ≤ length files → length files < 3
-    → map (λ n. n.now) files ≡ (slice_index_or files 0 d).now ∷ (slice_index_or files 1 d).now ∷ []
-two_files [] d some few = absurd (omega arith)
-two_files (a ∷ []) d some few = absurd (omega arith)
-two_files (a ∷ b ∷ []) d some few = refl
-two_files (a ∷ b ∷ c ∷ files) d some few = absurd (omega arith)
 
 pub two_names : (files : List Text) → length files ≡ 2 → files ≡ name_of_file files 0 ∷ name_of_file files 1 ∷ []
 two_names [] e = absurd (omega (arith, e))

@@ -1,13 +1,11 @@
 -- How a run goes through its files to what its question comes to.
-use Rattle.std.proofs.Common.{◌≡◌, ℕ, zero, suc, Bool, List, [], ◌∷◌, ◌++◌, length, Ok, Err, inl, inr, refl, sym, subst, arith, length-append}
+use Rattle.std.proofs.Common.{◌≡◌, ℕ, zero, suc, Bool, List, [], ◌∷◌, length, Ok, Err, inl, inr, refl, sym, subst, arith, length-append}
 use Rattle.hy_base.specs.Shelf.{ReadsFile}
 use Rattle.hy_base.specs.declared.reading.FileError.{FileError}
 use Rattle.hy_base.specs.declared.shelf.Shelf.{Ghosts}
 use Rattle.hy_formula.specs.Formulas.{Plain}
 use Rattle.hy_formula.specs.Quantifiers.{Each}
 use Rattle.hy_text.specs.Lines.{lines_of}
-use Rattle.hy_finite.specs.EventAnswers.{IsCheckAnswer, IsRefusal}
-use Rattle.hy_finite.specs.EventFiles.{IsEventFile}
 use Rattle.hy_finite.specs.EventLines.{IsGood}
 use Rattle.hy_finite.specs.declared.lengths.Lengths.{Lengths}
 use Rattle.made_traces.specs.MadeTraces.{made_trace, made_traces}

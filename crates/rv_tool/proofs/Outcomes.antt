@@ -7,7 +7,6 @@ use Rattle.hy_base.specs.declared.limit.Kind.TheVariants.{Closure, Atoms, Table}
 use Rattle.hy_formula.specs.Atoms.{atoms_of}
 use Rattle.hy_formula.specs.Formulas.{Plain}
 use Rattle.hy_formula.specs.Trees.{Tree}
-use Rattle.hy_formula.specs.declared.classes.Class.{Class}
 use Rattle.hy_formula.proofs.Each.{each-at}
 use Rattle.hy_finite.specs.Traces.{Trace}
 use Rattle.hy_finite.specs.declared.event.Placed.{Placed}
@@ -18,7 +17,7 @@ use Rattle.fin_monitor.proofs.Counting.{reached-most}
 use Rattle.rv_core.specs.Endings.{Spec, Ending, clean, refusal, violation}
 use Rattle.rv_core.specs.Histories.{History, empty_history}
 use Rattle.rv_core.proofs.Ending.{ends-one}
-use Rattle.hy_run.specs.Classes.{FirstUntaken, by_class, is_universal}
+use Rattle.hy_run.specs.Classes.{by_class, is_universal}
 use Rattle.hy_run.specs.declared.refusal.Refusal.TheVariants.{Prefix, Limit, Memory}
 use Rattle.hy_run.proofs.Classes.{untaken_once, untaken_or_taken}
 use Rattle.rv_tool.specs.Agreeing.{Agree, same, other_tuple, AgreeUncounted, counted_alike, counted_otherwise}

@@ -1,8 +1,4 @@
-use Rattle.std.proofs.Common.{◌≡◌, List, [], ◌∷◌, sym, subst, ◌∙◌}
-use Rattle.hy_run.specs.Names.{Text, names_in}
-use Rattle.hy_run.specs.Runs.{Follows}
-use Rattle.rv_tool.specs.Rules.{rv_rules}
-use Rattle.rv_tool.specs.declared.verdict.Question.TheVariants.{Monitor, MonitorMade}
+use Rattle.hy_run.specs.Names.{names_in}
 use Rattle.rv_tool.proofs.Asking.{asked_one, asked_two, one_name, two_names}
 use Rattle.rv_tool.proofs.tool.RvHyperTool.answer.Goals as goal
 
@@ -20,8 +16,8 @@ monitor_made-requires-clause-few g c =
     (asked_one c.requires.asked.0 (names_in c.args.order.now.files) c.in-MonitorMade.count c.in-MonitorMade.lengths c.in-MonitorMade.drop
     (rw c.in-MonitorMade.is at c.requires.asked.1)).1
 
-pub returns-clause-follows : goal.returns-clause-follows
-returns-clause-follows g c =
+pub returns-in-MonitorMade-clause-follows : goal.returns-in-MonitorMade-clause-follows
+returns-in-MonitorMade-clause-follows g c =
     let files = names_in c.args.order.now.files in
     let asked = rw c.in-MonitorMade.is at c.requires.asked.1 in
     let one = one_name files (asked_one c.requires.asked.0 files c.in-MonitorMade.count c.in-MonitorMade.lengths c.in-MonitorMade.drop asked).0 in
