@@ -16,7 +16,7 @@ returns-in-None-None-None-None-clause-some c = λ items tells.
 pub returns-in-Some-None-None-None-clause-some : goal.returns-in-Some-None-None-None-clause-some
 returns-in-Some-None-None-None-clause-some c = λ items tells.
     let w = c.in-Some-None-None-None in
-    named items Judge _ _ c.two.ensures (
+    named items Judge _ _ c.two-in-Some-None-None-None.ensures (
       c.in_ok-states.states,
       c.has-proof.result,
       asks_of items c.args.found.now tells c.args.formula.now c.requires.file c.value-on.result c.value-implies.result c.value-equivalent.result
@@ -35,7 +35,7 @@ returns-in-None-Some-None-None-clause-some c = λ items tells.
 pub returns-in-None-None-Some-None-clause-some : goal.returns-in-None-None-Some-None-clause-some
 returns-in-None-None-Some-None-clause-some c = λ items tells.
     let w = c.in-None-None-Some-None in
-    named items (Relate Equivalence c.in_ok-states.states c.has-proof.result) _ _ c.two-in-None-None-Some-None.ensures
+    named items (Relate Equivalence c.in_ok-states.states c.has-proof.result) _ _ c.two.ensures
     (asks_of items c.args.found.now tells c.args.formula.now c.requires.file c.value-on.result c.value-implies.result c.value-equivalent.result
     c.value.result c.value-2.result c.value-on.ensures c.value-implies.ensures c.value-equivalent.ensures c.value.ensures _ c.in_ok-states.ensures.some
     _ c.has-proof.ensures c.requires.unbounded c.value-2.ensures w.is-3 _ _ _ (ap listed_slice w.is-0) (ap listed_slice w.is-1) (ap listed_slice w.is-2))
