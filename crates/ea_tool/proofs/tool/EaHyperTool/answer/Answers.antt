@@ -38,8 +38,8 @@ pub find-requires-clause-few : goal.find-requires-clause-few
 find-requires-clause-few g c =
     (finds c.requires.asked.0 (names_in c.args.order.now.files) c.args.order.now.question c.requires.asked.1 _ _ c.in-Find.is c.name-first.result.now c.name-first.ensures).2
 
-pub returns-clause-follows : goal.returns-clause-follows
-returns-clause-follows g c =
+pub returns-in-Find-clause-follows : goal.returns-in-Find-clause-follows
+returns-in-Find-clause-follows g c =
     of_files g.S.Shelf _ _ _ c.args.order.now.question (c.name-first.result.now ∷ []) (names_in c.args.order.now.files) _ _ c.in-Find.is
     (finds c.requires.asked.0 (names_in c.args.order.now.files) c.args.order.now.question c.requires.asked.1 _ _ c.in-Find.is c.name-first.result.now c.name-first.ensures).0
     c.find.ensures.follows
