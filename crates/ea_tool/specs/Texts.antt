@@ -1,5 +1,5 @@
 -- The text and the status of each verdict, and the line and the status of what is refused by this tool alone.
-use Rattle.std.specs.Prelude.{ℕ, zero, suc, Bool, true, false, List, [], ◌++◌, codes, decimal, if◌then◌else◌}
+use Rattle.std.specs.Prelude.{ℕ, zero, suc, Bool, false, List, [], ◌++◌, codes, decimal, if◌then◌else◌}
 use Rattle.hy_lasso.specs.Printed.{printed_lassos}
 use Rattle.rank_proofs.specs.declared.rank_proof.RankProof.{RankProof}
 use Rattle.rank_proofs.specs.ProofTexts.{proof_text}
