@@ -1,5 +1,5 @@
--- A question about files of these bytes comes to one answer.
-use Rattle.std.proofs.Common.{◌⊎◌, ℕ, ◌≤◌, length, Bool, List, [], ◌∷◌, Err, inl, inr, refl, subst, arith}
+-- A question about files of these bytes comes to one answer, and to what is decided where nothing stands before that.
+use Rattle.std.proofs.Common.{◌≡◌, ◌⊎◌, ℕ, ◌≤◌, length, Bool, List, [], ◌∷◌, Ok, Err, inl, inr, refl, subst, arith}
 use Rattle.std.specs.List.{Contains}
 use Rattle.std.proofs.lemmas.List.Elements.{All-contains}
 use Rattle.hy_bits.specs.Letter.{Letter}
@@ -16,20 +16,23 @@ use Rattle.rank_proofs.specs.Counts.{HasManyMembers}
 use Rattle.ea_core.specs.Decided.{Implies, TellsApart}
 use Rattle.ea_core.specs.Undecided.{HasFewBranches, HasManyBranches, IsCounted}
 use Rattle.ea_core.proofs.Searching.{not-both}
-use Rattle.hy_run.specs.Classes.{by_class, is_decided, is_of_one_kind}
+use Rattle.hy_lasso.specs.Joint.{IsJudged}
+use Rattle.hy_lasso.specs.Words.{Satisfies}
+use Rattle.hy_run.specs.Classes.{AreTaken, by_class, is_decided, is_of_one_kind}
 use Rattle.hy_run.specs.Laws.{AgreeOrShort}
 use Rattle.hy_run.specs.Runs.{Answer}
-use Rattle.hy_run.specs.declared.refusal.Refusal.TheVariants.{Own, Prefix}
+use Rattle.hy_run.specs.declared.refusal.Refusal.TheVariants.{Own, Prefix, Memory}
 use Rattle.hy_run.proofs.Classes.{untaken_once, untaken_or_taken}
 use Rattle.ea_tool.specs.Agreeing.{Agree, same, other_model, other_proof, other_implied, other_proofs, other_witness, other_side}
 use Rattle.ea_tool.specs.Deciding.{plan_of, plan_against, DecidesOne, DecidesTwo, ComparesTwo, sat, unsat, implied, not_implied, beyond, equivalent, first_alone, second_alone, many_branches}
-use Rattle.ea_tool.specs.Deciding.{Outcome, IsDecision, IsRelated, untaken, many_instances, large_closure, done, spent}
+use Rattle.ea_tool.specs.Deciding.{Outcome, IsDecision, IsRelated, Relates, plans_between, untaken, many_instances, large_closure, done, spent}
 use Rattle.ea_tool.specs.Judging.{IsJudgement, satisfies, violates, too_joint}
 use Rattle.ea_tool.specs.Judging as judging
 use Rattle.ea_tool.specs.Rules.{ea_rules}
 use Rattle.ea_tool.specs.declared.verdict.EaFault.{EaFault}
 use Rattle.ea_tool.specs.declared.verdict.EaFault.TheVariants.{States}
 use Rattle.ea_tool.specs.declared.verdict.EaVerdict.{EaVerdict}
+use Rattle.ea_tool.specs.declared.verdict.EaVerdict.TheVariants.{OnTrue, OnFalse}
 use Rattle.ea_tool.specs.declared.verdict.Relation.{Relation}
 use Rattle.ea_tool.specs.declared.verdict.Relation.TheVariants.{Implication, Equivalence}
 
@@ -106,8 +109,7 @@ few_or_many : (plan : PlainPlan) → HasFewMaps plan → ¬ HasManyMaps plan
 few_or_many plan few (job, there, many) =
     let le = All-contains (λ (j : PlainJob). length j.maps ≤ most_maps) plan.jobs job few there in omega (arith, le, many)
 
-module _ (takes : Class → Bool) (formulas : List Plain) (plans : List PlainPlan) (decides : Answer EaVerdict EaFault → Type 0)
-    (decided : (a b : Answer EaVerdict EaFault) → decides a → decides b → Agree a b) where
+module _ (takes : Class → Bool) (formulas : List Plain) (plans : List PlainPlan) (decides : Answer EaVerdict EaFault → Type 0) where
   not-many : Each HasFewMaps plans → (plan : PlainPlan) → Contains plans plan → ¬ HasManyMaps plan
   not-many few plan there many = few_or_many plan (each-at HasFewMaps plans plan few there) many
 
@@ -117,32 +119,42 @@ module _ (takes : Class → Bool) (formulas : List Plain) (plans : List PlainPla
   few-of : Each IsCounted plans → Each HasFewMaps plans
   few-of counted = each-like IsCounted HasFewMaps (λ (plan : PlainPlan) is. is.maps) plans counted
 
-  pub outcomes_agree : (a b : Answer EaVerdict EaFault) → Outcome takes formulas plans decides a → Outcome takes formulas plans decides b
-      → AgreeOrShort ea_rules a b
-  outcomes_agree _ b spent two = inl refl
-  outcomes_agree a _ (untaken j c one) spent = inr (inl refl)
-  outcomes_agree a _ (many_instances taken plan there many) spent = inr (inl refl)
-  outcomes_agree a _ (large_closure taken few plan there many) spent = inr (inl refl)
-  outcomes_agree a _ (done _ taken counted is) spent = inr (inl refl)
-  outcomes_agree _ _ (untaken j c one) (untaken k d two) =
-      let (place, class) = untaken_once (by_class takes) formulas j k c d one two in
-      let P : Answer EaVerdict EaFault → Type 0 = λ a. Agree (Err (Prefix j c)) a in
-      inr (inr (subst P (λ i. Err (Prefix (place i) (class i))) (same (Err (Prefix j c)))))
-  outcomes_agree _ _ (untaken j c one) (many_instances taken plan there many) = absurd (untaken_or_taken (by_class takes) formulas j c one taken)
-  outcomes_agree _ _ (untaken j c one) (large_closure taken few plan there many) = absurd (untaken_or_taken (by_class takes) formulas j c one taken)
-  outcomes_agree _ b (untaken j c one) (done _ taken counted is) = absurd (untaken_or_taken (by_class takes) formulas j c one taken)
-  outcomes_agree _ _ (many_instances taken plan there many) (untaken k d two) = absurd (untaken_or_taken (by_class takes) formulas k d two taken)
-  outcomes_agree _ _ (many_instances taken plan there many) (many_instances again other further also) = inr (inr (same _))
-  outcomes_agree _ _ (many_instances taken plan there many) (large_closure again few other further also) = absurd (not-many few plan there many)
-  outcomes_agree _ b (many_instances taken plan there many) (done _ again counted is) = absurd (not-many (few-of counted) plan there many)
-  outcomes_agree _ _ (large_closure taken few plan there many) (untaken k d two) = absurd (untaken_or_taken (by_class takes) formulas k d two taken)
-  outcomes_agree _ _ (large_closure taken few plan there many) (many_instances again other further also) = absurd (not-many few other further also)
-  outcomes_agree _ _ (large_closure taken few plan there many) (large_closure again less other further also) = inr (inr (same _))
-  outcomes_agree _ b (large_closure taken few plan there many) (done _ again counted is) = absurd (not-large counted plan there many)
-  outcomes_agree a _ (done _ taken counted is) (untaken k d two) = absurd (untaken_or_taken (by_class takes) formulas k d two taken)
-  outcomes_agree a _ (done _ taken counted is) (many_instances again plan there many) = absurd (not-many (few-of counted) plan there many)
-  outcomes_agree a _ (done _ taken counted is) (large_closure again few plan there many) = absurd (not-large counted plan there many)
-  outcomes_agree a b (done _ taken counted one) (done _ again also two) = inr (inr (decided a b one two))
+  -- Where the classes are taken and the plans within their counts, the answer is what is decided.
+  pub decided_where_ready : AreTaken (by_class takes) formulas → Each IsCounted plans → (a : Answer EaVerdict EaFault)
+      → Outcome takes formulas plans decides a → (a ≡ Err Memory) ⊎ decides a
+  decided_where_ready taken counted _ (untaken j c one) = absurd (untaken_or_taken (by_class takes) formulas j c one taken)
+  decided_where_ready taken counted _ (many_instances again plan there many) = absurd (not-many (few-of counted) plan there many)
+  decided_where_ready taken counted _ (large_closure again few plan there many) = absurd (not-large counted plan there many)
+  decided_where_ready taken counted a (done _ again also is) = inr is
+  decided_where_ready taken counted _ spent = inl refl
+
+  module _ (decided : (a b : Answer EaVerdict EaFault) → decides a → decides b → Agree a b) where
+    pub outcomes_agree : (a b : Answer EaVerdict EaFault) → Outcome takes formulas plans decides a → Outcome takes formulas plans decides b
+        → AgreeOrShort ea_rules a b
+    outcomes_agree _ b spent two = inl refl
+    outcomes_agree a _ (untaken j c one) spent = inr (inl refl)
+    outcomes_agree a _ (many_instances taken plan there many) spent = inr (inl refl)
+    outcomes_agree a _ (large_closure taken few plan there many) spent = inr (inl refl)
+    outcomes_agree a _ (done _ taken counted is) spent = inr (inl refl)
+    outcomes_agree _ _ (untaken j c one) (untaken k d two) =
+        let (place, class) = untaken_once (by_class takes) formulas j k c d one two in
+        let P : Answer EaVerdict EaFault → Type 0 = λ a. Agree (Err (Prefix j c)) a in
+        inr (inr (subst P (λ i. Err (Prefix (place i) (class i))) (same (Err (Prefix j c)))))
+    outcomes_agree _ _ (untaken j c one) (many_instances taken plan there many) = absurd (untaken_or_taken (by_class takes) formulas j c one taken)
+    outcomes_agree _ _ (untaken j c one) (large_closure taken few plan there many) = absurd (untaken_or_taken (by_class takes) formulas j c one taken)
+    outcomes_agree _ b (untaken j c one) (done _ taken counted is) = absurd (untaken_or_taken (by_class takes) formulas j c one taken)
+    outcomes_agree _ _ (many_instances taken plan there many) (untaken k d two) = absurd (untaken_or_taken (by_class takes) formulas k d two taken)
+    outcomes_agree _ _ (many_instances taken plan there many) (many_instances again other further also) = inr (inr (same _))
+    outcomes_agree _ _ (many_instances taken plan there many) (large_closure again few other further also) = absurd (not-many few plan there many)
+    outcomes_agree _ b (many_instances taken plan there many) (done _ again counted is) = absurd (not-many (few-of counted) plan there many)
+    outcomes_agree _ _ (large_closure taken few plan there many) (untaken k d two) = absurd (untaken_or_taken (by_class takes) formulas k d two taken)
+    outcomes_agree _ _ (large_closure taken few plan there many) (many_instances again other further also) = absurd (not-many few other further also)
+    outcomes_agree _ _ (large_closure taken few plan there many) (large_closure again less other further also) = inr (inr (same _))
+    outcomes_agree _ b (large_closure taken few plan there many) (done _ again counted is) = absurd (not-large counted plan there many)
+    outcomes_agree a _ (done _ taken counted is) (untaken k d two) = absurd (untaken_or_taken (by_class takes) formulas k d two taken)
+    outcomes_agree a _ (done _ taken counted is) (many_instances again plan there many) = absurd (not-many (few-of counted) plan there many)
+    outcomes_agree a _ (done _ taken counted is) (large_closure again few plan there many) = absurd (not-large counted plan there many)
+    outcomes_agree a b (done _ taken counted one) (done _ again also two) = inr (inr (decided a b one two))
 
 pub decisions_once : (f : Plain) (n : ℕ) (a b : Answer EaVerdict EaFault) → IsDecision f n a → IsDecision f n b → AgreeOrShort ea_rules a b
 decisions_once f n = outcomes_agree is_decided (f ∷ []) (plan_of f ∷ []) (DecidesOne f n) (decisions_agree f n)
@@ -150,9 +162,17 @@ decisions_once f n = outcomes_agree is_decided (f ∷ []) (plan_of f ∷ []) (De
 pub relations_once : (relation : Relation) (f g : Plain) (n : ℕ) (a b : Answer EaVerdict EaFault) → IsRelated relation f g n a
     → IsRelated relation f g n b → AgreeOrShort ea_rules a b
 relations_once Implication f g n =
-    outcomes_agree is_of_one_kind (f ∷ g ∷ []) (plan_against f g ∷ []) (DecidesTwo f g n) (implications_agree f g n)
+    outcomes_agree is_of_one_kind (f ∷ g ∷ []) (plans_between Implication f g) (DecidesTwo f g n) (implications_agree f g n)
 relations_once Equivalence f g n =
-    outcomes_agree is_of_one_kind (f ∷ g ∷ []) (plan_against f g ∷ plan_against g f ∷ []) (ComparesTwo f g n) (comparisons_agree f g n)
+    outcomes_agree is_of_one_kind (f ∷ g ∷ []) (plans_between Equivalence f g) (ComparesTwo f g n) (comparisons_agree f g n)
+
+pub related_where_ready : (relation : Relation) (f g : Plain) (n : ℕ) → AreTaken (by_class is_of_one_kind) (f ∷ g ∷ [])
+    → Each IsCounted (plans_between relation f g) → (a : Answer EaVerdict EaFault) → IsRelated relation f g n a
+    → (a ≡ Err Memory) ⊎ Relates relation f g n a
+related_where_ready Implication f g n =
+    decided_where_ready is_of_one_kind (f ∷ g ∷ []) (plans_between Implication f g) (DecidesTwo f g n)
+related_where_ready Equivalence f g n =
+    decided_where_ready is_of_one_kind (f ∷ g ∷ []) (plans_between Equivalence f g) (ComparesTwo f g n)
 
 -- ---- judgements
 
@@ -171,3 +191,12 @@ judged_once prefix body list _ _ (violates fits is) (too_joint long) = absurd (l
 judged_once prefix body list _ _ (too_joint long) (satisfies fits is) = absurd (long fits)
 judged_once prefix body list _ _ (too_joint long) (violates fits is) = absurd (long fits)
 judged_once prefix body list _ _ (too_joint long) (too_joint also) = inr (inr (same _))
+
+-- Where its lassos repeat together soon enough a list is judged.
+pub judged_where_ready : (prefix : List Quant) (body : Tree) (list : List (Lasso Letter)) → IsJudged list → (a : Answer EaVerdict EaFault)
+    → IsJudgement prefix body list a
+    → (a ≡ Err Memory) ⊎ ((a ≡ Ok OnTrue) × Satisfies list prefix body) ⊎ ((a ≡ Ok OnFalse) × (¬ Satisfies list prefix body))
+judged_where_ready prefix body list fits _ (satisfies also is) = inr (inl (refl, is))
+judged_where_ready prefix body list fits _ (violates also not) = inr (inr (refl, not))
+judged_where_ready prefix body list fits _ (too_joint long) = absurd (long fits)
+judged_where_ready prefix body list fits _ judging.spent = inl refl

@@ -89,14 +89,23 @@ pub data Outcome (takes : Class → Bool) (formulas : List Plain) (plans : List 
 abbrev pub IsDecision : Plain → ℕ → Answer EaVerdict EaFault → Type 0
 IsDecision f n answer = Outcome is_decided (f ∷ []) (plan_of f ∷ []) (DecidesOne f n) answer
 
+-- the plans by which a relation of two formulas is decided: one for each direction
+abbrev pub plans_between : Relation → Plain → Plain → List PlainPlan
+plans_between Implication f g = plan_against f g ∷ []
+plans_between Equivalence f g = plan_against f g ∷ plan_against g f ∷ []
+
+-- The formulas stand in the relation or not, or a plan reaches more than n branches.
+abbrev pub Relates : Relation → Plain → Plain → ℕ → Answer EaVerdict EaFault → Type 0
+Relates Implication f g n answer = DecidesTwo f g n answer
+Relates Equivalence f g n answer = ComparesTwo f g n answer
+
 -- By so many, whether the first formula implies the second.
 abbrev pub IsImplication : Plain → Plain → ℕ → Answer EaVerdict EaFault → Type 0
-IsImplication f g n answer = Outcome is_of_one_kind (f ∷ g ∷ []) (plan_against f g ∷ []) (DecidesTwo f g n) answer
+IsImplication f g n answer = Outcome is_of_one_kind (f ∷ g ∷ []) (plans_between Implication f g) (DecidesTwo f g n) answer
 
 -- By so many for each direction, whether the formulas are equivalent.
 abbrev pub IsComparison : Plain → Plain → ℕ → Answer EaVerdict EaFault → Type 0
-IsComparison f g n answer =
-    Outcome is_of_one_kind (f ∷ g ∷ []) (plan_against f g ∷ plan_against g f ∷ []) (ComparesTwo f g n) answer
+IsComparison f g n answer = Outcome is_of_one_kind (f ∷ g ∷ []) (plans_between Equivalence f g) (ComparesTwo f g n) answer
 
 -- Whether the formulas stand in the relation.
 abbrev pub IsRelated : Relation → Plain → Plain → ℕ → Answer EaVerdict EaFault → Type 0

@@ -1,17 +1,29 @@
 //! Laws of what `eahyper` answers. The functions are empty: their contracts are the laws.
 
-ghost use Rattle.std.specs.Prelude.{◌≡◌, ◌⊎◌, [], ℕ, Err, List, length};
+ghost use Rattle.std.specs.Prelude.{◌≡◌, ◌⊎◌, ◌∷◌, [], ℕ, Ok, Err, List, length};
 ghost use Rattle.hy_base.specs.Shelf.{Read};
+ghost use Rattle.hy_bits.specs.Letter.{Letter};
+ghost use Rattle.hy_formula.specs.Formulas.{Plain};
+ghost use Rattle.hy_formula.specs.Lassos.{Lasso};
+ghost use Rattle.hy_formula.specs.Quantifiers.{Each};
+ghost use Rattle.hy_formula.specs.Trees.{Tree};
+ghost use Rattle.hy_formula.specs.declared.prefix.Quant.{Quant};
+ghost use Rattle.hy_lasso.specs.Joint.{IsJudged};
+ghost use Rattle.hy_lasso.specs.Words.{Satisfies};
+ghost use Rattle.ea_core.specs.Undecided.{IsCounted};
+ghost use Rattle.hy_run.specs.Classes.{AreTaken, by_class, is_decided, is_of_one_kind};
 ghost use Rattle.hy_run.specs.Laws.{AgreeOrShort, AreSettled, AreTexts};
 ghost use Rattle.hy_run.specs.Names.{Text};
 ghost use Rattle.hy_run.specs.Reads.{GaveOnly, HaveBytes};
 ghost use Rattle.hy_run.specs.Runs.{Answer, Comes, Decides, Follows, out_text};
 ghost use Rattle.hy_run.specs.declared.refusal.Refusal.TheVariants.{Memory};
+ghost use Rattle.ea_tool.specs.Deciding.{DecidesOne, IsDecision, IsRelated, Relates, plan_of, plans_between};
+ghost use Rattle.ea_tool.specs.Judging.{IsJudgement};
 ghost use Rattle.ea_tool.specs.Rules.{ComesTo, ea_rules};
 ghost use Rattle.ea_tool.specs.Words.{AsksFor};
 
 use crate::tool::EaHyper;
-use crate::verdict::{EaFault, EaVerdict, Question};
+use crate::verdict::{EaFault, EaVerdict, Question, Relation};
 use hy_base::Shelf;
 use hy_files::laws::one_text;
 use hy_words::laws::one_reading;
@@ -33,14 +45,27 @@ pub fn one_answer()
 }
 
 /// Where the reads gave nothing but the bytes of files that are texts, the answer is what the question
-/// comes to by them; or memory ran out.
+/// comes to by them. Where the classes of formulas are taken and their plans within the counts, that
+/// is what is decided; where the lassos of a list repeat together soon enough, it is judged; and
+/// before a search within a bound nothing stands but its own limits. Or memory ran out.
 pub fn complete()
-    ensures { (question : Question) (files : List Text) (contents : List (List ℕ))
+    ensures texts { (question : Question) (files : List Text) (contents : List (List ℕ))
         (given : List Read) (names others : List Text) (answer : Answer EaVerdict EaFault)
         → length files ≡ length contents → GaveOnly given contents
         → AreTexts ea_rules question contents names
         → Decides ea_rules question files given others answer
         → (answer ≡ Err Memory) ⊎ ComesTo question contents names answer }
+    ensures decided { (f : Plain) (states : ℕ) (answer : Answer EaVerdict EaFault)
+        → AreTaken (by_class is_decided) (f ∷ []) → IsCounted (plan_of f)
+        → IsDecision f states answer → (answer ≡ Err Memory) ⊎ DecidesOne f states answer }
+    ensures related { (relation : Relation) (f g : Plain) (states : ℕ)
+        (answer : Answer EaVerdict EaFault) → AreTaken (by_class is_of_one_kind) (f ∷ g ∷ [])
+        → Each IsCounted (plans_between relation f g) → IsRelated relation f g states answer
+        → (answer ≡ Err Memory) ⊎ Relates relation f g states answer }
+    ensures judged { (prefix : List Quant) (body : Tree) (list : List (Lasso Letter))
+        (answer : Answer EaVerdict EaFault) → IsJudged list → IsJudgement prefix body list answer
+        → (answer ≡ Err Memory) ⊎ ((answer ≡ Ok EaVerdict.OnTrue) × Satisfies list prefix body)
+        ⊎ ((answer ≡ Ok EaVerdict.OnFalse) × (¬ Satisfies list prefix body)) }
 {
     settled();
     hy_run::laws::complete::<EaHyper>();
