@@ -1,5 +1,5 @@
 -- What is printed of decisions on formulas is good evidence.
-use Rattle.std.proofs.Common.{ℕ, ◌<◌, ◌≤◌, ◌++◌, List, length, map, inl, inr, sym, subst, arith, length-append}
+use Rattle.std.proofs.Common.{◌≡◌, ℕ, ◌<◌, ◌≤◌, ◌++◌, true, List, [], length, map, inl, inr, refl, sym, subst, arith, length-append}
 use Rattle.std.specs.Prelude.{codes}
 use Rattle.std.specs.List.{All}
 use Rattle.hy_base.specs.declared.reading.TheConstants.{BYTES_LIMIT}
@@ -16,7 +16,6 @@ use Rattle.ea_core.specs.Decided.{Decides, DecidesEquivalence, DecidesImplicatio
 use Rattle.ea_core.specs.Proofs.{IsProofOf}
 use Rattle.ea_core.specs.declared.decision.Both.TheVariants as both_ways
 use Rattle.ea_core.specs.declared.decision.Decision.TheVariants as decisions
-use Rattle.hy_answer.specs.declared.answer.Answer.TheVariants as answers
 use Rattle.cert_text.specs.Certificates.{first, second, model, ranks, both}
 use Rattle.cert_text.specs.Printed.{IsPrintable}
 use Rattle.cert_text.proofs.Printable.{printable_ranks}
@@ -24,9 +23,12 @@ use Rattle.cert_text.proofs.PrintedRanks.{printed_equivalent, printed_implied, p
 use Rattle.cert_text.proofs.PrintedRuns.{printed_not_equivalent, printed_not_implied, printed_sat}
 use Rattle.claim_check.specs.Claims.{equivalence, formula, implication}
 use Rattle.claim_check.specs.Good.{IsModel, Separates, lassos_over, plan_against, reduction}
-use Rattle.cert_laws.specs.GoodTexts.{IsFormulaOver, IsGoodText, IsShort, IsTable, printed}
+use Rattle.ea_tool.specs.Texts.{verdict_text}
+use Rattle.ea_tool.specs.declared.verdict.EaVerdict.TheVariants as verdicts
+use Rattle.cert_laws.specs.GoodTexts.{IsFormulaOver, IsShort, IsTable}
 use Rattle.cert_laws.proofs.Lassos.{lassos-back, lassos-over}
 use Rattle.cert_laws.proofs.Named.{mentioned-below}
+use Rattle.cert_laws.proofs.Shown.{IsShown}
 
 -- ---- rank proofs
 
@@ -37,8 +39,8 @@ printable plan proof few is short =
 
 module _ (names : List (List ℕ)) where
   pub unsat-good : (f : Plain) (proof : RankProof) → HasFewMembers (reduction f)
-      → Decides f.prefix f.body (decisions.Unsat proof) → IsShort (printed names (answers.Unsat proof))
-      → IsGoodText names (formula f) (printed names (answers.Unsat proof))
+      → Decides f.prefix f.body (decisions.Unsat proof) → IsShort (verdict_text true names (verdicts.Unsat proof))
+      → IsShown names (formula f) [] (verdict_text true names (verdicts.Unsat proof))
   unsat-good f proof few (none, is) short =
       let long = length-append (codes "unsat\n") (proof_text proof) in
       record {
@@ -47,12 +49,14 @@ module _ (names : List (List ℕ)) where
             printed_unsat proof
             (printable (reduction f) proof few is (omega (arith, short, long)));
         good = is.right;
+        shown = refl;
+        unrefused = λ limit refused. refused;
       }
 
   pub implied-good : (f g : Plain) (proof : RankProof) → HasFewMembers (plan_against f g)
       → DecidesImplication f.prefix f.body g.prefix g.body (decisions.Unsat proof)
-      → IsShort (printed names (answers.Implied proof))
-      → IsGoodText names (implication f g) (printed names (answers.Implied proof))
+      → IsShort (verdict_text true names (verdicts.Implied proof))
+      → IsShown names (implication f g) [] (verdict_text true names (verdicts.Implied proof))
   implied-good f g proof few (implies, is) short =
       let long = length-append (codes "implied\n") (proof_text proof) in
       record {
@@ -61,13 +65,15 @@ module _ (names : List (List ℕ)) where
             printed_implied proof
             (printable (plan_against f g) proof few is (omega (arith, short, long)));
         good = is.right;
+        shown = refl;
+        unrefused = λ limit refused. refused;
       }
 
   pub equivalent-good : (f g : Plain) (one two : RankProof) → HasFewMembers (plan_against f g)
       → HasFewMembers (plan_against g f)
       → DecidesEquivalence f.prefix f.body g.prefix g.body (both_ways.Same one two)
-      → IsShort (printed names (answers.Equivalent one two))
-      → IsGoodText names (equivalence f g) (printed names (answers.Equivalent one two))
+      → IsShort (verdict_text true names (verdicts.Equivalent one two))
+      → IsShown names (equivalence f g) [] (verdict_text true names (verdicts.Equivalent one two))
   equivalent-good f g one two few small ((there, is), (back, are)) short =
       let front = codes "equivalent\n" ++ proof_text one in
       let long = length-append front (proof_text two) in
@@ -79,6 +85,8 @@ module _ (names : List (List ℕ)) where
             (printable (plan_against f g) one few is (omega (arith, short, long, begun)))
             (printable (plan_against g f) two small are (omega (arith, short, long)));
         good = (is.right, are.right);
+        shown = refl;
+        unrefused = λ limit refused. refused;
       }
 
 -- ---- lassos
@@ -92,55 +100,64 @@ module _ (names : List (List ℕ)) (table : IsTable names) where
 
   module _ (f g : Plain) (over : IsFormulaOver names f) (also : IsFormulaOver names g)
       (list : List (Lasso Letter)) where
-    -- What tells the formulas apart does so when it is read again.
-    apart-back : TellsApart f.prefix f.body g.prefix g.body list
-        → Separates f g (lassos_over names (map (spelled_of names) list))
-    apart-back apart =
-        let fits = short-over _ (λ name m. elim m [
+    -- What tells the formulas apart is read again as it was.
+    list-back : TellsApart f.prefix f.body g.prefix g.body list → lassos_over names (map (spelled_of names) list) ≡ list
+    list-back apart =
+        lassos-back names table.distinct list (short-over _ (λ name m. elim m [
           | inl one ↦ mentioned-below (length names) f.body over.named name one
           | inr two ↦ mentioned-below (length names) g.body also.named name two
-        ]) list apart.short in
-        subst (Separates f g) (sym (lassos-back names table.distinct list fits)) apart.separates
+        ]) list apart.short)
 
     pub not-implied-good : DecidesImplication f.prefix f.body g.prefix g.body (decisions.Sat list)
-        → IsGoodText names (implication f g) (printed names (answers.NotImplied list))
+        → IsShown names (implication f g) list (verdict_text true names (verdicts.NotImplied list))
     not-implied-good apart = record {
       certificate = model first (map (spelled_of names) list);
       spelled =
           printed_not_implied names list table.are apart.separates.model.some
           apart.separates.model.lassos;
-      good = apart-back apart;
+      good = subst (Separates f g) (sym (list-back apart)) apart.separates;
+      shown = list-back apart;
+      unrefused = λ limit refused. refused;
     }
 
     pub first-alone-good : DecidesEquivalence f.prefix f.body g.prefix g.body (both_ways.First list)
-        → IsGoodText names (equivalence f g) (printed names (answers.NotEquivalent 0 list))
+        → IsShown names (equivalence f g) list (verdict_text true names (verdicts.NotEquivalent 0 list))
     first-alone-good apart = record {
       certificate = model first (map (spelled_of names) list);
       spelled =
           printed_not_equivalent names first list table.are apart.separates.model.some
           apart.separates.model.lassos;
-      good = apart-back apart;
+      good = subst (Separates f g) (sym (list-back apart)) apart.separates;
+      shown = list-back apart;
+      unrefused = λ limit refused. refused;
     }
 
   pub second-alone-good : (f g : Plain) → IsFormulaOver names f → IsFormulaOver names g
       → (list : List (Lasso Letter))
       → DecidesEquivalence f.prefix f.body g.prefix g.body (both_ways.Second list)
-      → IsGoodText names (equivalence f g) (printed names (answers.NotEquivalent 1 list))
-  second-alone-good f g over also list (implies, apart) = record {
-    certificate = model second (map (spelled_of names) list);
-    spelled =
-        printed_not_equivalent names second list table.are apart.separates.model.some
-        apart.separates.model.lassos;
-    good = apart-back g f also over list apart;
-  }
+      → IsShown names (equivalence f g) list (verdict_text true names (verdicts.NotEquivalent 1 list))
+  second-alone-good f g over also list (implies, apart) =
+      let back = list-back g f also over list apart in
+      record {
+        certificate = model second (map (spelled_of names) list);
+        spelled =
+            printed_not_equivalent names second list table.are apart.separates.model.some
+            apart.separates.model.lassos;
+        good = subst (Separates g f) (sym back) apart.separates;
+        shown = back;
+        unrefused = λ limit refused. refused;
+      }
 
   pub sat-good : (f : Plain) → IsFormulaOver names f → (list : List (Lasso Letter))
       → Decides f.prefix f.body (decisions.Sat list)
-      → IsGoodText names (formula f) (printed names (answers.Sat list))
+      → IsShown names (formula f) list (verdict_text true names (verdicts.Sat list))
   sat-good f over list (is, count, short) =
       let fits = short-over _ (mentioned-below (length names) f.body over.named) list short in
+      let back = lassos-back names table.distinct list fits in
       record {
         certificate = model first (map (spelled_of names) list);
         spelled = printed_sat names list table.are is.some is.lassos;
-        good = subst (IsModel f) (sym (lassos-back names table.distinct list fits)) is;
+        good = subst (IsModel f) (sym back) is;
+        shown = back;
+        unrefused = λ limit refused. refused;
       }

@@ -1,16 +1,15 @@
--- What is known of the formulas and the names of the files of a command.
-use Rattle.std.proofs.Common.{◌≡◌, ℕ, zero, suc, ◌≤◌, true, false, Bool, List, [], length, refl, sym, ap, subst, arith, length-append}
+-- What is known of formulas that are read, and of their names.
+use Rattle.std.proofs.Common.{ℕ, ◌≤◌, false, Bool, List, [], ◌∷◌, length, refl, ap, arith, length-append}
 use Rattle.std.proofs.lemmas.List.Elements.{All-contains, All-nil}
 use Rattle.hy_formula.specs.Formulas.{Plain}
 use Rattle.hy_formula.specs.Quantifiers.{Each}
-use Rattle.hy_formula.proofs.Each.{each-append, each-from, each-like}
+use Rattle.hy_formula.proofs.Each.{each-from, each-like}
 use Rattle.hy_text.specs.Names.{IsName}
 use Rattle.hy_read.specs.Answers.{Answers, read_as}
 use Rattle.hy_read.specs.Readings.{IsReading}
 use Rattle.hy_read.proofs.ReadFormulas.{all_readings, distinct_names, good_names, old_names}
-use Rattle.hy_files.specs.Contents.{Content, IsText, specifications, one_formula, events, lassos, circuit}
-use Rattle.hy_top.specs.Files.{Given, HasTexts}
-use Rattle.hy_top.specs.Orders.{Order, content_of}
+use Rattle.hy_files.specs.Contents.{IsFormula}
+use Rattle.hy_check.specs.Contents.{AreTwo}
 use Rattle.cert_laws.specs.GoodTexts.{IsFormulaOver, IsTable}
 use Rattle.cert_laws.proofs.Named.{names-grow}
 
@@ -18,9 +17,6 @@ use Rattle.cert_laws.proofs.Named.{names-grow}
 pub record AreOver (formulas : List Plain) (names : List (List ℕ)) : Type 0 where
   pub table : IsTable names
   pub over : Each (IsFormulaOver names) formulas
-
-none-over : AreOver [] []
-none-over = record { table = record { are = All-nil IsName; distinct = refl }; over = tt }
 
 -- Formulas stay over a table that grows.
 still-over : (old names : List (List ℕ)) → length old ≤ length names → (formulas : List Plain)
@@ -54,45 +50,20 @@ read-adds many quantifiers old new bytes formulas table is =
       };
     }
 
-same-adds : (old new : List (List ℕ)) (formulas : List Plain) → IsTable old → formulas ≡ []
-    → new ≡ old → Adds old new formulas
-same-adds old new formulas table none same =
-    let P : List Plain → Type 0 = λ fs. Each (IsFormulaOver new) fs in
-    record {
-      grown = omega (arith, ap length same);
-      are = record {
-        table = subst IsTable (sym same) table;
-        over = subst P (sym none) tt;
-      };
-    }
+-- ---- formulas that are read
 
-text-adds : (quantifiers : ℕ) (old new : List (List ℕ)) (bytes : List ℕ) (content : Content)
-    (formulas : List Plain) → IsTable old → IsText quantifiers old bytes content formulas new
-    → Adds old new formulas
-text-adds quantifiers old new bytes specifications formulas table is =
-    read-adds true quantifiers old new bytes formulas table is
-text-adds quantifiers old new bytes one_formula formulas table is =
-    read-adds false quantifiers old new bytes formulas table is
-text-adds quantifiers old new bytes events formulas table (said, none, same) =
-    same-adds old new formulas table none same
-text-adds quantifiers old new bytes lassos formulas table (said, none, same) =
-    same-adds old new formulas table none same
-text-adds quantifiers old new bytes circuit formulas table (said, none, same) =
-    same-adds old new formulas table none same
+no-names : IsTable []
+no-names = record { are = All-nil IsName; distinct = refl }
 
--- The names of files that are texts are those of a table, and their formulas are over it.
-pub texts-over : (order : Order) (given : Given) (k : ℕ) (formulas : List Plain)
-    (names : List (List ℕ)) → HasTexts order given k formulas names → AreOver formulas names
-texts-over order given zero formulas names (none, empty) =
-    let P : List Plain → Type 0 = λ fs. AreOver fs names in
-    subst P (sym none) (subst (AreOver []) (sym empty) none-over)
-texts-over order given (suc k) formulas names (before, more, old, has, last, e) =
-    let earlier = texts-over order given k before old has in
-    let adds = text-adds order.quantifiers old names last.bytes (content_of order k) more
-    earlier.table last.is in
-    let P : List Plain → Type 0 = λ fs. AreOver fs names in
-    subst P (sym e) (record {
-      table = adds.are.table;
-      over = each-append (IsFormulaOver names) before more
-          (still-over old names adds.grown before earlier.over) adds.are.over;
-    })
+-- The names of a formula that was read alone are those of a table, and it is over it.
+pub formula-over : (quantifiers : ℕ) (bytes : List ℕ) (f : Plain) (names : List (List ℕ)) → IsFormula quantifiers [] bytes f names
+    → AreOver (f ∷ []) names
+formula-over quantifiers bytes f names is = (read-adds false quantifiers [] names bytes (f ∷ []) no-names is).are
+
+-- So are those of two, one after the other.
+pub two-over : (one two : List ℕ) (f g : Plain) (names : List (List ℕ)) → AreTwo one two f g names → AreOver (f ∷ g ∷ []) names
+two-over one two f g names (known, is, also) =
+    let before = read-adds false 8 [] known one (f ∷ []) no-names is in
+    let behind = read-adds false 8 known names two (g ∷ []) before.are.table also in
+    let kept = still-over known names behind.grown (f ∷ []) before.are.over in
+    record { table = behind.are.table; over = (kept.0, behind.are.over) }

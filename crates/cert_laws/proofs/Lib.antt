@@ -1,7 +1,11 @@
+pub mod Accepting
 pub mod Checks
-pub mod Commands
 pub mod Decisions
+pub mod Evidence
 pub mod Files
 pub mod Lassos
 pub mod Named
+pub mod Questions
+pub mod Shown
+pub mod Verdicts
 pub mod Written

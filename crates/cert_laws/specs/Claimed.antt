@@ -1,41 +1,56 @@
--- What a command claims, and which of its answers are verdicts with evidence.
-use Rattle.std.specs.Prelude.{ℕ, List, [], ◌∷◌}
+-- Which questions of the tools are about claims, and which of their verdicts have evidence.
+use Rattle.std.specs.Prelude.{◌≡◌, true, List, []}
+use Rattle.hy_bits.specs.Letter.{Letter}
+use Rattle.hy_formula.specs.Lassos.{Lasso}
+use Rattle.cert_text.specs.declared.question.Question.{Question}
+use Rattle.cert_text.specs.declared.question.Question.TheVariants as certificates
+use Rattle.ea_tool.specs.declared.verdict.EaVerdict.{EaVerdict}
+use Rattle.ea_tool.specs.declared.verdict.EaVerdict.TheVariants.{Sat, NotImplied, NotEquivalent}
+use Rattle.ea_tool.specs.declared.verdict.Question.{Question as EaQuestion}
+use Rattle.ea_tool.specs.declared.verdict.Question.TheVariants.{Decide, Relate}
+use Rattle.ea_tool.specs.declared.verdict.Relation.TheVariants.{Implication, Equivalence}
 use Rattle.mc_core.specs.declared.checked.Checked.{Checked}
 use Rattle.mc_core.specs.declared.checked.Checked.TheVariants.{Holds, Violated}
-use Rattle.hy_answer.specs.declared.answer.Answer.{Answer}
-use Rattle.hy_answer.specs.declared.answer.Answer.TheVariants.{Sat, Unsat, Implied, NotImplied, Equivalent, NotEquivalent}
-use Rattle.hy_answer.specs.declared.answer.Answer.TheVariants as answers
-use Rattle.hy_top.specs.Orders.{Order, Task, deciding, checking, satisfiability}
-use Rattle.hy_top.specs.Orders as questions
-use Rattle.hy_top.specs.Files.{Given, HasAll}
-use Rattle.hy_top.specs.Checking.{HasPair}
-use Rattle.claim_check.specs.Claims.{Claim, formula, implication, equivalence, circuit}
+use Rattle.mc_tool.specs.declared.verdict.McVerdict.{McVerdict}
+use Rattle.mc_tool.specs.declared.verdict.McVerdict.TheVariants as verdicts
+use Rattle.mc_tool.specs.declared.verdict.Question.{Question as McQuestion}
+use Rattle.mc_tool.specs.declared.verdict.Question.TheVariants.{Check}
 
--- The task is about the claim: its formulas and its circuit are those of the files, which have these
--- names.
-abbrev pub Asks : Task → Order → Given → List (List ℕ) → Claim → Type 0
-Asks (deciding satisfiability states) order given names (formula f) =
-    HasAll order given (f ∷ []) names
-Asks (deciding questions.implication states) order given names (implication f g) =
-    HasAll order given (f ∷ g ∷ []) names
-Asks (deciding questions.equivalence states) order given names (equivalence f g) =
-    HasAll order given (f ∷ g ∷ []) names
-Asks (checking ask) order given names (circuit net f) = HasPair order given net f names
-Asks _ order given names _ = ⊥
+-- ---- questions
+
+-- A proof is asked for, and with it the verdict is a certificate for this question of the checker, about the same files.
+abbrev pub CertifiesEa : EaQuestion → Question → Type 0
+CertifiesEa (Decide states proof) certificates.Formula = proof ≡ true
+CertifiesEa (Relate Implication states proof) certificates.Implication = proof ≡ true
+CertifiesEa (Relate Equivalence states proof) certificates.Equivalence = proof ≡ true
+CertifiesEa _ _ = ⊥
+
+abbrev pub CertifiesMc : McQuestion → Question → Type 0
+CertifiesMc (Check ask proof) certificates.Circuit = proof ≡ true
+CertifiesMc _ _ = ⊥
+
+-- ---- verdicts
 
 -- A check found evidence, for or against its formula.
-abbrev pub IsFound : Checked → Type 0
-IsFound (Holds traces runs proof) = Unit {0}
-IsFound (Violated traces runs proof) = Unit {0}
+abbrev pub IsFound : McVerdict → Type 0
+IsFound (verdicts.Checked (Holds traces runs proof)) = Unit {0}
+IsFound (verdicts.Checked (Violated traces runs proof)) = Unit {0}
 IsFound _ = ⊥
 
--- The answer says whether a claim is so, and has evidence of it.
-abbrev pub IsVerdict : Answer → Type 0
-IsVerdict (Sat list) = Unit {0}
-IsVerdict (Unsat proof) = Unit {0}
-IsVerdict (Implied proof) = Unit {0}
-IsVerdict (NotImplied list) = Unit {0}
-IsVerdict (Equivalent first second) = Unit {0}
-IsVerdict (NotEquivalent side list) = Unit {0}
-IsVerdict (answers.Checked checked) = IsFound checked
-IsVerdict _ = ⊥
+-- the lassos of a verdict
+abbrev pub models_of : EaVerdict → List (Lasso Letter)
+models_of (Sat list) = list
+models_of (NotImplied list) = list
+models_of (NotEquivalent side list) = list
+models_of _ = []
+
+-- the lassos of what a check comes to
+abbrev pub traces_of : Checked → List (Lasso Letter)
+traces_of (Holds traces runs proof) = traces
+traces_of (Violated traces runs proof) = traces
+traces_of _ = []
+
+-- those of a verdict
+abbrev pub traces_in : McVerdict → List (Lasso Letter)
+traces_in (verdicts.Checked checked) = traces_of checked
+traces_in _ = []

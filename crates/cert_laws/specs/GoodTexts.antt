@@ -1,12 +1,10 @@
--- What is printed of an answer with its evidence, and when it is a good certificate.
-use Rattle.std.specs.Prelude.{ℕ, ◌<◌, ◌≤◌, true, false, IsTrue, List, length}
+-- When what is printed is a good certificate.
+use Rattle.std.specs.Prelude.{ℕ, ◌<◌, ◌≤◌, IsTrue, List, length}
 use Rattle.hy_base.specs.declared.reading.TheConstants.{BYTES_LIMIT}
 use Rattle.hy_formula.specs.Formulas.{Plain}
 use Rattle.hy_formula.specs.Names.{are_distinct}
 use Rattle.hy_text.specs.Names.{AreNames}
 use Rattle.hy_read.specs.Readings.{names_below}
-use Rattle.hy_answer.specs.declared.answer.Answer.{Answer}
-use Rattle.hy_answer.specs.Outputs.{out_text}
 use Rattle.cert_text.specs.Certificates.{Certificate}
 use Rattle.cert_text.specs.Texts.{IsText}
 use Rattle.claim_check.specs.Claims.{Claim, question_of}
@@ -25,10 +23,6 @@ pub record IsFormulaOver (names : List (List ℕ)) (f : Plain) : Type 0 where
   pub named : IsTrue (names_below (length names) f.body)
 
 -- ---- texts
-
--- what `out` receives with an answer where proofs are shown
-abbrev pub printed : List (List ℕ) → Answer → List ℕ
-printed names answer = out_text (record { kept = false; proof = true }) names answer
 
 -- The text is no longer than a file may be.
 abbrev pub IsShort : List ℕ → Type 0

@@ -1,75 +1,62 @@
 -- The claim that files make: they are texts in turn, and make one.
-use Rattle.std.proofs.Common.{◌≡◌, ℕ, List, [], ◌∷◌, length, refl, ap, subst}
+use Rattle.std.proofs.Common.{◌≡◌, ℕ, Bool, false, List, [], ◌∷◌, refl, ap, subst}
 use Rattle.hy_formula.specs.Formulas.{Plain}
 use Rattle.aig_net.specs.Nets.{Net}
-use Rattle.hy_files.specs.Contents.{Content, one_formula, IsCircuit, IsText}
 use Rattle.cert_text.specs.declared.question.Question.{Question}
 use Rattle.cert_text.specs.declared.question.Question.TheVariants.{Formula, Implication, Equivalence, Circuit}
-use Rattle.claim_check.specs.Claims.{Claim, formula, implication, equivalence, circuit, question_of}
-use Rattle.hy_check.specs.Commands.{contents_of}
-use Rattle.hy_check.specs.Texts.{AreTexts, AreTwo, IsFormula, MakeClaim}
+use Rattle.circuit_files.specs.Circuits.{IsCircuit}
+use Rattle.claim_check.specs.Claims.{Claim, formula, implication, equivalence, circuit}
+use Rattle.hy_files.specs.Contents.{IsFormula, IsText}
+use Rattle.hy_run.specs.Laws.{AreTexts}
+use Rattle.hy_run.specs.Names.{Text}
+use Rattle.hy_check.specs.Contents.{AreTwo, MakeClaim}
+use Rattle.hy_check.specs.Rules.{check_rules}
 
--- Files that make a claim are all those of the command, and texts in turn.
-pub claim_texts : (question : Question) (files : List (List ℕ)) (claim : Claim)
-    (names : List (List ℕ)) → MakeClaim question files claim names
-    → AreTexts question files names × (length files ≡ length (contents_of question))
-claim_texts Formula (one ∷ []) (formula f) names is = ((f ∷ [], names, is, refl), refl)
-claim_texts Implication (one ∷ two ∷ []) (implication f g) names (old, is, also) =
-    ((f ∷ [], old, is, (g ∷ [], names, also, refl)), refl)
-claim_texts Equivalence (one ∷ two ∷ []) (equivalence f g) names (old, is, also) =
-    ((f ∷ [], old, is, (g ∷ [], names, also, refl)), refl)
-claim_texts Circuit (one ∷ two ∷ []) (circuit net f) names (is, also) =
-    (([], [], ((net, is), refl, refl), (f ∷ [], names, also, refl)), refl)
+-- Files that make a claim are texts, one after another.
+pub claim_texts : (question : Question) (files : List (List ℕ)) (claim : Claim) (names : List Text) → MakeClaim question files claim names
+    → AreTexts check_rules question files names
+claim_texts Formula (one ∷ out ∷ []) (formula f) names is = (names, (f, is), (names, refl, refl))
+claim_texts Implication (one ∷ two ∷ out ∷ []) (implication f g) names (known, is, also) =
+    (known, (f, is), (names, (g, also), (names, refl, refl)))
+claim_texts Equivalence (one ∷ two ∷ out ∷ []) (equivalence f g) names (known, is, also) =
+    (known, (f, is), (names, (g, also), (names, refl, refl)))
+claim_texts Circuit (one ∷ two ∷ out ∷ []) (circuit net f) names (is, also) =
+    ([], ((net, is), refl), (names, (f, also), (names, refl, refl)))
 claim_texts _ _ _ names is = absurd is
-
--- It answers the question.
-pub claim_question : (question : Question) (files : List (List ℕ)) (claim : Claim)
-    (names : List (List ℕ)) → MakeClaim question files claim names
-    → question_of claim ≡ question
-claim_question Formula (one ∷ []) (formula f) names is = refl
-claim_question Implication (one ∷ two ∷ []) (implication f g) names is = refl
-claim_question Equivalence (one ∷ two ∷ []) (equivalence f g) names is = refl
-claim_question Circuit (one ∷ two ∷ []) (circuit net f) names is = refl
-claim_question _ _ _ names is = absurd is
 
 -- ---- one claim
 
-module _ (once : (quantifiers : ℕ) (old : List (List ℕ)) (bytes : List ℕ) (content : Content)
-    (formulas others : List Plain) (new later : List (List ℕ))
-    → IsText quantifiers old bytes content formulas new
-    → IsText quantifiers old bytes content others later → (formulas ≡ others) × (new ≡ later))
-    (one_net : (bytes : List ℕ) (a b : Net) → IsCircuit bytes a → IsCircuit bytes b → a ≡ b) where
-  formula_once : (quantifiers : ℕ) (old : List (List ℕ)) (bytes : List ℕ) (f g : Plain)
-      (new later : List (List ℕ)) → IsFormula quantifiers old bytes f new
-      → IsFormula quantifiers old bytes g later → (f ≡ g) × (new ≡ later)
+module _ (once : (many : Bool) (quantifiers : ℕ) (old : List Text) (bytes : List ℕ) (formulas others : List Plain) (new later : List Text)
+    → IsText many quantifiers old bytes formulas new → IsText many quantifiers old bytes others later → (formulas ≡ others) × (new ≡ later))
+    (one-net : (bytes : List ℕ) (net other : Net) → IsCircuit bytes net → IsCircuit bytes other → net ≡ other) where
+  pub formula_once : (quantifiers : ℕ) (old : List Text) (bytes : List ℕ) (f g : Plain) (new later : List Text)
+      → IsFormula quantifiers old bytes f new → IsFormula quantifiers old bytes g later → (f ≡ g) × (new ≡ later)
   formula_once quantifiers old bytes f g new later one two =
-      let (same, names) = once quantifiers old bytes one_formula (f ∷ []) (g ∷ []) new later one two in
-      (cc, names)
+      let (formulas, names) = once false quantifiers old bytes (f ∷ []) (g ∷ []) new later one two in
+      let same : f ≡ g = cc in
+      (same, names)
 
-  two_once : (one two : List ℕ) (f g h k : Plain) (new later : List (List ℕ))
-      → AreTwo 8 one two f g new → AreTwo 8 one two h k later
-      → (f ≡ h) × (g ≡ k) × (new ≡ later)
-  two_once one two f g h k new later (old, is, are) (names, also, too) =
-      let (first, table) = formula_once 8 [] one f h old names is also in
-      let P : List (List ℕ) → Type 0 = λ n. IsFormula 8 n two g new in
-      let (second, last) = formula_once 8 names two g k new later (subst P table are) too in
-      (first, second, last)
+  two_once : (one two : List ℕ) (f g h k : Plain) (names : List Text) → AreTwo one two f g names → AreTwo one two h k names
+      → (f ≡ h) × (g ≡ k)
+  two_once one two f g h k names (known, is, are) (table, also, too) =
+      let (first, tables) = formula_once 8 [] one f h known table is also in
+      let P : List Text → Type 0 = λ n. IsFormula 8 n two g names in
+      (first, (formula_once 8 table two g k names names (subst P tables are) too).0)
 
   -- Files make one claim.
-  pub one_claim : (question : Question) (files : List (List ℕ)) (a b : Claim)
-      (new later : List (List ℕ)) → MakeClaim question files a new
-      → MakeClaim question files b later → (a ≡ b) × (new ≡ later)
-  one_claim Formula (one ∷ []) (formula f) (formula g) new later is are =
-      let (same, names) = formula_once 8 [] one f g new later is are in (ap formula same, names)
-  one_claim Implication (one ∷ two ∷ []) (implication f g) (implication h k) new later is are =
-      let (first, second, names) = two_once one two f g h k new later is are in (cc, names)
-  one_claim Equivalence (one ∷ two ∷ []) (equivalence f g) (equivalence h k) new later is are =
-      let (first, second, names) = two_once one two f g h k new later is are in (cc, names)
-  one_claim Circuit (one ∷ two ∷ []) (circuit net f) (circuit other g) new later (is, of) (are, too) =
-      let nets = one_net one net other is are in
-      let (same, names) = formula_once 4 [] two f g new later of too in (cc, names)
-  one_claim Formula (one ∷ []) (formula f) _ new later is are = absurd are
-  one_claim Implication (one ∷ two ∷ []) (implication f g) _ new later is are = absurd are
-  one_claim Equivalence (one ∷ two ∷ []) (equivalence f g) _ new later is are = absurd are
-  one_claim Circuit (one ∷ two ∷ []) (circuit net f) _ new later is are = absurd are
-  one_claim _ _ _ _ new later is are = absurd is
+  pub one_claim : (question : Question) (files : List (List ℕ)) (a b : Claim) (names : List Text) → MakeClaim question files a names
+      → MakeClaim question files b names → a ≡ b
+  one_claim Formula (one ∷ out ∷ []) (formula f) (formula g) names is are = ap formula (formula_once 8 [] one f g names names is are).0
+  one_claim Implication (one ∷ two ∷ out ∷ []) (implication f g) (implication h k) names is are =
+      let (first, second) = two_once one two f g h k names is are in cc
+  one_claim Equivalence (one ∷ two ∷ out ∷ []) (equivalence f g) (equivalence h k) names is are =
+      let (first, second) = two_once one two f g h k names is are in cc
+  one_claim Circuit (one ∷ two ∷ out ∷ []) (circuit net f) (circuit other g) names (is, of) (are, too) =
+      let nets = one-net one net other is are in
+      let formulas = (formula_once 4 [] two f g names names of too).0 in
+      cc
+  one_claim Formula (one ∷ out ∷ []) (formula f) _ names is are = absurd are
+  one_claim Implication (one ∷ two ∷ out ∷ []) (implication f g) _ names is are = absurd are
+  one_claim Equivalence (one ∷ two ∷ out ∷ []) (equivalence f g) _ names is are = absurd are
+  one_claim Circuit (one ∷ two ∷ out ∷ []) (circuit net f) _ names is are = absurd are
+  one_claim _ _ _ _ names is are = absurd is

@@ -1,11 +1,9 @@
-mod Answering
-mod Claims
-mod Given
-mod Fronts
-mod Shelves
-mod Judged
+pub mod Claims
+mod Due
+mod Following
+pub mod Last
 mod Named
+mod Once
+pub mod Reading
 mod Showing
-mod Steps
-mod Verdicts
 mod Worded

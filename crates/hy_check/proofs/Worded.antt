@@ -7,14 +7,16 @@ use Rattle.std.proofs.lemmas.List.{length-map}
 use Rattle.std.proofs.lemmas.List.Folds.{list_all-map}
 use Rattle.cert_text.specs.declared.question.Question.{Question}
 use Rattle.cert_text.specs.declared.question.Question.TheVariants.{Formula, Implication, Equivalence, Circuit}
-use Rattle.hy_check.specs.Commands.{Text, IsCommand, HasNoCommand, file_count, is_file_name, order_of, texts}
+use Rattle.hy_run.specs.Names.{Text, texts}
+use Rattle.hy_run.specs.Runs.{HasNoCommand}
+use Rattle.hy_check.specs.Rules.{check_rules}
+use Rattle.hy_check.specs.Words.{IsCommand, file_count, is_file_name, word_of}
 
 -- The second letters of the first words are all different.
-letter : (question other : Question) → (order_of question).word ≡ (order_of other).word
-    → get_or (order_of question).word 1 0 ≡ get_or (order_of other).word 1 0
+letter : (question other : Question) → word_of question ≡ word_of other → get_or (word_of question) 1 0 ≡ get_or (word_of other) 1 0
 letter question other e = ap (λ (word : List ℕ). get_or word 1 0) e
 
-one-word : (question other : Question) → (order_of question).word ≡ (order_of other).word → question ≡ other
+one-word : (question other : Question) → word_of question ≡ word_of other → question ≡ other
 one-word Formula Formula e = refl
 one-word Formula Implication e = let n : 97 ≡ 109 = letter Formula Implication e in absurd (omega (arith, n))
 one-word Formula Equivalence e = let n : 97 ≡ 113 = letter Formula Equivalence e in absurd (omega (arith, n))
@@ -33,47 +35,42 @@ one-word Circuit Equivalence e = let n : 99 ≡ 113 = letter Circuit Equivalence
 one-word Circuit Circuit e = refl
 
 -- Words are one command.
-pub command_once : (words : List Text) (question other : Question) (names files : List Text)
-    → IsCommand words question names → IsCommand words other files → (question ≡ other) × (names ≡ files)
-command_once words question other names files one two =
-    let both : (order_of question).word ∷ names ≡ (order_of other).word ∷ files = sym one.said ∙ two.said in
-    let word : (order_of question).word ≡ (order_of other).word = cc in
+pub command_once : (words files others : List Text) (question other : Question) → IsCommand words question files → IsCommand words other others
+    → (question ≡ other) × (files ≡ others)
+command_once words files others question other one two =
+    let both : word_of question ∷ files ≡ word_of other ∷ others = sym one.said ∙ two.said in
+    let word : word_of question ≡ word_of other = cc in
     (one-word question other word, cc)
 
 -- ---- words of the code
 
-module _ {Z : Type 0} (words files : List (String Z)) (first : String Z) (question : Question)
-    (cut : words ≡ first ∷ files) (word : string_bytes first ≡ (order_of question).word) where
-  said : texts words ≡ (order_of question).word ∷ texts files
-  said = ap texts cut ∙ ap (λ (w : List ℕ). w ∷ texts files) word
+module _ {Z : Type 0} (words rest : List (String Z)) (first : String Z) (question : Question)
+    (cut : words ≡ first ∷ rest) (word : string_bytes first ≡ word_of question) where
+  said : texts words ≡ word_of question ∷ texts rest
+  said = ap texts cut ∙ ap (λ (w : List ℕ). w ∷ texts rest) word
 
-  names-all : list_all is_file_name (texts files) ≡ list_all (λ w. is_file_name (string_bytes w)) files
-  names-all = list_all-map is_file_name string_bytes files
+  names-all : list_all is_file_name (texts rest) ≡ list_all (λ w. is_file_name (string_bytes w)) rest
+  names-all = list_all-map is_file_name string_bytes rest
 
   -- A first word with the files behind it is a command.
-  pub is_command : length files ≡ file_count question
-      → list_all (λ w. is_file_name (string_bytes w)) files ≡ true
-      → IsCommand (texts words) question (texts files)
-  is_command count names = record {
-    said = said;
-    count = length-map files string_bytes ∙ count;
-    named = names-all ∙ names;
+  pub is_command : (files : List Text) → files ≡ texts rest → length rest ≡ file_count question
+      → list_all (λ w. is_file_name (string_bytes w)) rest ≡ true → IsCommand (texts words) question files
+  is_command files are count names = record {
+    said = said ∙ ap (λ (fs : List Text). word_of question ∷ fs) (sym are);
+    count = ap length are ∙ length-map rest string_bytes ∙ count;
+    named = ap (λ fs. list_all is_file_name fs) are ∙ names-all ∙ names;
   }
 
   -- It is none with another number of files, or where some word names none.
-  pub is_no_command : (length files ≢ file_count question)
-      ⊎ (list_all (λ w. is_file_name (string_bytes w)) files ≡ false)
-      → HasNoCommand (texts words)
-  is_no_command wrong other names is =
-      let both : (order_of other).word ∷ names ≡ (order_of question).word ∷ texts files =
-      sym is.said ∙ said in
-      let word : (order_of other).word ≡ (order_of question).word = cc in
-      let same = one-word other question word in
-      let files_are : names ≡ texts files = cc in
+  pub is_no_command : (length rest ≢ file_count question)
+      ⊎ (list_all (λ w. is_file_name (string_bytes w)) rest ≡ false)
+      → HasNoCommand check_rules (texts words)
+  is_no_command wrong other files is =
+      let both : word_of other ∷ files ≡ word_of question ∷ texts rest = sym is.said ∙ said in
+      let begins : word_of other ≡ word_of question = cc in
+      let same = one-word other question begins in
+      let are : files ≡ texts rest = cc in
       elim wrong [
-        | inl count ↦
-            count (sym (length-map files string_bytes) ∙ ap length (sym files_are) ∙ is.count
-            ∙ ap file_count same)
-        | inr none ↦
-            true≢false (sym is.named ∙ ap (λ ns. list_all is_file_name ns) files_are ∙ names-all ∙ none)
+        | inl count ↦ count (sym (length-map rest string_bytes) ∙ ap length (sym are) ∙ is.count ∙ ap file_count same)
+        | inr none ↦ true≢false (sym is.named ∙ ap (λ fs. list_all is_file_name fs) are ∙ names-all ∙ none)
       ]

@@ -1,8 +1,8 @@
 pub mod Answers
-pub mod Commands
-pub mod Faults
+pub mod Contents
+pub mod Judging
 pub mod Ready
-pub mod Runs
+pub mod Rules
 pub mod Shown
-pub mod Steps
 pub mod Texts
+pub mod Words

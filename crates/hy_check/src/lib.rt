@@ -1,17 +1,16 @@
-//! The checker of certificates: from words and files to an answer, a text and a status. It builds no
+//! The checker of certificates as a tool: what its words ask, and what that comes to. It builds no
 //! tableau, and uses no solver and no search.
 #![tactic(auto)]
 
 mod answer;
-mod command;
-mod faults;
-mod host;
 mod judging;
 pub mod laws;
-mod output;
+mod refusal;
 mod runs;
+mod texts;
+mod tool;
+mod words;
 
-pub use answer::{CheckAnswer, CheckFault};
-pub use command::{CheckCommand, command_of};
-pub use host::run_here;
+pub use answer::{CertFault, CheckAnswer, CheckFault, CheckVerdict};
 pub use runs::{CheckDone, run_check};
+pub use tool::HyCheck;

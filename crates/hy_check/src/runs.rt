@@ -1,18 +1,18 @@
-//! A run: from words and files to an answer, a text and a status.
+//! A run of the checker, in its own terms.
 
 ghost use Rattle.std.specs.Prelude.{◌≡◌, List, ℕ};
 ghost use Rattle.hy_base.specs.Shelf.{KeepsShelf};
 ghost use Rattle.hy_base.specs.Sink.{KeepsSink};
 ghost use Rattle.hy_files.specs.ErrorLines.{Received};
-ghost use Rattle.hy_check.specs.Answers.{error_line, status_of};
-ghost use Rattle.hy_check.specs.Commands.{texts};
-ghost use Rattle.hy_check.specs.Runs.{Comes, IsWritten, Names};
+ghost use Rattle.hy_run.specs.Names.{texts};
+ghost use Rattle.hy_run.specs.Runs.{Answer, Comes, IsWritten, Names, error_line, status_of};
+ghost use Rattle.hy_check.specs.Answers.{said_by};
+ghost use Rattle.hy_check.specs.Rules.{check_rules};
 
-use crate::answer::{CheckAnswer, CheckFault};
-use crate::command::command_of;
-use crate::judging::answer_to;
-use crate::output::{status_of, write_answer, write_error};
+use crate::answer::{CertFault, CheckAnswer, CheckFault, CheckVerdict};
+use crate::tool::HyCheck;
 use hy_base::{Shelf, Sink};
+use hy_run::run;
 use std::alloc::Global;
 
 /// The end of a run: its exit status, and what it answered.
@@ -35,41 +35,31 @@ pub fn run_check<S: Shelf, O: Sink, E: Sink>(
     out: &mut O,
     err: &mut E,
 ) -> CheckDone
-    ensures right { (due : CheckAnswer) × Comes S.Shelf (texts words.now) shelf.old shelf.new due
-        × IsWritten O.Sink out.old out.new due result.answer }
-    ensures status { result.status ≡ status_of result.answer }
-    ensures err { (names : List (List ℕ)) × Names (texts words.now) names
-        × Received E.Sink err.old err.new (error_line names result.answer) }
+    ensures right { (due : Answer CheckVerdict CertFault) × (text : List ℕ)
+        × Comes check_rules S.Shelf (texts words.now) shelf.old shelf.new due text
+        × IsWritten O.Sink out.old out.new due text (said_by result.answer) }
+    ensures status { result.status ≡ status_of check_rules (said_by result.answer) }
+    ensures err { (names : List (List ℕ))
+        × Names check_rules (texts words.now) (said_by result.answer) names
+        × Received E.Sink err.old err.new (error_line check_rules names (said_by result.answer)) }
     ensures keeps_shelf { KeepsShelf S.Shelf shelf.old shelf.new }
     ensures keeps_out { KeepsSink O.Sink out.old out.new }
     ensures keeps_err { KeepsSink E.Sink err.old err.new }
 {
-    match command_of(words) {
-        Some(command) => {
-            let due = answer_to(alloc, shelf, command);
-            finish(due, command.files, out, err)
-        }
-        None => finish(CheckAnswer::Refused(CheckFault::Words), &[], out, err),
+    let done = run(alloc, &HyCheck, words, shelf, out, err);
+    CheckDone {
+        status: done.status,
+        answer: answer_of(done.answer),
     }
 }
 
-/// Ends a run whose command has these files, and to which this answer is due.
-fn finish<O: Sink, E: Sink>(
-    due: CheckAnswer,
-    files: &[String],
-    out: &mut O,
-    err: &mut E,
-) -> CheckDone
-    ensures written { IsWritten O.Sink out.old out.new due result.answer }
-    ensures status { result.status ≡ status_of result.answer }
-    ensures err { Received E.Sink err.old err.new (error_line (texts files.now) result.answer) }
-    ensures keeps_out { KeepsSink O.Sink out.old out.new }
-    ensures keeps_err { KeepsSink E.Sink err.old err.new }
+/// What a run answers that says this.
+fn answer_of(said: Result<CheckVerdict, CheckFault>) -> CheckAnswer
+    ensures { said_by result ≡ said }
 {
-    let answer = write_answer(due, out);
-    write_error(&answer, files, err);
-    CheckDone {
-        status: status_of(&answer),
-        answer,
+    match said {
+        Ok(CheckVerdict::Accepted) => CheckAnswer::Accepted,
+        Ok(CheckVerdict::Rejected) => CheckAnswer::Rejected,
+        Err(fault) => CheckAnswer::Refused(fault),
     }
 }

@@ -2,9 +2,10 @@
 //! claim, and so shows what it says.
 #![tactic(auto)]
 
-use hy_check::run_here;
+use hy_check::HyCheck;
+use hy_run::run_here;
 use std::process::ExitCode;
 
 fn main(rt: HostRuntime) -> ExitCode {
-    run_here(&rt)
+    run_here(&rt, &HyCheck)
 }

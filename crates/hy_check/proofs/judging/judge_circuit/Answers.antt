@@ -1,52 +1,69 @@
 use Rattle.std.proofs.Common.{[], ◌∷◌, false, refl, arith}
-use Rattle.std.proofs.lemmas.Result.{err_from_is_err_and}
 use Rattle.hy_formula.specs.Formulas.{plain_formula}
 use Rattle.hy_formula.specs.Trees.{tree_of}
-use Rattle.hy_files.specs.Contents as contents
 use Rattle.cert_text.specs.declared.question.Question.TheVariants.{Circuit}
 use Rattle.claim_check.specs.Claims.{circuit}
-use Rattle.hy_check.specs.Commands.{texts}
-use Rattle.hy_check.proofs.Named.{length_texts}
-use Rattle.hy_check.proofs.Steps.{ends_at, has_next, judges_follow}
+use Rattle.hy_run.proofs.Steps.{begin}
+use Rattle.hy_check.specs.Rules.{check_rules}
+use Rattle.hy_check.proofs.Following.{circuit_fails, circuit_passes, formula_fails, formula_passes, judged_ends, unread_ends}
 use Rattle.hy_check.proofs.judging.judge_circuit.Goals as goal
 
-pub returns-in_err-net-clause-follows : goal.returns-in_err-net-clause-follows
-returns-in_err-net-clause-follows g c =
-    let long = length_texts c.args.files.now 3 c.requires.count in
-    let p = err_from_is_err_and c.from_residual.result c.from_residual.ensures.1 in
-    rw (p.1, p.2)
-    (ends_at g.S.Shelf (texts c.args.files.now) c.args.shelf.now c.args.shelf.now c.circuit_at.new.shelf [] refl (omega (arith, long))
-    Circuit [] contents.circuit _ refl refl (c.in_err-net.ensures.failed 4 []))
+pub returns-in-Err-clause-follows : goal.returns-in-Err-clause-follows
+returns-in-Err-clause-follows g c =
+    let one = c.args.circuit.now in
+    let two = c.args.formula.now in
+    let files = one ∷ two ∷ c.args.out.now ∷ [] in
+    rw c.file_refusal.ensures
+    (circuit_fails Circuit files g.S.Shelf _ _ one (two ∷ c.args.out.now ∷ []) [] [] (begin check_rules Circuit files g.S.Shelf _)
+    refl _ _ c.in-Err.fault c.in-Err.ensures.failed)
 
-pub returns-in_err-formula-clause-follows : goal.returns-in_err-formula-clause-follows
-returns-in_err-formula-clause-follows g c =
-    let long = length_texts c.args.files.now 3 c.requires.count in
-    let takes = c.in_ok-net.ensures.taken in
-    let p = err_from_is_err_and c.from_residual-in_err-formula.result c.from_residual-in_err-formula.ensures.1 in
-    rw (p.1, p.2)
-    (ends_at g.S.Shelf (texts c.args.files.now) c.args.shelf.now c.circuit_at.new.shelf c.formula_at.new.shelf (takes.bytes ∷ [])
-    (has_next g.S.Shelf (texts c.args.files.now) c.args.shelf.now c.args.shelf.now c.circuit_at.new.shelf [] refl (omega (arith, long)) takes.bytes takes.read)
-    (omega (arith, long)) Circuit [] contents.one_formula _
-    ([], [], ((c.in_ok-net.net, takes.is), refl, refl), refl) refl (rw c.requires.empty at c.in_err-formula.ensures.failed))
+pub returns-in-Err-formula_in-clause-follows : goal.returns-in-Err-formula_in-clause-follows
+returns-in-Err-formula_in-clause-follows g c =
+    let one = c.args.circuit.now in
+    let two = c.args.formula.now in
+    let files = one ∷ two ∷ c.args.out.now ∷ [] in
+    let takes = c.in-Ok.ensures.taken in
+    rw c.file_refusal-in-Err-formula_in.ensures
+    (formula_fails Circuit files g.S.Shelf _ _ two (c.args.out.now ∷ []) (takes.bytes ∷ []) []
+    (circuit_passes Circuit files g.S.Shelf _ _ one (two ∷ c.args.out.now ∷ []) [] [] (begin check_rules Circuit files g.S.Shelf _)
+    refl _ c.in-Ok.net takes)
+    4 refl _ _ c.in-Err-formula_in.fault (rw c.requires at c.in-Err-formula_in.ensures.failed))
 
-pub certificate_at-requires-clause-room : goal.certificate_at-requires-clause-room
-certificate_at-requires-clause-room g c =
-    let next = rw c.requires.empty at c.in_ok-formula.ensures.taken in
-    let read = c.formulas_are_over_names.ensures false 4 [] next.bytes (plain_formula c.in_ok-formula.formula ∷ []) c.formula_at.new.names next.is 0
-    (plain_formula c.in_ok-formula.formula) (omega arith) in
-    c.circuits_have_room.ensures c.in_ok-net.net c.formula_at.new.names c.in_ok-formula.formula.prefix (tree_of c.in_ok-formula.formula.body)
-    c.in_ok-net.ensures.variables c.in_ok-net.ensures.literals (omega (arith, read.some)) read.few
+pub judge-requires-clause-room : goal.judge-requires-clause-room
+judge-requires-clause-room g c =
+    let next = rw c.requires at c.in-Ok-formula_in.ensures.taken in
+    let read = c.formulas_are_over_names.ensures false 4 [] next.bytes (plain_formula c.in-Ok-formula_in.formula ∷ []) c.formula_in.new.names next.is 0
+    (plain_formula c.in-Ok-formula_in.formula) (omega arith) in
+    c.circuits_have_room.ensures c.in-Ok.net c.formula_in.new.names c.in-Ok-formula_in.formula.prefix (tree_of c.in-Ok-formula_in.formula.body)
+    c.in-Ok.ensures.variables c.in-Ok.ensures.literals (omega (arith, read.some)) read.few
+
+pub returns-in-Ok-bytes_in-clause-follows : goal.returns-in-Ok-bytes_in-clause-follows
+returns-in-Ok-bytes_in-clause-follows g c =
+    let one = c.args.circuit.now in
+    let two = c.args.formula.now in
+    let files = one ∷ two ∷ c.args.out.now ∷ [] in
+    let takes = c.in-Ok.ensures.taken in
+    let next = rw c.requires at c.in-Ok-formula_in.ensures.taken in
+    judged_ends Circuit files g.S.Shelf _ _ c.args.out.now (takes.bytes ∷ next.bytes ∷ []) _
+    (formula_passes Circuit files g.S.Shelf _ _ two (c.args.out.now ∷ []) (takes.bytes ∷ []) []
+    (circuit_passes Circuit files g.S.Shelf _ _ one (two ∷ c.args.out.now ∷ []) [] [] (begin check_rules Circuit files g.S.Shelf _)
+    refl _ c.in-Ok.net takes)
+    4 refl _ (plain_formula c.in-Ok-formula_in.formula) _ next)
+    refl _ _ _ c.as_slice.ensures c.in-Ok-bytes_in.ensures.read (circuit c.in-Ok.net (plain_formula c.in-Ok-formula_in.formula))
+    (takes.is, next.is) _ c.judge.ensures
 
 pub returns-clause-follows : goal.returns-clause-follows
 returns-clause-follows g c =
-    let long = length_texts c.args.files.now 3 c.requires.count in
-    let takes = c.in_ok-net.ensures.taken in
-    let next = rw c.requires.empty at c.in_ok-formula.ensures.taken in
-    let names = texts c.args.files.now in
-    judges_follow g.S.Shelf names c.args.shelf.now c.formula_at.new.shelf c.certificate_at.new.shelf (takes.bytes ∷ next.bytes ∷ [])
-    (has_next g.S.Shelf names c.args.shelf.now c.circuit_at.new.shelf c.formula_at.new.shelf (takes.bytes ∷ [])
-    (has_next g.S.Shelf names c.args.shelf.now c.args.shelf.now c.circuit_at.new.shelf [] refl (omega (arith, long)) takes.bytes takes.read)
-    (omega (arith, long)) next.bytes next.read)
-    (omega (arith, long)) Circuit c.formula_at.new.names
-    (circuit c.in_ok-net.net (plain_formula c.in_ok-formula.formula)) _
-    (takes.is, next.is) c.certificate_at.ensures.judged
+    let one = c.args.circuit.now in
+    let two = c.args.formula.now in
+    let files = one ∷ two ∷ c.args.out.now ∷ [] in
+    let takes = c.in-Ok.ensures.taken in
+    let next = rw c.requires at c.in-Ok-formula_in.ensures.taken in
+    let (error, came, e) = c.in-Err-bytes_in.ensures.failed in
+    rw c.file_refusal-in-Err-bytes_in.ensures
+    (unread_ends Circuit files g.S.Shelf _ _ c.args.out.now [] (takes.bytes ∷ next.bytes ∷ []) _
+    (formula_passes Circuit files g.S.Shelf _ _ two (c.args.out.now ∷ []) (takes.bytes ∷ []) []
+    (circuit_passes Circuit files g.S.Shelf _ _ one (two ∷ c.args.out.now ∷ []) [] [] (begin check_rules Circuit files g.S.Shelf _)
+    refl _ c.in-Ok.net takes)
+    4 refl _ (plain_formula c.in-Ok-formula_in.formula) _ next)
+    _ _ c.in-Err-bytes_in.fault error came e)

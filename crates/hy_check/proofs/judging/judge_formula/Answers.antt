@@ -1,27 +1,35 @@
-use Rattle.std.proofs.Common.{[], ◌∷◌, refl, arith}
-use Rattle.std.proofs.lemmas.Result.{err_from_is_err_and}
+use Rattle.std.proofs.Common.{[], ◌∷◌, refl}
 use Rattle.hy_formula.specs.Formulas.{plain_formula}
-use Rattle.hy_files.specs.Contents.{one_formula}
 use Rattle.cert_text.specs.declared.question.Question.TheVariants.{Formula}
 use Rattle.claim_check.specs.Claims.{formula}
-use Rattle.hy_check.specs.Commands.{texts}
-use Rattle.hy_check.proofs.Named.{length_texts}
-use Rattle.hy_check.proofs.Steps.{ends_at, has_next, judges_follow}
+use Rattle.hy_run.proofs.Steps.{begin}
+use Rattle.hy_check.specs.Rules.{check_rules}
+use Rattle.hy_check.proofs.Following.{formula_fails, formula_passes, judged_ends, unread_ends}
 use Rattle.hy_check.proofs.judging.judge_formula.Goals as goal
 
-pub returns-in_err-formula-clause-follows : goal.returns-in_err-formula-clause-follows
-returns-in_err-formula-clause-follows g c =
-    let long = length_texts c.args.files.now 2 c.requires.count in
-    let p = err_from_is_err_and c.from_residual.result c.from_residual.ensures.1 in
-    rw (p.1, p.2)
-    (ends_at g.S.Shelf (texts c.args.files.now) c.args.shelf.now c.args.shelf.now c.formula_at.new.shelf [] refl (omega (arith, long))
-    Formula [] one_formula _ refl refl (rw c.requires.empty at c.in_err-formula.ensures.failed))
+pub returns-in-Err-clause-follows : goal.returns-in-Err-clause-follows
+returns-in-Err-clause-follows g c =
+    let files = c.args.formula.now ∷ c.args.out.now ∷ [] in
+    rw c.file_refusal.ensures
+    (formula_fails Formula files g.S.Shelf _ _ c.args.formula.now (c.args.out.now ∷ []) [] [] (begin check_rules Formula files g.S.Shelf _)
+    8 refl _ _ c.in-Err.fault (rw c.requires at c.in-Err.ensures.failed))
+
+pub returns-in-Ok-bytes_in-clause-follows : goal.returns-in-Ok-bytes_in-clause-follows
+returns-in-Ok-bytes_in-clause-follows g c =
+    let files = c.args.formula.now ∷ c.args.out.now ∷ [] in
+    let takes = rw c.requires at c.in-Ok.ensures.taken in
+    judged_ends Formula files g.S.Shelf _ _ c.args.out.now (takes.bytes ∷ []) _
+    (formula_passes Formula files g.S.Shelf _ _ c.args.formula.now (c.args.out.now ∷ []) [] [] (begin check_rules Formula files g.S.Shelf _)
+    8 refl _ (plain_formula c.in-Ok.formula) _ takes)
+    refl _ _ _ c.as_slice.ensures c.in-Ok-bytes_in.ensures.read (formula (plain_formula c.in-Ok.formula)) takes.is _ c.judge.ensures
 
 pub returns-clause-follows : goal.returns-clause-follows
 returns-clause-follows g c =
-    let long = length_texts c.args.files.now 2 c.requires.count in
-    let takes = rw c.requires.empty at c.in_ok-formula.ensures.taken in
-    judges_follow g.S.Shelf (texts c.args.files.now) c.args.shelf.now c.formula_at.new.shelf c.certificate_at.new.shelf (takes.bytes ∷ [])
-    (has_next g.S.Shelf (texts c.args.files.now) c.args.shelf.now c.args.shelf.now c.formula_at.new.shelf [] refl (omega (arith, long)) takes.bytes takes.read)
-    (omega (arith, long)) Formula c.formula_at.new.names (formula (plain_formula c.in_ok-formula.formula)) _ takes.is
-    c.certificate_at.ensures.judged
+    let files = c.args.formula.now ∷ c.args.out.now ∷ [] in
+    let takes = rw c.requires at c.in-Ok.ensures.taken in
+    let (error, came, e) = c.in-Err-bytes_in.ensures.failed in
+    rw c.file_refusal-in-Err-bytes_in.ensures
+    (unread_ends Formula files g.S.Shelf _ _ c.args.out.now [] (takes.bytes ∷ []) _
+    (formula_passes Formula files g.S.Shelf _ _ c.args.formula.now (c.args.out.now ∷ []) [] [] (begin check_rules Formula files g.S.Shelf _)
+    8 refl _ (plain_formula c.in-Ok.formula) _ takes)
+    _ _ c.in-Err-bytes_in.fault error came e)

@@ -1,7 +1,12 @@
-use Rattle.hy_check.proofs.Answering.{answer_due}
+use Rattle.hy_check.proofs.Claims.{claim_texts}
+use Rattle.hy_check.proofs.Due.{due_or_short}
 use Rattle.hy_check.proofs.laws.complete.Goals as goal
 
-pub returns : goal.returns
-returns c question files bytes table claim cert given answer ready gave decided =
-    answer_due c.one_text.ensures.taken c.one_text.ensures.apart c.one_outcome.ensures.one
-    c.one_certificate.ensures c.one_fault.ensures.none question files bytes table claim cert given answer ready gave decided
+pub returns-clause-files : goal.returns-clause-files
+returns-clause-files c = c.complete.ensures c.settled.ensures
+
+pub returns-clause-certificate : goal.returns-clause-certificate
+returns-clause-certificate c question files contents table others claim cert given answer ready long gave decided =
+    due_or_short table claim cert answer _ (c.due.ensures question contents table claim cert answer ready)
+    (c.complete.ensures c.settled.ensures question files contents given table others answer long gave
+    (claim_texts question contents claim table ready.makes) decided)

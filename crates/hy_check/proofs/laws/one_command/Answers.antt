@@ -1,6 +1,0 @@
-use Rattle.hy_check.proofs.Worded.{command_once}
-use Rattle.hy_check.proofs.laws.one_command.Goals as goal
-
-pub returns : goal.returns
-returns c words question other names files one two =
-    command_once words question other names files one two
