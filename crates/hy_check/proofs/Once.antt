@@ -21,10 +21,10 @@ use Rattle.hy_check.specs.Contents.{Content, IsRefusedAs, IsTextOf, certificate,
 use Rattle.hy_check.specs.Judging.{IsJudged, answer_to}
 use Rattle.hy_check.specs.Rules.{ComesTo, HasLargeQuery, IsQueryLimit, check_rules}
 use Rattle.hy_check.specs.Texts.{last_of}
+use Rattle.hy_check.specs.Words.{IsCommand}
 use Rattle.hy_check.specs.declared.answer.CertFault.{CertFault}
 use Rattle.hy_check.specs.declared.answer.CheckVerdict.{CheckVerdict}
 use Rattle.hy_check.proofs.Claims.{formula_once, one_claim}
-use Rattle.hy_check.proofs.Worded.{command_once}
 
 abbrev Said : Type 0
 Said = Answer CheckVerdict CertFault
@@ -86,7 +86,9 @@ module _ (names : List Text) (claim : Claim) (bytes : List ℕ) where
 
 -- ---- files and questions
 
-module _ (texts : (many : Bool) (quantifiers : ℕ) (old : List Text) (bytes : List ℕ) (formulas others : List Plain) (new later : List Text)
+module _ (commands : (words files others : List Text) (question other : Question) → IsCommand words question files → IsCommand words other others
+    → (question ≡ other) × (files ≡ others))
+    (texts : (many : Bool) (quantifiers : ℕ) (old : List Text) (bytes : List ℕ) (formulas others : List Plain) (new later : List Text)
     → IsText many quantifiers old bytes formulas new → IsText many quantifiers old bytes others later → (formulas ≡ others) × (new ≡ later))
     (faults : (many : Bool) (quantifiers : ℕ) (old : List Text) (bytes : List ℕ) (a b : FileFault)
     → IsRefused many quantifiers old bytes a → IsRefused many quantifiers old bytes b → a ≡ b)
@@ -124,7 +126,7 @@ module _ (texts : (many : Bool) (quantifiers : ℕ) (old : List Text) (bytes : L
 
   pub check_settled : AreSettled check_rules
   check_settled = record {
-    command = command_once;
+    command = commands;
     text = λ question k. text_once (content_of question k);
     fault = λ question k. fault_once (content_of question k);
     apart = λ question k. never_both (content_of question k);

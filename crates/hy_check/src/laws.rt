@@ -26,11 +26,18 @@ use hy_files::laws::one_text;
 use hy_read::formulas_are_over_names;
 use hy_run::Refusal;
 
-/// The rules are settled: words are one command, by the laws of formulas, of circuits and of
-/// certificates.
+/// Words are one command.
+pub fn one_command()
+    ensures { (words files others : List Text) (question other : Question)
+        → IsCommand words question files → IsCommand words other others
+        → (question ≡ other) × (files ≡ others) }
+{}
+
+/// The rules are settled, by the laws of formulas, of circuits and of certificates.
 fn settled()
     ensures { AreSettled check_rules }
 {
+    one_command();
     one_text();
     one_circuit();
     one_verdict();

@@ -12,7 +12,7 @@ ghost use Rattle.hy_check.specs.Rules.{check_rules};
 use crate::answer::{CertFault, CheckAnswer, CheckFault, CheckVerdict};
 use crate::tool::HyCheck;
 use hy_base::{Shelf, Sink};
-use hy_run::run;
+use hy_run::{Done, run};
 use std::alloc::Global;
 
 /// The end of a run: its exit status, and what it answered.
@@ -46,10 +46,10 @@ pub fn run_check<S: Shelf, O: Sink, E: Sink>(
     ensures keeps_out { KeepsSink O.Sink out.old out.new }
     ensures keeps_err { KeepsSink E.Sink err.old err.new }
 {
-    let done = run(alloc, &HyCheck, words, shelf, out, err);
+    let Done { status, answer } = run(alloc, &HyCheck, words, shelf, out, err);
     CheckDone {
-        status: done.status,
-        answer: answer_of(done.answer),
+        status,
+        answer: answer_of(answer),
     }
 }
 
