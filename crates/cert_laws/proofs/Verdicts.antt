@@ -128,8 +128,8 @@ module _ (names : List (List ℕ)) where
       equivalence-evidence lassos text shows = record {
         shows = shows;
         taken = both-taken taken;
-        instances = (counted.0.maps, counted.1.0.maps, tt);
-        members = (counted.0.members, counted.1.0.members, tt);
+        instances = (counted.0.maps, (counted.1.0.maps, tt));
+        members = (counted.0.members, (counted.1.0.members, tt));
         named = tt;
       }
 

@@ -1,3 +1,4 @@
+use Rattle.std.proofs.Common.{arith}
 use Rattle.hy_check.proofs.Last.{last-name, no-name}
 use Rattle.hy_check.proofs.texts.last_name.Goals as goal
 
