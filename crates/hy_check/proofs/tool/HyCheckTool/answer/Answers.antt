@@ -28,8 +28,8 @@ returns-in-Equivalence-clause-follows g c =
     c.name-first.result.now c.name-second.result.now c.name-third.result.now c.name-first.ensures c.name-second.ensures c.name-third.ensures)
     c.judge_two-in-Equivalence.ensures.follows
 
-pub returns-clause-follows : goal.returns-clause-follows
-returns-clause-follows g c =
+pub returns-in-Circuit-clause-follows : goal.returns-in-Circuit-clause-follows
+returns-in-Circuit-clause-follows g c =
     let order = c.args.order.now in
     of_files g.S.Shelf _ _ _ order.question _ (names_in order.files) _ _ c.in-Circuit.is
     (three_named c.requires.asked.0 (names_in order.files) order.question c.requires.asked.1 (ap file_count c.in-Circuit.is)
