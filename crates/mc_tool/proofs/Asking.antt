@@ -114,8 +114,8 @@ module _ (items : List Item) (f : Found) (tells : Tells mc_syntax items f) where
 
     pub not_apart : (k : ℕ) → AreCalls (listed_slice calls) k → (plain : Bool) → plain ≡ found_flag f (codes "plain") → plain ≡ true → 0 < k
         → (ask : Ask) → ¬ IsAsk items ask
-    not_apart k seeks plain bare yes some ask is =
-        let none = is.apart (is.bare ∙ tells.flags.0 ∙ sym bare ∙ yes) in
+    not_apart k seeks plain bare set some ask is =
+        let none = is.apart (is.bare ∙ tells.flags.0 ∙ sym bare ∙ set) in
         let same = same_calls k seeks ask is in
         omega (arith, none, same, some)
 
@@ -138,10 +138,10 @@ module _ (items : List Item) (f : Found) (tells : Tells mc_syntax items f) where
 
     -- A strategy is asked for with no proof.
     pub not_both : (name : Bor Text) → strategy ≡ Some name → proof ≡ true → (question : Question) (files : List Text) → ¬ Orders items question files
-    not_both name given yes question files orders =
+    not_both name given set question files orders =
         let x = checking_of items question files orders in
         let by : x.strategy ≡ name.now ∷ [] = sym x.checks.by ∙ tells.options.1.1.1.0 ∙ sym at_strategy ∙ ap listed_slice given in
-        true≢false (sym yes ∙ proves ∙ sym tells.flags.1.0 ∙ sym x.checks.proves ∙ x.bare name.now by)
+        true≢false (sym set ∙ proves ∙ sym tells.flags.1.0 ∙ sym x.checks.proves ∙ x.bare name.now by)
 
   pub no_ask : ((items : List Item) (ask : Ask) → Tells mc_syntax items f → ¬ IsAsk items ask) → (question : Question) (files : List Text)
       → ¬ Orders items question files

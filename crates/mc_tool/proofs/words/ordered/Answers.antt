@@ -1,4 +1,4 @@
-use Rattle.std.proofs.Common.{[], false, length, refl, sym, ap, subst, ◌∙◌, arith}
+use Rattle.std.proofs.Common.{[], false, length, refl, sym, ap, subst, ◌∙◌, arith, rules}
 use Rattle.std.proofs.lemmas.List.{length-map}
 use Rattle.hy_words.specs.Found.{listed_slice}
 use Rattle.mc_tool.specs.Words.{Orders}
@@ -11,7 +11,8 @@ returns-in_default-clause-none c = λ items question names tells orders.
     let two = simp length-map at (ap length (c.requires ∙ sym tells.files) ∙ two_named items question names orders) in grind arith
 
 pub returns-in_err-ask-clause-none : goal.returns-in_err-ask-clause-none
-returns-in_err-ask-clause-none c = λ items question names tells. no_ask items c.args.found.now tells c.in_err-ask.ensures.none question names
+returns-in_err-ask-clause-none c =
+    rw c.from_residual.ensures (λ items question names tells. no_ask items c.args.found.now tells c.in_err-ask.ensures.none question names)
 
 pub returns-in-None-default-clause-some : goal.returns-in-None-default-clause-some
 returns-in-None-default-clause-some c = λ items tells.
@@ -24,10 +25,10 @@ pub returns-in-Some-false-clause-some : goal.returns-in-Some-false-clause-some
 returns-in-Some-false-clause-some c = λ items tells.
     let checks = checks_of items c.args.found.now tells c.value-strategy.result c.value-strategy.ensures c.has-proof.result c.has-proof.ensures _ _
     (sym c.requires ∙ two_files c.args.files.now _ c.in-len2.len_at_least c.in-len2.len_below) _ (ap listed_slice c.in-Some-false.is-0)
-    false c.in-Some-false.is-1 c.in_ok-ask.ask (c.in_ok-ask.ensures.some items tells) in
+    false (search rules) c.in_ok-ask.ask (c.in_ok-ask.ensures.some items tells) in
     subst (Orders items (CheckByStrategy c.in_ok-ask.ask)) (sym c.three.ensures) checks
 
-pub returns-clause-none : goal.returns-clause-none
-returns-clause-none c = λ items question names tells.
+pub returns-in-Some-true-clause-none : goal.returns-in-Some-true-clause-none
+returns-in-Some-true-clause-none c = λ items question names tells.
     not_both items c.args.found.now tells c.value-strategy.result c.value-strategy.ensures c.has-proof.result c.has-proof.ensures _ c.in-Some-true.is-0
-    c.in-Some-true.is-1 question names
+    (search rules) question names
