@@ -22,7 +22,7 @@ returns-in-Err-formula_in-clause-follows g c =
 
 pub check-requires-clause-conflicts : goal.check-requires-clause-conflicts
 check-requires-clause-conflicts g c =
-    rw c.in-Check.is at few_conflicts c.requires.asked.0 c.args.order.now.question (names_in c.args.order.now.files) c.requires.asked.1
+    rw c.in-Check.is at (few_conflicts c.requires.asked.0 c.args.order.now.question (names_in c.args.order.now.files) c.requires.asked.1)
 
 pub check-requires-clause-quantifiers : goal.check-requires-clause-quantifiers
 check-requires-clause-quantifiers g c = few_quantifiers _ _ _ _ c.in-Ok-formula_in.ensures.taken.is
@@ -37,18 +37,18 @@ returns-in-Check-clause-follows g c =
 
 pub check_by_strategy-requires-clause-conflicts : goal.check_by_strategy-requires-clause-conflicts
 check_by_strategy-requires-clause-conflicts g c =
-    rw c.in-CheckByStrategy.is at few_conflicts c.requires.asked.0 c.args.order.now.question (names_in c.args.order.now.files) c.requires.asked.1
+    rw c.in-CheckByStrategy.is at (few_conflicts c.requires.asked.0 c.args.order.now.question (names_in c.args.order.now.files) c.requires.asked.1)
 
 pub check_by_strategy-requires-clause-quantifiers : goal.check_by_strategy-requires-clause-quantifiers
 check_by_strategy-requires-clause-quantifiers g c = few_quantifiers _ _ _ _ c.in-Ok-formula_in.ensures.taken.is
 
-pub returns-in-CheckByStrategy-in-Ok-circuit_in-clause-follows : goal.returns-in-CheckByStrategy-in-Ok-circuit_in-clause-follows
-returns-in-CheckByStrategy-in-Ok-circuit_in-clause-follows g c =
+pub returns-in-Ok-circuit_in-clause-follows : goal.returns-in-Ok-circuit_in-clause-follows
+returns-in-Ok-circuit_in-clause-follows g c =
     let files = names_in c.args.order.now.files in
     let are = files_named c.requires.asked.0 c.args.order.now.question files c.requires.asked.1 c.name.result.now c.name-2.result.now c.name.ensures c.name-2.ensures in
     rw c.in-CheckByStrategy.is
     (drive_follows g.S.Shelf _ _ _ _ _ c.in-Ok.net c.in-Ok.ensures.taken _ _ (rw c.requires.empty at c.in-Ok-formula_in.ensures.taken) c.in-CheckByStrategy.ask
-    _ c.name-3.result.now files (rw c.name-3.ensures (rw c.in-CheckByStrategy.is at are)) c.in-Ok-circuit_in.strategy c.in-Ok-circuit_in.ensures.taken _
+    _ c.name-in-CheckByStrategy.result.now files (rw c.name-in-CheckByStrategy.ensures (rw c.in-CheckByStrategy.is at are)) c.in-Ok-circuit_in.strategy c.in-Ok-circuit_in.ensures.taken _
     c.check_by_strategy.ensures)
 
 pub returns-clause-follows : goal.returns-clause-follows
@@ -57,4 +57,4 @@ returns-clause-follows g c =
     let are = files_named c.requires.asked.0 c.args.order.now.question files c.requires.asked.1 c.name.result.now c.name-2.result.now c.name.ensures c.name-2.ensures in
     rw (c.in-CheckByStrategy.is, c.file_refusal-in-Err-circuit_in.ensures)
     (ends_at_strategy g.S.Shelf _ _ _ _ _ c.in-Ok.net c.in-Ok.ensures.taken _ _ (rw c.requires.empty at c.in-Ok-formula_in.ensures.taken) c.in-CheckByStrategy.ask
-    _ c.name-3.result.now files (rw c.name-3.ensures (rw c.in-CheckByStrategy.is at are)) _ c.in-Err-circuit_in.fault c.in-Err-circuit_in.ensures.failed)
+    _ c.name-in-CheckByStrategy.result.now files (rw c.name-in-CheckByStrategy.ensures (rw c.in-CheckByStrategy.is at are)) _ c.in-Err-circuit_in.fault c.in-Err-circuit_in.ensures.failed)
