@@ -1,12 +1,6 @@
-//! What benches and cases share: closures of formulas, runs as words, and the nets of formulas on
-//! circuits.
+//! What benches and cases share: the nets of a formula on a circuit.
 #![tactic(auto)]
 
-mod formulas;
-mod nets;
-mod runs;
-mod signals;
+mod posed;
 
-pub use formulas::body_closure;
-pub use nets::{composed, formula_net, safe_net};
-pub use runs::{rows_text, run_of};
+pub use posed::{FormulaNets, nets_of};

@@ -1,13 +1,18 @@
 //! What the reader of circuits answers, beside what was expected.
 
 use crate::circuits::{CircuitCase, Made};
+use crate::runs::{rows_text, run_of};
 use aig_net::{Net, Run, simulate};
 use aiger_print::{print_aag, print_aig};
 use aiger_read::{AigerError, read_aiger};
 use anyhow::{Result, bail, ensure};
-use bench_tools::{composed, formula_net, rows_text, run_of, safe_net};
+use bench_tools::nets_of;
 use hy_base::{BYTES_LIMIT, Text};
+use self_compose::{compose, copies_are_as_large};
 use std::alloc::Global;
+
+/// The most variables of a net, with variable 0.
+const ROOM: u64 = 1 << 31;
 
 /// A net in both forms.
 #[derive(Drop)]
@@ -61,18 +66,24 @@ fn refusal_text(alloc: Global, error: AigerError) -> Result<String> {
 fn net_differs(alloc: Global, case: &CircuitCase, net: &Net) -> Result<&'static str> {
     match &case.made {
         Made::Own => differs(alloc, case, net),
-        made => differs(alloc, case, &made_net(alloc, net, made)?),
+        Made::Copies(n) => differs(alloc, case, &copies(alloc, net, *n)?),
+        Made::Oracles(formula) => {
+            let nets = nets_of(alloc, net, formula.as_str())?;
+            differs(alloc, case, &nets.whole)
+        }
+        Made::Safe(formula) => {
+            let nets = nets_of(alloc, net, formula.as_str())?;
+            differs(alloc, case, &nets.safe.net)
+        }
     }
 }
 
-/// The net that is made of another.
-fn made_net(alloc: Global, net: &Net, made: &Made) -> Result<Net> {
-    match made {
-        Made::Own => composed(alloc, net, 1),
-        Made::Copies(n) => composed(alloc, net, *n),
-        Made::Oracles(formula) => formula_net(alloc, net, formula.as_str()),
-        Made::Safe(formula) => safe_net(alloc, net, formula.as_str()),
-    }
+/// `n` copies of a net.
+fn copies(alloc: Global, net: &Net, n: u8) -> Result<Net> {
+    let wanted = u64::from(net.variables()) * u64::from(n);
+    ensure!(n > 0 && wanted <= ROOM, "there is no room for {n} copies");
+    copies_are_as_large();
+    Ok(compose(alloc, net, n)?)
 }
 
 /// What differs in a net, empty where nothing does.

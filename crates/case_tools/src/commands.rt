@@ -142,6 +142,7 @@ fn take_part(alloc: Global, trial: &mut Trial, directive: &str, text: &str) -> R
         "word" => add_word(alloc, trial, text),
         "file" => add_file(alloc, trial, text),
         "repeat" => repeat(alloc, trial, text),
+        "traces" => trial.add_traces(text.parse::<u32>().context("no number")?),
         "room" => set_room(trial, text),
         "most" => set_most(trial, text),
         _ => bail!("no line of a case begins with {directive:?}"),

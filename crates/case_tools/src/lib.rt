@@ -11,6 +11,7 @@
 //! word TEXT           one more word of the command
 //! file NAME TEXT      a file of the shelf, whose name ends at the first space
 //! repeat N TEXT       the text N times more at the end of the last file
+//! traces N            there, a line for each trace of N letters, each of which is {} or {a}
 //! fail-shelf N N ..   the opens and reads that fail, counted together from 1
 //! fail-out N N ..     the puts of the output that fail, counted from 1
 //! fail-err N N ..     the puts of the error text that fail, counted from 1
@@ -60,6 +61,7 @@ mod commands;
 mod escape;
 mod files;
 mod lassos;
+mod runs;
 mod tally;
 mod tools;
 mod trial;

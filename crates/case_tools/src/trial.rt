@@ -1,7 +1,7 @@
 //! A command over files and streams in memory, and its run.
 
 use crate::tools::Tools;
-use anyhow::{Context, Result};
+use anyhow::{Context, Result, ensure};
 use hy_base::{File, FileList, M, MemShelf, MemSink, NumList, Text};
 use std::alloc::Global;
 use std::mem;
@@ -78,6 +78,16 @@ impl Trial {
         Ok(())
     }
 
+    /// Adds a line to the last file for each trace of so many letters, each of which is `{}` or `{a}`.
+    pub(crate) fn add_traces(&mut self, letters: u32) -> Result<()> {
+        ensure!(letters < 20, "these are too many traces");
+        let file = self.files.last_mut().context("no file is there to add to")?;
+        for number in 0..1u32 << letters {
+            push_trace(&mut file.bytes, letters, number)?;
+        }
+        Ok(())
+    }
+
     /// Runs the command, whose files go out of the trial.
     pub(crate) fn run<T: Tools>(&mut self, alloc: Global) -> Result<Given> {
         let mut stage = self.stage(alloc)?;
@@ -145,6 +155,19 @@ fn file_of(alloc: Global, name: &[u8], bytes: &[u8]) -> M<File> {
         name: copied(alloc, name)?,
         bytes: copied(alloc, bytes)?,
     })
+}
+
+/// Adds the line of a trace whose letters are the lowest binary digits of a number.
+fn push_trace(bytes: &mut Text, letters: u32, number: u32) -> M<()> {
+    let mut left = number;
+    for place in 0..letters {
+        if place > 0 {
+            bytes.push(b';')?;
+        }
+        bytes.extend(if left % 2 == 0 { "{}" } else { "{a}" }.as_bytes())?;
+        left /= 2;
+    }
+    bytes.push(b'\n')
 }
 
 /// The numbers of a list, which has none from then on.

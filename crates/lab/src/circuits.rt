@@ -1,15 +1,11 @@
-//! `lab aag FILE`, `lab aig FILE`, `lab simulate FILE FIRST STEM CYCLE`, `lab compose N FILE` and
-//! `lab safe FILE FORMULA`.
-
-ghost use Rattle.std.specs.Prelude.{◌+◌, ◌≤◌, length, IfOk};
-ghost use Rattle.hy_base.specs.declared.reading.TheConstants.{BYTES_LIMIT};
+//! `lab aag FILE`, `lab aig FILE` and `lab safe FILE FORMULA`.
 
 use crate::files::text_of;
-use aig_net::{Net, ValueLasso, simulate};
+use aig_net::Net;
 use aiger_print::{print_aag, print_aig};
 use aiger_read::{AigerError, read_aiger};
 use anyhow::{Result, bail};
-use bench_tools::{composed, rows_text, run_of, safe_net};
+use bench_tools::nets_of;
 use hy_base::{BYTES_LIMIT, DiskShelf, FileError, M, Text, read_all};
 use std::alloc::Global;
 use std::io::Write;
@@ -58,56 +54,6 @@ fn net_text(alloc: Global, net: &Net, binary: bool) -> M<Text> {
     }
 }
 
-/// Prints the values of all variables in a run: the first latch row, and the input rows of the
-/// stem and of the cycle, rows joined by `;`. A row is a `0` or `1` for each, or `-` where there
-/// is none.
-pub fn run(rt: &HostRuntime, words: &[String]) -> Result<ExitCode> {
-    let [file, first, stem, cycle] = words else {
-        bail!("the words are: simulate FILE FIRST STEM CYCLE");
-    };
-    match net_of(rt, file.as_str()) {
-        Ok(net) => print_run(rt, &net, first.as_str(), stem.as_str(), cycle.as_str()),
-        Err(refused) => tell(rt, refused),
-    }
-}
-
-fn print_run(
-    rt: &HostRuntime,
-    net: &Net,
-    first: &str,
-    stem: &str,
-    cycle: &str,
-) -> Result<ExitCode> {
-    let run = run_of(rt.alloc(), first, stem, cycle)?;
-    match simulate(rt.alloc(), net, &run)? {
-        Some(values) => print_values(rt, &values),
-        None => {
-            println!(rt; "no lasso")?;
-            Ok(ExitCode::from(0))
-        }
-    }
-}
-
-fn print_values(rt: &HostRuntime, values: &ValueLasso) -> Result<ExitCode> {
-    let text = rows_text(rt.alloc(), values)?;
-    println!(rt; "{text}")?;
-    Ok(ExitCode::from(0))
-}
-
-/// Prints copies of the net of a file.
-pub fn compose(rt: &HostRuntime, words: &[String]) -> Result<ExitCode> {
-    let [copies, file] = words else {
-        bail!("the words are: compose N FILE");
-    };
-    let Ok(n) = copies.as_str().parse::<u8>() else {
-        bail!("the number of copies is below 256");
-    };
-    match net_of(rt, file.as_str()) {
-        Ok(net) => print_net(rt, &composed(rt.alloc(), &net, n)?, false),
-        Err(refused) => tell(rt, refused),
-    }
-}
-
 /// Prints the safe net of a formula on the net of a file.
 pub fn safe(rt: &HostRuntime, words: &[String]) -> Result<ExitCode> {
     let [file, formula] = words else {
@@ -121,17 +67,12 @@ pub fn safe(rt: &HostRuntime, words: &[String]) -> Result<ExitCode> {
 }
 
 fn print_safe(rt: &HostRuntime, net: &Net, formula: &str) -> Result<ExitCode> {
-    let safe = safe_net(rt.alloc(), net, formula)?;
-    print_net(rt, &safe, false)
+    let nets = nets_of(rt.alloc(), net, formula)?;
+    print_net(rt, &nets.safe.net, false)
 }
 
 /// The net of a file.
-pub fn net_of(rt: &HostRuntime, file: &str) -> Result<Net, Refused>
-    ensures variables { IfOk result (λ net.
-        net.inputs + length net.latches + length net.ands ≤ 1048576) }
-    ensures literals { IfOk result (λ net.
-        length net.outputs + length net.constraints + length net.fairs ≤ BYTES_LIMIT) }
-{
+pub fn net_of(rt: &HostRuntime, file: &str) -> Result<Net, Refused> {
     let content = read_all(rt.alloc(), &mut DiskShelf::new(rt), file)?;
     if content.len() > BYTES_LIMIT {
         return Err(Refused::File(FileError::Limit));

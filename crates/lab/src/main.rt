@@ -7,8 +7,6 @@
 //! lab search FILE                     searches a graph for a fair walk
 //! lab aag FILE                        prints the net of an AIGER file of either form in ASCII
 //! lab aig FILE                        prints it in the binary form
-//! lab simulate FILE FIRST STEM CYCLE  prints the values of all variables in a run, or `no lasso`
-//! lab compose N FILE                  prints N copies of the net in ASCII
 //! lab safe FILE FORMULA               prints the safe net of a formula on it; its output is `bad`
 //! lab query FILE FORMULA base K            prints in DIMACS the clauses for a path of the safe net
 //!                                          of K steps from its start to a bad state
@@ -16,8 +14,6 @@
 //!                                          facts of a proof, and a step to a bad one
 //! lab query FILE FORMULA keep GROUP PROOF  prints those for a step from a state with the facts of
 //!                                          a proof to one without some fact of a group of 64
-//! lab ic3 CALLS FILE FORMULA          prints facts of the safe net, and clauses over its latches
-//!                                     that are found beside them
 //! ```
 //!
 //! A PROOF is what `mchyper --proof` printed: its lines of facts are read, and no others.
@@ -29,8 +25,6 @@ mod dimacs;
 mod facts;
 mod files;
 mod graphs;
-mod ic3;
-mod posed;
 mod query;
 mod search;
 mod solve;
@@ -48,8 +42,7 @@ fn main(rt: HostRuntime) -> Result<ExitCode> {
     match words.as_slice() {
         [command, rest @ ..] => run(&rt, command.as_str(), rest),
         [] => bail!(
-            "the first word is a command: solve, check, tableau, search, aag, aig, simulate, \
-             compose, safe, query, ic3"
+            "the first word is a command: solve, check, tableau, search, aag, aig, safe, query"
         ),
     }
 }
@@ -63,11 +56,8 @@ fn run(rt: &HostRuntime, command: &str, words: &[String]) -> Result<ExitCode> {
         "search" => search::run(rt, words),
         "aag" => circuits::print(rt, words, false),
         "aig" => circuits::print(rt, words, true),
-        "simulate" => circuits::run(rt, words),
-        "compose" => circuits::compose(rt, words),
         "safe" => circuits::safe(rt, words),
         "query" => query::run(rt, words),
-        "ic3" => ic3::run(rt, words),
         _ => bail!("no command is called {command:?}"),
     }
 }

@@ -8,8 +8,8 @@ use crate::circuits::{net_of, tell};
 use crate::dimacs::print_clauses;
 use crate::facts::facts_of;
 use crate::files::text_of;
-use crate::posed::safe_net_of;
 use anyhow::{Error, Result, anyhow, bail, ensure};
+use bench_tools::nets_of;
 use cnf_frames::{FrameError, Inv, Query, base_query, keep_query, step_query};
 use hy_base::Kind;
 use live_safe::SafeNet;
@@ -23,8 +23,8 @@ pub fn run(rt: &HostRuntime, words: &[String]) -> Result<ExitCode> {
     let text = text_of(rt, formula.as_str())?;
     match net_of(rt, file.as_str()) {
         Ok(net) => {
-            let safe = safe_net_of(rt.alloc(), &net, text.as_str())?;
-            ask(rt, &safe, asked)
+            let nets = nets_of(rt.alloc(), &net, text.as_str())?;
+            ask(rt, &nets.safe, asked)
         }
         Err(refused) => tell(rt, refused),
     }
@@ -76,7 +76,7 @@ fn ask_keep(rt: &HostRuntime, safe: &SafeNet, group: &str, proof: &str) -> Resul
 }
 
 /// The number that a word stands for.
-pub fn number_of(word: &str) -> Result<u32> {
+fn number_of(word: &str) -> Result<u32> {
     match word.parse::<u32>() {
         Ok(number) => Ok(number),
         Err(_) => bail!("{word:?} is no number"),
@@ -95,7 +95,7 @@ fn print(rt: &HostRuntime, query: Result<Query, FrameError>) -> Result<ExitCode>
 }
 
 /// Says why there is no query.
-pub fn refusal(error: FrameError) -> Error {
+fn refusal(error: FrameError) -> Error {
     match error {
         FrameError::Limit(limit) => anyhow!("error E5: {} {}", count_text(limit.kind), limit.limit),
         FrameError::Memory => anyhow!("error: memory"),

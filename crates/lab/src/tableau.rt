@@ -3,14 +3,19 @@
 ghost use Rattle.std.specs.Prelude.{◌*◌, ◌-◌, ◌≤◌, ◌<◌, ◌^◌, length, IfOk};
 
 use crate::files::text_of;
-use anyhow::{Result, bail};
-use bench_tools::body_closure;
+use anyhow::{Result, bail, ensure};
 use hy_bits::each_width;
+use hy_formula::NameTable;
+use hy_read::read_formula;
 use ltl_closure::Closure;
 use ltl_tableau::{Tableau, TableauError};
 use rank_check::Graph;
+use std::alloc::Global;
 use std::process::ExitCode;
 use std::time::Instant;
+
+/// The most quantifiers of a formula.
+const QUANTIFIERS: u8 = 8;
 
 /// Builds the tableau of the body of a formula, which is to hold with each variable standing for
 /// itself, and prints how many members, branches and edges there are, and the seconds that it took.
@@ -37,7 +42,19 @@ fn states_of(word: &str) -> Result<u32>
 /// The closure of the body of the formula of a file.
 fn closure_in(rt: &HostRuntime, file: &str) -> Result<Closure> {
     let text = text_of(rt, file)?;
-    body_closure(rt.alloc(), text.as_str())
+    closure_of(rt.alloc(), text.as_str().as_bytes())
+}
+
+/// The closure of the body of the formula of a text.
+fn closure_of(alloc: Global, text: &[u8]) -> Result<Closure> {
+    ensure!(text.len() <= u32::MAX as usize, "the file is too long");
+    match read_formula(alloc, text, QUANTIFIERS, &mut NameTable::new(alloc)?) {
+        Ok(formula) => {
+            let variables = formula.prefix.len() as u8;
+            Ok(Closure::of_body(alloc, &formula.body, variables, true)?)
+        }
+        Err(error) => bail!("no formula: {error:?}"),
+    }
 }
 
 /// Builds the tableau of a closure at its least width, and prints what it comes to.

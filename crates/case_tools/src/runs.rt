@@ -6,7 +6,7 @@ use hy_base::List;
 use std::alloc::{AllocError, Global};
 
 /// The run of the first latch row and the input rows of the stem and of the cycle.
-pub fn run_of(alloc: Global, first: &str, stem: &str, cycle: &str) -> Result<Run> {
+pub(crate) fn run_of(alloc: Global, first: &str, stem: &str, cycle: &str) -> Result<Run> {
     Ok(Run {
         first: row_of(alloc, first)?,
         stem: rows_of(alloc, stem)?,
@@ -44,7 +44,7 @@ fn row_of(alloc: Global, word: &str) -> Result<Row> {
 
 /// The rows of the stem, `|` and those of the cycle; the values of a row are those of the constant,
 /// the inputs, the latches and the ands.
-pub fn rows_text(alloc: Global, values: &ValueLasso) -> Result<String, AllocError> {
+pub(crate) fn rows_text(alloc: Global, values: &ValueLasso) -> Result<String, AllocError> {
     let mut text = String::new(alloc);
     push_rows(&mut text, &values.stem)?;
     text.push('|')?;

@@ -1,6 +1,6 @@
 use Rattle.std.proofs.Common.{◌≡◌, ℕ, ◌*◌, ap, ◌∙◌, arith}
 use Rattle.aig_net.specs.Nets.{variables}
-use Rattle.bench_tools.proofs.nets.composed.Goals as goal
+use Rattle.case_tools.proofs.circuit_report.copies.Goals as goal
 
 same-product : (a b c d : ℕ) → a ≡ c → b ≡ d → a * b ≡ d * c
 same-product a b c d e h = ap (λ a. a * b) e ∙ ap (λ b. c * b) h ∙ omega arith
