@@ -8,8 +8,7 @@ use anyhow::Result;
 use case_tools::{Tools, run_files};
 use hy_base::{MemShelf, MemSink};
 use hy_check::run_check;
-use hy_top::run;
-use hy_words::Tool;
+use hy_top::{Tool, run};
 use std::alloc::Global;
 
 /// The tools and the checker. Nothing is promised of them here: what a run promises is proved, and the

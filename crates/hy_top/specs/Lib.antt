@@ -1,13 +1,2 @@
-pub mod Checking
-pub mod Deciding
-pub mod Driving
-pub mod Dropping
-pub mod Files
-pub mod Finding
-pub mod Judging
-pub mod Monitoring
-pub mod Orders
-pub mod Ready
-pub mod Runs
-pub mod Stages
-pub mod Watching
+pub mod Answers
+pub mod Tools

@@ -1,16 +1,12 @@
-//! The programs, from words and files to answers and texts.
+//! Any of the three tools by its name, with one answer for all of them. The programs stand on their tools
+//! alone.
 #![tactic(auto)]
 
-mod eahyper;
-mod file_names;
-mod host;
-mod laws;
-mod mchyper;
+mod answer;
 mod runs;
-mod rvhyper;
-mod source;
-mod watching;
+mod shown;
+mod tool;
 
-pub use host::run_here;
-pub use laws::{complete, dropping, one_answer, verdict};
+pub use answer::Answer;
 pub use runs::{Done, run};
+pub use tool::Tool;

@@ -1,7 +1,7 @@
 //! The answers of all tools.
 
+use aig_kind::AigKind;
 use aig_net::RunList;
-use aiger_body::AigKind;
 use chain_check::Log;
 use hy_base::{Kind, NumList, Text};
 use hy_formula::Class;
@@ -147,13 +147,4 @@ pub enum Answer {
     },
     /// Memory ran out.
     Memory,
-}
-
-/// What the text of an answer shows beside the verdict.
-#[derive(Clone, Copy)]
-pub struct Extras {
-    /// How many traces were kept for each formula.
-    pub kept: bool,
-    /// The proof of a verdict that has one.
-    pub proof: bool,
 }
