@@ -1,4 +1,5 @@
-//! Laws of what `eahyper` answers. The functions are empty: their contracts are the laws.
+//! Laws of what `eahyper` answers. The functions are empty but for calls of laws below: their contracts
+//! are the laws.
 
 ghost use Rattle.std.specs.Prelude.{◌≡◌, ◌⊎◌, ◌∷◌, [], ℕ, Ok, Err, List, length};
 ghost use Rattle.hy_base.specs.Shelf.{Read};
@@ -29,6 +30,8 @@ use hy_files::laws::one_text;
 use hy_words::laws::one_reading;
 
 /// What the reads gave has one answer, and so have the same bytes of files; but for want of memory.
+/// Lassos and proofs that show it may be others, and a search within a bound may give up where another
+/// goes on, but no two deny each other.
 pub fn one_answer()
     ensures reads { (question : Question) (files : List Text) (given : List Read)
         (names others : List Text) (a b : Answer EaVerdict EaFault)
