@@ -75,27 +75,43 @@ module _ {S : Type 0} (g : Ghosts S) (words : List Text) (old new : S) (text : L
       × AsksFor words question files × (ea_shows_proof question ≡ true → (asked : Question) × CertifiesEa question asked
       × WritesEvidence g old new files asked (models_of verdict) text)
   ea-writes verdict comes =
-      let has = has-verdict ea_rules g words old new verdict (Ok verdict) text refl comes in
-      (has.question, has.files, has.asks, λ shows. let (asked, certifies) = ea-certifies has.question shows in (asked, certifies, record {
-        contents = has.contents;
-        read = has.read;
-        names = has.names;
-        made = ea-evidence has.question asked has.contents has.names verdict certifies has.comes text has.printed few;
-      }))
+      let has = has-verdict ea_rules g words old new verdict (Ok verdict) text refl comes in (
+        has.question,
+        has.files,
+        has.asks,
+        λ shows. let (asked, certifies) = ea-certifies has.question shows in (
+          asked,
+          certifies,
+          record {
+            contents = has.contents;
+            read = has.read;
+            names = has.names;
+            made = ea-evidence has.question asked has.contents has.names verdict certifies has.comes text has.printed few;
+          },
+        ),
+      )
 
   pub mc-writes : (verdict : McVerdict) → IsFound verdict → Comes mc_rules g words old new (Ok verdict) text
       → (question : McQuestion) × (files : List Text) × Asks words question files × (mc_shows_proof question ≡ true
       → (asked : Question) × CertifiesMc question asked × WritesEvidence g old new files asked (traces_in verdict) text)
   mc-writes verdict found comes =
-      let has = has-verdict mc_rules g words old new verdict (Ok verdict) text refl comes in
-      (has.question, has.files, has.asks, λ shows. let (asked, certifies) = mc-certifies has.question shows in (asked, certifies, record {
-        contents = has.contents;
-        read = has.read;
-        names = has.names;
-        made =
-            mc-evidence words has.files has.question asked has.contents has.names verdict has.asks certifies found has.comes text
-            has.printed few;
-      }))
+      let has = has-verdict mc_rules g words old new verdict (Ok verdict) text refl comes in (
+        has.question,
+        has.files,
+        has.asks,
+        λ shows. let (asked, certifies) = mc-certifies has.question shows in (
+          asked,
+          certifies,
+          record {
+            contents = has.contents;
+            read = has.read;
+            names = has.names;
+            made =
+                mc-evidence words has.files has.question asked has.contents has.names verdict has.asks certifies found has.comes text
+                has.printed few;
+          },
+        ),
+      )
 
 -- Evidence that is written is good.
 pub written-good : {S : Type 0} (g : Ghosts S) (old new : S) (files : List Text) (asked : Question) (lassos : List (Lasso Letter)) (text : List ℕ)

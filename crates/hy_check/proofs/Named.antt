@@ -1,5 +1,5 @@
 -- The names of a command's files, in their order.
-use Rattle.std.proofs.Common.{◌≡◌, ℕ, List, [], ◌∷◌, length, sym, ◌∙◌, arith, subst}
+use Rattle.std.proofs.Common.{◌≡◌, List, [], ◌∷◌, length, sym, ◌∙◌, arith, subst}
 use Rattle.hy_base.specs.declared.shelf.Shelf.{Ghosts}
 use Rattle.cert_text.specs.declared.question.Question.{Question}
 use Rattle.hy_files.specs.ErrorLines.{name_of_file}

@@ -1,5 +1,5 @@
 -- What was read where a run has a verdict: of any tool.
-use Rattle.std.proofs.Common.{◌≡◌, ℕ, List, [], ◌∷◌, ◌++◌, length, map, Result, Ok, Err, inl, inr, refl, sym, ap, subst, ◌∙◌, append-nil, append_assoc}
+use Rattle.std.proofs.Common.{◌≡◌, ℕ, List, [], ◌∷◌, ◌++◌, map, Ok, Err, inl, inr, refl, sym, ap, subst, append-nil, append_assoc}
 use Rattle.hy_base.specs.Shelf.{Read}
 use Rattle.hy_run.specs.Names.{Text}
 use Rattle.hy_run.specs.Rules.{Rules}

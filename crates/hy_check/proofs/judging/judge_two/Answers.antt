@@ -1,4 +1,4 @@
-use Rattle.std.proofs.Common.{[], ◌∷◌, refl}
+use Rattle.std.proofs.Common.{[], ◌∷◌}
 use Rattle.hy_formula.specs.Formulas.{plain_formula}
 use Rattle.hy_run.proofs.Steps.{begin}
 use Rattle.hy_check.specs.Rules.{check_rules}
