@@ -35,7 +35,7 @@ use Rattle.hy_run.specs.declared.refusal.Refusal.{Refusal}
 use Rattle.hy_run.specs.declared.refusal.Refusal.TheVariants.{Prefix, Limit, Own, Memory}
 use Rattle.mc_tool.specs.Checking.{StandForOne}
 use Rattle.mc_tool.specs.Driving.{DrivesBy, wins, fails, undecided, facts_stop, paths_stop, IsDrivable, IsDriveWork, IsDrive, untaken, misshapen, many_names, bad_name, large_closure, done, spent}
-use Rattle.mc_tool.specs.Rules.{Agree, other_driving, Deny, IsOfDriving, mc_rules}
+use Rattle.mc_tool.specs.Rules.{other_driving, Deny, IsOfDriving, mc_rules}
 use Rattle.mc_tool.specs.declared.verdict.McFault.{McFault}
 use Rattle.mc_tool.specs.declared.verdict.McFault.TheVariants.{Name, Strategy, CnfLimit}
 use Rattle.mc_tool.proofs.Checking.{Said, equal, first_bad_once, none-bad, stand-for-one, stopped_facts, stopped_paths, unless_short}

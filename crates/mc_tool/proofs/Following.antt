@@ -1,5 +1,5 @@
 -- How a run of a command goes through its files.
-use Rattle.std.proofs.Common.{◌≡◌, ℕ, Bool, List, [], ◌∷◌, Err, refl, sym, subst}
+use Rattle.std.proofs.Common.{◌≡◌, Bool, List, [], ◌∷◌, Err, refl, sym, subst}
 use Rattle.hy_base.specs.declared.shelf.Shelf.{Ghosts}
 use Rattle.hy_formula.specs.Formulas.{Plain}
 use Rattle.aig_net.specs.Nets.{Net}

@@ -1,5 +1,5 @@
 use Rattle.std.proofs.Common.{rules}
-use Rattle.mc_tool.proofs.Asking.{no_calls, no_conflicts, no_depth, not_apart, tries_of}
+use Rattle.mc_tool.proofs.Asking.{no_calls, no_conflicts, no_depth, tries_of}
 use Rattle.mc_tool.proofs.words.ask_in.Goals as goal
 
 pub returns-in_err-calls-clause-none : goal.returns-in_err-calls-clause-none
