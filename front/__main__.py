@@ -5,7 +5,7 @@ if sys.version_info < (3, 11):
     sys.exit("himarelou: this is Python {}.{}, and 3.11 or later is wanted".format(*sys.version_info[:2]))
 
 try:
-    from himarelou.cli import main
+    from himarelou.commands import main
 
     status = main(sys.argv[1:])
 except KeyboardInterrupt:

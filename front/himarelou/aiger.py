@@ -1,12 +1,14 @@
-"""Circuits as AIGER files: read in either form, written in either form, and played.
+"""Circuits as AIGER files: read in either form, written in the readable one, and played.
 
 A literal is twice a variable, and one more for its negation; variable 0 is false. `docs/FORMATS.md` has the texts.
 """
 import graphlib
+import io
 import re
 from collections.abc import Iterable, Iterator, Sequence
 from dataclasses import dataclass, field
 from pathlib import Path
+from typing import BinaryIO
 
 from himarelou.faults import Broken, Fault
 
@@ -25,11 +27,6 @@ class Latch:
     @property
     def is_either(self) -> bool:
         return self.reset == self.literal
-
-    @property
-    def is_constant(self) -> bool:
-        """Whether it keeps its first value, whatever comes."""
-        return self.next == self.literal
 
 
 @dataclass
@@ -52,6 +49,11 @@ class Circuit:
             for place, literal in enumerate(literals):
                 if (kind, place) in self.names:
                     yield kind, self.names[kind, place], literal
+
+    @property
+    def literals(self) -> dict[str, int]:
+        """The literal of each name."""
+        return {name: literal for _, name, literal in self.signals()}
 
     def read_variables(self) -> set[int]:
         """The variables that something uses."""
@@ -96,68 +98,53 @@ def read_bytes(path: Path) -> bytes:
 def parse(data: bytes, name: str) -> Circuit:
     """The circuit of the bytes of an AIGER file; `name` stands in what is told."""
     try:
-        return _Reader(data).circuit()
-    except (ValueError, IndexError, KeyError) as error:
+        return _read(io.BytesIO(data))
+    except (ValueError, IndexError, TypeError) as error:
         raise Fault(f"{name}: no AIGER file, or one without bounds: {error}") from error
 
 
-class _Reader:
-    """Goes through the bytes of a file once."""
+def _row(file: BinaryIO) -> list[int]:
+    return [int(it) for it in file.readline().split()]
 
-    def __init__(self, data: bytes):
-        self.data, self.at = data, 0
 
-    def row(self) -> list[int]:
-        end = self.data.index(b"\n", self.at)
-        line, self.at = self.data[self.at:end], end + 1
-        return [int(it) for it in line.split()]
+def _difference(file: BinaryIO) -> int:
+    """A number of the binary form, seven bits a byte, the lowest first."""
+    value = shift = 0
+    while (byte := file.read(1)[0]) > 127:
+        value |= (byte & 127) << shift
+        shift += 7
+    return value | byte << shift
 
-    def firsts(self, count: int) -> list[int]:
-        return [self.row()[0] for _ in range(count)]
 
-    def delta(self) -> int:
-        value = shift = 0
-        while True:
-            byte = self.data[self.at]
-            self.at += 1
-            value |= (byte & 127) << shift
-            shift += 7
-            if byte < 128:
-                return value
+def _read(file: BinaryIO) -> Circuit:
+    form, *numbers = file.readline().split()
+    if form not in (b"aag", b"aig"):
+        raise ValueError("its first line is no header")
+    most, inputs, latches, outputs, ands, bads, constraints, justice, fairness = ([int(it) for it in numbers] + [0] * 4)[:9]
+    if not 0 <= most <= MOST_VARIABLES or not all(0 <= it <= most for it in (inputs, latches, ands)) or justice:
+        raise ValueError(f"more than {MOST_VARIABLES} variables, fewer than it counts, or justice properties")
 
-    def circuit(self) -> Circuit:
-        form, self.at = self.data[:4], 4
-        if form not in (b"aag ", b"aig "):
-            raise ValueError("its first line is no header")
-        most, inputs, latches, outputs, ands, bads, constraints, justice, fairness = (self.row() + [0] * 4)[:9]
-        if not 0 <= most <= MOST_VARIABLES or not all(0 <= it <= most for it in (inputs, latches, ands)) or justice:
-            raise ValueError(f"more than {MOST_VARIABLES} variables, fewer than it counts, or justice properties")
-        is_ascii, made = form == b"aag ", Circuit(most)
-        made.inputs = self.firsts(inputs) if is_ascii else [2 * it + 2 for it in range(inputs)]
-        for place in range(latches):
-            row = self.row() if is_ascii else [2 * (inputs + place) + 2, *self.row()]
-            made.latches.append(Latch(row[0], row[1], row[2] if len(row) > 2 else 0))
-        made.outputs, _ = self.firsts(outputs), self.firsts(bads)
-        made.constraints, made.fairness = self.firsts(constraints), self.firsts(fairness)
-        if is_ascii:
-            made.ands = in_order([tuple(self.row()[:3]) for _ in range(ands)])
-        else:
-            made.ands = [self.packed(2 * it) for it in range(most - ands + 1, most + 1)]
-        self.symbols(made)
-        check_literals(made)
-        return made
+    def firsts(count: int) -> list[int]:
+        return [_row(file)[0] for _ in range(count)]
 
-    def packed(self, made: int) -> tuple[int, int, int]:
-        left = made - self.delta()
-        return made, left, left - self.delta()
-
-    def symbols(self, made: Circuit) -> None:
-        for line in self.data[self.at:].decode("utf-8", "surrogateescape").split("\n"):
-            if line == "c":
-                return
-            match = re.fullmatch(r"([ilo])(\d{1,10}) (.+)", line, re.S)
-            if match:
-                made.names[match[1], int(match[2])] = match[3].removesuffix("\r")
+    made, is_ascii = Circuit(most), form == b"aag"
+    made.inputs = firsts(inputs) if is_ascii else [2 * it + 2 for it in range(inputs)]
+    for place in range(inputs, inputs + latches):
+        made.latches.append(Latch(*([] if is_ascii else [2 * place + 2]), *_row(file)))
+    made.outputs, _ = firsts(outputs), firsts(bads)
+    made.constraints, made.fairness = firsts(constraints), firsts(fairness)
+    if is_ascii:
+        made.ands = in_order([(literal, left, right) for literal, left, right in (_row(file) for _ in range(ands))])
+    else:
+        for literal in range(2 * (most - ands) + 2, 2 * most + 2, 2):
+            left = literal - _difference(file)
+            made.ands.append((literal, left, left - _difference(file)))
+    symbols = "\n" + file.read().decode("utf-8", "surrogateescape")
+    for line in symbols.split("\nc\n")[0].split("\n"):
+        if match := re.fullmatch(r"([ilo])(\d{1,10}) (.+)", line, re.S):
+            made.names[match[1], int(match[2])] = match[3].removesuffix("\r")
+    check_literals(made)
+    return made
 
 
 def check_literals(made: Circuit) -> None:
@@ -175,37 +162,13 @@ def in_order(ands: list[tuple[int, int, int]]) -> list[tuple[int, int, int]]:
     return [rows[it] for it in graphlib.TopologicalSorter(uses).static_order()]
 
 
-def written(circuit: Circuit, is_ascii: bool) -> bytes:
-    """The bytes of the circuit, its variables numbered as the binary form wants them."""
-    order = circuit.inputs + [it.literal for it in circuit.latches] + [row[0] for row in circuit.ands]
-    new = {0: 0} | {literal >> 1: 2 * place for place, literal in enumerate(order, 1)}
-
-    def renamed(literal: int) -> int:
-        return new[literal >> 1] ^ literal & 1
-
-    counts = [len(order), len(circuit.inputs), len(circuit.latches), len(circuit.outputs), len(circuit.ands)]
+def written(circuit: Circuit) -> bytes:
+    """The bytes of the circuit in the readable form."""
+    counts = [circuit.most, len(circuit.inputs), len(circuit.latches), len(circuit.outputs), len(circuit.ands)]
     if circuit.constraints or circuit.fairness:
         counts += [0, len(circuit.constraints), 0, len(circuit.fairness)]
-    lines = [("aag " if is_ascii else "aig ") + " ".join(map(str, counts))]
-    if is_ascii:
-        lines += [str(renamed(it)) for it in circuit.inputs]
-    for latch in circuit.latches:
-        own = f"{renamed(latch.literal)} " if is_ascii else ""
-        reset = f" {renamed(latch.reset)}" if latch.reset else ""
-        lines.append(f"{own}{renamed(latch.next)}{reset}")
-    lines += [str(renamed(it)) for it in circuit.outputs + circuit.constraints + circuit.fairness]
-    rows = [(renamed(made), *sorted((renamed(left), renamed(right)), reverse=True)) for made, left, right in circuit.ands]
-    if is_ascii:
-        lines += [" ".join(map(str, row)) for row in rows]
-    packed = b"" if is_ascii else b"".join(_delta(a - b) + _delta(b - c) for a, b, c in rows)
+    rows = [(it,) for it in circuit.inputs] + [(it.literal, it.next, it.reset) for it in circuit.latches]
+    rows += [(it,) for it in circuit.outputs + circuit.constraints + circuit.fairness] + circuit.ands
     names = [f"{kind}{place} {name}\n" for (kind, place), name in sorted(circuit.names.items())]
-    head = "".join(it + "\n" for it in lines)
-    return head.encode() + packed + "".join(names).encode("utf-8", "surrogateescape")
-
-
-def _delta(value: int) -> bytes:
-    groups = bytearray()
-    while value > 127:
-        groups.append(value & 127 | 128)
-        value >>= 7
-    return bytes(groups + bytes([value]))
+    head = "".join(" ".join(map(str, row)) + "\n" for row in [("aag", *counts), *rows])
+    return (head + "".join(names)).encode("utf-8", "surrogateescape")

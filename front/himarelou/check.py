@@ -1,22 +1,20 @@
 """One check of a circuit, from its keys in the project file to its result."""
+import dataclasses
 from pathlib import Path
 
-from himarelou.aiger import Circuit, written
-from himarelou.asking import Asked, Asker, Files
-from himarelou.assume import with_assumed
+from himarelou.aiger import Circuit, value_of, written
 from himarelou.faults import Fault, shown
 from himarelou.formula import MOST_NAMES, Formula
+from himarelou.gates import with_assumed
 from himarelou.judging import failing_part
 from himarelou.names import joined
-from himarelou.pair import FORMULAS, MET, PARTED, first_parting, pair_of, split
-from himarelou.picture import svg
-from himarelou.project import Question
-from himarelou.result import IS_MET, UNKNOWN, VACUOUS
-from himarelou.runs import Run, letters_of, runs_of, runs_with_strategy
-from himarelou.scene import STEPS, scene_of
-from himarelou.statement import Statement
+from himarelou.picture import STEPS, scene_of, svg, vcd
+from himarelou.result import IS_MET, UNKNOWN, VACUOUS, Asked
+from himarelou.runs import Run, runs_of, runs_with_strategy
+from himarelou.schema import Question
+from himarelou.statement import FORMULAS, MET, PARTED, Statement, pair_of, split
 from himarelou.strategy import in_order_of_ports, shows_all
-from himarelou.task import Task, Work, text_of
+from himarelou.task import Files, Task, Work, text_of
 
 VACUITY_BUDGET = 120
 
@@ -27,7 +25,6 @@ class Check(Task):
     def __init__(self, work: Work, question: Question):
         super().__init__(work, question)
         self.design = work.project.circuits[question.circuit]
-        self.asker = Asker(work.runner, work.store, question.stages, self.tell)
         self.statement: Statement | None = None
         self.missing: list[str] = []
 
@@ -37,8 +34,8 @@ class Check(Task):
         self.tell(self.ready.size())
         self.circuit = self.assumed()
         files = self.posed()
-        self.result.take(self.asker.decided(files, self.question.budget))
-        self.result.files = {"circuit": str(files.circuit), "formula": str(files.formula), "answer": str(files.answer)}
+        self.result.take(self.decided(files, self.question.stages, self.question.budget))
+        self.result.files = {"circuit": str(files.first), "formula": str(files.second), "answer": str(files.answer)}
         self.show(files)
         self.judge_premise()
 
@@ -57,23 +54,26 @@ class Check(Task):
 
     def posed(self) -> Files:
         """The files that are asked about."""
-        self.file = self.ready.file if self.circuit is self.ready.circuit else self.write("circuit.aig", written(self.circuit, False))
-        answer = self.room / "answer"
+        self.file = self.ready.file if self.circuit is self.ready.circuit else self.write("circuit.aag", written(self.circuit))
         if self.question.formula or self.question.file:
             self.formula = self.one_formula("formula" if self.question.formula else "file")
             strategy = self.ordered_strategy() if self.question.strategy else None
-            text = (shows_all(self.formula, self.circuit) if strategy else self.formula).text()
-            return Files(self.file, self.write("formula", text), answer, strategy)
+            formula = shows_all(self.formula, self.circuit) if strategy else self.formula
+            return self.files(self.file, formula.text(), strategy=strategy)
         self.statement = self.stated()
-        names = self.statement.names()
-        if len(names) <= MOST_NAMES:
-            return Files(self.file, self.write("formula", self.statement.formula()), answer)
-        self.result.notes.append(f"{len(names)} names, so it is asked of two copies with an output `{PARTED}`")
-        return self.of_pair(PARTED, answer)
+        self.formula = self.statement.formula()
+        count = len(self.formula.body.names())
+        if count <= MOST_NAMES:
+            return self.files(self.file, self.formula.text())
+        self.result.notes.append(f"{count} names, so it is asked of two copies with an output `{PARTED}`")
+        return self.of_pair(PARTED)
 
-    def of_pair(self, asked: str, answer: Path) -> Files:
-        pair = written(pair_of(self.circuit, self.statement, asked), False)
-        return Files(self.write(f"{asked}.aig", pair), self.write(f"{asked}.formula", FORMULAS[asked]), answer)
+    def files(self, circuit: Path, formula: str, answer: str = "answer", strategy: Path | None = None) -> Files:
+        name = "formula" if answer == "answer" else f"{answer}.formula"
+        return Files("mchyper", circuit, self.write(name, formula), self.room / answer, strategy)
+
+    def of_pair(self, asked: str, answer: str = "answer") -> Files:
+        return self.files(self.write(f"{asked}.aag", written(pair_of(self.circuit, self.statement, asked))), FORMULAS[asked], answer)
 
     def one_formula(self, key: str) -> Formula:
         """The user's formula."""
@@ -89,32 +89,33 @@ class Check(Task):
             self.strategy = in_order_of_ports(self.work.circuits.of(self.question.strategy).circuit, self.circuit, self.formula)
         except Fault as fault:
             raise self.fault(fault, "strategy") from fault
-        return self.write("strategy.aig", written(self.strategy, False))
+        return self.write("strategy.aag", written(self.strategy))
 
     def stated(self) -> Statement:
         """The statement that the keys make."""
-        reset, names, question = self.design.reset, self.ready.names, self.question
-        if reset and len(names.bits(reset.name)) != 1:
-            words = f"no signal of one bit is named {shown(reset.name)}{names.hint(reset.name)}"
-            raise self.work.project.fault(words, *self.design.where, "reset")
-        read = self.circuit.read_variables()
-        inputs = [name for kind, name, literal in self.circuit.signals() if kind == "i" and literal >> 1 in read]
-        given = self.bits("given")
+        reset, names, question = self.reset(), self.ready.names, self.question
+        read, inputs = self.circuit.read_variables(), {name: it for kind, name, it in self.circuit.signals() if kind == "i"}
+        given, own = self.bits("given"), {reset.name} if reset else set()
         same = self.bits("same") if question.same else [it for word in self.ready.outputs for it in names.bits(word)]
-        if question.equal is not None:
-            equal = self.bits("equal")
-            secret = [it for it in inputs if it not in equal]
-        else:
-            secret = self.secrets()
-            equal = [it for it in inputs if it not in secret]
-            unread = [name for kind, name, _ in self.circuit.signals() if kind == "i" and name in secret and name not in inputs]
-            self.result.notes += [f"nothing reads {shown(', '.join(joined(unread)))}"] if unread else []
-        own = {reset.name} if reset else set()
         same = [it for it in same if it not in given]
         if not same:
             raise self.fault("no output is left that is to be the same", "same")
+        named = self.bits("equal") if question.equal is not None else self.secrets()
+        others = [it for it, literal in inputs.items() if it not in named and literal >> 1 in read]
+        equal, secret = (others, named) if question.equal is None else (named, others)
+        unread = [it for it in secret if it in inputs and inputs[it] >> 1 not in read]
+        self.result.notes += [f"nothing reads {shown(', '.join(joined(unread)))}"] if unread else []
         return Statement(reset, [it for it in equal if it not in own], given, same, [it for it in secret if it not in own],
                          question.equal is None)
+
+    def reset(self):
+        """The reset by the name of its bit."""
+        said, names = self.design.reset, self.ready.names
+        bits = names.bits(said.name) if said else []
+        if said and len(bits) != 1:
+            words = f"no signal of one bit is named {shown(said.name)}{names.hint(said.name)}"
+            raise self.work.project.fault(words, *self.design.where, "reset")
+        return dataclasses.replace(said, name=bits[0]) if said else None
 
     def bits(self, key: str) -> list[str]:
         """The bits that the words of a key name."""
@@ -128,11 +129,11 @@ class Check(Task):
         found: dict[str, None] = {}
         own = {it for word in self.ready.outputs for it in self.ready.names.bits(word)}
         own -= {name for kind, name, _ in self.circuit.signals() if kind != "o"}
-        for word in self.question.secret or ():
+        for word in self.question.secret:
             bits = self.ready.names.bits(word)
             if not bits:
                 self.missing.append(f"the circuit has no input or register {shown(word)}{self.ready.names.hint(word)}")
-            elif own & set(bits):
+            if own & set(bits):
                 raise self.fault(f"{shown(word)} is an output, and a secret is an input or a register", "secret")
             found |= dict.fromkeys(bits)
         return list(found)
@@ -142,10 +143,9 @@ class Check(Task):
         if self.missing:
             asked, why = Asked("violated"), "; ".join(self.missing)
         elif self.question.met:
-            formula = self.write("premise.formula", self.one_formula("met").text())
-            asked, why = self.asked_of_premise(Files(self.file, formula, self.room / "premise")), "no runs satisfy met"
+            asked, why = self.asked_of_premise(self.files(self.file, self.one_formula("met").text(), "premise")), "no runs satisfy met"
         elif self.statement and self.result.answer == "holds":
-            asked = self.asked_of_premise(self.of_pair(MET, self.room / "premise"))
+            asked = self.asked_of_premise(self.of_pair(MET, "premise"))
             secret = shown(", ".join(joined(self.statement.secret)) or "the start of a register")
             why = f"no two runs that differ in {secret} meet the premise up to a cycle that is compared"
         else:
@@ -156,31 +156,33 @@ class Check(Task):
 
     def asked_of_premise(self, files: Files) -> Asked:
         self.tell("premise")
-        return self.asker.decided(files, min(self.question.budget, VACUITY_BUDGET))
+        return self.decided(files, self.question.stages, min(self.question.budget, VACUITY_BUDGET))
 
     def show(self, files: Files) -> None:
         """The picture of the runs behind an answer, played on the circuit itself, and what is to be seen there."""
         answer, why = text_of(files.answer).content, ""
+        for name in ("picture.svg", "picture.vcd"):
+            (self.room / name).unlink(missing_ok=True)
         if self.result.answer == "strategy fails":
-            runs = runs_with_strategy(self.circuit, self.strategy, self.formula, letters_of(answer), STEPS)
-        elif "\nproof runs " not in answer:
-            return
-        elif self.statement:
-            runs, why = self.parted(files, runs_of(answer))
+            runs = runs_with_strategy(self.circuit, self.strategy, self.formula, answer, STEPS)
+        elif "\nproof runs " in answer:
+            runs = runs_of(answer) if files.first == self.file else split(runs_of(answer)[0], self.circuit)
+            why = self.seen_of(runs)
         else:
-            runs = runs_of(answer)
-            why = failing_part(self.formula, self.circuit, runs)
+            return
         scene = scene_of(self.circuit, runs, STEPS)
-        scene.title = [f"{self.question.name}: {files.circuit.name}, {self.result.answer}", *([why] if why else [])]
+        scene.title = [f"{self.question.name}: {files.first.name}, {self.result.answer}", *([why] if why else [])]
         self.result.notes += [why] if why else []
-        self.result.files["picture"] = str(self.write("picture.svg", svg(scene)))
+        self.result.files |= {"picture": str(self.write("picture.svg", svg(scene))), "changes": str(self.write("picture.vcd", vcd(scene)))}
 
-    def parted(self, files: Files, runs: list[Run]) -> tuple[list[Run], str]:
-        """The two runs behind a leak, which must be runs of the circuit itself, and where they part."""
-        runs = split(runs[0], self.circuit) if files.circuit.name == f"{PARTED}.aig" else runs
-        found = all(it.is_right(self.circuit) for it in runs) and first_parting(self.circuit, self.statement, runs)
-        if not found:
+    def seen_of(self, runs: list[Run]) -> str:
+        """Which part fails where. The two runs behind a leak must be runs of the circuit itself, and break the statement there."""
+        are_right = all(it.is_right(self.circuit) for it in runs)
+        found = failing_part(self.formula, self.circuit, runs)
+        if not self.statement:
+            return found[1] if found else ""
+        if not found or not are_right:
             raise Fault("the runs behind the answer are no leak of the circuit itself")
-        step, names = found
-        return runs, f"{shown(', '.join(joined(names)))} differs in cycle {step}"
-
+        literals, both = self.circuit.literals, [it.seen[found[0]] for it in runs]
+        names = [it for it in self.statement.same if len({value_of(values, literals[it]) for values in both}) > 1]
+        return f"{shown(', '.join(joined(names)))} differs in cycle {found[0]}"

@@ -1,33 +1,34 @@
-"""What each subcommand does with its words."""
+"""The subcommands: their words, each with a help of its own, and what they do."""
 import argparse
 import os
 import re
 import shutil
+import signal
 import subprocess
 import sys
-from collections.abc import Sequence
-from concurrent.futures import as_completed, ThreadPoolExecutor
+from collections.abc import Callable, Sequence
+from concurrent.futures import ThreadPoolExecutor, as_completed
 from pathlib import Path
+from typing import NoReturn
 
-from himarelou.aiger import read_bytes, read_circuit, written
+from himarelou.aiger import read_circuit, written
 from himarelou.check import Check
 from himarelou.design import Circuits, make
-from himarelou.faults import Broken, did_you_mean, Fault, shown, Stopped
-from himarelou.formula import parse, parse_one, Text
+from himarelou.faults import Broken, Fault, Stopped, did_you_mean, shown
+from himarelou.formula import Text, parse, parse_one
 from himarelou.judging import failing_part
 from himarelou.monitor import Monitor
 from himarelou.names import Names
-from himarelou.picture import svg, vcd
-from himarelou.programs import bin_folder, program, program_sum, Runner, TOOLS
-from himarelou.project import Design, find, Project, Question, read_project
-from himarelou.result import as_json, as_junit, Result, status_of
-from himarelou.runs import letters_of, played, runs_with_strategy
-from himarelou.scene import scene_of
-from himarelou.schema import IDENTIFIER
+from himarelou.picture import STEPS, scene_of, svg, vcd
+from himarelou.programs import TOOLS, Runner, bin_folder, program, program_sum
+from himarelou.project import Project, find, read_project
+from himarelou.result import Result, as_json, as_junit, status_of
+from himarelou.runs import played, runs_with_strategy
+from himarelou.schema import IDENTIFIER, Design, Question
 from himarelou.screen import Screen
-from himarelou.store import FOLDER, replaced, Store
+from himarelou.store import FOLDER, Store, replaced
 from himarelou.strategy import in_order_of_ports, ports_of
-from himarelou.task import text_of, Work
+from himarelou.task import Work, text_of
 
 STOPPED = 130
 
@@ -58,9 +59,31 @@ def chosen(project: Project, names: Sequence[str]) -> list[Question]:
     return [it for it in project.questions if not names or it.name in names]
 
 
+def run_all(work: Work, questions: Sequence[Question], jobs: int, screen: Screen) -> tuple[list[Result], bool]:
+    """The results in the order of the questions, and whether all of them are there."""
+    results: dict[str, Result] = {}
+    is_whole = True
+    with ThreadPoolExecutor(max_workers=jobs) as pool:
+        futures = [pool.submit(run_one, work, it) for it in questions]
+        try:
+            for future in as_completed(futures):
+                result = future.result()
+                results[result.name] = result
+                screen.ended(result)
+        except (KeyboardInterrupt, Stopped):
+            is_whole = False
+            work.runner.stop()
+            pool.shutdown(wait=True, cancel_futures=True)
+    return [results[it.name] for it in questions if it.name in results], is_whole
+
+
+def run_one(work: Work, question: Question) -> Result:
+    return (Check if question.kind == "check" else Monitor)(work, question).run()
+
+
 def circuit(said: argparse.Namespace) -> int:
-    if said.out.suffix not in (".aag", ".aig"):
-        raise Fault(f"the circuit to write ends in .aag or .aig: {shown(str(said.out))}")
+    if said.out.suffix != ".aag":
+        raise Fault(f"the circuit to write ends in .aag: {shown(str(said.out))}")
     if said.top and not IDENTIFIER.fullmatch(said.top):
         raise Fault(f"--top: {shown(said.top)} is no identifier")
     design = Design("circuit", sources=tuple(said.sources), top=said.top, define=tuple(_pair("-D", it, True) for it in said.define),
@@ -69,7 +92,7 @@ def circuit(said: argparse.Namespace) -> int:
     made = make(Runner(), design, Path())
     for line in [*made.findings, *(f"assumed: {it}" for it in made.assumptions), made.size()]:
         print(line, file=sys.stderr)
-    replaced(said.out, written(made.circuit, said.out.suffix == ".aag"))
+    replaced(said.out, written(made.circuit))
     return 0
 
 
@@ -81,12 +104,16 @@ def _pair(option: str, word: str, other: bool | None = None) -> tuple[str, str |
     return match[1], match[2] or other
 
 
+def _text_of(file: str) -> Text:
+    """The text of a file, of which `-` is standard input."""
+    return Text(file, sys.stdin.buffer.read().decode("utf-8", "surrogateescape")) if file == "-" else text_of(Path(file))
+
+
 def formula(said: argparse.Namespace) -> int:
-    source = Text(said.file, sys.stdin.buffer.read().decode("utf-8", "surrogateescape")) if said.file == "-" else text_of(Path(said.file))
     known = read_circuit(said.circuit) if said.circuit else None
     if said.order and not known:
         raise Fault("--order wants --circuit")
-    formulas = parse(source, Names(name for _, name, _ in known.signals()) if known else None)
+    formulas = parse(_text_of(said.file), Names(known.literals) if known else None)
     text = ";\n".join(it.text() for it in formulas)
     if said.order:
         ports = [(kind, name) for kind, of in (("input", "forall"), ("output", "exists")) for name, _ in ports_of(known, formulas[0].runs(of))]
@@ -96,20 +123,17 @@ def formula(said: argparse.Namespace) -> int:
 
 
 def waves(said: argparse.Namespace) -> int:
-    known, why = read_circuit(said.circuit), ""
-    names = Names(name for _, name, _ in known.signals())
-    asked = parse_one(text_of(said.formula), names) if said.formula else None
-    answer = (sys.stdin.buffer.read() if said.answer == "-" else read_bytes(Path(said.answer))).decode("utf-8", "surrogateescape")
+    known, answer = read_circuit(said.circuit), _text_of(said.answer).content
+    asked = parse_one(text_of(said.formula), Names(known.literals)) if said.formula else None
     if said.strategy and not asked:
         raise Fault("--strategy wants --formula")
     if said.strategy:
-        strategy = in_order_of_ports(read_circuit(said.strategy), known, asked)
-        runs = runs_with_strategy(known, strategy, asked, letters_of(answer, "strategy fails"), said.steps)
+        runs = runs_with_strategy(known, in_order_of_ports(read_circuit(said.strategy), known, asked), asked, answer, said.steps)
     else:
         runs = played(known, answer)
-        why = failing_part(asked, known, runs) if asked else ""
+    found = failing_part(asked, known, runs) if asked else None
     scene = scene_of(known, runs, said.steps)
-    scene.title = [" ".join(str(it) for it in (said.circuit, said.formula) if it), *([why] if why else [])]
+    scene.title = [" ".join(str(it) for it in (said.circuit, said.formula) if it), *([found[1]] if found else [])]
     if said.only:
         scene.only(said.only.split(","))
     sys.stdout.buffer.write((vcd(scene) if said.vcd else svg(scene)).encode("utf-8", "replace"))
@@ -137,23 +161,108 @@ def version() -> str:
     return "\n".join(lines)
 
 
-def run_all(work: Work, questions: Sequence[Question], jobs: int, screen: Screen) -> tuple[list[Result], bool]:
-    """The results in the order of the questions, and whether all of them are there."""
-    results: dict[str, Result] = {}
-    is_whole = True
-    with ThreadPoolExecutor(max_workers=jobs) as pool:
-        futures = {pool.submit(run_one, work, it): it for it in questions}
-        try:
-            for future in as_completed(futures):
-                result = future.result()
-                results[result.name] = result
-                screen.ended(result)
-        except (KeyboardInterrupt, Stopped):
-            is_whole = False
-            work.runner.stop()
-            pool.shutdown(wait=True, cancel_futures=True)
-    return [results[it.name] for it in questions if it.name in results], is_whole
+class Parser(argparse.ArgumentParser):
+    """A parser that answers in this house's form."""
+
+    def error(self, message: str) -> NoReturn:
+        self.exit(2, f"{self.prog}: {shown(message)}\n{self.format_usage()}")
 
 
-def run_one(work: Work, question: Question) -> Result:
-    return (Check if question.kind == "check" else Monitor)(work, question).run()
+def number(least: int, most: int):
+    """A kind of word: a number in a range."""
+    def taken(word: str) -> int:
+        if not word.isdecimal() or not least <= int(word) <= most:
+            raise argparse.ArgumentTypeError(f"a number from {least} to {most} is wanted")
+        return int(word)
+
+    return taken
+
+
+def parser() -> Parser:
+    whole = Parser(prog="himarelou", allow_abbrev=False, description="What two runs of a design must have in common, checked by proved programs.",
+                   epilog="`himarelou COMMAND --help` says a command's words, `himarelou help TOOL` shows the page of a tool.")
+    whole.add_argument("--version", action="store_true", help="the version, and the sums of the four programs")
+    below = whole.add_subparsers(dest="command", metavar="COMMAND")
+    for add in (add_check, add_circuit, add_formula, add_waves, add_help):
+        add(below)
+    return whole
+
+
+def _command(below: argparse._SubParsersAction, run: Callable, about: str, more: str = "") -> Parser:
+    made = below.add_parser(run.__name__, help=about, description=f"{about[0].upper()}{about[1:]}. {more}", allow_abbrev=False)
+    made.set_defaults(run=run)
+    return made
+
+
+def add_check(below: argparse._SubParsersAction) -> None:
+    it = _command(below, check, "asks what a project file asks", "Status: 0 where all is as expected, 1 where not, 4 where something "
+                  "is open, 2 where the file or a source is at fault.")
+    it.add_argument("words", nargs="*", metavar="FILE|FOLDER|NAME", help="the project file or its folder, first; then checks and monitors")
+    it.add_argument("--jobs", type=number(1, 256), default=max(1, (os.cpu_count() or 2) // 2), metavar="N", help="so many at a time")
+    it.add_argument("--json", type=Path, metavar="FILE", help="the results as JSON")
+    it.add_argument("--junit", type=Path, metavar="FILE", help="the results as JUnit")
+    it.add_argument("--out", type=Path, metavar="FOLDER", help=f"where results stand, usually {FOLDER} beside the project file")
+
+
+def add_circuit(below: argparse._SubParsersAction) -> None:
+    it = _command(below, circuit, "makes a Verilog design a circuit", "It needs yosys, and lists what is seldom meant: registers that "
+                  "start with either value, signals that nothing drives, values x.")
+    it.add_argument("out", metavar="OUT", type=Path, help="the circuit, which ends in .aag")
+    it.add_argument("sources", metavar="FILE", nargs="+")
+    it.add_argument("--top", metavar="NAME", help="the module; usually the only one that no other uses")
+    it.add_argument("--set", metavar="NAME=VALUE", action="append", default=[], help="a parameter of the module")
+    it.add_argument("-D", "--define", metavar="NAME[=VALUE]", action="append", default=[], help="a macro")
+    it.add_argument("-I", "--include", metavar="FOLDER", action="append", default=[], help="where included files stand")
+    it.add_argument("--sv", action="store_true", help="SystemVerilog, also in files that do not end in .sv")
+    it.add_argument("--start", choices=("any", "zero"), default="any", help="registers without a start value: either one, or 0")
+    it.add_argument("--clocks", choices=("inputs",), help="clocks as inputs whose edges are seen, where there are several")
+    it.add_argument("--memory", metavar="BITS", type=number(1, 1 << 30), default=16_384, help="the largest memory, usually 16384")
+
+
+def add_formula(below: argparse._SubParsersAction) -> None:
+    it = _command(below, formula, "writes a formula out as the tools read it", "`a_p = a_q` and `a_p != 5` of vectors bit by bit, == as =, "
+                  "&& and || as & and |, without comments. With a circuit a vector is as wide as it is there.")
+    it.add_argument("file", metavar="FILE", nargs="?", default="-", help="the formula, usually standard input")
+    it.add_argument("--circuit", metavar="FILE", type=Path, help="the circuit whose names they are")
+    it.add_argument("--order", action="store_true", help="in place of it the order of the ports of a strategy; wants --circuit")
+
+
+def add_waves(below: argparse._SubParsersAction) -> None:
+    it = _command(below, waves, "draws the runs behind an answer", "The answer is that of `mchyper --proof`, or `strategy fails`; the "
+                  "picture is SVG on standard output.")
+    it.add_argument("circuit", metavar="CIRCUIT", type=Path)
+    it.add_argument("answer", metavar="ANSWER", nargs="?", default="-", help="the answer's file, usually standard input")
+    it.add_argument("--formula", metavar="FILE", type=Path, help="the formula, so that the title says which part fails where")
+    it.add_argument("--strategy", metavar="FILE", type=Path, help="the strategy that fails; wants --formula")
+    it.add_argument("--steps", metavar="N", type=number(1, 4096), default=STEPS, help=f"the most steps that are drawn, usually {STEPS}")
+    it.add_argument("--only", metavar="LABEL,..", help="these signals, by the labels of the picture")
+    it.add_argument("--vcd", action="store_true", help="a value change dump for GTKWave in place of the picture")
+
+
+def add_help(below: argparse._SubParsersAction) -> None:
+    it = _command(below, help, "shows the page of a tool")
+    it.add_argument("tool", metavar="TOOL", choices=("himarelou", *TOOLS), nargs="?", default="himarelou", help=", ".join(TOOLS))
+
+
+def main(words: Sequence[str]) -> int:
+    """The exit status of a command."""
+    signal.signal(signal.SIGTERM, lambda *_: signal.raise_signal(signal.SIGINT))
+    said = parser().parse_args(words)
+    try:
+        if said.version:
+            print(version())
+            return 0
+        if said.command is None:
+            parser().print_help(sys.stderr)
+            return 2
+        status = said.run(said)
+        sys.stdout.flush()
+        return status
+    except Fault as fault:
+        print(f"himarelou: {fault}", file=sys.stderr)
+        return fault.status
+    except (KeyboardInterrupt, Stopped):
+        return STOPPED
+    except BrokenPipeError:
+        os.dup2(os.open(os.devnull, os.O_WRONLY), sys.stdout.fileno())
+        return 3

@@ -15,10 +15,11 @@ from himarelou.aiger import Circuit, read_bytes, read_circuit, written
 from himarelou.faults import Fault, shown
 from himarelou.gates import Builder
 from himarelou.names import Names
-from himarelou.programs import file_sum, front_sum, Runner, yosys_version
-from himarelou.project import Design, Project
-from himarelou.store import replaced, Store
-from himarelou.yosys import listed, Module, quoted, read_modules, run_yosys, top_of
+from himarelou.programs import Runner, file_sum, front_sum, yosys_version
+from himarelou.project import Project
+from himarelou.schema import Design
+from himarelou.store import Store, replaced, sum_of
+from himarelou.yosys import Module, listed, quoted, read_modules, run_yosys, top_of
 
 INCLUDE = re.compile(rb'`include\s+(?:"([^"\n]+)")?|\$readmem[bh]\s*\(\s*(?:"([^"\n]+)")?')
 FINISH = ("dffunmap", "setundef -undriven -anyseq", "setundef -anyseq")
@@ -28,21 +29,20 @@ TO_ANDS = ("techmap", "opt_expr", "opt_merge", "opt_clean", "abc -g AND", "opt_c
 
 @dataclass
 class Made:
-    """A circuit, the design's own outputs, and what is to be told of it; in a project also its file and the sum of that."""
+    """A circuit, the design's own outputs, and what is to be told of it; in a project also its file."""
 
     circuit: Circuit
     outputs: list[str]
     findings: list[str] = field(default_factory=list)
     assumptions: list[str] = field(default_factory=list)
     file: Path = Path()
-    sum: str = ""
 
     def size(self) -> str:
         return f"{len(self.circuit.latches)} registers, {len(self.circuit.ands)} ands"
 
     @cached_property
     def names(self) -> Names:
-        return Names(name for _, name, _ in self.circuit.signals())
+        return Names(self.circuit.literals)
 
 
 def files_of(patterns: tuple[str, ...], folder: Path) -> list[str]:
@@ -60,24 +60,21 @@ def files_of(patterns: tuple[str, ...], folder: Path) -> list[str]:
 
 def made_of(design: Design, folder: Path) -> str | None:
     """The sum of all that a circuit is made of, or None where the sources name further files in a way that is not seen."""
-    files = [folder / it for it in files_of(design.sources, folder)]
-    parts = [repr(design), yosys_version(), front_sum()]
-    seen: set[Path] = set()
-    while files:
-        path = files.pop()
-        if path in seen:
+    left = [folder / it for it in files_of(design.sources, folder)]
+    sums: dict[str, str] = {}
+    while left:
+        path = left.pop()
+        if str(path) in sums:
             continue
-        seen.add(path)
         data = read_bytes(path)
-        parts.append(f"{path} {hashlib.sha256(data).hexdigest()}")
+        sums[str(path)] = hashlib.sha256(data).hexdigest()
         for match in INCLUDE.finditer(data):
-            word = match[1] or match[2]
-            places = [folder, path.parent, *(folder / it for it in design.include)]
-            named = [it / os.fsdecode(word) for it in places if (it / os.fsdecode(word)).is_file()] if word else []
+            word = os.fsdecode(match[1] or match[2] or b"")
+            named = [it / word for it in (folder, path.parent, *(folder / it for it in design.include)) if word and (it / word).is_file()]
             if not named:
                 return None
-            files += named
-    return hashlib.sha256("\n".join([*parts[:3], *sorted(parts[3:])]).encode("utf-8", "surrogateescape")).hexdigest()
+            left += named
+    return sum_of(repr(design), yosys_version(), front_sum(), sums)
 
 
 def make(runner: Runner, design: Design, folder: Path) -> Made:
@@ -165,7 +162,7 @@ class _Work:
 def told_of(circuit: Circuit, module: Module) -> list[str]:
     """What is seldom meant: free signals, registers that start with either value, values x."""
     free, told = module.undriven(), []
-    either = [circuit.names.get(("l", place)) for place, it in enumerate(circuit.latches) if it.is_either and not it.is_constant]
+    either = [circuit.names.get(("l", place)) for place, it in enumerate(circuit.latches) if it.is_either and it.next != it.literal]
     nameless = either.count(None)
     named = [min(it.split(" "), key=len) for it in either if it is not None]
     values_x = sum(("i", place) not in circuit.names for place in range(len(circuit.inputs))) - len(free)
@@ -176,7 +173,7 @@ def told_of(circuit: Circuit, module: Module) -> list[str]:
         told.append("no start value: " + ", ".join([listed(named)] * bool(named) + others))
     if values_x > 0:
         places = module.lines_of_x()
-        told.append(f"values x (free in each cycle): {values_x}" + (f", as of {shown(', '.join(places[:10]))}" if places else ""))
+        told.append(f"values x (free in each cycle): {values_x}" + (f", as of {shown(', '.join(places))}" if places else ""))
     return told
 
 
@@ -216,18 +213,18 @@ class Circuits:
         return found
 
     def _of_file(self, design: Design) -> Made:
-        made, file = make(self.runner, design, self.project.folder), self.project.folder / design.file
-        made.file, made.sum = file, file_sum(file)
+        made = make(self.runner, design, self.project.folder)
+        made.file = self.project.folder / design.file
         return made
 
     def _of_sources(self, design: Design) -> Made:
         room = self.store.room("circuits")
-        file, record = room / f"{design.name}.aig", room / f"{design.name}.json"
+        file, record = room / f"{design.name}.aag", room / f"{design.name}.json"
         key, kept = made_of(design, self.project.folder), self.store.recorded(record) or {}
         if key and kept.get("key") == key and file.is_file() and kept["sum"] == file_sum(file):
-            return Made(read_circuit(file), *kept["told"], file, kept["sum"])
+            return Made(read_circuit(file), *kept["told"], file)
         made = make(self.runner, design, self.project.folder)
-        replaced(file, written(made.circuit, False))
-        made.file, made.sum = file, file_sum(file)
-        self.store.record(record, {"key": key, "sum": made.sum, "told": [made.outputs, made.findings, made.assumptions]})
+        made.file = file
+        replaced(file, written(made.circuit))
+        self.store.record(record, {"key": key, "sum": file_sum(file), "told": [made.outputs, made.findings, made.assumptions]})
         return made

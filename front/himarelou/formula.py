@@ -1,8 +1,8 @@
 """Formulas as a user writes them, with vectors, `=` and comments, read as trees of what the tools read, and printed."""
 import re
-from collections.abc import Iterator
+from collections.abc import Callable, Iterable, Iterator
 from dataclasses import dataclass
-from typing import NoReturn
+from typing import Any, NoReturn
 
 from himarelou.faults import Fault, shown
 from himarelou.names import Names, atom, said_bits
@@ -14,6 +14,7 @@ SIGNS = {"&&": "&", "||": "|", "==": "="}
 RANKS = {"<->": 0, "->": 1, "|": 2, "&": 3, "U": 4, "W": 4, "R": 4}
 UNARY = {"!": "!", "X": "X ", "F": "F ", "G": "G "}
 TIGHTEST = 5
+NEXT_LINE = "\n    "
 BLANK = r"(?P<blank>[ \t\r\n]+|\#[^\n]*)"
 RUN = re.compile(rf"(?P<word>[A-Za-z][A-Za-z0-9]*)|{BLANK}")
 TOKEN = re.compile(rf"""{BLANK}
@@ -59,7 +60,7 @@ class Text:
                 yield self._token(match, before, run)
                 before = match[0]
             at = match.end()
-        yield Token("end", "", at)
+        yield Token("end", "the end", at)
 
     def _token(self, match: re.Match, before: str, run: str) -> Token:
         kind, text, at = match.lastgroup, match[0], match.start()
@@ -76,7 +77,7 @@ class Text:
 
 @dataclass(frozen=True)
 class Tree:
-    """A part of a body: `atom` with a name and a run, `true`, `false`, or an operator and its operands."""
+    """A part of a body: `atom` with a name and a run, `true`, `false`, or an operator and its operands, of `&` two or more."""
 
     sign: str
     parts: tuple["Tree", ...] = ()
@@ -91,12 +92,23 @@ class Tree:
             return UNARY[self.sign] + self.parts[0].text(TIGHTEST)
         if not self.parts:
             return self.sign
-        rank = RANKS[self.sign]
-        whole = f"{self.parts[0].text(rank + 1)} {self.sign} {self.parts[1].text(rank)}"
+        rank, *before, last = RANKS[self.sign], *self.parts
+        between = f"{' ' if len(before) == 1 else NEXT_LINE}{self.sign} "
+        whole = between.join([*(it.text(rank + 1) for it in before), last.text(rank)])
         return f"({whole})" if rank < least else whole
 
     def names(self) -> dict[str, None]:
         return {self.name: None} if self.sign == "atom" else {name: None for it in self.parts for name in it.names()}
+
+
+def signal(name: str, run: str) -> Tree:
+    return Tree("atom", (), name, run)
+
+
+def all_of(parts: Iterable[Tree]) -> Tree:
+    """That all of the parts hold, also those of a part that says so of several."""
+    flat = [it for part in parts for it in (part.parts if part.sign == "&" else (part,))]
+    return Tree("&", tuple(flat)) if len(flat) > 1 else flat[0] if flat else Tree("true")
 
 
 @dataclass(frozen=True)
@@ -114,7 +126,8 @@ class Formula:
 
 def parse(source: Text, names: Names | None) -> list[Formula]:
     """The formulas of a text, `;` between two. Without names a vector is written as it says its own places."""
-    return _Parser(source, names).guarded(_Parser.formulas)
+    parser = _Parser(source, names)
+    return parser.whole(parser.formulas)
 
 
 def parse_one(source: Text, names: Names | None) -> Formula:
@@ -126,102 +139,85 @@ def parse_one(source: Text, names: Names | None) -> Formula:
 
 def parse_body(source: Text, names: Names, run: str = "p") -> Tree:
     """A body on signals of one run, which it does not say."""
-    return _Parser(source, names, run).guarded(_Parser.whole_body)
+    parser = _Parser(source, names, run)
+    return parser.whole(lambda: parser.binary(0))
 
 
 class _Parser:
     """By descent, the operators by their ranks; all binary ones group to the right."""
 
     def __init__(self, source: Text, names: Names | None, run: str = ""):
-        self.source, self.names = source, names
-        self.tokens, self.at, self.bound = list(source.tokens(run)), 0, {run}
+        self.source, self.names, self.bound = source, names, {run}
+        self.tokens, self.at = list(source.tokens(run)), 0
 
-    def guarded(self, way):
+    @property
+    def token(self) -> Token:
+        return self.tokens[self.at]
+
+    def take(self, words: str = "", *wanted: str) -> Token:
+        """Goes past a token, which is of one of the wanted kinds or texts."""
+        token = self.token
+        if wanted and not {token.kind, token.text} & set(wanted):
+            self.fault(token, f"{words} is wanted here, not {shown(token.text)}")
+        self.at += 1
+        return token
+
+    def fault(self, token: Token, words: str) -> NoReturn:
+        raise self.source.fault(token.at, words)
+
+    def whole(self, way: Callable[[], Any]) -> Any:
+        """What is read in a way, which is all of the text."""
         try:
-            return way(self)
+            found = way()
         except RecursionError as error:
             raise Fault(f"{shown(self.source.name)}: too deep") from error
-
-    def token(self, ahead: int = 0) -> Token:
-        return self.tokens[min(self.at + ahead, len(self.tokens) - 1)]
-
-    def refuse(self, words: str, ahead: int = 0) -> NoReturn:
-        token = self.token(ahead)
-        raise self.source.fault(token.at, f"{words} is wanted here, not {'the end' if token.kind == 'end' else shown(token.text)}")
+        self.take("an operator", "the end")
+        return found
 
     def formulas(self) -> list[Formula]:
         found = [self.formula()]
-        while self.token().text == ";":
-            self.at += 1
+        while self.token.text == ";":
+            self.take()
             found.append(self.formula())
-        if self.token().kind != "end":
-            self.refuse("an operator")
         return found
 
     def formula(self) -> Formula:
         quantifiers = []
-        while self.token().text in QUANTIFIERS:
-            if self.token(1).kind != "word":
-                self.refuse("the name of a run", 1)
-            if self.token(2).text != ".":
-                self.refuse("`.`", 2)
-            quantifiers.append((self.token().text, self.token(1).text))
-            self.at += 3
-        if not quantifiers:
-            self.refuse("`forall` or `exists`")
+        while not quantifiers or self.token.text in QUANTIFIERS:
+            kind = self.take("`forall` or `exists`", *QUANTIFIERS).text
+            quantifiers.append((kind, self.take("the name of a run", "word").text))
+            self.take("`.`", ".")
         self.bound = {run for _, run in quantifiers}
         formula = Formula(tuple(quantifiers), self.binary(0))
         formula.text()  # what is too deep to be printed is too deep
         return formula
 
-    def whole_body(self) -> Tree:
-        body = self.binary(0)
-        if self.token().kind != "end":
-            self.refuse("an operator")
-        return body
-
     def binary(self, least: int) -> Tree:
         left = self.unary()
-        while RANKS.get(self.token().text, -1) >= least:
-            sign = self.token().text
-            self.at += 1
+        while RANKS.get(self.token.text, -1) >= least:
+            sign = self.take().text
             left = Tree(sign, (left, self.binary(RANKS[sign])))
         return left
 
     def unary(self) -> Tree:
-        token = self.token()
-        if token.kind == "atom":
-            return self.equality(token)
-        if token.text not in UNARY and token.text not in ("(", "true", "false"):
-            self.refuse("an operand")
-        self.at += 1
-        if token.text in UNARY:
-            return Tree(token.text, (self.unary(),))
-        if token.text != "(":
-            return Tree(token.text)
+        if self.token.kind == "atom":
+            return self.equality()
+        sign = self.take("an operand", "(", "true", "false", *UNARY).text
+        if sign != "(":
+            return Tree(sign, (self.unary(),) if sign in UNARY else ())
         inner = self.binary(0)
-        if self.token().text != ")":
-            self.refuse("`)`" if self.token().kind == "end" else "an operator")
-        self.at += 1
+        self.take("`)`" if self.token.kind == "end" else "an operator", ")")
         return inner
 
-    def equality(self, token: Token) -> Tree:
+    def equality(self) -> Tree:
         """An atom, or `=` or `!=` between it and another or a number."""
-        left, sign, other = self.bits(token), self.token(1), self.token(2)
-        if sign.text not in ("=", "!="):
-            self.at += 1
+        token = self.take()
+        left = self.bits(token)
+        if self.token.text not in ("=", "!="):
             return left[0] if len(left) == 1 else self.fault(token, f"{shown(token.name)} has {len(left)} bits: compare it by =")
-        if other.kind not in ("atom", "number"):
-            self.refuse("a name or a number", 2)
-        self.at += 3
-        parts = self.number(left, other) if other.kind == "number" else self.pairs(token, left, other)
-        whole = parts.pop()
-        while parts:
-            whole = Tree("&", (parts.pop(), whole))
-        return whole if sign.text == "=" else Tree("!", (whole,))
-
-    def fault(self, token: Token, words: str) -> NoReturn:
-        raise self.source.fault(token.at, words)
+        sign, other = self.take().text, self.take("a name or a number", "atom", "number")
+        whole = all_of(self.number(left, other) if other.kind == "number" else self.pairs(token, left, other))
+        return whole if sign == "=" else Tree("!", (whole,))
 
     def number(self, left: list[Tree], other: Token) -> list[Tree]:
         value = int(other.text, 0) if other.text[:2] in ("0x", "0b") else int(other.text[:40])
@@ -242,4 +238,4 @@ class _Parser:
         found = said_bits(token.name) if self.names is None else self.names.bits(token.name)
         if not found:
             self.fault(token, f"no signal is named {shown(token.name)}{self.names.hint(token.name) if self.names else ''}")
-        return [Tree("atom", (), it, token.run) for it in found]
+        return [signal(it, token.run) for it in found]

@@ -1,7 +1,12 @@
-"""Gates are added to a circuit: ands, and what is made of them."""
-from collections.abc import Callable, Iterable
+"""Gates are added to a circuit: ands, what is made of them, copies, parts of formulas, and what is assumed."""
+import copy
+from collections.abc import Callable, Iterable, Sequence
+from functools import reduce
 
 from himarelou.aiger import Circuit, Latch
+from himarelou.faults import Fault
+from himarelou.formula import Text, Tree, parse_body
+from himarelou.names import Names
 
 FALSE, TRUE = 0, 1
 
@@ -54,10 +59,7 @@ class Builder:
         return self.both(self.both(left, right ^ 1) ^ 1, self.both(left ^ 1, right) ^ 1)
 
     def every(self, literals: Iterable[int]) -> int:
-        all_of = TRUE
-        for literal in literals:
-            all_of = self.both(all_of, literal)
-        return all_of
+        return reduce(self.both, literals, TRUE)
 
     def some(self, literals: Iterable[int]) -> int:
         return self.every(it ^ 1 for it in literals) ^ 1
@@ -81,3 +83,25 @@ class Builder:
         self.circuit.constraints += [here(it) for it in other.constraints]
         self.circuit.fairness += [here(it) for it in other.fairness]
         return here
+
+    def of(self, tree: Tree, literal_of: Callable[[str, str], int]) -> int:
+        """The literal of a part without temporal operators, from that of each name and run."""
+        ways = {"true": lambda: TRUE, "false": lambda: FALSE, "!": lambda it: it ^ 1, "&": lambda *parts: self.every(parts),
+                "|": self.either, "->": lambda left, right: self.either(left ^ 1, right), "<->": self.same}
+        if tree.sign == "atom":
+            return literal_of(tree.name, tree.run)
+        if tree.sign not in ways:
+            raise Fault(f"{tree.sign} speaks of other cycles, and what is assumed is so in each")
+        return ways[tree.sign](*(self.of(it, literal_of) for it in tree.parts))
+
+
+def with_assumed(circuit: Circuit, assumed: Sequence[str]) -> Circuit:
+    """The circuit whose runs are those in which each of the texts holds in each cycle."""
+    if not assumed:
+        return circuit
+    made, literals = copy.deepcopy(circuit), circuit.literals
+    builder = Builder(made)
+    for text in assumed:
+        tree = parse_body(Text("assume", text), Names(literals))
+        made.constraints.append(builder.of(tree, lambda name, _: literals[name]))
+    return made

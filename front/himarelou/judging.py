@@ -1,10 +1,14 @@
 """A formula judged on runs of a circuit: which part fails where."""
+import math
 from collections.abc import Callable, Sequence
 
 from himarelou.aiger import Circuit, value_of
 from himarelou.formula import Formula, Tree
-from himarelou.runs import Run, joint_length
+from himarelou.runs import Run
 
+MOST_KEPT = 1 << 26
+PLAIN = {"!": lambda it: not it, "&": lambda *parts: all(parts), "|": lambda left, right: left or right,
+         "->": lambda left, right: not left or right, "<->": lambda left, right: left == right}
 Holds = Callable[[str, str, int], bool]
 
 
@@ -31,7 +35,7 @@ class Judge:
             return [rows[0][self._next(it)] for it in range(self.length)]
         if tree.sign in ("F", "G", "U", "R", "W"):
             return self._temporal(tree.sign, rows)
-        return [_plain(tree.sign, values) for values in zip(*rows)]
+        return [PLAIN[tree.sign](*values) for values in zip(*rows)]
 
     def _next(self, position: int) -> int:
         return position + 1 if position + 1 < self.length else self.stem
@@ -75,32 +79,23 @@ class Judge:
         return self.failing(tree.parts[0], at) if tree.sign == "!" else (tree, at)
 
 
-def _plain(sign: str, values: tuple[bool, ...]) -> bool:
-    if sign == "!":
-        return not values[0]
-    left, right = values
-    return {"&": left and right, "|": left or right, "->": not left or right, "<->": left == right}[sign]
-
-
-def failing_part(formula: Formula, circuit: Circuit, runs: Sequence[Run]) -> str:
-    """In words, or nothing where the runs do not break the formula, or where it is too much to judge here."""
+def failing_part(formula: Formula, circuit: Circuit, runs: Sequence[Run]) -> tuple[int, str] | None:
+    """In which cycle which part fails, in words; nothing where the runs do not break the formula, or where it is too much to
+    judge here."""
     if len(formula.quantifiers) != len(runs) or not all(it.cycle for it in runs):
-        return ""
-    stem, length = joint_length(runs, circuit)
+        return None
+    stem = max(len(it.stem) for it in runs)
+    length = min(stem + math.lcm(*(len(it.cycle) for it in runs)), MOST_KEPT // (circuit.most + 1) + 1)
     for run in runs:
         run.play(circuit, length)
-    literals = {name: literal for _, name, literal in circuit.signals()}
+    literals = circuit.literals
     seen = {variable: run.seen for (_, variable), run in zip(formula.quantifiers, runs)}
-
-    def holds(name: str, variable: str, position: int) -> bool:
-        return bool(value_of(seen[variable][position], literals[name]))
-
-    judge = Judge(holds, stem, length)
+    judge = Judge(lambda name, variable, at: bool(value_of(seen[variable][at], literals[name])), stem, length)
     try:
         if judge.row(formula.body)[0]:
-            return ""
+            return None
         part, at = judge.failing(formula.body)
     except (KeyError, RecursionError):
-        return ""
-    text = part.text()
-    return f"{text if len(text) <= 80 else text[:77] + '...'} {'holds' if judge.row(part)[at] else 'fails'} in cycle {at}"
+        return None
+    text = " ".join(part.text().split())
+    return at, f"{text if len(text) <= 80 else text[:77] + '...'} {'holds' if judge.row(part)[at] else 'fails'} in cycle {at}"

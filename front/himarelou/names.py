@@ -64,10 +64,10 @@ class Names:
 
     def wanted(self, word: str) -> list[str]:
         """The bits that a word names, of which there must be some."""
-        return self.bits(word) or self.refuse(word)
-
-    def refuse(self, word: str) -> list[str]:
-        raise Fault(f"no signal is named {shown(word)}{self.hint(word)}")
+        found = self.bits(word)
+        if not found:
+            raise Fault(f"no signal is named {shown(word)}{self.hint(word)}")
+        return found
 
     def hint(self, word: str) -> str:
         """What may have been meant by a word that names nothing."""

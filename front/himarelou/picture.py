@@ -1,15 +1,81 @@
-"""A scene as a timing diagram in SVG, and as a value change dump, which GTKWave and other viewers read."""
+"""What is drawn of runs of a circuit: as a timing diagram in SVG, and as a value change dump, which GTKWave and other viewers
+read."""
 import html
 import re
-from collections.abc import Iterator
+from collections.abc import Iterator, Sequence
+from dataclasses import dataclass, field
 
-from himarelou.faults import shown
-from himarelou.scene import Line, Scene
+from himarelou.aiger import Circuit, value_of
+from himarelou.faults import Fault, did_you_mean, shown
+from himarelou.names import ranges
+from himarelou.runs import Run
 
+STEPS = 64
 TALL, CHARACTER, LEAST_STEP = 20, 6.5, 34
 STYLE = ("text{font:12px monospace;fill:#222}.s{font-size:10px;fill:#666}.n{text-anchor:middle;font-size:10px}"
          ".e{text-anchor:end}.b{font-weight:bold}path{fill:none;stroke:#124;stroke-width:1.4}.d{fill:#fbd9a8}"
          ".m{stroke:#c22;stroke-width:2}.c{fill:#69a}.h{fill:#246;fill-opacity:.18}.g{stroke:#e4e4e4;stroke-width:1}")
+
+
+@dataclass
+class Line:
+    """A signal: its label, its width, and its values in each run, step by step."""
+
+    label: str
+    width: int
+    values: list[list[int]]
+
+    def parted(self) -> list[int]:
+        """The steps at which runs differ."""
+        return [step for step, row in enumerate(zip(*self.values)) if len(set(row)) > 1]
+
+
+@dataclass
+class Scene:
+    """The lines of some runs; a run's stem and the length of its cycle, which is 0 where it is not known."""
+
+    labels: list[str]
+    shapes: list[tuple[int, int]]
+    lines: list[Line]
+    steps: int
+    title: list[str] = field(default_factory=list)
+
+    def only(self, labels: Sequence[str]) -> None:
+        """Keeps these lines, by the labels of the picture, or by a vector's name alone."""
+        found = {it.label.split("[")[0]: it for it in reversed(self.lines)} | {it.label: it for it in self.lines}
+        for label in labels:
+            if label not in found:
+                raise Fault(f"no signal of the picture is labelled {shown(label)}{did_you_mean(label, found)}")
+        self.lines = [found[it] for it in dict.fromkeys(labels)]
+
+
+def scene_of(circuit: Circuit, runs: Sequence[Run], most: int) -> Scene:
+    """The scene of runs: as far as each goes once round its cycle, or as far as it was made."""
+    steps = min(most, max(it.length for it in runs))
+    for run in runs:
+        if run.cycle:
+            run.play(circuit, steps)
+    lines = [_line(label, bits, runs) for label, bits in signals(circuit)]
+    read, named = circuit.read_variables(), set(circuit.literals.values())
+    nameless = [_line(f"input#{place}", [it], runs) for place, it in enumerate(circuit.inputs) if it >> 1 in read and it not in named]
+    lines += [it for it in nameless if it.parted()]
+    lines += [_line(f"register#{place}", [it.literal], runs) for place, it in enumerate(circuit.latches) if it.literal not in named]
+    return Scene([it.label for it in runs], [(len(it.stem), len(it.cycle)) for it in runs], lines, steps)
+
+
+def signals(circuit: Circuit) -> list[tuple[str, list[int]]]:
+    """The named signals as vectors, inputs first, but for inputs that nothing reads."""
+    read, literals = circuit.read_variables(), {}
+    for kind, name, literal in circuit.signals():
+        if name not in literals and (kind != "i" or literal >> 1 in read):
+            literals[name] = literal
+    return [(label, [literals[it] for it in bits]) for label, bits in ranges(literals)]
+
+
+def _line(label: str, bits: Sequence[int], runs: Sequence[Run]) -> Line:
+    values = [[int("".join(str(value_of(values, it)) for it in bits), 2) for values in run.seen] for run in runs]
+    return Line(label, len(bits), values)
+
 
 
 def svg(scene: Scene) -> str:
@@ -108,8 +174,7 @@ def _lines(scene: Scene) -> Iterator[str]:
     yield "$timescale 1 ns $end"
     for place, label in enumerate(scene.labels):
         yield f"$scope module run_{_word(label)} $end"
-        for number, line in enumerate(scene.lines):
-            yield f"$var wire {line.width} {_mark(number * len(scene.labels) + place)} {_name(line)} $end"
+        yield from (f"$var wire {line.width} s{number}.{place} {_name(line)} $end" for number, line in enumerate(scene.lines))
         yield "$upscope $end"
     yield "$enddefinitions $end"
     for step in range(scene.steps):
@@ -117,8 +182,7 @@ def _lines(scene: Scene) -> Iterator[str]:
         for number, line in enumerate(scene.lines):
             for place, row in enumerate(line.values):
                 if step == 0 or row[step] != row[step - 1]:
-                    mark = _mark(number * len(scene.labels) + place)
-                    yield f"{row[step]}{mark}" if line.width == 1 else f"b{row[step]:b} {mark}"
+                    yield f"{row[step]}s{number}.{place}" if line.width == 1 else f"b{row[step]:b} s{number}.{place}"
     yield f"#{scene.steps}"
 
 
@@ -130,14 +194,3 @@ def _name(line: Line) -> str:
 
 def _word(text: str) -> str:
     return "".join(it if it.isprintable() and not it.isspace() and it != "$" else "_" for it in text)
-
-
-def _mark(number: int) -> str:
-    """A short word for a number, of the characters that the form allows."""
-    mark = ""
-    while True:
-        number, rest = divmod(number, 94)
-        mark += chr(33 + rest)
-        if not number:
-            return mark
-        number -= 1

@@ -71,6 +71,11 @@ class Ended:
     err: str
     seconds: float
 
+    def line(self) -> str:
+        """What it said in a line, or how it ended."""
+        said = self.out.decode(errors="replace").strip() or self.err.strip()
+        return said.split("\n")[0] or (f"ended by signal {-self.status}" if self.status and self.status < 0 else f"ended with {self.status}")
+
 
 class Runner:
     """Runs processes, each in a group of its own, and ends them all at once when it is stopped."""
@@ -78,10 +83,18 @@ class Runner:
     def __init__(self) -> None:
         self.lock, self.running, self.is_stopped = threading.Lock(), set(), False
 
-    def run(self, words: Sequence[str | Path], folder: Path | None = None, seconds: float | None = None, out: Path | None = None) -> Ended:
-        """Runs a list of words; what it prints goes to the file `out`, or is kept."""
+    def run(self, words: Sequence[str | Path], folder: Path | None = None, seconds: float | None = None) -> Ended:
+        """Runs a list of words, in a folder, and no longer than so many seconds."""
         begun = time.monotonic()
-        process = self._start(words, folder, out)
+        with self.lock:
+            if self.is_stopped:
+                raise Stopped
+            try:
+                process = subprocess.Popen(words, cwd=folder, stdin=subprocess.DEVNULL, stdout=subprocess.PIPE, stderr=subprocess.PIPE,
+                                           start_new_session=True)
+            except OSError as error:
+                raise Broken(f"{words[0]}: {error.strerror}") from error
+            self.running.add(process)
         try:
             printed, told = process.communicate(timeout=seconds)
             status = process.returncode
@@ -92,19 +105,7 @@ class Runner:
             self.running.discard(process)
         if self.is_stopped:
             raise Stopped
-        return Ended(status, printed or b"", told.decode(errors="replace"), time.monotonic() - begun)
-
-    def _start(self, words: Sequence[str | Path], folder: Path | None, out: Path | None) -> subprocess.Popen:
-        with self.lock, open(out or os.devnull, "wb") as file:
-            if self.is_stopped:
-                raise Stopped
-            try:
-                process = subprocess.Popen(words, cwd=folder, stdin=subprocess.DEVNULL, stdout=file if out else subprocess.PIPE,
-                                           stderr=subprocess.PIPE, start_new_session=True)
-            except OSError as error:
-                raise Broken(f"{words[0]}: {error.strerror}") from error
-            self.running.add(process)
-            return process
+        return Ended(status, printed, told.decode(errors="replace"), time.monotonic() - begun)
 
     def stop(self) -> None:
         with self.lock:

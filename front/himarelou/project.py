@@ -1,4 +1,4 @@
-"""The project file `himarelou.toml`: what may stand in it, and what it says. A fault names its line and key."""
+"""The project file `himarelou.toml` is read. A fault names its line and key."""
 import re
 import tomllib
 from dataclasses import dataclass, field
@@ -6,9 +6,7 @@ from pathlib import Path
 from typing import Any
 
 from himarelou.faults import Fault, did_you_mean, shown
-from himarelou.schema import CHECK, CIRCUIT, MONITOR, STRATEGY, Schema
-from himarelou.stages import DEFAULT, Stage
-from himarelou.statement import Reset
+from himarelou.schema import CHECK, CIRCUIT, MONITOR, STRATEGY, Design, Question, Schema
 
 FILE = "himarelou.toml"
 MOST_BYTES = 1 << 22
@@ -17,54 +15,6 @@ KEY = r"""(?:[\w-]+|"[^"\n]*"|'[^'\n]*')"""
 KEYS = rf"({KEY}(?:\s*\.\s*{KEY})*)"
 LONG_TEXT = re.compile(r'''("""(?:[^\\]|\\.)*?"""+|\'\'\'.*?\'\'\'+)|"(?:[^"\\\n]|\\.)*"|'[^'\n]*'|#[^\n]*''', re.S)
 Path_ = tuple[str, ...]
-
-
-@dataclass(frozen=True)
-class Design:
-    """What a circuit is made of: sources, or a circuit's own file."""
-
-    name: str
-    where: Path_ = ()
-    file: str | None = None
-    sources: tuple[str, ...] = ()
-    top: str | None = None
-    reset: Reset | None = None
-    define: tuple[tuple[str, str | int | bool], ...] = ()
-    parameters: tuple[tuple[str, str | int], ...] = ()
-    include: tuple[str, ...] = ()
-    sv: bool = False
-    clocks: str | None = None
-    memory: int = 16_384
-    start: str = "any"
-    assume: tuple[str, ...] = ()
-
-
-@dataclass(frozen=True)
-class Question:
-    """A check or a monitor."""
-
-    kind: str
-    name: str
-    expect: str
-    circuit: str = ""
-    secret: tuple[str, ...] | None = None
-    equal: tuple[str, ...] | None = None
-    same: tuple[str, ...] | None = None
-    given: tuple[str, ...] = ()
-    formula: str | None = None
-    file: str | None = None
-    strategy: Design | None = None
-    met: str | None = None
-    assume: tuple[str, ...] = ()
-    traces: tuple[str, ...] = ()
-    lengths: str = "min"
-    drop: bool = False
-    budget: int = 900
-    stages: tuple[Stage, ...] = DEFAULT
-
-    @property
-    def where(self) -> Path_:
-        return self.kind, self.name
 
 
 @dataclass
@@ -99,18 +49,15 @@ def read_project(path: Path) -> Project:
             data = file.read(MOST_BYTES + 1)
         if len(data) > MOST_BYTES:
             raise Fault(f"{name}: more than {MOST_BYTES} bytes")
-        text = data.decode()
+        text = data.decode("utf-8", "surrogateescape")
         return _Reader(Project(path, lines_of(text)), tomllib.loads(text)).read()
     except OSError as error:
         raise Fault(f"{name}: {error.strerror}") from error
-    except UnicodeDecodeError as error:
-        raise Fault(f"{name}:{data.count(10, 0, error.start) + 1}: no UTF-8") from error
     except RecursionError as error:
         raise Fault(f"{name}: too many lists or tables in one another") from error
     except ValueError as error:
-        place = re.search(r" \(at (?:line (\d+), column \d+|end of document)\)$", str(error))
-        line = place[1] if place and place[1] else data.count(10) + 1
-        raise Fault(f"{name}:{line}: {shown(str(error)[:place.start()] if place else str(error))}") from error
+        words, line = re.fullmatch(r"(.*?)(?: \(at (?:line (\d+), column \d+|end of document)\))?", str(error), re.S).groups()
+        raise Fault(f"{name}:{line or data.count(10) + 1}: {shown(words)}") from error
 
 
 def lines_of(text: str) -> dict[Path_, int]:
@@ -141,8 +88,10 @@ class _Reader:
         for key in self.tables:
             if key not in ("circuit", "check", "monitor"):
                 raise self.fault(f"no such table{did_you_mean(key, ('circuit', 'check', 'monitor'))}", key)
-        for name, path in self.circuit_tables():
-            self.project.circuits[name] = self.design(name, path, CIRCUIT)
+        circuits = self.table("circuit")
+        are_several = all(isinstance(it, dict) for it in circuits.values())
+        for path in [("circuit", name) for name in circuits] if are_several else [("circuit",)]:
+            self.project.circuits[path[-1]] = self.design(path, CIRCUIT)
         for kind, schema in (("check", CHECK), ("monitor", MONITOR)):
             self.project.questions += [self.question(kind, name, schema) for name in self.table(kind)]
         twice = self.table("check").keys() & self.table("monitor").keys()
@@ -159,21 +108,11 @@ class _Reader:
             raise self.fault("a table is wanted", *path)
         return value
 
-    def circuit_tables(self) -> list[tuple[str, Path_]]:
-        """The circuits by name: `[circuit]` itself, or each `[circuit.NAME]`."""
-        table = self.table("circuit")
-        if not all(isinstance(it, dict) for it in table.values()):
-            return [("circuit", ("circuit",))]
-        return [(self.named("circuit", name), ("circuit", name)) for name in table]
-
-    def named(self, *path: str) -> str:
-        if not NAME.fullmatch(path[-1]):
-            raise self.fault("a name is letters, digits, _ and -", *path)
-        return path[-1]
-
     def values(self, path: Path_, schema: Schema) -> dict[str, Any]:
         """The values of a table by their keys, each of its kind."""
         table = self.table(*path)
+        if not NAME.fullmatch(path[-1]):
+            raise self.fault("a name is letters, digits, _ and -", *path)
         for key, value in table.items():
             if key not in schema.kinds:
                 raise self.fault(f"no such key{did_you_mean(key, schema.kinds)}", *path, key)
@@ -183,38 +122,33 @@ class _Reader:
             if table.keys() >= set(pair):
                 first, second = sorted(pair, key=list(table).index)
                 raise self.fault(f"it stands beside no {first}", *path, second)
-        if schema.forms and not table.keys() & set(schema.forms):
-            raise self.fault("it wants one of " + ", ".join(schema.forms), *path)
+        if not table.keys() & set(schema.forms):
+            raise self.fault("it wants " + " or ".join(schema.forms), *path)
         return {key: schema.kinds[key].taken(value) for key, value in table.items()}
 
-    def design(self, name: str, path: Path_, schema: Schema) -> Design:
-        values = self.values(path, schema)
-        if not values.keys() & {"sources", "file"}:
-            raise self.fault("it wants sources or file", *path)
-        return Design(name=name, where=path, **values)
+    def design(self, path: Path_, schema: Schema) -> Design:
+        return Design(name=".".join(path[1:]) or path[0], where=path, **self.values(path, schema))
 
     def question(self, kind: str, name: str, schema: Schema) -> Question:
-        path = (kind, self.named(kind, name))
-        values = self.values(path, schema)
-        good, bad = schema.answers
+        path = (kind, name)
+        values, (good, bad) = self.values(path, schema), schema.answers
         if "strategy" in values:
-            values["strategy"] = self.design(f"{name}.strategy", (*path, "strategy"), STRATEGY)
+            values["strategy"] = self.design((*path, "strategy"), STRATEGY)
             good, bad = "holds with strategy", "strategy fails"
         if kind == "monitor" and "traces" not in values:
             raise self.fault("it wants traces", *path)
         if kind == "check":
-            values["circuit"] = self.circuit_of(path, values)
+            values["circuit"] = self.circuit_of(path, values.get("circuit"))
         expect = values.pop("expect", good)
         if expect not in (good, bad):
             raise self.fault(f'"{good}" or "{bad}" is wanted', *path, "expect")
         return Question(kind=kind, name=name, expect=expect, **values)
 
-    def circuit_of(self, path: Path_, values: dict[str, Any]) -> str:
-        said, known = values.get("circuit"), self.project.circuits
-        if said is None and len(known) == 1:
-            return next(iter(known))
-        if said is None:
+    def circuit_of(self, path: Path_, said: str | None) -> str:
+        """The circuit that a check says, or the only one."""
+        known = self.project.circuits
+        if said is None and len(known) != 1:
             raise self.fault("it wants circuit, since there are several" if known else "there is no [circuit]", *path)
-        if said not in known:
+        if said is not None and said not in known:
             raise self.fault(f"no such circuit{did_you_mean(said, known)}", *path, "circuit")
-        return said
+        return said or next(iter(known))

@@ -4,39 +4,43 @@ import xml.etree.ElementTree as ET
 from collections.abc import Sequence
 from dataclasses import asdict, dataclass, field
 from pathlib import Path
-from typing import Any
 
 from himarelou.faults import shown
 
-
-
 AS_EXPECTED, OTHERWISE, OPEN, FAULT = "as expected", "not as expected", "open", "fault"
-STATUS = {AS_EXPECTED: 0, OTHERWISE: 1, OPEN: 4, FAULT: 2}
-WEIGHT = (FAULT, OTHERWISE, OPEN, AS_EXPECTED)
+STATUS = {FAULT: 2, OTHERWISE: 1, OPEN: 4, AS_EXPECTED: 0}
+ELEMENTS = {OTHERWISE: "failure", FAULT: "error", OPEN: "skipped"}
 IS_MET, VACUOUS, UNKNOWN = "met", "vacuous", "unknown"
 
 
 @dataclass
-class Result:
-    """The answer is a verdict's line, `open`, or `fault`; `lines` are the last lines of the stages, or the fault's."""
+class Asked:
+    """The verdict, or OPEN; the stage that gave it; the last line of each stage that did not, and their seconds; what carries
+    the verdict."""
+
+    answer: str = OPEN
+    stage: str = ""
+    lines: list[str] = field(default_factory=list)
+    spent: float = 0
+    evidence: str = ""
+    is_kept: bool = False
+
+
+@dataclass(kw_only=True)
+class Result(Asked):
+    """What came of a check: the answer may be FAULT, too, with the line of the fault."""
 
     name: str
     kind: str
     expect: str
-    answer: str = OPEN
-    seconds: float = 0.0
-    stage: str = ""
-    evidence: str = ""
+    seconds: float = 0
     vacuity: str = ""
-    is_kept: bool = False
     notes: list[str] = field(default_factory=list)
-    lines: list[str] = field(default_factory=list)
     files: dict[str, str] = field(default_factory=dict)
 
-    def take(self, asked: Any) -> None:
+    def take(self, asked: Asked) -> None:
         """Takes over what was answered."""
-        self.answer, self.stage, self.lines = asked.answer, asked.stage, asked.lines
-        self.evidence, self.is_kept = asked.evidence, asked.is_kept
+        vars(self).update(vars(asked))
 
     @property
     def outcome(self) -> str:
@@ -44,22 +48,14 @@ class Result:
             return self.answer
         return AS_EXPECTED if self.answer == self.expect and self.vacuity != VACUOUS else OTHERWISE
 
-    def told(self) -> dict[str, Any]:
-        """All of it, as it is written in JSON."""
-        return asdict(self) | {"outcome": self.outcome}
 
-
-def status_of(results: list[Result]) -> int:
+def status_of(results: Sequence[Result]) -> int:
     """The status of all: a fault outweighs what is not as expected, and that outweighs open."""
-    found = {it.outcome for it in results}
-    return next((STATUS[it] for it in WEIGHT if it in found), 0)
-
-
-ELEMENTS = {OTHERWISE: "failure", FAULT: "error", OPEN: "skipped"}
+    return next((status for outcome, status in STATUS.items() if any(it.outcome == outcome for it in results)), 0)
 
 
 def as_json(project: Path, results: Sequence[Result], status: int) -> bytes:
-    value = {"project": str(project), "status": status, "checks": [it.told() for it in results]}
+    value = {"project": str(project), "status": status, "checks": [asdict(it) | {"outcome": it.outcome} for it in results]}
     return json.dumps(value, indent=1, ensure_ascii=True).encode() + b"\n"
 
 
@@ -70,7 +66,8 @@ def as_junit(project: Path, results: Sequence[Result]) -> bytes:
                        time=f"{sum(it.seconds for it in results):.2f}")
     for result in results:
         case = ET.SubElement(suite, "testcase", classname=result.kind, name=result.name, time=f"{result.seconds:.2f}")
-        text = "\n".join(shown(it) for it in [f"{result.answer}, expected {result.expect}", *result.lines, *result.notes])
+        told = [f"{result.answer}, expected {result.expect}", *result.lines, *result.notes, result.evidence]
+        text = "\n".join(shown(it) for it in told if it)
         if result.outcome in ELEMENTS:
             ET.SubElement(case, ELEMENTS[result.outcome], message=text.split("\n")[0]).text = text
         else:

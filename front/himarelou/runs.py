@@ -1,5 +1,5 @@
 """Runs of a circuit, as an answer of `mchyper --proof` has them: read, played, and judged."""
-import math
+import itertools
 import re
 from collections.abc import Sequence
 from dataclasses import dataclass, field
@@ -8,9 +8,13 @@ from himarelou.aiger import Circuit, value_of
 from himarelou.faults import Fault
 from himarelou.formula import Formula
 
-MOST_KEPT = 1 << 26
 Rows = list[list[int]]
 Letters = tuple[list[set[str]], list[set[str]]]
+
+
+def unrolled(stem: list, cycle: list, steps: int) -> list:
+    """So many of what a lasso has, or of a stem alone."""
+    return list(itertools.islice(itertools.chain(stem, itertools.cycle(cycle)), steps))
 
 
 @dataclass
@@ -23,36 +27,26 @@ class Run:
     label: str = ""
     seen: list[bytearray] = field(default_factory=list)
 
+    @property
+    def length(self) -> int:
+        return len(self.stem) + len(self.cycle)
+
     def fits(self, circuit: Circuit) -> bool:
         rows = self.stem + self.cycle
         return bool(self.cycle) and len(self.first) == len(circuit.latches) and all(len(it) == len(circuit.inputs) for it in rows)
 
-    def rows(self, steps: int) -> Rows:
-        """The inputs of so many steps."""
-        length = len(self.stem) + len(self.cycle)
-        return [self.stem[it] if it < len(self.stem) else self.cycle[(it - len(self.stem)) % len(self.cycle)]
-                for it in range(max(steps, length))][:steps]
-
     def play(self, circuit: Circuit, steps: int) -> None:
         """Sets what is seen: the value of each variable at each step."""
-        self.seen = list(circuit.play(self.first, self.rows(steps)))
+        self.seen = list(circuit.play(self.first, unrolled(self.stem, self.cycle, steps)))
 
     def is_right(self, circuit: Circuit) -> bool:
         """Whether it is a run of the circuit: its starts, its way round, constraints and fairness."""
-        length = len(self.stem) + len(self.cycle)
-        values = list(circuit.play(self.first, self.rows(length + 1)))
+        self.play(circuit, self.length + 1)
+        begin, end = ([self.seen[at][it.literal >> 1] for it in circuit.latches] for at in (len(self.stem), self.length))
         starts = all(it.is_either or it.reset == value for it, value in zip(circuit.latches, self.first))
-        state = [values[length][it.literal >> 1] for it in circuit.latches]
-        back = [values[len(self.stem)][it.literal >> 1] for it in circuit.latches]
-        kept = all(value_of(row, it) for row in values for it in circuit.constraints)
-        fair = all(any(value_of(row, it) for row in values[len(self.stem):length]) for it in circuit.fairness)
-        return starts and state == back and kept and fair
-
-
-def joint_length(runs: Sequence[Run], circuit: Circuit) -> tuple[int, int]:
-    """The stem and the length behind which all runs together repeat, cut where that is too long to keep."""
-    stem = max(len(it.stem) for it in runs)
-    return stem, min(stem + math.lcm(*(len(it.cycle) for it in runs)), MOST_KEPT // (circuit.most + 1) + 1)
+        kept = all(value_of(row, it) for row in self.seen for it in circuit.constraints)
+        fair = all(any(value_of(row, it) for row in self.seen[len(self.stem):-1]) for it in circuit.fairness)
+        return starts and begin == end and kept and fair
 
 
 def runs_of(answer: str) -> list[Run]:
@@ -86,47 +80,38 @@ def played(circuit: Circuit, answer: str) -> list[Run]:
     if not all(it.fits(circuit) for it in runs):
         raise Fault("the runs are of another circuit")
     for run in runs:
-        run.play(circuit, len(run.stem) + len(run.cycle))
+        run.play(circuit, run.length)
     if not agree(circuit, runs, letters_of(answer)):
         raise Fault("the runs are of another circuit: what is seen of them is not what the answer says")
     return runs
 
 
-def letters_of(answer: str, verdict: str = "") -> list[Letters]:
+def letters_of(answer: str) -> list[Letters]:
     """What the answer says is seen of each run: the sets of its stem and of its cycle."""
-    if verdict and answer.split("\n")[0] != verdict:
-        raise Fault(f"the answer is not `{verdict}`")
     found = []
-    for line in answer.split("\n")[1:]:
-        if line.startswith("proof runs "):
-            break
-        if "|" in line:
-            sides: list[list[set[str]]] = [[], []]
-            side = 0
-            for word in re.findall(r"\||\{(?:[^\"}]|\"[^\"]*\")*\}", line):
-                if word == "|":
-                    side = 1
-                else:
-                    sides[side].append({it.strip('"') for it in re.findall(r'"[^"]*"|[^",{}\s]+', word)})
-            found.append((sides[0], sides[1]))
+    for line in answer.split("\nproof runs ")[0].split("\n")[1:]:
+        words = re.findall(r"\||\{(?:[^\"}]|\"[^\"]*\")*\}", line)
+        if "|" in words:
+            sets = [{it.strip('"') for it in re.findall(r'"[^"]*"|[^",{}\s]+', word)} for word in words]
+            found.append((sets[:words.index("|")], sets[words.index("|") + 1:]))
     return found
 
 
 def agree(circuit: Circuit, runs: Sequence[Run], said: Sequence[Letters]) -> bool:
     """Whether the named signals of each run, as it was played, are high where the answer says so, and no others of its names."""
-    literals = {name: literal for _, name, literal in circuit.signals()}
+    literals = circuit.literals
     names = {name for stem, cycle in said for letter in stem + cycle for name in letter}
-    for run, (stem, cycle) in zip(runs, said):
-        for step, values in enumerate(run.seen):
-            letter = stem[step] if step < len(stem) else cycle[(step - len(stem)) % len(cycle)]
-            if any(name not in literals or bool(value_of(values, literals[name])) != (name in letter) for name in names):
-                return False
-    return True
+    return names <= literals.keys() and all(
+        {it for it in names if value_of(values, literals[it])} == letter
+        for run, letters in zip(runs, said) for values, letter in zip(run.seen, unrolled(*letters, len(run.seen))))
 
 
-def runs_with_strategy(circuit: Circuit, strategy: Circuit, formula: Formula, said: Sequence[Letters], most: int) -> list[Run]:
+def runs_with_strategy(circuit: Circuit, strategy: Circuit, formula: Formula, answer: str, most: int) -> list[Run]:
     """The runs of all quantifiers, played. What the answer does not show of an input or a first value is taken for 0, and
     where that makes other runs than it shows they are refused."""
+    if not answer.startswith("strategy fails\n"):
+        raise Fault("the answer is not `strategy fails`")
+    said = letters_of(answer)
     steps = min(most, max(len(stem) + 2 * len(cycle) for stem, cycle in said))
     names, chosen = formula.runs("forall"), formula.runs("exists")
     given = [_run_of(circuit, letters, name) for letters, name in zip(said, names)]
@@ -134,20 +119,21 @@ def runs_with_strategy(circuit: Circuit, strategy: Circuit, formula: Formula, sa
         run.play(circuit, steps)
     if not agree(circuit, given, said):
         raise Fault("the answer does not show what the runs' inputs are: name them all in the formula, as by (a_p | !a_p)")
-    rows = [[run.rows(steps)[step][place] for place in range(len(circuit.inputs)) for run in given] for step in range(steps)]
+    rows = [[value_of(run.seen[step], it) for it in circuit.inputs for run in given] for step in range(steps)]
     answers = list(strategy.play([it.reset & 1 for it in strategy.latches], rows))
     made = []
     for place, name in enumerate(chosen):
         inputs = [[value_of(values, it) for it in strategy.outputs[place::len(chosen)]] for values in answers]
-        first = [0 if it.is_either else it.reset for it in circuit.latches]
-        made.append(Run(first, inputs, [], name, list(circuit.play(first, inputs))))
+        made.append(Run([0 if it.is_either else it.reset for it in circuit.latches], inputs, [], name))
+        made[-1].play(circuit, steps)
     by_name = {it.label: it for it in given + made}
     return [by_name[variable] for _, variable in formula.quantifiers]
 
 
 def _run_of(circuit: Circuit, letters: Letters, name: str) -> Run:
-    stem, cycle = letters
-    latches = [circuit.names.get(("l", place)) for place in range(len(circuit.latches))]
-    first = [int(own in (stem + cycle)[0]) if it.is_either else it.reset for it, own in zip(circuit.latches, latches)]
-    inputs = [circuit.names.get(("i", place)) for place in range(len(circuit.inputs))]
-    return Run(first, *([[int(it in letter) for it in inputs] for letter in part] for part in (stem, cycle)), name)
+    def row(kind: str, count: int, letter: set[str]) -> list[int]:
+        return [int(circuit.names.get((kind, place)) in letter) for place in range(count)]
+
+    stem, cycle = ([row("i", len(circuit.inputs), letter) for letter in side] for side in letters)
+    starts = row("l", len(circuit.latches), (letters[0] + letters[1])[0])
+    return Run([own if it.is_either else it.reset for it, own in zip(circuit.latches, starts)], stem, cycle, name)

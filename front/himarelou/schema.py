@@ -1,10 +1,10 @@
-"""The keys of each table of the project file, and what their values have to be."""
+"""What may stand in the project file: the keys of each table, what their values have to be, and what is taken of them."""
 import re
 from collections.abc import Callable
-from dataclasses import dataclass
+from dataclasses import dataclass, field, fields
 from typing import Any
 
-from himarelou.stages import MOST_SECONDS, are_stages, stages_of
+from himarelou.stages import DEFAULT, RANGES, Stage, stage_of
 from himarelou.statement import Reset
 
 IDENTIFIER = re.compile(r"[A-Za-z_][A-Za-z0-9_$]*")
@@ -20,26 +20,16 @@ class Kind:
     taken: Callable[[Any], Any] = lambda value: value
 
 
-@dataclass(frozen=True)
-class Schema:
-    """The kinds by key, the pairs of keys that never stand together, the keys of which one is wanted, good and bad answer."""
-
-    kinds: dict[str, Kind]
-    apart: tuple[tuple[str, str], ...] = ()
-    forms: tuple[str, ...] = ()
-    answers: tuple[str, str] = ("", "")
-
-
-def _is_text(value: Any) -> bool:
-    return isinstance(value, str) and bool(value)
-
-
 def _are_texts(value: Any) -> bool:
-    return isinstance(value, list) and bool(value) and all(map(_is_text, value))
+    return isinstance(value, list) and bool(value) and all(map(TEXT.fits, value))
 
 
 def _one_of(*words: str) -> Kind:
     return Kind(" or ".join(f'"{it}"' for it in words), lambda value: value in words)
+
+
+def _number(of: str, least: int, most: int) -> Kind:
+    return Kind(f"a number of {of}", lambda value: type(value) is int and least <= value <= most)
 
 
 def _values(*types: type) -> Kind:
@@ -51,31 +41,92 @@ def _values(*types: type) -> Kind:
     return Kind("a table of identifiers with numbers or words of letters, digits and _ ' . + -", fits, lambda value: tuple(value.items()))
 
 
-TEXT = Kind("a text", _is_text)
+TEXT = Kind("a text", lambda value: isinstance(value, str) and bool(value))
 TEXTS = Kind("a list of texts", _are_texts, tuple)
-ONE_OR_MORE = Kind("a text or a list of texts", lambda value: _is_text(value) or _are_texts(value),
+ANY_TEXTS = Kind("a list of texts", lambda value: value == [] or _are_texts(value), tuple)
+ONE_OR_MORE = Kind("a text or a list of texts", lambda value: TEXT.fits(value) or _are_texts(value),
                    lambda value: (value,) if isinstance(value, str) else tuple(value))
+TOP = Kind("an identifier", lambda value: isinstance(value, str) and bool(IDENTIFIER.fullmatch(value)))
 FLAG = Kind("true or false", lambda value: isinstance(value, bool))
-DESIGN = {"sources": TEXTS, "file": TEXT, "top": Kind("an identifier", lambda value: _is_text(value) and bool(IDENTIFIER.fullmatch(value)))}
-STRATEGY = Schema(DESIGN, apart=(("file", "sources"), ("file", "top")))
-OF_SOURCES = {
-    "define": _values(str, int, bool), "parameters": _values(str, int), "include": TEXTS, "sv": FLAG, "clocks": _one_of("inputs"),
-    "memory": Kind("a number of bits", lambda value: type(value) is int and 0 < value <= 1 << 30), "start": _one_of("any", "zero"),
-}
-RESET = Kind("a name, or !NAME,", lambda value: _is_text(value) and value != "!",
+TABLE = Kind("a table", lambda value: isinstance(value, dict))
+RESET = Kind("a name, or !NAME,", lambda value: TEXT.fits(value) and value != "!",
              lambda value: Reset(value.removeprefix("!"), value.startswith("!")))
-CIRCUIT = Schema(DESIGN | OF_SOURCES | {"reset": RESET, "assume": ONE_OR_MORE},
-                 apart=tuple(("file", key) for key in ("sources", "top", *OF_SOURCES)))
-QUESTION = {
-    "equal": Kind("a list of texts", lambda value: value == [] or _are_texts(value), tuple), "same": TEXTS, "given": TEXTS,
-    "formula": TEXT, "file": TEXT, "expect": TEXT,
-    "budget": Kind("a number of seconds", lambda value: type(value) is int and 0 <= value <= MOST_SECONDS),
-}
+STAGES = Kind("a list of stages", lambda value: isinstance(value, list) and bool(value) and all(map(stage_of, value)),
+              lambda value: tuple(map(stage_of, value)))
+
+
+def _key(kind: Kind, default: Any = None) -> Any:
+    """A field that is a key of the project file."""
+    return field(default=default, metadata={"kind": kind})
+
+
+@dataclass(frozen=True)
+class Design:
+    """What a circuit is made of: sources, or a circuit's own file. `where` is its table."""
+
+    name: str
+    where: tuple[str, ...] = ()
+    file: str | None = _key(TEXT)
+    sources: tuple[str, ...] = _key(TEXTS, ())
+    top: str | None = _key(TOP)
+    reset: Reset | None = _key(RESET)
+    define: tuple[tuple[str, str | int | bool], ...] = _key(_values(str, int, bool), ())
+    parameters: tuple[tuple[str, str | int], ...] = _key(_values(str, int), ())
+    include: tuple[str, ...] = _key(TEXTS, ())
+    sv: bool = _key(FLAG, False)
+    clocks: str | None = _key(_one_of("inputs"))
+    memory: int = _key(_number("bits", 1, 1 << 30), 16_384)
+    start: str = _key(_one_of("any", "zero"), "any")
+    assume: tuple[str, ...] = _key(ONE_OR_MORE, ())
+
+
+@dataclass(frozen=True)
+class Question:
+    """A check or a monitor."""
+
+    kind: str
+    name: str
+    expect: str = _key(TEXT, "")
+    circuit: str = _key(TEXT, "")
+    secret: tuple[str, ...] | None = _key(TEXTS)
+    equal: tuple[str, ...] | None = _key(ANY_TEXTS)
+    same: tuple[str, ...] | None = _key(TEXTS)
+    given: tuple[str, ...] = _key(TEXTS, ())
+    formula: str | None = _key(TEXT)
+    file: str | None = _key(TEXT)
+    strategy: Design | None = _key(TABLE)
+    met: str | None = _key(TEXT)
+    assume: tuple[str, ...] = _key(ONE_OR_MORE, ())
+    traces: tuple[str, ...] = _key(ONE_OR_MORE, ())
+    lengths: str = _key(_one_of("min", "pad"), "min")
+    drop: bool = _key(FLAG, False)
+    budget: int = _key(_number("seconds", 0, RANGES["seconds"][1]), 900)
+    stages: tuple[Stage, ...] = _key(STAGES, DEFAULT)
+
+    @property
+    def where(self) -> tuple[str, ...]:
+        return self.kind, self.name
+
+
+@dataclass(frozen=True)
+class Schema:
+    """The kinds by key, the pairs of keys that never stand together, the keys of which one is wanted, good and bad answer."""
+
+    kinds: dict[str, Kind]
+    apart: tuple[tuple[str, str], ...]
+    forms: tuple[str, ...]
+    answers: tuple[str, str] = ("", "")
+
+
+def _kinds(of: type, but: str = "") -> dict[str, Kind]:
+    return {it.name: it.metadata["kind"] for it in fields(of) if it.metadata and it.name not in but.split()}
+
+
 FORMS = (("formula", "file"), *((form, key) for form in ("formula", "file") for key in ("secret", "equal", "same", "given")))
+CIRCUIT = Schema(_kinds(Design), tuple(("file", key) for key in _kinds(Design, "file reset assume")), ("sources", "file"))
+STRATEGY = Schema(_kinds(Design, "reset define parameters include sv clocks memory start assume"), CIRCUIT.apart, CIRCUIT.forms)
 CHECK = Schema(
-    QUESTION | {"circuit": TEXT, "secret": TEXTS, "strategy": Kind("a table", lambda value: isinstance(value, dict)), "met": TEXT,
-                "assume": ONE_OR_MORE, "stages": Kind("a list of stages", are_stages, stages_of)},
+    _kinds(Question, "traces lengths drop"),
     (*FORMS, ("secret", "equal"), ("secret", "met"), ("equal", "met"), ("secret", "strategy"), ("equal", "strategy")),
     ("secret", "equal", "formula", "file"), ("holds", "violated"))
-MONITOR = Schema(QUESTION | {"traces": ONE_OR_MORE, "lengths": _one_of("min", "pad"), "drop": FLAG},
-                 FORMS, ("same", "formula", "file"), ("no violation", "violation"))
+MONITOR = Schema(_kinds(Question, "circuit secret strategy met assume stages"), FORMS, ("same", "formula", "file"), ("no violation", "violation"))

@@ -83,8 +83,5 @@ class Screen:
 
 def by(result: Result) -> str:
     """What gave the answer."""
-    parts = ["kept"] if result.is_kept else []
-    parts += [result.stage] if result.stage else []
-    parts += [result.evidence.split(" of ")[0].split(";")[0]] if result.evidence else []
-    parts += [f"premise {result.vacuity}"] if result.vacuity else []
-    return "; " + "; ".join(parts) if parts else ""
+    parts = ["kept" if result.is_kept else "", result.stage, result.evidence, f"premise {result.vacuity}" if result.vacuity else ""]
+    return "".join(f"; {it}" for it in parts if it)

@@ -2,8 +2,7 @@
 from dataclasses import dataclass
 from typing import Any
 
-RANGES = {"depth": (0, 100_000), "conflicts": (0, 1_000_000_000), "ic3": (1, 1_000_000)}
-MOST_SECONDS = 10_000_000
+RANGES = {"depth": (0, 100_000), "conflicts": (0, 1_000_000_000), "ic3": (1, 1_000_000), "seconds": (1, 10_000_000)}
 
 
 @dataclass(frozen=True)
@@ -26,25 +25,13 @@ DEFAULT = (
 )
 
 
-def are_stages(value: Any) -> bool:
-    return isinstance(value, list) and bool(value) and all(map(_is_stage, value))
-
-
-def _is_stage(table: Any) -> bool:
-    """Whether it is as `{ depth = 5, plain = true, seconds = 20 }`; beside `ic3` a depth is stated."""
-    if not isinstance(table, dict) or table.keys() - {*RANGES, "plain", "seconds"}:
-        return False
-    numbers = all(type(table[key]) is int and least <= table[key] <= most for key, (least, most) in RANGES.items() if key in table)
-    clauses = "ic3" not in table or "depth" in table and not table.get("plain")
-    seconds = table.get("seconds", 600)
-    return numbers and clauses and table.get("plain", False) in (True, False) and type(seconds) is int and 0 < seconds <= MOST_SECONDS
-
-
-def stages_of(tables: list[dict[str, Any]]) -> tuple[Stage, ...]:
-    """The stages that a project file says."""
-    made = []
-    for table in tables:
-        words = ["--plain"] if table.get("plain") else []
-        words += [word for key in RANGES if key in table for word in (f"--{key}", str(table[key]))]
-        made.append(Stage(tuple(words), table.get("seconds", 600)))
-    return tuple(made)
+def stage_of(table: Any) -> Stage | None:
+    """The stage of a table such as `{ depth = 5, plain = true, seconds = 20 }`, if it is one; beside `ic3` a depth is stated."""
+    if not isinstance(table, dict) or table.keys() - {*RANGES, "plain"}:
+        return None
+    plain, numbers = table.get("plain", False), {key: table[key] for key in RANGES if key in table}
+    are_right = all(type(it) is int and RANGES[key][0] <= it <= RANGES[key][1] for key, it in numbers.items())
+    if not are_right or not isinstance(plain, bool) or "ic3" in numbers and (plain or "depth" not in numbers):
+        return None
+    seconds = numbers.pop("seconds", 600)
+    return Stage((*["--plain"] * plain, *(word for key, it in numbers.items() for word in (f"--{key}", str(it)))), seconds)

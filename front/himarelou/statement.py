@@ -1,12 +1,23 @@
-"""What a check without a formula of its own asks: `equal`, `given` and `same` made a formula over two runs.
+"""What a check without a formula of its own asks, as a formula over two runs and as two copies of the circuit.
 
 With P saying that the reset, the `equal` inputs and, outside reset, the `given` signals agree, and S that outside reset
 the `same` signals do, two runs that begin with a reset never part in S while P has held: `reset_p -> !(P U (P & !S))`.
+
+Each of two copies has inputs of its own, so a formula of one run does. P is a constraint up to the cycle in which the output
+is on, and all is free behind it: so the pair has a run with that output exactly where two runs of the circuit meet P up to a
+cycle and there do what is asked for. While the output was never on, the copies are equal where they are found to be, which is
+what proofs by induction live on.
 """
-from collections.abc import Iterable
+from collections.abc import Callable, Sequence
 from dataclasses import dataclass, field
 
-from himarelou.names import atom
+from himarelou.aiger import Circuit
+from himarelou.formula import Formula, Tree, all_of, signal
+from himarelou.gates import FALSE, TRUE, Builder
+from himarelou.runs import Run
+
+PARTED, MET = "parted", "met"
+FORMULAS = {PARTED: f"forall p. G !{PARTED}_p\n", MET: f"exists p. F {MET}_p\n"}
 
 
 @dataclass(frozen=True)
@@ -16,8 +27,9 @@ class Reset:
     name: str
     is_low: bool = False
 
-    def atom(self, variable: str) -> str:
-        return ("!" if self.is_low else "") + atom(self.name, variable)
+    def tree(self) -> Tree:
+        """That the run p is reset."""
+        return Tree("!", (signal(self.name, "p"),)) if self.is_low else signal(self.name, "p")
 
 
 @dataclass
@@ -26,34 +38,74 @@ class Statement:
     the inputs that are left, and the starts of all registers."""
 
     reset: Reset | None
-    equal: list[str]
-    given: list[str]
-    same: list[str]
-    secret: list[str] = field(default_factory=list)
+    equal: Sequence[str]
+    given: Sequence[str]
+    same: Sequence[str]
+    secret: Sequence[str] = field(default_factory=list)
     is_named: bool = False
 
-    def names(self) -> dict[str, None]:
-        """The names that the formula has."""
-        reset = [self.reset.name] if self.reset else []
-        return dict.fromkeys([*reset, *self.equal, *self.given, *self.same])
+    def premise(self) -> Tree:
+        resets = [self.reset.name] if self.reset else []
+        return all_of([*map(equality, [*resets, *self.equal]), *([self.outside(self.given)] if self.given else [])])
 
-    def formula(self) -> str:
-        agreed = self._agreed()
-        premise = "\n      & ".join(agreed) or "true"
-        begun = f"{self.reset.atom('p')} ->\n  " if self.reset else ""
-        parted = "!" + self._outside([_equality(it) for it in self.same])
-        return f"forall p. forall q.\n  {begun}!(({premise})\n    U ({premise}\n      & {parted}))\n"
+    def outside(self, names: Sequence[str]) -> Tree:
+        """That both runs agree in these where no reset is on."""
+        agree = all_of([equality(it) for it in names])
+        return Tree("|", (self.reset.tree(), agree)) if self.reset else agree
 
-    def _agreed(self) -> list[str]:
-        reset = [self.reset.name] if self.reset else []
-        given = [self._outside([_equality(it) for it in self.given])] if self.given else []
-        return [_equality(it) for it in dict.fromkeys([*reset, *self.equal])] + given
-
-    def _outside(self, parts: Iterable[str]) -> str:
-        """That the parts hold where no reset is on."""
-        whole = " & ".join(parts)
-        return f"({self.reset.atom('p')} | {whole})" if self.reset else f"({whole})"
+    def formula(self) -> Formula:
+        premise, parted = self.premise(), Tree("!", (self.outside(self.same),))
+        never = Tree("!", (Tree("U", (premise, all_of([premise, parted]))),))
+        return Formula((("forall", "p"), ("forall", "q")), Tree("->", (self.reset.tree(), never)) if self.reset else never)
 
 
-def _equality(name: str) -> str:
-    return f"({atom(name, 'p')} <-> {atom(name, 'q')})"
+def equality(name: str) -> Tree:
+    return Tree("<->", (signal(name, "p"), signal(name, "q")))
+
+
+def pair_of(circuit: Circuit, statement: Statement, asked: str) -> Circuit:
+    """Two copies with the output PARTED or MET."""
+    made = Circuit()
+    builder, literals = Builder(made), circuit.literals
+    copies = {run: builder.copy(circuit, f"{run}.") for run in "pq"}
+
+    def gates_of(tree: Tree) -> int:
+        return builder.of(tree, lambda name, run: copies[run](literals[name]))
+
+    def differ(literal: int) -> int:
+        return builder.same(*(it(literal) for it in copies.values())) ^ 1
+
+    started, done = builder.latch(), builder.latch()
+    started.next = TRUE
+    reset = gates_of(statement.reset.tree()) if statement.reset else FALSE
+    premise = builder.both(gates_of(statement.premise()), builder.either(started.literal, reset) if statement.reset else TRUE)
+    if asked == PARTED:
+        target = gates_of(statement.outside(statement.same)) ^ 1
+    else:
+        target = builder.both(reset ^ 1, met(circuit, statement, builder, differ, started.literal))
+    made.constraints.append(builder.either(done.literal, premise))
+    shown = builder.every([done.literal ^ 1, premise, target])
+    done.next = builder.either(done.literal, shown)
+    builder.output(asked, shown)
+    return made
+
+
+def met(circuit: Circuit, statement: Statement, builder: Builder, differ: Callable[[int], int], started: int) -> int:
+    """That the copies have differed in a secret, and where secrets are named still do in one of its inputs or in some register:
+    a secret that the reset sets is none."""
+    secret = set(statement.secret)
+    inputs = [differ(literal) for kind, name, literal in circuit.signals() if name in secret and kind == "i"]
+    starts = [literal for kind, name, literal in circuit.signals() if name in secret and kind != "i"]
+    if not statement.is_named:
+        starts = [it.literal for it in circuit.latches if it.is_either]
+    was = builder.latch()
+    was.next = builder.some([was.literal, *inputs, *(builder.both(started ^ 1, differ(it)) for it in starts)])
+    still = [*inputs, *(differ(it.literal) for it in circuit.latches)] if statement.is_named else [TRUE]
+    return builder.both(was.next, builder.some(still))
+
+
+def split(run: Run, circuit: Circuit) -> list[Run]:
+    """The runs of both copies in a run of the pair."""
+    latches, inputs = len(circuit.latches), len(circuit.inputs)
+    return [Run(run.first[at * latches:(at + 1) * latches], [row[at * inputs:(at + 1) * inputs] for row in run.stem],
+                [row[at * inputs:(at + 1) * inputs] for row in run.cycle], str(at)) for at in (0, 1)]

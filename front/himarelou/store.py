@@ -74,7 +74,7 @@ def _key() -> bytes:
     """A key of this user's own, so that results which came with a project are not believed; one of this call alone
     where there is no place for it."""
     state, home = os.environ.get("XDG_STATE_HOME", ""), os.environ.get("HOME") or "/nowhere"
-    path = (Path(state) if state.startswith("/") else Path(home) / ".local/state") / "himarelou" / "key"
+    path = Path(state if state.startswith("/") else f"{home}/.local/state", "himarelou", "key")
     try:
         path.parent.mkdir(mode=0o700, parents=True, exist_ok=True)
         with tempfile.NamedTemporaryFile(dir=path.parent) as file:

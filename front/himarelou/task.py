@@ -1,18 +1,26 @@
-"""What a check and a monitor share: their keys, their folder, their result."""
+"""What a check and a monitor share: a folder, a tool asked stage by stage, evidence given to `hycheck`, answers that are kept."""
+import os
 import time
-from collections.abc import Callable
-from dataclasses import dataclass
+from collections.abc import Callable, Sequence
+from dataclasses import asdict, dataclass
 from pathlib import Path
 
 from himarelou.aiger import read_bytes
 from himarelou.design import Circuits
-from himarelou.faults import Fault
+from himarelou.faults import Fault, shown
 from himarelou.formula import Formula, Text, parse
 from himarelou.names import Names
-from himarelou.programs import Runner
-from himarelou.project import Project, Question
-from himarelou.result import FAULT, Result
-from himarelou.store import Store, replaced
+from himarelou.programs import Runner, file_sum, front_sum, program, program_sum
+from himarelou.project import Project
+from himarelou.result import FAULT, OPEN, Asked, Result
+from himarelou.schema import Question
+from himarelou.stages import Stage
+from himarelou.store import Store, replaced, sum_of
+
+VERDICTS = ("holds with strategy", "holds", "violated", "strategy fails", "no violation", "violation")
+OPEN_STATUS = (4, 5, 6)
+ACCEPTED = "accepted by hycheck"
+NO_CERTIFICATE = "no certificate exists; {}, which is proved, carries it"
 
 
 @dataclass
@@ -26,12 +34,28 @@ class Work:
     tell: Callable[[str, str], None]
 
 
+@dataclass(frozen=True)
+class Files:
+    """What a tool is given, two files and maybe a strategy, and where its answer goes."""
+
+    tool: str
+    first: Path
+    second: Path
+    answer: Path
+    strategy: Path | None = None
+
+    def words(self) -> list[str]:
+        """What stands behind the words of a stage."""
+        extra = [] if self.tool != "mchyper" else ["--strategy", os.path.abspath(self.strategy)] if self.strategy else ["--proof"]
+        return [*extra, os.path.abspath(self.first), os.path.abspath(self.second)]
+
+
 class Task:
     """One question of a project; `work_on` fills its result."""
 
     def __init__(self, work: Work, question: Question):
         self.work, self.question = work, question
-        self.result = Result(question.name, question.kind, question.expect)
+        self.result = Result(name=question.name, kind=question.kind, expect=question.expect)
         self.room = work.store.room("checks", question.name)
 
     def work_on(self) -> None:
@@ -42,8 +66,8 @@ class Task:
         begun = time.monotonic()
         try:
             self.work_on()
-        except Fault as fault:
-            self.result.answer, self.result.lines = FAULT, [str(fault)]
+        except (Fault, OSError) as fault:
+            self.result.answer, self.result.lines = FAULT, [shown(str(fault))]
         self.result.seconds = round(time.monotonic() - begun, 2)
         return self.result
 
@@ -65,6 +89,54 @@ class Task:
             return parse(source, names)
         except Fault as fault:
             raise self.fault(fault, key) from fault
+
+    def decided(self, files: Files, stages: Sequence[Stage], budget: float) -> Asked:
+        """The answer that is kept, its evidence checked again, or one that is found now, by the stages that are left where a
+        call was stopped. What was open is kept for no larger budget."""
+        sums = [file_sum(it) for it in (files.first, files.second, files.strategy) if it]
+        key = sum_of(sums, [it.words for it in stages], program_sum(files.tool), program_sum("hycheck"), front_sum())
+        record = files.answer.with_suffix(".json")
+        asked = Asked()
+        kept = self.work.store.recorded(record)
+        if kept and kept["key"] == key and files.answer.is_file() and (kept["asked"]["answer"] != OPEN or budget <= kept["budget"]):
+            asked = Asked(**kept["asked"])
+        asked.is_kept = asked.answer != OPEN or len(asked.lines) == len(stages)
+        while asked.answer == OPEN and len(asked.lines) < len(stages):
+            self.ask(asked, files, stages[len(asked.lines)], budget - asked.spent)
+            self.work.store.record(record, {"key": key, "budget": budget, "asked": asdict(asked)})
+        if asked.answer != OPEN:
+            asked.evidence = self.evidence(files)
+        return asked
+
+    def ask(self, asked: Asked, files: Files, stage: Stage, left: float) -> None:
+        """One stage: its verdict, or a line on what it came to."""
+        if left <= 0:
+            asked.lines.append(f"{stage}: not begun, since the budget is spent")
+            return
+        self.tell(str(stage))
+        seconds = min(stage.seconds, left)
+        ended = self.work.runner.run([program(files.tool), *stage.words, *files.words()], seconds=seconds)
+        replaced(files.answer, ended.out)
+        asked.spent += ended.seconds
+        line = ended.line()
+        verdict = next((it for it in VERDICTS if f"{line} ".startswith(f"{it} ")), OPEN) if ended.status in (0, 1) else OPEN
+        if verdict != OPEN:
+            asked.answer, asked.stage = verdict, str(stage)
+        elif ended.status is None or ended.status in OPEN_STATUS:
+            asked.lines.append(f"{stage}: " + (f"nothing in {seconds:.3g} s" if ended.status is None else shown(line)))
+        else:
+            raise Fault(f"{files.tool} {stage}: {shown(line)}")
+
+    def evidence(self, files: Files) -> str:
+        """What carries a verdict: evidence that the checker accepts, where there is any."""
+        if files.strategy or files.tool != "mchyper":
+            return NO_CERTIFICATE.format(files.tool)
+        self.tell("hycheck")
+        given = map(os.path.abspath, (files.first, files.second, files.answer))
+        ended = self.work.runner.run([program("hycheck"), "mc", *given])
+        if ended.status != 0:
+            raise Fault(f"hycheck: {shown(ended.line())}: {files.answer} does not show what it says")
+        return ACCEPTED
 
 
 def text_of(path: Path) -> Text:

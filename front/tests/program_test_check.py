@@ -13,13 +13,14 @@ import sys
 import time
 import unittest
 import xml.etree.ElementTree as ET
+from pathlib import Path
 
 from himarelou.aiger import Circuit, written
 from himarelou.gates import Builder
-from himarelou.pair import FORMULAS, PARTED, first_parting, pair_of, split
+from himarelou.judging import failing_part
 from himarelou.programs import program
 from himarelou.runs import runs_of
-from himarelou.statement import Reset, Statement
+from himarelou.statement import FORMULAS, PARTED, Reset, Statement, pair_of, split
 from tests import HIMARELOU, TOP, Folder, needs
 from tests.test_circuits import CELL
 
@@ -75,7 +76,7 @@ class Checking(Folder):
             '[check.x]\nformula = "forall p. G x_p"': "himarelou.toml:5: check.x.formula: formula:1:13: no signal is named x",
             '[check.x]\nfile = "none"': "none: No such file or directory",
             '[check.x]\nformula = "forall p. exists q. o_p"': "error E4 ",
-            '[check.x]\nequal = []\nassume = "F w"': "himarelou.toml:6: check.x.assume: assume: F speaks of other cycles",
+            '[check.x]\nequal = []\nassume = "F w"': "himarelou.toml:6: check.x.assume: F speaks of other cycles",
         }.items():
             with self.subTest(text):
                 result = self.results(PROJECT + text, status=2)["x"]
@@ -154,18 +155,60 @@ class Examples(Folder):
                 carried = "no certificate exists" if it["kind"] == "monitor" or "strategy" in it["answer"] else "accepted by hycheck"
                 self.assertTrue(it["evidence"].startswith(carried), it)
 
-    def test_stopped_in_each_stage(self):
-        """Whenever it is stopped, no process stays, and the next call ends with the same table."""
+
+class Stopping(Folder):
+    """Stopped at any line that it prints, it leaves no process, and the next call ends with the same table."""
+
+    def stopped(self, folder, count):
+        """Stops a check of a folder at its line of this number: the lines up to it."""
+        process = subprocess.Popen([HIMARELOU, "check", folder, "--jobs", "1"], cwd=self.folder, stdout=subprocess.PIPE, text=True)
+        lines = [process.stdout.readline() for _ in range(count)]
+        process.send_signal(signal.SIGINT)
+        process.communicate(timeout=60)
+        self.assertEqual([it for it in Path("/proc").glob("[0-9]*/cmdline") if str(self.folder).encode() in contents_of(it)], [])
+        return [it.rstrip() for it in lines if it], process.returncode
+
+    def table(self, folder):
+        self.run_front("check", folder, "--jobs", "1", "--json", "r.json", status=None)
+        return [[it[key] for key in ("name", "answer", "outcome", "stage", "evidence", "vacuity", "notes", "lines")]
+                for it in json.loads((self.folder / "r.json").read_text())["checks"]]
+
+    def stop_at_each_line(self, folder):
+        whole, count = self.table(folder), 0
+        shutil.rmtree(self.folder / folder / ".himarelou")
+        while True:
+            count += 1
+            lines, status = self.stopped(folder, count)
+            if status != 130:
+                return
+            with self.subTest(lines[-1]):
+                self.assertEqual(self.table(folder), whole)
+            shutil.rmtree(self.folder / folder / ".himarelou", ignore_errors=True)
+
+    def test_small(self):
+        self.put("cell/cell.aag", CELL)
+        self.put("cell/himarelou.toml", PROJECT + '[check.given]\nsecret = ["d"]\ngiven = ["q"]\nsame = ["o"]\n[check.leak]\nsecret = ["d"]\n')
+        self.stop_at_each_line("cell")
+
+    @unittest.skipUnless(os.environ.get("HIMARELOU_LONG"), "takes minutes: HIMARELOU_LONG=1 runs it")
+    def test_lock(self):
         shutil.copytree(TOP / "examples/lock", self.folder / "lock", ignore=shutil.ignore_patterns(".himarelou"))
-        for seconds in (0, 0.3, 0.6, 1, 2, 4):
-            process = subprocess.Popen([HIMARELOU, "check", "lock", "lamp", "opens"], cwd=self.folder, stdout=subprocess.PIPE, text=True)
-            process.stdout.readline()
-            time.sleep(seconds)
-            process.send_signal(signal.SIGINT)
-            process.communicate(timeout=20)
-            self.assertIn(process.returncode, (0, 130))
-        self.assertIn("2 checks: 2 as expected", self.run_front("check", "lock", "lamp", "opens").stdout)
-        self.assertEqual([it.name for it in (self.folder / "lock/.himarelou").rglob(".new-*") if it.stat().st_size == 0], [])
+        self.stop_at_each_line("lock")
+
+    def test_stages_that_ended_are_kept(self):
+        shutil.copy(TOP / "examples/lock/leaking.aag", self.folder)
+        self.put("himarelou.toml", '[circuit]\nfile = "leaking.aag"\nreset = "rst"\n[check.lamp]\nsecret = ["code"]\nsame = ["busy"]\n'
+                                   'given = ["accept"]\nstages = [{ depth = 1, plain = true }, { depth = 25, plain = true }]\n')
+        lines = ["lamp: circuit ..", "lamp: 50 registers, 267 ands ..", "lamp: --plain --depth 1 ..", "lamp: --plain --depth 25 .."]
+        self.assertEqual(self.stopped(".", 4), (lines, 130))
+        self.assertEqual(self.stopped(".", 3), (lines[:2] + lines[3:], 130))
+
+
+def contents_of(path):
+    """The bytes of a file, none where it is gone."""
+    with contextlib.suppress(OSError):
+        return path.read_bytes()
+    return b""
 
 
 class Terminal(Folder):
@@ -207,6 +250,26 @@ class Hostile(Folder):
         self.run_front("check", status=2)
         self.assertEqual(list((self.folder / "elsewhere").iterdir()), [])
 
+    def test_links_to_files(self):
+        """What stands in the folder of results under the names of results may be links, or folders."""
+        self.put("cell.aag", CELL)
+        self.put("himarelou.toml", LEAK + 'expect = "violated"\n')
+        dear = self.put("dear", "dear")
+        self.run_front("check")
+        room = self.folder / ".himarelou/checks/cell"
+        names = [it.name for it in room.iterdir()]
+        self.assertLessEqual({"answer", "answer.json", "formula", "picture.svg", "picture.vcd"}, set(names))
+        for name in [*names, ".new-answer"]:
+            (room / name).unlink(missing_ok=True)
+            (room / name).symlink_to(dear)
+        self.run_front("check")
+        self.assertEqual(dear.read_text(), "dear")
+        for name in ("answer", "picture.svg"):
+            (room / name).unlink()
+            (room / name).mkdir()
+            self.assertIn("1 fault", self.run_front("check", status=2).stdout)
+            (room / name).rmdir()
+
     def test_names_of_a_circuit(self):
         """Names with escapes of a terminal, marks of XML and the like are only ever shown escaped."""
         self.put("cell.aag", CELL.replace(b"o0 o\n", b"o0 \x1b[31m<&\"]]>;$(touch x)\n"))
@@ -234,21 +297,21 @@ class Random(Folder):
         for _ in range(self.COUNT):
             circuit, statement = random_question(seed)
             formula, pair = statement.formula(), pair_of(circuit, statement, PARTED)
-            two, (one, answer) = self.asked(circuit, formula)[0], self.asked(pair, FORMULAS[PARTED])
+            two, (one, answer) = self.asked(circuit, formula.text())[0], self.asked(pair, FORMULAS[PARTED])
             answers.update((one, two))
             if "open" not in (one, two):
-                self.assertEqual(two, one, written(circuit, True).decode() + formula)
+                self.assertEqual(two, one, written(circuit).decode() + formula.text())
                 compared += 1
             if one == "violated":
                 runs = split(runs_of(answer)[0], circuit)
                 self.assertTrue(all(it.is_right(circuit) for it in runs))
-                self.assertIsNotNone(first_parting(circuit, statement, runs))
+                self.assertIsNotNone(failing_part(formula, circuit, runs))
         self.assertLessEqual({"holds", "violated"}, answers)
         self.assertGreater(compared, self.COUNT * 0.9)
         print(f"front: {compared} of {self.COUNT} random circuits compared", file=sys.stderr)
 
     def asked(self, circuit, formula):
-        files = [self.put("c.aag", written(circuit, True)), self.put("f", formula)]
+        files = [self.put("c.aag", written(circuit)), self.put("f", formula)]
         for words in (["--depth", "8"], ["--depth", "2", "--ic3", "10000"], ["--depth", "20"]):
             with contextlib.suppress(subprocess.TimeoutExpired):
                 words = [program("mchyper"), *words, "--proof", *files]
@@ -333,6 +396,15 @@ class Designs(Folder):
         self.made("module m(input a); endmodule\n", "-D", "a=1 -o x", status=2)
         self.assertFalse((self.folder / "x").exists())
 
+    def test_strategy_of_sources(self):
+        """Its ports are put in order by their names, of vectors, too."""
+        self.put("c.v", "module c(input clk, input [1:0] k, input [1:0] m, output reg [1:0] o);\nalways @(posedge clk) o <= k ^ m;\nendmodule\n")
+        self.put("s.v", "module s(input [1:0] m_q, output [1:0] m_r, input [1:0] k_p, input [1:0] k_q, output [1:0] k_r);\n"
+                        "assign m_r = m_q ^ k_q ^ k_p, k_r = k_p;\nendmodule\n")
+        self.put("himarelou.toml", '[circuit]\nsources = ["c.v"]\nstart = "zero"\n[check.wins]\n'
+                                   'formula = "forall p. forall q. exists r. G (k_r = k_p & o_r = o_q)"\nstrategy = { sources = ["s.v"] }\n')
+        self.assertIn("holds with strategy, as expected", self.run_front("check").stdout)
+
     def test_fault_of_a_source(self):
         self.assertIn("a b.v:2: ERROR: syntax error", self.made("module m(\n;\n", status=2)[0])
         self.assertIn("no file is named none.v", self.run_front("circuit", "o.aag", "none.v", status=2).stderr)
@@ -389,7 +461,7 @@ class Words(Folder):
         with open(self.folder / "answer", "wb") as out:
             subprocess.run([program("mchyper"), "--proof", self.folder / "c.aag", self.folder / "f"], stdout=out, check=False)
         self.assertIn("o_p &lt;-&gt; o_q fails in cycle", self.run_front("waves", "c.aag", "answer", "--formula", "f").stdout)
-        self.assertIn("$var wire 1 ! o $end", self.run_front("waves", "--vcd", "--only", "o", "c.aag", "answer").stdout)
+        self.assertIn("$var wire 1 s0.0 o $end", self.run_front("waves", "--vcd", "--only", "o", "c.aag", "answer").stdout)
         self.assertIn("no signal of the picture", self.run_front("waves", "--only", "oo", "c.aag", "answer", status=2).stderr)
 
 

@@ -8,14 +8,13 @@ import xml.etree.ElementTree as ET
 from pathlib import Path
 
 from himarelou.aiger import parse, value_of, written
-from himarelou.assume import with_assumed
 from himarelou.faults import Fault
 from himarelou.formula import Text, parse_one
-from himarelou.pair import MET, PARTED, first_parting, pair_of, split
-from himarelou.picture import svg, vcd
+from himarelou.gates import with_assumed
+from himarelou.judging import failing_part
+from himarelou.picture import scene_of, svg, vcd
 from himarelou.runs import Run, letters_of, played, runs_of
-from himarelou.scene import scene_of
-from himarelou.statement import Reset, Statement
+from himarelou.statement import MET, PARTED, Reset, Statement, pair_of, split
 from himarelou.strategy import in_order_of_ports, ports_of
 from tests import TOP
 
@@ -43,9 +42,11 @@ class Files(unittest.TestCase):
         for path in (TOP / "examples").rglob("*.aag"):
             text = path.read_bytes()
             circuit = parse(text, path.name)
-            again = parse(written(circuit, False), path.name)
-            self.assertEqual(written(again, True), written(circuit, True))
-            self.assertEqual([name for _, name, _ in again.signals()], [name for _, name, _ in circuit.signals()])
+            again = parse(written(circuit), path.name)
+            self.assertEqual(written(again), written(circuit))
+            self.assertEqual(list(again.signals()), list(circuit.signals()))
+        packed = b"aig 5 2 1 1 2 0 1\n10\n9\n4\n\x02\x02\x04\x01i0 a\nl0 q\n"
+        self.assertEqual(written(parse(packed, "p")), b"aag 5 2 1 1 2 0 1 0 0\n2\n4\n6 10 0\n9\n4\n8 6 4\n10 6 5\ni0 a\nl0 q\n")
 
     def test_play(self):
         circuit = parse(CELL, "cell")
@@ -73,8 +74,8 @@ class Strategies(unittest.TestCase):
         formula = parse_one(Text("f", "forall p. forall q. exists r. b_r"), None)
         self.assertEqual([name for name, _ in ports_of(circuit, ["p", "q"])], ["a[0]_p", "a[0]_q", "b_p", "b_q"])
         strategy = parse(b"aag 3 3 0 2 0\n2\n4\n6\n4\n2\ni0 b_q\ni1 a_p[0]\ni2 clk\no0 a_r[0]\no1 b_r\n", "s")
-        made = parse(written(in_order_of_ports(strategy, circuit, formula), True), "m")
-        self.assertEqual((made.inputs, made.outputs), ([2, 4, 6, 8], [2, 8]))
+        made = parse(written(in_order_of_ports(strategy, circuit, formula)), "m")
+        self.assertEqual((made.inputs, made.outputs), ([4, 8, 10, 2], [4, 2]))
         for text, words in ((b"aag 1 1 0 1 0\n2\n2\ni0 x_p\no0 b_r\n", "no output a"), (b"aag 1 1 0 2 0\n2\n2\n2\ni0 x_p\no0 b_r\no1 a[0]_r\n", "x_p is no NAME_RUN")):
             with self.assertRaisesRegex(Fault, words):
                 in_order_of_ports(parse(text, "s"), circuit, formula)
@@ -107,9 +108,9 @@ class Pairs(unittest.TestCase):
         run = Run([0] * 4, [[1, 0, 0, 1, 0, 0], [0, 1, 1, 0, 1, 0]], [[0, 0, 0, 0, 0, 0]])
         runs = split(run, self.circuit)
         self.assertTrue(all(it.is_right(self.circuit) for it in runs))
-        self.assertEqual(first_parting(self.circuit, self.statement, runs), (2, ["o"]))
+        self.assertEqual(failing_part(self.statement.formula(), self.circuit, runs), (2, "o_p <-> o_q fails in cycle 2"))
         self.statement.equal.append("d")
-        self.assertIsNone(first_parting(self.circuit, self.statement, runs))
+        self.assertIsNone(failing_part(self.statement.formula(), self.circuit, runs))
 
 
 class Pictures(unittest.TestCase):
@@ -154,8 +155,8 @@ class Pictures(unittest.TestCase):
     def test_vcd(self):
         scene = scene_of(parse(CELL, "cell"), self.runs(), 64)
         scene.only(["o"])
-        self.assertEqual(vcd(scene).split("\n")[1:], ["$scope module run_0 $end", "$var wire 1 ! o $end", "$upscope $end", "$scope module run_1 $end",
-                                                      '$var wire 1 " o $end', "$upscope $end", "$enddefinitions $end", "#0", "0!", '0"', "#1", "1!", "#2", ""])
+        self.assertEqual(vcd(scene).split("\n")[1:], ["$scope module run_0 $end", "$var wire 1 s0.0 o $end", "$upscope $end", "$scope module run_1 $end",
+                                                      '$var wire 1 s0.1 o $end', "$upscope $end", "$enddefinitions $end", "#0", "0s0.0", "0s0.1", "#1", "1s0.0", "#2", ""])
 
 
 class Layout(unittest.TestCase):

@@ -76,12 +76,12 @@ class Writing(unittest.TestCase):
 
 class Stating(unittest.TestCase):
     def test_formula(self):
-        self.assertEqual(" ".join(Statement(Reset("r"), ["i"], ["g"], ["s"]).formula().split()),
+        self.assertEqual(" ".join(Statement(Reset("r"), ["i"], ["g"], ["s"]).formula().text().split()),
                          "forall p. forall q. r_p -> !(((r_p <-> r_q) & (i_p <-> i_q) & (r_p | (g_p <-> g_q))) "
                          "U ((r_p <-> r_q) & (i_p <-> i_q) & (r_p | (g_p <-> g_q)) & !(r_p | (s_p <-> s_q))))")
-        self.assertEqual(" ".join(Statement(None, [], [], ["s"]).formula().split()),
-                         "forall p. forall q. !((true) U (true & !((s_p <-> s_q))))")
-        self.assertIn("!n_p ->", Statement(Reset("n", True), ["i"], [], ["s"]).formula())
+        self.assertEqual(" ".join(Statement(None, [], [], ["s"]).formula().text().split()),
+                         "forall p. forall q. !(true U (true & !(s_p <-> s_q)))")
+        self.assertIn("!n_p ->", Statement(Reset("n", True), ["i"], [], ["s"]).formula().text())
 
 
 class Judging(unittest.TestCase):

@@ -67,7 +67,7 @@ class Reading(Folder):
             circuit + '[check.x]\nsecret = ["a"]\nequal = ["b"]': "5: check.x.equal: it stands beside no secret",
             circuit + '[check.x]\nformula = "x"\nfile = "b"': "5: check.x.file: it stands beside no formula",
             circuit + '[check.x]\nfile = "b"\nsame = ["a"]': "5: check.x.same: it stands beside no file",
-            circuit + "[check.x]\nbudget = 3": "3: check.x: it wants one of secret, equal, formula, file",
+            circuit + "[check.x]\nbudget = 3": "3: check.x: it wants secret or equal or formula or file",
             circuit + '[check.x]\nsecret = ["a"]\nexpect = "no violation"': '5: check.x.expect: "holds" or "violated" is wanted',
             circuit + '[check.x]\nfile = "a"\nstrategy = { fil = "b" }': "5: check.x.strategy.fil: no such key; did you mean file?",
             circuit + '[check."a b"]\nsecret = ["a"]': "3: check.a b: a name is letters, digits, _ and -",
