@@ -1,4 +1,4 @@
-"""Circuits as AIGER files: read in either form, written in the readable one, and played.
+"""Circuits as AIGER files: read in either form, written in either form, and played.
 
 A literal is twice a variable, and one more for its negation; variable 0 is false. `docs/FORMATS.md` has the texts.
 """
@@ -162,13 +162,33 @@ def in_order(ands: list[tuple[int, int, int]]) -> list[tuple[int, int, int]]:
     return [rows[it] for it in graphlib.TopologicalSorter(uses).static_order()]
 
 
-def written(circuit: Circuit) -> bytes:
-    """The bytes of the circuit in the readable form."""
-    counts = [circuit.most, len(circuit.inputs), len(circuit.latches), len(circuit.outputs), len(circuit.ands)]
-    if circuit.constraints or circuit.fairness:
-        counts += [0, len(circuit.constraints), 0, len(circuit.fairness)]
-    rows = [(it,) for it in circuit.inputs] + [(it.literal, it.next, it.reset) for it in circuit.latches]
-    rows += [(it,) for it in circuit.outputs + circuit.constraints + circuit.fairness] + circuit.ands
-    names = [f"{kind}{place} {name}\n" for (kind, place), name in sorted(circuit.names.items())]
-    head = "".join(" ".join(map(str, row)) + "\n" for row in [("aag", *counts), *rows])
-    return (head + "".join(names)).encode("utf-8", "surrogateescape")
+def written(circuit: Circuit, is_ascii: bool = True) -> bytes:
+    """The bytes of the circuit, in the binary form with its variables numbered as that wants them."""
+    made = circuit if is_ascii else renumbered(circuit)
+    counts = [made.most, len(made.inputs), len(made.latches), len(made.outputs), len(made.ands)]
+    if made.constraints or made.fairness:
+        counts += [0, len(made.constraints), 0, len(made.fairness)]
+    rows = [("aag" if is_ascii else "aig", *counts), *((it,) for it in made.inputs if is_ascii)]
+    rows += [(it.literal, it.next, it.reset)[not is_ascii:] for it in made.latches]
+    rows += [(it,) for it in made.outputs + made.constraints + made.fairness] + made.ands * is_ascii
+    head = "".join(" ".join(map(str, row)) + "\n" for row in rows).encode()
+    packed = b"" if is_ascii else b"".join(_packed(it - left) + _packed(left - right) for it, left, right in made.ands)
+    names = "".join(f"{kind}{place} {name}\n" for (kind, place), name in sorted(made.names.items()))
+    return head + packed + names.encode("utf-8", "surrogateescape")
+
+
+def renumbered(circuit: Circuit) -> Circuit:
+    """The circuit with the variables of inputs, registers and ands one after another."""
+    order = circuit.inputs + [it.literal for it in circuit.latches] + [it[0] for it in circuit.ands]
+    new = {0: 0} | {literal >> 1: 2 * place for place, literal in enumerate(order, 1)}
+
+    def of(literals: Iterable[int]) -> list[int]:
+        return [new[it >> 1] ^ it & 1 for it in literals]
+
+    latches = [Latch(*of((it.literal, it.next, it.reset))) for it in circuit.latches]
+    ands = [(made, max(parts), min(parts)) for made, *parts in map(of, circuit.ands)]
+    return Circuit(len(order), of(circuit.inputs), latches, of(circuit.outputs), ands, of(circuit.constraints), of(circuit.fairness), circuit.names)
+
+
+def _packed(value: int) -> bytes:
+    return (bytes([value & 127 | 128]) + _packed(value >> 7)) if value > 127 else bytes([value])

@@ -82,8 +82,8 @@ def run_one(work: Work, question: Question) -> Result:
 
 
 def circuit(said: argparse.Namespace) -> int:
-    if said.out.suffix != ".aag":
-        raise Fault(f"the circuit to write ends in .aag: {shown(str(said.out))}")
+    if said.out.suffix not in (".aag", ".aig"):
+        raise Fault(f"the circuit to write ends in .aag or .aig: {shown(str(said.out))}")
     if said.top and not IDENTIFIER.fullmatch(said.top):
         raise Fault(f"--top: {shown(said.top)} is no identifier")
     design = Design("circuit", sources=tuple(said.sources), top=said.top, define=tuple(_pair("-D", it, True) for it in said.define),
@@ -92,7 +92,7 @@ def circuit(said: argparse.Namespace) -> int:
     made = make(Runner(), design, Path())
     for line in [*made.findings, *(f"assumed: {it}" for it in made.assumptions), made.size()]:
         print(line, file=sys.stderr)
-    replaced(said.out, written(made.circuit))
+    replaced(said.out, written(made.circuit, said.out.suffix == ".aag"))
     return 0
 
 
@@ -207,7 +207,7 @@ def add_check(below: argparse._SubParsersAction) -> None:
 def add_circuit(below: argparse._SubParsersAction) -> None:
     it = _command(below, circuit, "makes a Verilog design a circuit", "It needs yosys, and lists what is seldom meant: registers that "
                   "start with either value, signals that nothing drives, values x.")
-    it.add_argument("out", metavar="OUT", type=Path, help="the circuit, which ends in .aag")
+    it.add_argument("out", metavar="OUT", type=Path, help="the circuit: ASCII where it ends in .aag, binary where in .aig")
     it.add_argument("sources", metavar="FILE", nargs="+")
     it.add_argument("--top", metavar="NAME", help="the module; usually the only one that no other uses")
     it.add_argument("--set", metavar="NAME=VALUE", action="append", default=[], help="a parameter of the module")
