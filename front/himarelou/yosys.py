@@ -78,13 +78,14 @@ class Module:
         return sorted(self.names.get(bit, str(bit)) for bit in read - driven if isinstance(bit, int))
 
     def lines_of_x(self) -> list[str]:
-        """The places in the sources of cells that are given a value x."""
-        found = {}
+        """The places in the sources of cells that are given a value x: a file with its lines, as `a.v:5,7`."""
+        found: dict[str, set[int]] = {}
         for cell in self.cells:
             given = [bit for port, bits in cell["connections"].items() if cell["port_directions"][port] == "input" for bit in bits]
-            if "x" in given and "src" in cell["attributes"]:
-                found[place_of(cell["attributes"]["src"])] = None
-        return list(found)
+            place = re.match(r"(?:\./)?([^|]*?):([1-9]\d*)", cell["attributes"].get("src", ""))
+            if "x" in given and place:
+                found.setdefault(place[1], set()).add(int(place[2]))
+        return [f"{file}:{','.join(map(str, sorted(lines)))}" for file, lines in found.items()]
 
     def memories(self) -> list[tuple[str, int]]:
         """The memories by name, with their bits."""
@@ -92,11 +93,6 @@ class Module:
 
     def has_asynchronous(self) -> bool:
         return any(it["type"] in ASYNCHRONOUS for it in self.cells)
-
-
-def place_of(source: str) -> str:
-    """`./a.v:7.12-7.24|..` as `a.v:7`."""
-    return re.sub(r"\.\d+(-\d+\.\d+)?$", "", source.split("|")[0]).removeprefix("./")
 
 
 def read_modules(path: Path) -> dict[str, dict[str, Any]]:
