@@ -2,7 +2,8 @@
 import sys
 
 if sys.version_info < (3, 11):
-    sys.exit("himarelou: this is Python {}.{}, and 3.11 or later is wanted".format(*sys.version_info[:2]))
+    sys.stderr.write("himarelou: this is Python {}.{}, and 3.11 or later is wanted\n".format(*sys.version_info[:2]))
+    sys.exit(3)
 
 try:
     from himarelou.commands import main

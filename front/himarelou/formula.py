@@ -14,7 +14,7 @@ SIGNS = {"&&": "&", "||": "|", "==": "="}
 RANKS = {"<->": 0, "->": 1, "|": 2, "&": 3, "U": 4, "W": 4, "R": 4}
 UNARY = {"!": "!", "X": "X ", "F": "F ", "G": "G "}
 TIGHTEST = 5
-NEXT_LINE = "\n    "
+WIDE = 100
 BLANK = r"(?P<blank>[ \t\r\n]+|\#[^\n]*)"
 RUN = re.compile(rf"(?P<word>[A-Za-z][A-Za-z0-9]*)|{BLANK}")
 TOKEN = re.compile(rf"""{BLANK}
@@ -93,8 +93,8 @@ class Tree:
         if not self.parts:
             return self.sign
         rank, *before, last = RANKS[self.sign], *self.parts
-        between = f"{' ' if len(before) == 1 else NEXT_LINE}{self.sign} "
-        whole = between.join([*(it.text(rank + 1) for it in before), last.text(rank)])
+        texts = [*(it.text(rank + 1) for it in before), last.text(rank)]
+        whole = f" {self.sign} ".join(texts) if sum(map(len, texts)) < WIDE else f"\n    {self.sign} ".join(texts)
         return f"({whole})" if rank < least else whole
 
     def names(self) -> dict[str, None]:
@@ -196,7 +196,8 @@ class _Parser:
         left = self.unary()
         while RANKS.get(self.token.text, -1) >= least:
             sign = self.take().text
-            left = Tree(sign, (left, self.binary(RANKS[sign])))
+            parts = left, self.binary(RANKS[sign])
+            left = all_of(parts) if sign == "&" else Tree(sign, parts)
         return left
 
     def unary(self) -> Tree:

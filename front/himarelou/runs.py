@@ -109,9 +109,9 @@ def agree(circuit: Circuit, runs: Sequence[Run], said: Sequence[Letters]) -> boo
 def runs_with_strategy(circuit: Circuit, strategy: Circuit, formula: Formula, answer: str, most: int) -> list[Run]:
     """The runs of all quantifiers, played. What the answer does not show of an input or a first value is taken for 0, and
     where that makes other runs than it shows they are refused."""
-    if not answer.startswith("strategy fails\n"):
-        raise Fault("the answer is not `strategy fails`")
     said = letters_of(answer)
+    if not said or not answer.startswith("strategy fails\n"):
+        raise Fault("the answer is not `strategy fails`")
     steps = min(most, max(len(stem) + 2 * len(cycle) for stem, cycle in said))
     names, chosen = formula.runs("forall"), formula.runs("exists")
     given = [_run_of(circuit, letters, name) for letters, name in zip(said, names)]
