@@ -11,10 +11,9 @@ from himarelou.names import joined
 from himarelou.picture import STEPS, scene_of, svg, vcd
 from himarelou.result import IS_MET, UNKNOWN, VACUOUS, Asked
 from himarelou.runs import Run, runs_of, runs_with_strategy
-from himarelou.schema import Question
 from himarelou.statement import FORMULAS, MET, PARTED, Statement, pair_of, split
 from himarelou.strategy import in_order_of_ports, shows_all
-from himarelou.task import Files, Task, Work, text_of
+from himarelou.task import Files, Task, text_of
 
 VACUITY_BUDGET = 120
 
@@ -22,15 +21,12 @@ VACUITY_BUDGET = 120
 class Check(Task):
     """One check of a circuit."""
 
-    def __init__(self, work: Work, question: Question):
-        super().__init__(work, question)
-        self.design = work.project.circuits[question.circuit]
-        self.statement: Statement | None = None
-        self.missing: list[str] = []
+    statement: Statement | None = None
 
     def work_on(self) -> None:
         self.tell("circuit")
-        self.ready = self.work.circuits.of(self.design)
+        self.design, self.missing = self.circuits.project.circuits[self.question.circuit], []
+        self.ready = self.circuits.of(self.design)
         self.tell(self.ready.size())
         self.circuit = self.assumed()
         files = self.posed()
@@ -47,7 +43,7 @@ class Check(Task):
             try:
                 circuit = with_assumed(circuit, texts)
             except Fault as fault:
-                raise self.work.project.fault(str(fault), *where, "assume") from fault
+                raise self.circuits.project.fault(str(fault), *where, "assume") from fault
             notes += [f"assumed in each cycle: {shown(it)}" for it in texts]
         self.result.notes += notes
         return circuit
@@ -86,7 +82,7 @@ class Check(Task):
     def ordered_strategy(self) -> Path:
         """The strategy with its ports in the order that the tool wants."""
         try:
-            self.strategy = in_order_of_ports(self.work.circuits.of(self.question.strategy).circuit, self.circuit, self.formula)
+            self.strategy = in_order_of_ports(self.circuits.of(self.question.strategy).circuit, self.circuit, self.formula)
         except Fault as fault:
             raise self.fault(fault, "strategy") from fault
         return self.write("strategy.aag", written(self.strategy))
@@ -114,7 +110,7 @@ class Check(Task):
         bits = names.bits(said.name) if said else []
         if said and len(bits) != 1:
             words = f"no signal of one bit is named {shown(said.name)}{names.hint(said.name)}"
-            raise self.work.project.fault(words, *self.design.where, "reset")
+            raise self.circuits.project.fault(words, *self.design.where, "reset")
         return dataclasses.replace(said, name=bits[0]) if said else None
 
     def bits(self, key: str) -> list[str]:

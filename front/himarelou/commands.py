@@ -28,7 +28,7 @@ from himarelou.schema import IDENTIFIER, Design, Question
 from himarelou.screen import Screen
 from himarelou.store import FOLDER, Store, replaced
 from himarelou.strategy import in_order_of_ports, ports_of
-from himarelou.task import Work, text_of
+from himarelou.task import text_of
 
 STOPPED = 130
 
@@ -38,8 +38,8 @@ def check(said: argparse.Namespace) -> int:
     project = read_project(find(said.words[0] if is_path else None))
     questions = chosen(project, said.words[is_path:])
     store = Store(said.out or project.folder / FOLDER)
-    runner, screen = Runner(), Screen()
-    results, is_whole = run_all(Work(runner, project, store, Circuits(runner, project, store), screen.stage), questions, said.jobs, screen)
+    screen = Screen()
+    results, is_whole = run_all(Circuits(Runner(), project, store), questions, said.jobs, screen)
     screen.close(results)
     status = status_of(results) if is_whole else STOPPED
     for file, data in ((said.json, as_json(project.path, results, status)), (said.junit, as_junit(project.path, results))):
@@ -59,12 +59,12 @@ def chosen(project: Project, names: Sequence[str]) -> list[Question]:
     return [it for it in project.questions if not names or it.name in names]
 
 
-def run_all(work: Work, questions: Sequence[Question], jobs: int, screen: Screen) -> tuple[list[Result], bool]:
+def run_all(circuits: Circuits, questions: Sequence[Question], jobs: int, screen: Screen) -> tuple[list[Result], bool]:
     """The results in the order of the questions, and whether all of them are there."""
     results: dict[str, Result] = {}
     is_whole = True
     with ThreadPoolExecutor(max_workers=jobs) as pool:
-        futures = [pool.submit(run_one, work, it) for it in questions]
+        futures = [pool.submit(run_one, circuits, it, screen) for it in questions]
         try:
             for future in as_completed(futures):
                 result = future.result()
@@ -72,13 +72,13 @@ def run_all(work: Work, questions: Sequence[Question], jobs: int, screen: Screen
                 screen.ended(result)
         except (KeyboardInterrupt, Stopped):
             is_whole = False
-            work.runner.stop()
+            circuits.runner.stop()
             pool.shutdown(wait=True, cancel_futures=True)
     return [results[it.name] for it in questions if it.name in results], is_whole
 
 
-def run_one(work: Work, question: Question) -> Result:
-    return (Check if question.kind == "check" else Monitor)(work, question).run()
+def run_one(circuits: Circuits, question: Question, screen: Screen) -> Result:
+    return (Check if question.kind == "check" else Monitor)(circuits, question, screen.stage).run()
 
 
 def circuit(said: argparse.Namespace) -> int:

@@ -34,10 +34,10 @@ class Monitor(Task):
     def traces(self) -> bytes:
         """The files joined, each ending in a line feed."""
         try:
-            files = files_of(self.question.traces, self.work.project.folder)
+            files = files_of(self.question.traces, self.circuits.project.folder)
         except Fault as fault:
             raise self.fault(fault, "traces") from fault
-        parts = [read_bytes(self.work.project.folder / it) for it in files]
+        parts = [read_bytes(self.circuits.project.folder / it) for it in files]
         joined = b"".join(it if it.endswith(b"\n") or not it else it + b"\n" for it in parts)
         if len(joined) > MOST_BYTES:
             raise self.fault(f"more than {MOST_BYTES} bytes in all", "traces")

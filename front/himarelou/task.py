@@ -10,28 +10,16 @@ from himarelou.design import Circuits
 from himarelou.faults import Fault, shown
 from himarelou.formula import Formula, Text, parse
 from himarelou.names import Names
-from himarelou.programs import Runner, file_sum, front_sum, program, program_sum
-from himarelou.project import Project
+from himarelou.programs import file_sum, front_sum, program, program_sum
 from himarelou.result import FAULT, OPEN, Asked, Result
 from himarelou.schema import Question
 from himarelou.stages import Stage
-from himarelou.store import Store, replaced, sum_of
+from himarelou.store import replaced, sum_of
 
 VERDICTS = ("holds with strategy", "holds", "violated", "strategy fails", "no violation", "violation")
 OPEN_STATUS = (4, 5, 6)
 ACCEPTED = "accepted by hycheck"
 NO_CERTIFICATE = "no certificate exists; {}, which is proved, carries it"
-
-
-@dataclass
-class Work:
-    """What all tasks of a call share; `tell` is told the name of one and what it does."""
-
-    runner: Runner
-    project: Project
-    store: Store
-    circuits: Circuits
-    tell: Callable[[str, str], None]
 
 
 @dataclass(frozen=True)
@@ -51,12 +39,12 @@ class Files:
 
 
 class Task:
-    """One question of a project; `work_on` fills its result."""
+    """One question of a project; `work_on` fills its result; `show_stage` is told the name of the question and what is done."""
 
-    def __init__(self, work: Work, question: Question):
-        self.work, self.question = work, question
+    def __init__(self, circuits: Circuits, question: Question, show_stage: Callable[[str, str], None]):
+        self.circuits, self.question, self.show_stage = circuits, question, show_stage
         self.result = Result(name=question.name, kind=question.kind, expect=question.expect)
-        self.room = work.store.room("checks", question.name)
+        self.room = circuits.store.room("checks", question.name)
 
     def work_on(self) -> None:
         raise NotImplementedError
@@ -72,10 +60,10 @@ class Task:
         return self.result
 
     def tell(self, stage: str) -> None:
-        self.work.tell(self.question.name, stage)
+        self.show_stage(self.question.name, stage)
 
     def fault(self, fault: Fault | str, key: str) -> Fault:
-        return self.work.project.fault(str(fault), *self.question.where, key)
+        return self.circuits.project.fault(str(fault), *self.question.where, key)
 
     def write(self, name: str, data: bytes | str) -> Path:
         replaced(self.room / name, data if isinstance(data, bytes) else data.encode("utf-8", "surrogateescape"))
@@ -84,7 +72,7 @@ class Task:
     def formulas(self, key: str, names: Names | None) -> list[Formula]:
         """The formulas of a key, `file` being that of a file."""
         said = getattr(self.question, key)
-        source = text_of(self.work.project.folder / said) if key == "file" else Text(key, said)
+        source = text_of(self.circuits.project.folder / said) if key == "file" else Text(key, said)
         try:
             return parse(source, names)
         except Fault as fault:
@@ -97,13 +85,13 @@ class Task:
         key = sum_of(sums, [it.words for it in stages], program_sum(files.tool), program_sum("hycheck"), front_sum())
         record = files.answer.with_suffix(".json")
         asked = Asked()
-        kept = self.work.store.recorded(record)
+        kept = self.circuits.store.recorded(record)
         if kept and kept["key"] == key and files.answer.is_file() and (kept["asked"]["answer"] != OPEN or budget <= kept["budget"]):
             asked = Asked(**kept["asked"])
         asked.is_kept = asked.answer != OPEN or len(asked.lines) == len(stages)
         while asked.answer == OPEN and len(asked.lines) < len(stages):
             self.ask(asked, files, stages[len(asked.lines)], budget - asked.spent)
-            self.work.store.record(record, {"key": key, "budget": budget, "asked": asdict(asked)})
+            self.circuits.store.record(record, {"key": key, "budget": budget, "asked": asdict(asked)})
         if asked.answer != OPEN:
             asked.evidence = self.evidence(files)
         return asked
@@ -115,7 +103,7 @@ class Task:
             return
         self.tell(str(stage))
         seconds = min(stage.seconds, left)
-        ended = self.work.runner.run([program(files.tool), *stage.words, *files.words()], seconds=seconds)
+        ended = self.circuits.runner.run([program(files.tool), *stage.words, *files.words()], seconds=seconds)
         replaced(files.answer, ended.out)
         asked.spent += ended.seconds
         line = ended.line()
@@ -133,7 +121,7 @@ class Task:
             return NO_CERTIFICATE.format(files.tool)
         self.tell("hycheck")
         given = map(os.path.abspath, (files.first, files.second, files.answer))
-        ended = self.work.runner.run([program("hycheck"), "mc", *given])
+        ended = self.circuits.runner.run([program("hycheck"), "mc", *given])
         if ended.status != 0:
             raise Fault(f"hycheck: {shown(ended.line())}: {files.answer} does not show what it says")
         return ACCEPTED
