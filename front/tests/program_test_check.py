@@ -159,9 +159,11 @@ class Examples(Folder):
 class Stopping(Folder):
     """Stopped at any line that it prints, it leaves no process, and the next call ends with the same table."""
 
+    names = ()
+
     def stopped(self, folder, count):
         """Stops a check of a folder at its line of this number: the lines up to it."""
-        process = subprocess.Popen([HIMARELOU, "check", folder, "--jobs", "1"], cwd=self.folder, stdout=subprocess.PIPE, text=True)
+        process = subprocess.Popen([HIMARELOU, "check", folder, *self.names, "--jobs", "1"], cwd=self.folder, stdout=subprocess.PIPE, text=True)
         lines = [process.stdout.readline() for _ in range(count)]
         process.send_signal(signal.SIGINT)
         process.communicate(timeout=60)
@@ -169,7 +171,7 @@ class Stopping(Folder):
         return [it.rstrip() for it in lines if it], process.returncode
 
     def table(self, folder):
-        self.run_front("check", folder, "--jobs", "1", "--json", "r.json", status=None)
+        self.run_front("check", folder, *self.names, "--jobs", "1", "--json", "r.json", status=None)
         return [[it[key] for key in ("name", "answer", "outcome", "stage", "evidence", "vacuity", "notes", "lines")]
                 for it in json.loads((self.folder / "r.json").read_text())["checks"]]
 
@@ -193,6 +195,7 @@ class Stopping(Folder):
     @unittest.skipUnless(os.environ.get("HIMARELOU_LONG"), "takes minutes: HIMARELOU_LONG=1 runs it")
     def test_lock(self):
         shutil.copytree(TOP / "examples/lock", self.folder / "lock", ignore=shutil.ignore_patterns(".himarelou"))
+        self.names = ("lamp", "opens", "bench")
         self.stop_at_each_line("lock")
 
     def test_stages_that_ended_are_kept(self):
