@@ -160,9 +160,14 @@ class _Work:
 
 
 def told_of(circuit: Circuit, module: Module) -> list[str]:
-    """What is seldom meant: free signals, registers that start with either value, values x."""
-    free, told = module.undriven(), []
-    either = [circuit.names.get(("l", place)) for place, it in enumerate(circuit.latches) if it.is_either and it.next != it.literal]
+    """What is seldom meant: free signals, registers that start with either value, values x. A register that a gate follows,
+    as behind an asynchronous reset, has the name of that gate's output."""
+    free, told, registers = module.undriven(), [], module.registers()
+    gates = {made: (left >> 1, right >> 1) for made, left, right in circuit.ands}
+    behind = {it: name for kind, name, literal in circuit.signals() if kind == "o" and registers & set(name.split(" "))
+              for it in gates.get(literal & ~1, ())}
+    either = [circuit.names.get(("l", place), behind.get(it.literal >> 1)) for place, it in enumerate(circuit.latches)
+              if it.is_either and it.next != it.literal]
     nameless = either.count(None)
     named = [min(it.split(" "), key=len) for it in either if it is not None]
     values_x = sum(("i", place) not in circuit.names for place in range(len(circuit.inputs))) - len(free)

@@ -55,6 +55,10 @@ class Module:
         """The names of the output ports."""
         return [name for name, port in self.module["ports"].items() if port["direction"] != "input"]
 
+    def registers(self) -> set[str]:
+        """The names of the registers, but of memories, bit by bit."""
+        return {self.names[bit] for cell in self.cells for bit in cell["connections"].get("Q", ()) if bit in self.names}
+
     def clocks(self) -> list[str]:
         """The clocks of registers and memories, each with its edge, and what is held by a level."""
         found = set()

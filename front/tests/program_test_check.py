@@ -361,7 +361,7 @@ class Designs(Folder):
         said, circuit = self.made("module m(input clk, input rst, input d, output q, output s);\nreg r, t, never;\n"
                                   "always @(posedge clk or posedge rst) if (rst) r <= 0; else r <= d;\nalways @(posedge clk) t <= r ^ never;\n"
                                   "assign q = r, s = d ? t : 1'bx;\nendmodule\n")
-        self.assertEqual(said, "nothing drives (free in each cycle): never\nno start value: t, 1 without a name\n"
+        self.assertEqual(said, "nothing drives (free in each cycle): never\nno start value: t, q\n"
                                "values x (free in each cycle): 1, as of a b.v:5\n2 registers, 6 ands\n".replace("6 ands", re.search(r"\d+ ands", said)[0]))
         for name in ("q", "r", "s", "t"):
             self.assertRegex(circuit, rf"(?m)^[lo]\d+ {name}$")
