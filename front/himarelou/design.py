@@ -82,7 +82,8 @@ def make(runner: Runner, design: Design, folder: Path) -> Made:
     if design.file:
         circuit = read_circuit(folder / design.file)
         return Made(circuit, [name for kind, name, _ in circuit.signals() if kind == "o"])
-    with tempfile.TemporaryDirectory(prefix="himarelou-") as name:
+    usual = tempfile.gettempdir()
+    with tempfile.TemporaryDirectory(prefix="himarelou-", dir="/tmp" if " " in usual else usual) as name:  # -I takes no blank
         return _Work(runner, design, folder, Path(name)).made()
 
 

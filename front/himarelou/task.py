@@ -105,7 +105,7 @@ class Task:
         seconds = min(stage.seconds, left)
         ended = self.circuits.runner.run([program(files.tool), *stage.words, *files.words()], seconds=seconds)
         replaced(files.answer, ended.out)
-        asked.spent += ended.seconds
+        asked.spent = round(asked.spent + ended.seconds, 2)
         line = ended.line()
         verdict = next((it for it in VERDICTS if f"{line} ".startswith(f"{it} ")), OPEN) if ended.status in (0, 1) else OPEN
         if verdict != OPEN:
