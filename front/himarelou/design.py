@@ -81,7 +81,7 @@ def make(runner: Runner, design: Design, folder: Path) -> Made:
     """The circuit of a design."""
     if design.file:
         circuit = read_circuit(folder / design.file)
-        return Made(circuit, [name for kind, name, _ in circuit.signals() if kind == "o"])
+        return Made(circuit, [name for kind, name, _ in circuit.signals() if kind == "o"], file=folder / design.file)
     usual = tempfile.gettempdir()
     with tempfile.TemporaryDirectory(prefix="himarelou-", dir="/tmp" if " " in usual else usual) as name:  # -I takes no blank
         return _Work(runner, design, folder, Path(name)).made()
@@ -210,7 +210,7 @@ class Circuits:
         with self.locks[design.name]:
             if design.name not in self.made:
                 try:
-                    self.made[design.name] = self._of_file(design) if design.file else self._of_sources(design)
+                    self.made[design.name] = self._kept(design) if design.sources else make(self.runner, design, self.project.folder)
                 except Fault as fault:
                     self.made[design.name] = self.project.fault(str(fault), *design.where)
         found = self.made[design.name]
@@ -218,12 +218,8 @@ class Circuits:
             raise found
         return found
 
-    def _of_file(self, design: Design) -> Made:
-        made = make(self.runner, design, self.project.folder)
-        made.file = self.project.folder / design.file
-        return made
-
-    def _of_sources(self, design: Design) -> Made:
+    def _kept(self, design: Design) -> Made:
+        """The circuit of sources that is kept, or a new one."""
         room = self.store.room("circuits")
         file, record = room / f"{design.name}.aag", room / f"{design.name}.json"
         key, kept = made_of(design, self.project.folder), self.store.recorded(record) or {}
