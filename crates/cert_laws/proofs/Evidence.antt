@@ -1,12 +1,11 @@
 -- What a text shows of a claim: good evidence, before which nothing stands.
-use Rattle.std.proofs.Common.{◌≡◌, ◌⊎◌, inl, inr, ℕ, Bool, true, List, Result, Ok, Err, refl, sym, subst}
+use Rattle.std.proofs.Common.{◌≡◌, inl, inr, ℕ, Bool, true, List, Result, Ok, Err, refl, sym, subst}
 use Rattle.hy_base.specs.declared.limit.Limit.{Limit as Past}
 use Rattle.hy_bits.specs.Letter.{Letter}
 use Rattle.hy_formula.specs.Lassos.{Lasso}
 use Rattle.hy_formula.specs.Quantifiers.{Each}
 use Rattle.hy_lasso.specs.Joint.{IsJudged}
 use Rattle.ea_reduce.specs.Refused.{HasFewMaps}
-use Rattle.cert_text.specs.Certificates.{Certificate}
 use Rattle.claim_check.specs.Claims.{Claim}
 use Rattle.claim_check.specs.Truths.{IsFree}
 use Rattle.claim_check.specs.Verdicts.{AreNamed, AreTaken, IsCounted, IsSmall, IsVerdict, PassesLimit, closures_of, large_query, many_instances, many_members, many_positions, plans_of}

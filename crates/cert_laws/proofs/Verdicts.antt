@@ -1,5 +1,5 @@
 -- What is printed of verdicts shows what is claimed.
-use Rattle.std.proofs.Common.{◌≡◌, ◌⊎◌, inl, inr, ℕ, ◌≤◌, Bool, true, false, List, [], ◌∷◌, Ok, Err, refl, sym, ◌∙◌, true≢false}
+use Rattle.std.proofs.Common.{◌≡◌, ◌⊎◌, inl, inr, ℕ, ◌≤◌, Bool, true, List, [], ◌∷◌, Ok, Err, refl, sym, true≢false}
 use Rattle.hy_bits.specs.Letter.{Letter}
 use Rattle.hy_formula.specs.Classes.{class_of}
 use Rattle.hy_formula.specs.Formulas.{Plain}
@@ -85,8 +85,8 @@ module _ (names : List (List ℕ)) where
       }
 
       one-shown : (a : Answer EaVerdict EaFault) → DecidesOne f states a → EaShows (formula f) a
-      one-shown _ (deciding.sat list is within) short = formula-evidence _ _ (sat-good names are.table f are.over.0 list is)
-      one-shown _ (deciding.unsat proof is within) short = formula-evidence _ _ (unsat-good names f proof counted.0.members is short)
+      one-shown _ (deciding.sat list is within) = λ short. formula-evidence _ _ (sat-good names are.table f are.over.0 list is)
+      one-shown _ (deciding.unsat proof is within) = λ short. formula-evidence _ _ (unsat-good names f proof counted.0.members is short)
       one-shown _ (deciding.beyond many) = tt
 
     pub decision-shown : (a : Answer EaVerdict EaFault) → IsDecision f states a → EaShows (formula f) a
@@ -110,10 +110,8 @@ module _ (names : List (List ℕ)) where
       }
 
       two-shown : (a : Answer EaVerdict EaFault) → DecidesTwo f g states a → EaShows (implication f g) a
-      two-shown _ (deciding.implied proof is within) short =
-          implication-evidence _ _ (implied-good names f g proof counted.0.members is short)
-      two-shown _ (deciding.not_implied list is within) short =
-          implication-evidence _ _ (not-implied-good names are.table f g are.over.0 are.over.1.0 list is)
+      two-shown _ (deciding.implied proof is within) = λ short. implication-evidence _ _ (implied-good names f g proof counted.0.members is short)
+      two-shown _ (deciding.not_implied list is within) = λ short. implication-evidence _ _ (not-implied-good names are.table f g are.over.0 are.over.1.0 list is)
       two-shown _ (deciding.beyond many) = tt
 
     pub implication-shown : (a : Answer EaVerdict EaFault) → IsImplication f g states a → EaShows (implication f g) a
@@ -134,12 +132,9 @@ module _ (names : List (List ℕ)) where
       }
 
       compared-shown : (a : Answer EaVerdict EaFault) → ComparesTwo f g states a → EaShows (equivalence f g) a
-      compared-shown _ (deciding.equivalent one two is within) short =
-          equivalence-evidence _ _ (equivalent-good names f g one two counted.0.members counted.1.0.members is short)
-      compared-shown _ (deciding.first_alone list is within) short =
-          equivalence-evidence _ _ (first-alone-good names are.table f g are.over.0 are.over.1.0 list is)
-      compared-shown _ (deciding.second_alone list is within) short =
-          equivalence-evidence _ _ (second-alone-good names are.table f g are.over.0 are.over.1.0 list is)
+      compared-shown _ (deciding.equivalent one two is within) = λ short. equivalence-evidence _ _ (equivalent-good names f g one two counted.0.members counted.1.0.members is short)
+      compared-shown _ (deciding.first_alone list is within) = λ short. equivalence-evidence _ _ (first-alone-good names are.table f g are.over.0 are.over.1.0 list is)
+      compared-shown _ (deciding.second_alone list is within) = λ short. equivalence-evidence _ _ (second-alone-good names are.table f g are.over.0 are.over.1.0 list is)
       compared-shown _ (deciding.many_branches many) = tt
 
     pub comparison-shown : (a : Answer EaVerdict EaFault) → IsComparison f g states a → EaShows (equivalence f g) a
@@ -170,12 +165,10 @@ module _ (names : List (List ℕ)) where
       }
 
       work-shown : (a : Answer McVerdict McFault) → ComesBy net signals f ask a → McShows (circuit net f) a
-      work-shown _ (checking.found (Holds traces tuple proof) is) found short =
-          circuit-evidence _ _ (holds-good names are.table net signals f are.over.0 posed.signals_are ask deep traces tuple proof is short)
-      work-shown _ (checking.found (Violated traces tuple proof) is) found short =
-          circuit-evidence _ _ (violated-good names are.table net signals f are.over.0 posed.signals_are ask deep traces tuple proof is short)
-      work-shown _ (checking.found (UnknownDepth depth kept path) is) found short = absurd found
-      work-shown _ (checking.found (UnknownConflicts conflicts k step kept log) is) found short = absurd found
+      work-shown _ (checking.found (Holds traces tuple proof) is) = λ found short. circuit-evidence _ _ (holds-good names are.table net signals f are.over.0 posed.signals_are ask deep traces tuple proof is short)
+      work-shown _ (checking.found (Violated traces tuple proof) is) = λ found short. circuit-evidence _ _ (violated-good names are.table net signals f are.over.0 posed.signals_are ask deep traces tuple proof is short)
+      work-shown _ (checking.found (UnknownDepth depth kept path) is) = λ found short. absurd found
+      work-shown _ (checking.found (UnknownConflicts conflicts k step kept log) is) = λ found short. absurd found
       work-shown _ (checking.facts_stop limit plain stopped) = tt
       work-shown _ (checking.paths_stop kind limit kept keeps stopped) = tt
 

@@ -1,5 +1,5 @@
 -- What a run writes of a verdict shows a claim of the files that it read.
-use Rattle.std.proofs.Common.{◌≡◌, ℕ, true, List, [], ◌∷◌, ◌++◌, Ok, map, refl, sym, subst}
+use Rattle.std.proofs.Common.{◌≡◌, ℕ, true, List, [], Ok, map, refl, sym, subst}
 use Rattle.hy_base.specs.Shelf.{Read, ReadsFiles}
 use Rattle.hy_base.specs.declared.shelf.Shelf.{Ghosts}
 use Rattle.hy_bits.specs.Letter.{Letter}
@@ -8,18 +8,16 @@ use Rattle.cert_text.specs.declared.question.Question.{Question}
 use Rattle.hy_run.specs.Names.{Text}
 use Rattle.hy_run.specs.Rules.{Rules}
 use Rattle.hy_run.specs.Runs.{Answer, Comes, Decides, out_text, unworded, short, worded}
-use Rattle.hy_check.proofs.Reading.{AllRead, all_read}
+use Rattle.hy_check.proofs.Reading.{all_read}
 use Rattle.ea_tool.specs.Rules.{ea_rules}
 use Rattle.ea_tool.specs.Texts.{shows_proof as ea_shows_proof}
 use Rattle.ea_tool.specs.Words.{AsksFor}
 use Rattle.ea_tool.specs.declared.verdict.EaVerdict.{EaVerdict}
-use Rattle.ea_tool.specs.declared.verdict.EaFault.{EaFault}
 use Rattle.ea_tool.specs.declared.verdict.Question.{Question as EaQuestion}
 use Rattle.mc_tool.specs.Rules.{mc_rules}
 use Rattle.mc_tool.specs.Texts.{shows_proof as mc_shows_proof}
 use Rattle.mc_tool.specs.Words.{Asks}
 use Rattle.mc_tool.specs.declared.verdict.McVerdict.{McVerdict}
-use Rattle.mc_tool.specs.declared.verdict.McFault.{McFault}
 use Rattle.mc_tool.specs.declared.verdict.Question.{Question as McQuestion}
 use Rattle.cert_laws.specs.Claimed.{CertifiesEa, CertifiesMc, IsFound, models_of, traces_in}
 use Rattle.cert_laws.specs.GoodTexts.{IsShort}
