@@ -15,12 +15,12 @@ class Stage:
 
 
 # Chosen by figures (front/README.md): a leak of few steps shows before facts are looked for, most proofs are facts alone
-# or clauses, and what is then left wants depth.
+# or clauses, and what is then left is mostly a leak of more steps.
 DEFAULT = (
     Stage(("--plain", "--depth", "5"), 30),
     Stage(("--depth", "2"), 120),
     Stage(("--depth", "2", "--ic3", "10000"), 120),
-    Stage(("--plain", "--depth", "25"), 120),
+    Stage(("--plain", "--depth", "40"), 120),
     Stage(("--depth", "10", "--ic3", "100000"), 510),
 )
 
