@@ -85,6 +85,8 @@ def read_circuit(path: Path) -> Circuit:
 
 
 def read_bytes(path: Path) -> bytes:
+    if path.is_fifo() and path.parts[:2] != ("/", "dev"):  # which would be waited for; the shell's <(..) is in /dev
+        raise Fault(f"{path}: a pipe, and no file")
     try:
         with open(path, "rb") as file:
             data = file.read(MOST_BYTES + 1)

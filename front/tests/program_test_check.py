@@ -273,6 +273,13 @@ class Hostile(Folder):
             self.assertIn("1 fault", self.run_front("check", status=2).stdout)
             (room / name).rmdir()
 
+    def test_pipes(self):
+        os.mkfifo(self.folder / "pipe")
+        self.put("cell.aag", CELL)
+        self.put("himarelou.toml", '[circuit.a]\nfile = "pipe"\n[circuit.b]\nfile = "cell.aag"\n[check.x]\ncircuit = "a"\nequal = []\n'
+                                   '[check.y]\ncircuit = "b"\nfile = "pipe"\n')
+        self.assertIn("2 checks: 2 fault", self.run_front("check", status=2, timeout=60).stdout)
+
     def test_names_of_a_circuit(self):
         """Names with escapes of a terminal, marks of XML and the like are only ever shown escaped."""
         self.put("cell.aag", CELL.replace(b"o0 o\n", b"o0 \x1b[31m<&\"]]>;$(touch x)\n"))
