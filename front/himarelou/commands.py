@@ -246,7 +246,9 @@ def add_help(below: argparse._SubParsersAction) -> None:
 
 def main(words: Sequence[str]) -> int:
     """The exit status of a command."""
-    signal.signal(signal.SIGTERM, lambda *_: signal.raise_signal(signal.SIGINT))
+    for it in (signal.SIGTERM, signal.SIGHUP):
+        if signal.getsignal(it) == signal.SIG_DFL:  # nohup ignores one, and so it stays
+            signal.signal(it, lambda *_: signal.raise_signal(signal.SIGINT))
     said = parser().parse_args(words)
     try:
         if said.version:

@@ -161,11 +161,11 @@ class Stopping(Folder):
 
     names = ()
 
-    def stopped(self, folder, count):
-        """Stops a check of a folder at its line of this number: the lines up to it."""
+    def stopped(self, folder, count, how=signal.SIGINT):
+        """Stops a check of a folder at its line of this number: the lines up to it, and the status."""
         process = subprocess.Popen([HIMARELOU, "check", folder, *self.names, "--jobs", "1"], cwd=self.folder, stdout=subprocess.PIPE, text=True)
         lines = [process.stdout.readline() for _ in range(count)]
-        process.send_signal(signal.SIGINT)
+        process.send_signal(how)
         process.communicate(timeout=60)
         self.assertEqual([it for it in Path("/proc").glob("[0-9]*/cmdline") if str(self.folder).encode() in contents_of(it)], [])
         return [it.rstrip() for it in lines if it], process.returncode
@@ -204,7 +204,8 @@ class Stopping(Folder):
                                    'given = ["accept"]\nstages = [{ depth = 1, plain = true }, { depth = 25, plain = true }]\n')
         lines = ["lamp: circuit ..", "lamp: 50 registers, 267 ands ..", "lamp: --plain --depth 1 ..", "lamp: --plain --depth 25 .."]
         self.assertEqual(self.stopped(".", 4), (lines, 130))
-        self.assertEqual(self.stopped(".", 3), (lines[:2] + lines[3:], 130))
+        for how in (signal.SIGINT, signal.SIGTERM, signal.SIGHUP):
+            self.assertEqual(self.stopped(".", 3, how), (lines[:2] + lines[3:], 130))
 
 
 def contents_of(path):
