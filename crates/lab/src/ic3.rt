@@ -38,8 +38,8 @@ fn search(rt: &HostRuntime, safe: &SafeNet, calls: u32) -> Result<ExitCode>
     requires { IsSafe safe.now }
 {
     let facts = facts_in(rt, safe)?;
-    let clauses = find_clauses(rt.alloc(), safe, &facts, calls)?;
-    for fact in facts.as_slice().iter().chain(clauses.as_slice()) {
+    let found = find_clauses(rt.alloc(), safe, &facts, calls)?;
+    for fact in facts.as_slice().iter().chain(found.clauses.as_slice()) {
         print_fact(rt, fact)?;
     }
     Ok(ExitCode::from(0))
