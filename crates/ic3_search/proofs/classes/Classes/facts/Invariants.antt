@@ -1,6 +1,6 @@
 use Rattle.std.proofs.Common.{◌≤◌, length}
 use Rattle.cnf_frames.specs.Facts.{AllIn}
-use Rattle.ic3_search.proofs.classes.facts.Given as goal
+use Rattle.ic3_search.proofs.classes.Classes.facts.Given as goal
 
 abbrev pub invariant-loop-latch : goal.invariant-loop-latch
 invariant-loop-latch l = record {
