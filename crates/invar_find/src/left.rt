@@ -69,7 +69,7 @@ fn is_any_true(state: &[bool], literals: &[u32]) -> bool
 }
 
 /// Whether the fact holds in a state.
-fn holds(state: &[bool], fact: &Fact) -> bool
+pub fn holds(state: &[bool], fact: &Fact) -> bool
     requires { IsIn (length state.now) fact.now }
     ensures { IsTrue result ↔ HoldsIn (row state.now) fact.now }
 {
@@ -88,20 +88,6 @@ pub fn push_copy(alloc: Global, facts: &mut Inv, fact: &Fact) -> M<()>
 {
     let copy = fact.remake(alloc)?;
     facts.push(copy)
-}
-
-/// The facts that hold in a state, in time linear in the facts.
-pub fn held(alloc: Global, state: &[bool], facts: &Inv) -> M<Inv>
-    requires { AllIn (length state.now) facts.now }
-    ensures { IfOk result (AreThose (HoldsIn (row state.now)) facts.now) }
-{
-    let mut left = List::new(alloc);
-    for fact in facts.as_slice() {
-        if holds(state, fact) {
-            push_copy(alloc, &mut left, fact)?;
-        }
-    }
-    Ok(left)
 }
 
 /// Whether both facts are the same.
