@@ -8,7 +8,6 @@ import re
 from collections.abc import Iterable, Iterator, Sequence
 from dataclasses import dataclass, field
 from pathlib import Path
-from typing import BinaryIO
 
 from himarelou.faults import Broken, Fault
 
@@ -44,11 +43,8 @@ class Circuit:
 
     def signals(self) -> Iterator[tuple[str, str, int]]:
         """Each named input, output and latch, in this order: kind, name, literal."""
-        places = {"i": self.inputs, "o": self.outputs, "l": [it.literal for it in self.latches]}
-        for kind, literals in places.items():
-            for place, literal in enumerate(literals):
-                if (kind, place) in self.names:
-                    yield kind, self.names[kind, place], literal
+        for kind, literals in (("i", self.inputs), ("o", self.outputs), ("l", [it.literal for it in self.latches])):
+            yield from ((kind, self.names[kind, at], it) for at, it in enumerate(literals) if (kind, at) in self.names)
 
     @property
     def literals(self) -> dict[str, int]:
@@ -62,17 +58,15 @@ class Circuit:
 
     def play(self, first: Sequence[int], rows: Iterable[Sequence[int]]) -> Iterator[bytearray]:
         """The value of each variable at each step, from the latches' first values and the inputs of each step."""
-        state = list(first)
+        state, held = list(first), [it.literal for it in self.latches]
         for row in rows:
             values = bytearray(self.most + 1)
-            for literal, value in zip(self.inputs, row, strict=True):
+            for literal, value in (*zip(self.inputs, row, strict=True), *zip(held, state, strict=True)):
                 values[literal >> 1] = value
-            for latch, value in zip(self.latches, state, strict=True):
-                values[latch.literal >> 1] = value
             for made, left, right in self.ands:
                 values[made >> 1] = (values[left >> 1] ^ left & 1) & (values[right >> 1] ^ right & 1)
             yield values
-            state = [values[it.next >> 1] ^ it.next & 1 for it in self.latches]
+            state = [value_of(values, it.next) for it in self.latches]
 
 
 def value_of(values: bytearray, literal: int) -> int:
@@ -80,7 +74,6 @@ def value_of(values: bytearray, literal: int) -> int:
 
 
 def read_circuit(path: Path) -> Circuit:
-    """The circuit of a file."""
     return parse(read_bytes(path), str(path))
 
 
@@ -99,53 +92,48 @@ def read_bytes(path: Path) -> bytes:
 
 def parse(data: bytes, name: str) -> Circuit:
     """The circuit of the bytes of an AIGER file; `name` stands in what is told."""
+    file = io.BytesIO(data)
     try:
-        return _read(io.BytesIO(data))
-    except (ValueError, IndexError, TypeError) as error:
+        made = _read(file)
+        symbols = "\n" + file.read().decode("utf-8", "surrogateescape")
+        for line in symbols.split("\nc\n")[0].split("\n"):
+            if match := re.fullmatch(r"([ilo])(\d{1,10}) (.+)", line, re.S):
+                made.names[match[1], int(match[2])] = match[3].removesuffix("\r")
+        check_literals(made)
+        return made
+    except (ValueError, IndexError, TypeError, RecursionError) as error:
         raise Fault(f"{name}: no AIGER file, or one without bounds: {error}") from error
 
 
-def _row(file: BinaryIO) -> list[int]:
-    return [int(it) for it in file.readline().split()]
+def _read(file: io.BytesIO) -> Circuit:
+    """The circuit without its names."""
+    def rows(count: int) -> list[list[int]]:
+        return [[int(it) for it in file.readline().split()] for _ in range(count)]
 
+    def difference() -> int:
+        """A number of the binary form, seven bits a byte, the lowest first."""
+        byte = file.read(1)[0]
+        return byte if byte < 128 else byte & 127 | difference() << 7
 
-def _difference(file: BinaryIO) -> int:
-    """A number of the binary form, seven bits a byte, the lowest first."""
-    value = shift = 0
-    while (byte := file.read(1)[0]) > 127:
-        value |= (byte & 127) << shift
-        shift += 7
-    return value | byte << shift
-
-
-def _read(file: BinaryIO) -> Circuit:
     form, *numbers = file.readline().split()
+    most, inputs, latches, outputs, ands, bads, constraints, justice, fairness = [*map(int, numbers), 0, 0, 0, 0][:9]
     if form not in (b"aag", b"aig"):
         raise ValueError("its first line is no header")
-    most, inputs, latches, outputs, ands, bads, constraints, justice, fairness = ([int(it) for it in numbers] + [0] * 4)[:9]
     if not 0 <= most <= MOST_VARIABLES or not all(0 <= it <= most for it in (inputs, latches, ands)) or justice:
         raise ValueError(f"more than {MOST_VARIABLES} variables, fewer than it counts, or justice properties")
-
-    def firsts(count: int) -> list[int]:
-        return [_row(file)[0] for _ in range(count)]
-
     made, is_ascii = Circuit(most), form == b"aag"
-    made.inputs = firsts(inputs) if is_ascii else [2 * it + 2 for it in range(inputs)]
-    for place in range(inputs, inputs + latches):
-        made.latches.append(Latch(*([] if is_ascii else [2 * place + 2]), *_row(file)))
-    made.outputs, _ = firsts(outputs), firsts(bads)
-    made.constraints, made.fairness = firsts(constraints), firsts(fairness)
+    made.inputs = [it[0] for it in rows(inputs)] if is_ascii else [2 * it + 2 for it in range(inputs)]
+    made.latches = [Latch(*[2 * at + 2] * (not is_ascii), *row) for at, row in enumerate(rows(latches), inputs)]
+    made.outputs, _, made.constraints, made.fairness = (
+        [it[0] for it in rows(count)] for count in (outputs, bads, constraints, fairness))
     if is_ascii:
-        made.ands = in_order([(literal, left, right) for literal, left, right in (_row(file) for _ in range(ands))])
+        given = {literal >> 1: (literal, left, right) for literal, left, right in rows(ands)}
+        uses = {variable: [it >> 1 for it in row[1:] if it >> 1 in given] for variable, row in given.items()}
+        made.ands = [given[it] for it in graphlib.TopologicalSorter(uses).static_order()]
     else:
         for literal in range(2 * (most - ands) + 2, 2 * most + 2, 2):
-            left = literal - _difference(file)
-            made.ands.append((literal, left, left - _difference(file)))
-    symbols = "\n" + file.read().decode("utf-8", "surrogateescape")
-    for line in symbols.split("\nc\n")[0].split("\n"):
-        if match := re.fullmatch(r"([ilo])(\d{1,10}) (.+)", line, re.S):
-            made.names[match[1], int(match[2])] = match[3].removesuffix("\r")
-    check_literals(made)
+            left = literal - difference()
+            made.ands.append((literal, left, left - difference()))
     return made
 
 
@@ -155,13 +143,6 @@ def check_literals(made: Circuit) -> None:
     used += [it for latch in made.latches for it in (latch.literal, latch.next, latch.reset)]
     if used and not 0 <= min(used) <= max(used) <= 2 * made.most + 1:
         raise ValueError("a literal is past its variables")
-
-
-def in_order(ands: list[tuple[int, int, int]]) -> list[tuple[int, int, int]]:
-    """The ands, each behind those that it uses."""
-    rows = {row[0] >> 1: row for row in ands}
-    uses = {variable: [it >> 1 for it in row[1:] if it >> 1 in rows] for variable, row in rows.items()}
-    return [rows[it] for it in graphlib.TopologicalSorter(uses).static_order()]
 
 
 def written(circuit: Circuit, is_ascii: bool = True) -> bytes:
@@ -189,7 +170,8 @@ def renumbered(circuit: Circuit) -> Circuit:
 
     latches = [Latch(*of((it.literal, it.next, it.reset))) for it in circuit.latches]
     ands = [(made, max(parts), min(parts)) for made, *parts in map(of, circuit.ands)]
-    return Circuit(len(order), of(circuit.inputs), latches, of(circuit.outputs), ands, of(circuit.constraints), of(circuit.fairness), circuit.names)
+    inputs, outputs, *others = map(of, (circuit.inputs, circuit.outputs, circuit.constraints, circuit.fairness))
+    return Circuit(len(order), inputs, latches, outputs, ands, *others, circuit.names)
 
 
 def _packed(value: int) -> bytes:

@@ -56,28 +56,28 @@ class Text:
             if not match:
                 hint = ": quantifiers are `forall p. forall q.`" if self.content[at] == "," else ""
                 raise self.fault(at, f"{shown(self.content[at])} begins nothing here{hint}")
-            if match.lastgroup != "blank":
-                yield self._token(match, before, run)
-                before = match[0]
+            kind, text = match.lastgroup, match[0]
+            if kind in ("sign", "number") or kind == "word" and (before in QUANTIFIERS or text in RESERVED):
+                yield Token(kind, SIGNS.get(text, text), at)
+            elif kind != "blank":
+                yield Token("atom", text, at, *((text, run) if run else self.parts(text, at)))
+            before = before if kind == "blank" else text
             at = match.end()
         yield Token("end", "the end", at)
 
-    def _token(self, match: re.Match, before: str, run: str) -> Token:
-        kind, text, at = match.lastgroup, match[0], match.start()
-        if kind in ("sign", "number") or before in QUANTIFIERS or text in RESERVED:
-            return Token(kind, SIGNS.get(text, text), at)
-        if run:
-            return Token("atom", text, at, text, run)
-        name, _, variable = text.rpartition("_")
-        if not name or not re.fullmatch(r"[A-Za-z][A-Za-z0-9]*", variable):
+    def parts(self, text: str, at: int) -> tuple[str, str]:
+        """The name and the run of an atom."""
+        name, _, run = text.rpartition("_")
+        if not name or not re.fullmatch(r"[A-Za-z][A-Za-z0-9]*", run):
             hint = "; put a space between two operators" if re.fullmatch("[XFGURW]+", text) else ""
             raise self.fault(at, f"{shown(text)} is no NAME_RUN{hint}")
-        return Token("atom", text, at, name.strip('"'), variable)
+        return name.strip('"'), run
 
 
 @dataclass(frozen=True)
 class Tree:
-    """A part of a body: `atom` with a name and a run, `true`, `false`, or an operator and its operands, of `&` two or more."""
+    """A part of a body: `atom` with a name and a run, `true`, `false`, or an operator and its operands, of `&` two or
+    more."""
 
     sign: str
     parts: tuple["Tree", ...] = ()
@@ -86,15 +86,13 @@ class Tree:
 
     def text(self, least: int = 0) -> str:
         """As the tools read it, in parentheses where it binds weaker than is wanted."""
-        if self.sign == "atom":
-            return atom(self.name, self.run)
+        if not self.parts:
+            return atom(self.name, self.run) if self.sign == "atom" else self.sign
         if self.sign in UNARY:
             return UNARY[self.sign] + self.parts[0].text(TIGHTEST)
-        if not self.parts:
-            return self.sign
         rank, *before, last = RANKS[self.sign], *self.parts
         texts = [*(it.text(rank + 1) for it in before), last.text(rank)]
-        whole = f" {self.sign} ".join(texts) if sum(map(len, texts)) < WIDE else f"\n    {self.sign} ".join(texts)
+        whole = f"{'' if sum(map(len, texts)) < WIDE else chr(10) + '   '} {self.sign} ".join(texts)
         return f"({whole})" if rank < least else whole
 
     def names(self) -> dict[str, None]:
@@ -103,6 +101,10 @@ class Tree:
 
 def signal(name: str, run: str) -> Tree:
     return Tree("atom", (), name, run)
+
+
+def opposite(tree: Tree) -> Tree:
+    return Tree("!", (tree,))
 
 
 def all_of(parts: Iterable[Tree]) -> Tree:
@@ -126,8 +128,7 @@ class Formula:
 
 def parse(source: Text, names: Names | None) -> list[Formula]:
     """The formulas of a text, `;` between two. Without names a vector is written as it says its own places."""
-    parser = _Parser(source, names)
-    return parser.whole(parser.formulas)
+    return _Parser(source, names).whole(_Parser.formulas)
 
 
 def parse_one(source: Text, names: Names | None) -> Formula:
@@ -139,8 +140,7 @@ def parse_one(source: Text, names: Names | None) -> Formula:
 
 def parse_body(source: Text, names: Names, run: str = "p") -> Tree:
     """A body on signals of one run, which it does not say."""
-    parser = _Parser(source, names, run)
-    return parser.whole(lambda: parser.binary(0))
+    return _Parser(source, names, run).whole(_Parser.binary)
 
 
 class _Parser:
@@ -165,34 +165,29 @@ class _Parser:
     def fault(self, token: Token, words: str) -> NoReturn:
         raise self.source.fault(token.at, words)
 
-    def whole(self, way: Callable[[], Any]) -> Any:
+    def whole(self, way: Callable[["_Parser"], Any]) -> Any:
         """What is read in a way, which is all of the text."""
         try:
-            found = way()
+            found = way(self)
         except RecursionError as error:
             raise Fault(f"{shown(self.source.name)}: too deep") from error
         self.take("an operator", "the end")
         return found
 
     def formulas(self) -> list[Formula]:
-        found = [self.formula()]
-        while self.token.text == ";":
-            self.take()
-            found.append(self.formula())
+        found = []
+        while not found or self.token.text == ";" and self.take():
+            quantifiers = []
+            while not quantifiers or self.token.text in QUANTIFIERS:
+                kind = self.take("`forall` or `exists`", *QUANTIFIERS).text
+                quantifiers.append((kind, self.take("the name of a run", "word").text))
+                self.take("`.`", ".")
+            self.bound = {run for _, run in quantifiers}
+            found.append(Formula(tuple(quantifiers), self.binary()))
+            found[-1].text()  # what is too deep to be printed is too deep
         return found
 
-    def formula(self) -> Formula:
-        quantifiers = []
-        while not quantifiers or self.token.text in QUANTIFIERS:
-            kind = self.take("`forall` or `exists`", *QUANTIFIERS).text
-            quantifiers.append((kind, self.take("the name of a run", "word").text))
-            self.take("`.`", ".")
-        self.bound = {run for _, run in quantifiers}
-        formula = Formula(tuple(quantifiers), self.binary(0))
-        formula.text()  # what is too deep to be printed is too deep
-        return formula
-
-    def binary(self, least: int) -> Tree:
+    def binary(self, least: int = 0) -> Tree:
         left = self.unary()
         while RANKS.get(self.token.text, -1) >= least:
             sign = self.take().text
@@ -206,7 +201,7 @@ class _Parser:
         sign = self.take("an operand", "(", "true", "false", *UNARY).text
         if sign != "(":
             return Tree(sign, (self.unary(),) if sign in UNARY else ())
-        inner = self.binary(0)
+        inner = self.binary()
         self.take("`)`" if self.token.kind == "end" else "an operator", ")")
         return inner
 
@@ -215,22 +210,21 @@ class _Parser:
         token = self.take()
         left = self.bits(token)
         if self.token.text not in ("=", "!="):
-            return left[0] if len(left) == 1 else self.fault(token, f"{shown(token.name)} has {len(left)} bits: compare it by =")
+            if len(left) > 1:
+                self.fault(token, f"{shown(token.name)} has {len(left)} bits: compare it by =")
+            return left[0]
         sign, other = self.take().text, self.take("a name or a number", "atom", "number")
-        whole = all_of(self.number(left, other) if other.kind == "number" else self.pairs(token, left, other))
-        return whole if sign == "=" else Tree("!", (whole,))
-
-    def number(self, left: list[Tree], other: Token) -> list[Tree]:
-        value = int(other.text, 0) if other.text[:2] in ("0x", "0b") else int(other.text[:40])
-        if value >> len(left):
-            self.fault(other, f"{other.text} has more than {len(left)} bits")
-        return [it if value >> place & 1 else Tree("!", (it,)) for place, it in enumerate(left)]
-
-    def pairs(self, token: Token, left: list[Tree], other: Token) -> list[Tree]:
-        right = self.bits(other)
-        if len(left) != len(right):
-            self.fault(token, f"{shown(token.name)} has {len(left)} bits, {shown(other.name)} has {len(right)}")
-        return [Tree("<->", it) for it in zip(left, right)]
+        if other.kind == "number":
+            value = int(other.text, 0) if other.text[:2] in ("0x", "0b") else int(other.text[:40])
+            if value >> len(left):
+                self.fault(other, f"{other.text} has more than {len(left)} bits")
+            parts = [it if value >> place & 1 else opposite(it) for place, it in enumerate(left)]
+        else:
+            right = self.bits(other)
+            if len(left) != len(right):
+                self.fault(token, f"{shown(token.name)} has {len(left)} bits, {shown(other.name)} has {len(right)}")
+            parts = [Tree("<->", it) for it in zip(left, right)]
+        return all_of(parts) if sign == "=" else opposite(all_of(parts))
 
     def bits(self, token: Token) -> list[Tree]:
         """The atoms of a token's bits, whose run is bound."""
@@ -238,5 +232,6 @@ class _Parser:
             self.fault(token, f"no quantifier binds the run {token.run} of {shown(token.text)}")
         found = said_bits(token.name) if self.names is None else self.names.bits(token.name)
         if not found:
-            self.fault(token, f"no signal is named {shown(token.name)}{self.names.hint(token.name) if self.names else ''}")
+            hint = self.names.hint(token.name) if self.names else ""
+            self.fault(token, f"no signal is named {shown(token.name)}{hint}")
         return [signal(it, token.run) for it in found]
