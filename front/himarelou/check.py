@@ -1,21 +1,23 @@
-"""One check of a circuit, from its keys in the project file to its result."""
+"""One question of a project, from its keys to its result: a check of a circuit, or a monitor of recorded runs."""
 import dataclasses
+import re
 from pathlib import Path
 
-from himarelou.aiger import Circuit, value_of, written
+from himarelou.aiger import MOST_BYTES, Circuit, read_bytes, value_of, written
+from himarelou.design import files_of
 from himarelou.faults import Fault, shown
 from himarelou.formula import MOST_NAMES, Formula
 from himarelou.gates import with_assumed
-from himarelou.judging import failing_part
-from himarelou.names import joined
+from himarelou.names import Names, joined
 from himarelou.picture import STEPS, scene_of, svg, vcd
-from himarelou.result import IS_MET, UNKNOWN, VACUOUS, Asked
-from himarelou.runs import Run, runs_of, runs_with_strategy
-from himarelou.statement import FORMULAS, MET, PARTED, Statement, pair_of, split
-from himarelou.strategy import in_order_of_ports, shows_all
+from himarelou.result import IS_MET, OPEN, UNKNOWN, VACUOUS, Asked
+from himarelou.runs import Run, failing_part, runs_of, runs_with_strategy
+from himarelou.schema import Stage
+from himarelou.statement import FORMULAS, MET, PARTED, Statement, in_order_of_ports, pair_of, shows_all, split
 from himarelou.task import Files, Task, text_of
 
 VACUITY_BUDGET = 120
+NAME = re.compile(rb'"[^"\n]*"|[A-Za-z][A-Za-z0-9_]*')
 
 
 class Check(Task):
@@ -182,3 +184,39 @@ class Check(Task):
         literals, both = self.circuit.literals, [it.seen[found[0]] for it in runs]
         names = [it for it in self.statement.same if len({value_of(values, literals[it]) for values in both}) > 1]
         return f"{shown(', '.join(joined(names)))} differs in cycle {found[0]}"
+
+
+class Monitor(Task):
+    """One monitor of recorded runs."""
+
+    def work_on(self) -> None:
+        self.tell("traces")
+        joined, question = self.traces(), self.question
+        self.names = Names(sorted(it.decode("utf-8", "surrogateescape").strip('"') for it in set(NAME.findall(joined))))
+        formulas = [self.stated().formula()] if question.same else self.formulas("formula" if question.formula else "file", None)
+        unseen = {it: None for formula in formulas for it in formula.body.names() if it not in self.names.known}
+        if unseen:
+            self.result.notes.append(f"no trace has {shown(', '.join(unseen))}, so it is never high")
+        files = Files("rvhyper", self.write("formula", ";\n".join(it.text() for it in formulas)), self.write("traces", joined), self.room / "answer")
+        stage = Stage((*["--drop"] * question.drop, "--lengths", question.lengths), question.budget)
+        self.result.take(self.decided(files, [stage], question.budget))
+        self.result.files = {"formula": str(files.first), "traces": str(files.second), "answer": str(files.answer)}
+        if self.result.answer != OPEN:
+            self.result.notes.append(shown(text_of(files.answer).content.split("\n")[0]))
+
+    def traces(self) -> bytes:
+        """The files joined, each ending in a line feed."""
+        try:
+            files = files_of(self.question.traces, self.circuits.project.folder)
+        except Fault as fault:
+            raise self.fault(fault, "traces") from fault
+        parts = [read_bytes(self.circuits.project.folder / it) for it in files]
+        joined = b"".join(it if it.endswith(b"\n") or not it else it + b"\n" for it in parts)
+        if len(joined) > MOST_BYTES:
+            raise self.fault(f"more than {MOST_BYTES} bytes in all", "traces")
+        return joined
+
+    def stated(self) -> Statement:
+        """The statement that the keys make; a name that no trace has stands for itself."""
+        words = (getattr(self.question, key) or () for key in ("equal", "given", "same"))
+        return Statement(None, *(list(dict.fromkeys(it for word in said for it in self.names.bits(word) or [word])) for said in words))

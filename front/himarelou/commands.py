@@ -6,28 +6,25 @@ import shutil
 import signal
 import subprocess
 import sys
-from collections.abc import Callable, Sequence
+from collections.abc import Sequence
 from concurrent.futures import ThreadPoolExecutor, as_completed
 from pathlib import Path
 from typing import NoReturn
 
 from himarelou.aiger import read_circuit, written
-from himarelou.check import Check
+from himarelou.check import Check, Monitor
 from himarelou.design import Circuits, make
 from himarelou.faults import Broken, Fault, Stopped, did_you_mean, shown
 from himarelou.formula import Text, parse, parse_one
-from himarelou.judging import failing_part
-from himarelou.monitor import Monitor
 from himarelou.names import Names
 from himarelou.picture import STEPS, scene_of, svg, vcd
 from himarelou.programs import TOOLS, Runner, bin_folder, program, program_sum
 from himarelou.project import Project, find, read_project
-from himarelou.result import Result, as_json, as_junit, status_of
-from himarelou.runs import played, runs_with_strategy
+from himarelou.result import Result, Screen, as_json, as_junit, status_of
+from himarelou.runs import failing_part, played, runs_with_strategy
 from himarelou.schema import IDENTIFIER, Design, Question
-from himarelou.screen import Screen
 from himarelou.store import FOLDER, Store, replaced
-from himarelou.strategy import in_order_of_ports, ports_of
+from himarelou.statement import in_order_of_ports, ports_of
 from himarelou.task import text_of
 
 STOPPED = 130
@@ -64,7 +61,8 @@ def run_all(circuits: Circuits, questions: Sequence[Question], jobs: int, screen
     results: dict[str, Result] = {}
     is_whole = True
     with ThreadPoolExecutor(max_workers=jobs) as pool:
-        futures = [pool.submit(run_one, circuits, it, screen) for it in questions]
+        kinds = {"check": Check, "monitor": Monitor}
+        futures = [pool.submit(lambda it: kinds[it.kind](circuits, it, screen.stage).run(), it) for it in questions]
         try:
             for future in as_completed(futures):
                 result = future.result()
@@ -75,10 +73,6 @@ def run_all(circuits: Circuits, questions: Sequence[Question], jobs: int, screen
             circuits.runner.stop()
             pool.shutdown(wait=True, cancel_futures=True)
     return [results[it.name] for it in questions if it.name in results], is_whole
-
-
-def run_one(circuits: Circuits, question: Question, screen: Screen) -> Result:
-    return (Check if question.kind == "check" else Monitor)(circuits, question, screen.stage).run()
 
 
 def circuit(said: argparse.Namespace) -> int:
@@ -179,69 +173,64 @@ def number(least: int, most: int):
 
 
 def parser() -> Parser:
-    whole = Parser(prog="himarelou", allow_abbrev=False, description="What two runs of a design must have in common, checked by proved programs.",
-                   epilog="`himarelou COMMAND --help` says a command's words, `himarelou help TOOL` shows the page of a tool.")
+    whole = Parser(prog="himarelou", allow_abbrev=False, description="What two runs of a design must have in common, "
+                   "checked by proved programs.", epilog="`himarelou COMMAND --help` says a command's words, "
+                   "`himarelou help TOOL` shows the page of a tool.")
     whole.add_argument("--version", action="store_true", help="the version, and the sums of the four programs")
     below = whole.add_subparsers(dest="command", metavar="COMMAND")
-    for add in (add_check, add_circuit, add_formula, add_waves, add_help):
-        add(below)
+    for run, (about, more, words) in COMMANDS.items():
+        made = below.add_parser(run.__name__, help=about, description=f"{about[0].upper()}{about[1:]}. {more}",
+                                allow_abbrev=False)
+        made.set_defaults(run=run)
+        for names, help_of, kind in words:
+            made.add_argument(*names.split(), help=help_of, **kind)
     return whole
 
 
-def _command(below: argparse._SubParsersAction, run: Callable, about: str, more: str = "") -> Parser:
-    made = below.add_parser(run.__name__, help=about, description=f"{about[0].upper()}{about[1:]}. {more}", allow_abbrev=False)
-    made.set_defaults(run=run)
-    return made
-
-
-def add_check(below: argparse._SubParsersAction) -> None:
-    it = _command(below, check, "asks what a project file asks", "Status: 0 where all is as expected, 1 where not, 4 where something "
-                  "is open, 2 where the file or a source is at fault.")
-    it.add_argument("words", nargs="*", metavar="FILE|FOLDER|NAME", help="the project file or its folder, first; then checks and monitors")
-    it.add_argument("--jobs", type=number(1, 256), default=max(1, (os.cpu_count() or 2) // 2), metavar="N", help="so many at a time")
-    it.add_argument("--json", type=Path, metavar="FILE", help="the results as JSON")
-    it.add_argument("--junit", type=Path, metavar="FILE", help="the results as JUnit")
-    it.add_argument("--out", type=Path, metavar="FOLDER", help=f"where results stand, usually {FOLDER} beside the project file")
-
-
-def add_circuit(below: argparse._SubParsersAction) -> None:
-    it = _command(below, circuit, "makes a Verilog design a circuit", "It needs yosys, and lists what is seldom meant: registers that "
-                  "start with either value, signals that nothing drives, values x.")
-    it.add_argument("out", metavar="OUT", type=Path, help="the circuit: ASCII where it ends in .aag, binary where in .aig")
-    it.add_argument("sources", metavar="FILE", nargs="+")
-    it.add_argument("--top", metavar="NAME", help="the module; usually the only one that no other uses")
-    it.add_argument("--set", metavar="NAME=VALUE", action="append", default=[], help="a parameter of the module")
-    it.add_argument("-D", "--define", metavar="NAME[=VALUE]", action="append", default=[], help="a macro")
-    it.add_argument("-I", "--include", metavar="FOLDER", action="append", default=[], help="where included files stand")
-    it.add_argument("--sv", action="store_true", help="SystemVerilog, also in files that do not end in .sv")
-    it.add_argument("--start", choices=("any", "zero"), default="any", help="registers without a start value: either one, or 0")
-    it.add_argument("--clocks", choices=("inputs",), help="clocks as inputs whose edges are seen, where there are several")
-    it.add_argument("--memory", metavar="BITS", type=number(1, 1 << 30), default=16_384, help="the largest memory, usually 16384")
-
-
-def add_formula(below: argparse._SubParsersAction) -> None:
-    it = _command(below, formula, "writes a formula out as the tools read it", "`a_p = a_q` and `a_p != 5` of vectors bit by bit, == as =, "
-                  "&& and || as & and |, without comments. With a circuit a vector is as wide as it is there.")
-    it.add_argument("file", metavar="FILE", nargs="?", default="-", help="the formula, usually standard input")
-    it.add_argument("--circuit", metavar="FILE", type=Path, help="the circuit whose names they are")
-    it.add_argument("--order", action="store_true", help="in place of it the order of the ports of a strategy; wants --circuit")
-
-
-def add_waves(below: argparse._SubParsersAction) -> None:
-    it = _command(below, waves, "draws the runs behind an answer", "The answer is that of `mchyper --proof`, or `strategy fails`; the "
-                  "picture is SVG on standard output.")
-    it.add_argument("circuit", metavar="CIRCUIT", type=Path)
-    it.add_argument("answer", metavar="ANSWER", nargs="?", default="-", help="the answer's file, usually standard input")
-    it.add_argument("--formula", metavar="FILE", type=Path, help="the formula, so that the title says which part fails where")
-    it.add_argument("--strategy", metavar="FILE", type=Path, help="the strategy that fails; wants --formula")
-    it.add_argument("--steps", metavar="N", type=number(1, 4096), default=STEPS, help=f"the most steps that are drawn, usually {STEPS}")
-    it.add_argument("--only", metavar="LABEL,..", help="these signals, by the labels of the picture")
-    it.add_argument("--vcd", action="store_true", help="a value change dump for GTKWave in place of the picture")
-
-
-def add_help(below: argparse._SubParsersAction) -> None:
-    it = _command(below, help, "shows the page of a tool")
-    it.add_argument("tool", metavar="TOOL", choices=("himarelou", *TOOLS), nargs="?", default="himarelou", help=", ".join(TOOLS))
+FILE, LIST = {"type": Path, "metavar": "FILE"}, {"action": "append", "default": []}
+# each command with what it does, what else is to be known of it, and its words
+COMMANDS = {
+    check: ("asks what a project file asks", "Status: 0 where all is as expected, 1 where not, 4 where something is open, 2 "
+            "where the file or a source is at fault.", [
+        ("words", "the project file or its folder, first; then checks and monitors",
+         {"nargs": "*", "metavar": "FILE|FOLDER|NAME"}),
+        ("--jobs", "so many at a time",
+         {"type": number(1, 256), "default": max(1, (os.cpu_count() or 2) // 2), "metavar": "N"}),
+        ("--json", "the results as JSON", FILE),
+        ("--junit", "the results as JUnit", FILE),
+        ("--out", f"where results stand, usually {FOLDER} beside the project file", FILE | {"metavar": "FOLDER"})]),
+    circuit: ("makes a Verilog design a circuit", "It needs yosys, and lists what is seldom meant: registers that start with "
+              "either value, signals that nothing drives, values x.", [
+        ("out", "the circuit: ASCII where it ends in .aag, binary where in .aig", {"metavar": "OUT", "type": Path}),
+        ("sources", None, {"metavar": "FILE", "nargs": "+"}),
+        ("--top", "the module; usually the only one that no other uses", {"metavar": "NAME"}),
+        ("--set", "a parameter of the module", LIST | {"metavar": "NAME=VALUE"}),
+        ("-D --define", "a macro", LIST | {"metavar": "NAME[=VALUE]"}),
+        ("-I --include", "where included files stand", LIST | {"metavar": "FOLDER"}),
+        ("--sv", "SystemVerilog, also in files that do not end in .sv", {"action": "store_true"}),
+        ("--start", "registers without a start value: either one, or 0", {"choices": ("any", "zero"), "default": "any"}),
+        ("--clocks", "clocks as inputs whose edges are seen, where there are several", {"choices": ("inputs",)}),
+        ("--memory", "the largest memory, usually 16384",
+         {"metavar": "BITS", "type": number(1, 1 << 30), "default": 16_384})]),
+    formula: ("writes a formula out as the tools read it", "`a_p = a_q` and `a_p != 5` of vectors bit by bit, == as =, && and "
+              "|| as & and |, without comments. With a circuit a vector is as wide as it is there.", [
+        ("file", "the formula, usually standard input", {"metavar": "FILE", "nargs": "?", "default": "-"}),
+        ("--circuit", "the circuit whose names they are", FILE),
+        ("--order", "in place of it the order of the ports of a strategy; wants --circuit", {"action": "store_true"})]),
+    waves: ("draws the runs behind an answer", "The answer is that of `mchyper --proof`, or `strategy fails`; the picture is "
+            "SVG on standard output.", [
+        ("circuit", None, FILE | {"metavar": "CIRCUIT"}),
+        ("answer", "the answer's file, usually standard input", {"metavar": "ANSWER", "nargs": "?", "default": "-"}),
+        ("--formula", "the formula, so that the title says which part fails where", FILE),
+        ("--strategy", "the strategy that fails; wants --formula", FILE),
+        ("--steps", f"the most steps that are drawn, usually {STEPS}",
+         {"metavar": "N", "type": number(1, 4096), "default": STEPS}),
+        ("--only", "these signals, by the labels of the picture", {"metavar": "LABEL,.."}),
+        ("--vcd", "a value change dump for GTKWave in place of the picture", {"action": "store_true"})]),
+    help: ("shows the page of a tool", "", [
+        ("tool", ", ".join(TOOLS),
+         {"metavar": "TOOL", "choices": ("himarelou", *TOOLS), "nargs": "?", "default": "himarelou"})]),
+}
 
 
 def main(words: Sequence[str]) -> int:

@@ -12,8 +12,7 @@ from himarelou.formula import Formula, Text, parse
 from himarelou.names import Names
 from himarelou.programs import file_sum, front_sum, program, program_sum
 from himarelou.result import FAULT, OPEN, Asked, Result
-from himarelou.schema import Question
-from himarelou.stages import Stage
+from himarelou.schema import Question, Stage
 from himarelou.store import replaced, sum_of
 
 VERDICTS = ("holds with strategy", "holds", "violated", "strategy fails", "no violation", "violation")

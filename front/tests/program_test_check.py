@@ -17,9 +17,8 @@ from pathlib import Path
 
 from himarelou.aiger import Circuit, written
 from himarelou.gates import Builder
-from himarelou.judging import failing_part
 from himarelou.programs import program
-from himarelou.runs import runs_of
+from himarelou.runs import failing_part, runs_of
 from himarelou.statement import FORMULAS, PARTED, Reset, Statement, pair_of, split
 from tests import HIMARELOU, TOP, Folder, needs
 from tests.test_circuits import CELL

@@ -11,11 +11,9 @@ from himarelou.aiger import parse, value_of, written
 from himarelou.faults import Fault
 from himarelou.formula import Text, parse_one
 from himarelou.gates import with_assumed
-from himarelou.judging import failing_part
 from himarelou.picture import scene_of, svg, vcd
-from himarelou.runs import Run, letters_of, played, runs_of
-from himarelou.statement import MET, PARTED, Reset, Statement, pair_of, split
-from himarelou.strategy import in_order_of_ports, ports_of
+from himarelou.runs import Run, failing_part, letters_of, played, runs_of
+from himarelou.statement import MET, PARTED, Reset, Statement, in_order_of_ports, pair_of, ports_of, split
 from tests import TOP
 
 # Inputs r, w, d; register q: 0 where r is on, d where w is on, else as before. The output shows it.

@@ -3,7 +3,7 @@ import unittest
 
 from himarelou.faults import Fault
 from himarelou.formula import Text, parse, parse_one
-from himarelou.judging import Judge
+from himarelou.runs import Judge
 from himarelou.names import Names, atom, joined
 from himarelou.statement import Reset, Statement
 

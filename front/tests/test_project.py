@@ -3,7 +3,7 @@ import time
 
 from himarelou.faults import Fault
 from himarelou.project import lines_of, read_project
-from himarelou.stages import DEFAULT, Stage
+from himarelou.schema import DEFAULT, Stage
 from himarelou.statement import Reset
 from tests import Folder
 
