@@ -97,6 +97,13 @@ class Cone:
         yield from before
         yield from step or [self.step(depth)]
 
+    def many_facts(self, count):
+        """a proof at no depth with the fact so many times"""
+        yield f"holds\nproof induction 0 {count}\n"
+        yield from times("f 0 1\n", count)
+        yield from times(f"log 1\n{self.keep()}", (count + 63) // 64)
+        yield f"log 1\n{self.base(0)}log 1\n{self.step(0)}"
+
     def long_fact(self, count):
         """the fact as a clause that says it so many times"""
         yield "f |"
@@ -176,6 +183,8 @@ def logs():
         0, wide.clauses(1000000), 1000000, ["c -1 0 1 0\n"]), "rejected", None
     yield "proof with a clause of 5,000,000 literals", "mc", [small.circuit, asked], small.proof(
         0, clause=small.long_fact(5000000)), "accepted", None
+    yield "proof of 1,000,000 facts, 60,034 variables", "mc", [wide.circuit, asked], wide.many_facts(
+        1000000), "accepted", None
     yield "proof of depth 300", "mc", [small.circuit, asked], small.proof(300), "accepted", 10
     yield "proof of depth 1,000", "mc", [small.circuit, asked], small.proof(1000), "accepted", 10
     yield "proof of depth 100,000", "mc", [small.circuit, asked], small.proof(

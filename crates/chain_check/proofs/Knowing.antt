@@ -1,5 +1,6 @@
 -- What a checker keeps: its clauses are over its variables, and between two entries nothing is true.
-use Rattle.std.proofs.Common.{◌≡◌, ℕ, List, [], ◌∷◌, ◌++◌, refl, sym, ap, ◌∙◌, subst, append_assoc, append-nil}
+use Rattle.std.proofs.Common.{◌≡◌, ℕ, ◌≤◌, inl, inr, List, [], ◌∷◌, ◌++◌, refl, sym, ap, ◌∙◌, subst, arith, append_assoc, append-nil}
+use Rattle.std.proofs.lemmas.List.Elements.{Contains-append_cases}
 use Rattle.chain_check.specs.Clauses.{Clause, AreLiterals, AreClauses}
 use Rattle.chain_check.specs.Store.{Trues}
 use Rattle.chain_check.proofs.Storing.{clauses-more}
@@ -41,3 +42,24 @@ ready-more n given learned more c trues ready right same e =
     let V : ℕ → Type 0 = λ n. AreLiterals n c in
     subst C (sym (more-known given learned more c e))
     (clauses-more trues.variables (given ++ learned) c ready.0 (subst V same right), ready.1)
+
+clauses-behind : (n m : ℕ) (given more : List Clause) → n ≤ m → AreClauses n given →
+    AreClauses m more → AreClauses m (given ++ more)
+clauses-behind n m given more le first second c there l here = elim
+    (Contains-append_cases given more c there) [
+      | inl h ↦ let right = first c h l here in (right.0, omega (arith, le, right.1))
+      | inr h ↦ second c h l here
+    ]
+
+pub ready-anew : (n m : ℕ) (given more : List Clause) (trues : Trues) → n ≤ m →
+    AreClauses n given → AreClauses m more → trues ≡ record { variables = m; literals = [] } →
+    IsReady (given ++ more) trues
+ready-anew n m given more trues le first second e =
+    let T : Trues → Type 0 = IsReady (given ++ more) in
+    subst T (sym e) (clauses-behind n m given more le first second, refl)
+
+pub ready-kept : (clauses : List Clause) (before after : Trues) → IsReady clauses before →
+    after ≡ before → IsReady clauses after
+ready-kept clauses before after ready e =
+    let T : Trues → Type 0 = IsReady clauses in
+    subst T (sym e) ready

@@ -1,6 +1,6 @@
 //! The checker of logs: each learned clause is tried by its own chain, one after the other.
 
-ghost use Rattle.std.specs.Prelude.{◌≡◌, ◌++◌, ◌∷◌, ◌↔◌, [], IfOk, OnErr, IsTrue};
+ghost use Rattle.std.specs.Prelude.{◌≡◌, ◌<◌, ◌≤◌, ◌^◌, ◌++◌, ◌∷◌, ◌↔◌, [], IfOk, OnOk, OnErr, IsTrue};
 ghost use Rattle.chain_check.specs.Chains.{Follows};
 ghost use Rattle.chain_check.specs.Logs.{IsPassed};
 
@@ -52,6 +52,24 @@ impl<'a> Checker<'a> {
         })
     }
 
+    /// Begins anew: those known are the clauses that are lent and then `more`, of which the lent ones
+    /// may be those of before. Refused for memory it changes nothing. Where there are as many
+    /// variables as before it takes no memory and constant time, but for what is let go; else both
+    /// are linear in the variables.
+    pub fn restart(&mut self, alloc: Global, given: &'a Cnf, more: Cnf) -> M<()>
+        requires { given.now.variables ≤ more.variables }
+        ensures started { OnOk result (self.new ≡ record {
+          variables = more.variables;
+          clauses = given.now.clauses ++ more.clauses;
+        }) }
+        ensures refused { OnErr result (self.new ≡ self.old) }
+    {
+        renew(alloc, &mut self.partial, more.variables)?;
+        self.given = &given.clauses;
+        self.learned = more.clauses;
+        Ok(())
+    }
+
     /// Whether the clause follows by its chain from those known, which are numbered from 1. Where it
     /// does, it is learned: it is known from now on, as the last one. Else, and refused for memory,
     /// nothing changes. In time linear in the clause and in the sizes of the clauses of the chain.
@@ -71,6 +89,20 @@ impl<'a> Checker<'a> {
         self.learned.add(clause)?;
         Ok(true)
     }
+}
+
+/// Makes an assignment by which nothing is true one of so many variables. Refused for memory it
+/// changes nothing. Takes no memory where it is one.
+fn renew(alloc: Global, partial: &mut Partial, variables: u32) -> M<()>
+    requires few { variables < 2 ^ 31 }
+    requires none { partial.old.literals ≡ [] }
+    ensures made { OnOk result (partial.new ≡ record { variables = variables; literals = [] }) }
+    ensures refused { OnErr result (partial.new ≡ partial.old) }
+{
+    if partial.variables() != variables as usize {
+        *partial = Partial::new(alloc, variables)?;
+    }
+    Ok(())
 }
 
 /// Whether each clause of the log follows by its chain, in time linear in the variables, the

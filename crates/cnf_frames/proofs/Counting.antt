@@ -151,7 +151,7 @@ like-step f k x r n e = (
 )
 
 like-keep : (f x y g n : ℕ) → n ≡ f + (x + (y + g)) →
-    AreLike (f + (capped x + (capped y + g))) n
+    AreLike (f + capped x + (capped y + g)) n
 like-keep f x y g n e = (λ h. omega (arith, e, h), λ h. omega (arith, e, h))
 
 module _ (safe : SafeNet) where

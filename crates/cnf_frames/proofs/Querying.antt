@@ -13,11 +13,11 @@ use Rattle.cnf_frames.specs.declared.queries.Asked.{Asked}
 use Rattle.cnf_frames.specs.declared.queries.Asked.TheVariants.{Base, Step, Keep}
 use Rattle.cnf_frames.specs.declared.queries.FrameError.{FrameError}
 use Rattle.cnf_frames.specs.declared.queries.FrameError.TheVariants.{Limit, Memory}
-use Rattle.cnf_frames.specs.Counts.{pairs}
+use Rattle.cnf_frames.specs.Counts.{front_literals, pairs, rest_literals}
 use Rattle.cnf_frames.specs.Queries.{frames, start_clauses, bad_in, facts_clauses, good_clauses, apart_from, fails_clauses, pairs_before, pair_start, group_of, clauses_of, variables_of, IsPastBy, IsRefusalBy, IsWithin}
 use Rattle.chain_check.specs.FewClauses.{for_each, alone, some_further, literals_in}
 use Rattle.cnf_frames.proofs.Adding.{both_added}
-use Rattle.cnf_frames.proofs.Counting.{AreLike}
+use Rattle.cnf_frames.proofs.Counting.{AreLike, keep-counted}
 use Rattle.cnf_frames.proofs.Pairs.{pairs-counted}
 
 pub like-same : (l m : ℕ) → l ≡ m → AreLike l m
@@ -95,6 +95,36 @@ keep-made safe facts group none one two all e f g h =
     both_added (frames safe.net 1) two all (facts_clauses safe.net 0 facts) (fails ++ some)
     (g ∙ ap (λ x. x ++ facts_clauses safe.net 0 facts)
     (first-added none one (frames safe.net 1) e f)) h
+
+pub rest-made : (safe : SafeNet) (facts : List Fact) (group : ℕ) (front none all : List Clause) →
+    front ≡ frames safe.net 1 ++ facts_clauses safe.net 0 facts → none ≡ [] →
+    all ≡ none ++ (for_each (fails_clauses safe.net (group_of facts group))
+    (length (group_of facts group))
+    ++ some_further (2 * variables safe.net) (length (group_of facts group))) →
+    front ++ all ≡ clauses_of safe (Keep facts group)
+unfolding clauses_of
+rest-made safe facts group front none all e f g =
+    let fails : List Clause = for_each (fails_clauses safe.net (group_of facts group))
+    (length (group_of facts group)) in
+    let some : List Clause = some_further (2 * variables safe.net)
+    (length (group_of facts group)) in
+    both_added (frames safe.net 1) front (front ++ all) (facts_clauses safe.net 0 facts)
+    (fails ++ some) e (ap (λ x. front ++ x) (first-added none all (fails ++ some) f g))
+
+pub front-made : (safe : SafeNet) (facts : List Fact) (none one front : List Clause) → none ≡ [] →
+    one ≡ none ++ frames safe.net 1 → front ≡ one ++ facts_clauses safe.net 0 facts →
+    front ≡ frames safe.net 1 ++ facts_clauses safe.net 0 facts
+front-made safe facts none one front e f g =
+    g ∙ ap (λ x. x ++ facts_clauses safe.net 0 facts) (first-added none one (frames safe.net 1) e f)
+
+-- the literals of a keep query, counted in two parts
+pub keep-like : (safe : SafeNet) (facts : List Fact) (group x y : ℕ) →
+    x ≡ front_literals safe.net facts → y ≡ rest_literals (group_of facts group) →
+    AreLike (x + y) (literals_in (clauses_of safe (Keep facts group)))
+keep-like safe facts group x y e f =
+    like-after (x + y) _ _
+    (ap (λ a. a + y) e ∙ ap (λ b. front_literals safe.net facts + b) f)
+    (keep-counted safe facts group)
 
 -- the counts of a step query and of its further variables
 pub step-variables : (safe : SafeNet) (facts : List Fact) (k v : ℕ) →

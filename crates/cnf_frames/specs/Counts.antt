@@ -55,7 +55,13 @@ step_literals net facts k =
     frames_literals net (k + 1)
     + ((k + 1) * (capped (facts_literals facts) + 1) + (1 + pairs k * (7 * length net.latches)))
 
+-- of the clauses that all keep queries of facts begin with
+abbrev pub front_literals : Net → List Fact → ℕ
+front_literals net facts = frames_literals net 1 + capped (facts_literals facts)
+
+-- of those behind them
+abbrev pub rest_literals : List Fact → ℕ
+rest_literals group = capped (failing_literals group) + length group
+
 abbrev pub keep_literals : Net → List Fact → List Fact → ℕ
-keep_literals net facts group =
-    frames_literals net 1
-    + (capped (facts_literals facts) + (capped (failing_literals group) + length group))
+keep_literals net facts group = front_literals net facts + rest_literals group

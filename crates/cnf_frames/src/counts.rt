@@ -142,12 +142,28 @@ fn apart_literals(net: &Net, k: u32) -> u128
     pairs_of(k) * (7 * net.latches().len() as u128)
 }
 
+/// How many literals the clauses have that all keep queries of the facts begin with, as far as limits
+/// ask.
+pub fn front_literals(net: &Net, facts: &[Fact]) -> u128
+    ensures count { result ≡ counts.front_literals net.now facts.now }
+    ensures small { result < 2 ^ 111 }
+{
+    frames_literals(net, 1) + facts_literals(facts)
+}
+
+/// How many literals the clauses have that stand behind those, as far as limits ask.
+pub fn rest_literals(group: &[Fact]) -> u128
+    ensures count { result ≡ counts.rest_literals group.now }
+    ensures small { result < 2 ^ 68 }
+{
+    failing_literals(group) + group.len() as u128
+}
+
 /// How many literals a keep query has.
 pub fn keep_literals(net: &Net, facts: &[Fact], group: &[Fact]) -> u128
     ensures { result ≡ counts.keep_literals net.now facts.now group.now }
 {
-    let failing = failing_literals(group) + group.len() as u128;
-    frames_literals(net, 1) + (facts_literals(facts) + failing)
+    front_literals(net, facts) + rest_literals(group)
 }
 
 /// The number of variables, where so many of them and so many literals are taken.

@@ -5,6 +5,7 @@
 mod counts;
 mod facts;
 mod frames;
+mod fronts;
 mod inductions;
 mod laws;
 mod printing;
@@ -15,6 +16,7 @@ mod writing;
 
 pub use facts::{Fact, Inv};
 pub use frames::add_frames;
+pub use fronts::{KeepFront, keep_front, keep_rest};
 pub use inductions::{InductionProof, LogList};
 pub use laws::{
     clauses_are_few, facts_survive, induction, induction_proof, inductive_facts, queries_are_paths,

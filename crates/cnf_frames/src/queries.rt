@@ -170,7 +170,7 @@ fn add_goods(alloc: Global, cnf: &mut Cnf, safe: &SafeNet, facts: &[Fact], k: u3
 }
 
 /// The facts of a group.
-fn group_slice(facts: &[Fact], group: u32) -> &[Fact]
+pub fn group_slice(facts: &[Fact], group: u32) -> &[Fact]
     requires { group < groups facts.now }
     ensures { result.now ≡ group_of facts.now group }
 {

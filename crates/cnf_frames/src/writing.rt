@@ -11,7 +11,7 @@ use chain_check::{Cnf, Literal};
 use hy_base::{M, Memory};
 
 /// As many clauses as a list has room for.
-const MOST_CLAUSES: usize = 2_147_483_647;
+pub const MOST_CLAUSES: usize = 2_147_483_647;
 
 /// The number of a literal of the net in a frame.
 pub fn number_of(net: &Net, frame: u32, literal: u32) -> Literal

@@ -7,13 +7,12 @@ use Rattle.aig_net.specs.Nets.{Below}
 use Rattle.hy_text.specs.Numbers.{SaysNumber}
 use Rattle.cnf_frames.specs.declared.facts.Fact.TheVariants.{AnyOf}
 use Rattle.cnf_frames.specs.Facts.{any_true}
-use Rattle.cert_text.specs.InductionLines.{SaysLiterals}
 use Rattle.cert_text.specs.Lines.{Line, words_of, Say, Speaks}
 use Rattle.cert_text.proofs.ClauseLines.{behind_sign, with_sign}
 use Rattle.cert_text.proofs.NumbersRead.{same_number}
 use Rattle.cert_text.proofs.OneReading.{say_once}
 use Rattle.cert_text.proofs.WordsRead.{each_said, said_each, each_step, each_bad}
-use Rattle.induction_judge.specs.Reading.{IsStartFact, SaysLatch, SaysLatches, IsClauseTaken}
+use Rattle.induction_judge.specs.Reading.{SaysLatch, SaysLatches, IsClauseTaken}
 
 -- ---- numbers that are literals of latches
 

@@ -10,12 +10,12 @@ use Rattle.live_safe.specs.declared.safe_net.SafeNet.{SafeNet}
 use Rattle.cnf_frames.specs.declared.facts.Fact.{Fact}
 use Rattle.cnf_frames.specs.declared.queries.Asked.{Asked}
 use Rattle.cnf_frames.specs.declared.queries.Asked.TheVariants.{Base, Step, Keep}
-use Rattle.cnf_frames.specs.declared.queries.Query.{Query}
 use Rattle.cnf_frames.specs.Proofs.{IsRefuted, log_at}
-use Rattle.cnf_frames.specs.Queries.{IsQuery, variables_of, groups}
+use Rattle.cnf_frames.specs.Queries.{clauses_of, variables_of, groups}
 use Rattle.cert_text.specs.Lines.{Line}
 use Rattle.cert_text.specs.InductionLines.{SayLogs}
-use Rattle.induction_judge.specs.Asking.{places, asked_at, AreRefuted}
+use Rattle.induction_judge.specs.Asking.{places, path_at, asked_at, AreRefuted}
+use Rattle.induction_judge.specs.Keeps.{AreKeepsRefuted}
 use Rattle.induction_judge.specs.Reading.{AreLines, AreLogs, IsLogAt}
 
 -- ---- one place
@@ -162,40 +162,78 @@ here : (text : List ℕ) (logs : List (List Learned)) (i : ℕ) → i < length l
     → AreLogs text (drop i logs) → AreLogs text (log_at logs i ∷ drop (suc i) logs)
 here text logs i lt are = subst (AreLogs text) (drop-cons logs i [] lt) are
 
--- One more log refutes its query.
-pub one_refuted : (safe : SafeNet) (facts : List Fact) (depth i : ℕ) (query : Query)
-    (text next : List ℕ) (logs : List (List Learned)) → i < length logs
-    → IsQuery safe (asked_at facts depth i) query
-    → ((log : List Learned) (rest : List Line) → IsLogAt text log rest
-    → IsRefutation query.cnf.variables query.cnf.clauses log × AreLines next rest)
-    → AreLogs text (drop i logs) × AreRefuted safe facts depth logs i
-    → AreLogs next (drop (i + 1) logs) × AreRefuted safe facts depth logs (i + 1)
-one_refuted safe facts depth i query text next logs lt is judged (are, before) =
-    let (rest, at, more) = first_log text (log_at logs i) (drop (suc i) logs)
-    (here text logs i lt are) in
-    let (right, parts) = judged (log_at logs i) rest at in
-    let up : suc i ≡ i + 1 = omega arith in
-    let P : ℕ → Type 0 = λ n. IsRefutation n query.cnf.clauses (log_at logs i) in
-    let Q : List Clause → Type 0 =
-    λ cs. IsRefutation (variables_of safe (asked_at facts depth i)) cs (log_at logs i) in
-    let refuted = subst Q is.clauses (subst P is.variables right) in
-    let R : ℕ → Type 0 = λ n. AreLogs next (drop n logs) in (
-      subst R up (record { lines = rest; parts = parts; said = more }),
-      below_more (λ j. IsRefuted safe (asked_at facts depth j) (log_at logs j)) i before refuted,
-    )
+module _ (safe : SafeNet) (asked : ℕ → Asked) (i variables : ℕ) (clauses : List Clause)
+    (text : List ℕ) (logs : List (List Learned)) (lt : i < length logs)
+    (few : variables ≡ variables_of safe (asked i)) (same : clauses ≡ clauses_of safe (asked i))
+  where
+    abbrev pub AreBefore : ℕ → Type 0
+    AreBefore n = (j : ℕ) → j < n → IsRefuted safe (asked j) (log_at logs j)
 
--- This log does not.
-pub not_refuted : (safe : SafeNet) (facts : List Fact) (depth i : ℕ) (query : Query)
-    (text : List ℕ) (logs : List (List Learned)) → i < length logs
-    → IsQuery safe (asked_at facts depth i) query
-    → ((log : List Learned) (rest : List Line) → IsLogAt text log rest
-    → ¬ IsRefutation query.cnf.variables query.cnf.clauses log) → AreLogs text (drop i logs)
-    → ¬ AreRefuted safe facts depth logs (length logs)
-not_refuted safe facts depth i query text logs lt is judged are right =
-    let (rest, at, more) = first_log text (log_at logs i) (drop (suc i) logs)
-    (here text logs i lt are) in
-    let P : ℕ → Type 0 = λ n. IsRefutation n query.cnf.clauses (log_at logs i) in
-    let Q : List Clause → Type 0 =
-    λ cs. IsRefutation (variables_of safe (asked_at facts depth i)) cs (log_at logs i) in
-    judged (log_at logs i) rest at
-    (subst P (sym is.variables) (subst Q (sym is.clauses) (right i lt)))
+    -- One more log refutes its query.
+    pub one_refuted : (next : List ℕ)
+        → ((log : List Learned) (rest : List Line) → IsLogAt text log rest
+        → IsRefutation variables clauses log × AreLines next rest)
+        → AreLogs text (drop i logs) × AreBefore i → AreLogs next (drop (i + 1) logs) × AreBefore (i + 1)
+    one_refuted next judged (are, before) =
+        let (rest, at, more) = first_log text (log_at logs i) (drop (suc i) logs)
+        (here text logs i lt are) in
+        let (right, parts) = judged (log_at logs i) rest at in
+        let up : suc i ≡ i + 1 = omega arith in
+        let P : ℕ → Type 0 = λ n. IsRefutation n clauses (log_at logs i) in
+        let Q : List Clause → Type 0 =
+        λ cs. IsRefutation (variables_of safe (asked i)) cs (log_at logs i) in
+        let refuted = subst Q same (subst P few right) in
+        let R : ℕ → Type 0 = λ n. AreLogs next (drop n logs) in (
+          subst R up (record { lines = rest; parts = parts; said = more }),
+          below_more (λ j. IsRefuted safe (asked j) (log_at logs j)) i before refuted,
+        )
+
+    -- This log does not.
+    pub not_refuted : ((log : List Learned) (rest : List Line) → IsLogAt text log rest
+        → ¬ IsRefutation variables clauses log) → AreLogs text (drop i logs)
+        → (n : ℕ) → i < n → ¬ AreBefore n
+    not_refuted judged are n below right =
+        let (rest, at, more) = first_log text (log_at logs i) (drop (suc i) logs)
+        (here text logs i lt are) in
+        let P : ℕ → Type 0 = λ n. IsRefutation n clauses (log_at logs i) in
+        let Q : List Clause → Type 0 =
+        λ cs. IsRefutation (variables_of safe (asked i)) cs (log_at logs i) in
+        judged (log_at logs i) rest at (subst P (sym few) (subst Q (sym same) (right i below)))
+
+-- ---- the logs of the keep queries, and those behind them
+
+-- There is no group.
+pub none_kept : (safe : SafeNet) (facts : List Fact) (text : List ℕ) (logs : List (List Learned))
+    → groups facts ≡ 0 → AreLogs text logs
+    → AreLogs text (drop (groups facts) logs) × AreKeepsRefuted safe facts logs (groups facts)
+none_kept safe facts text logs none are =
+    let P : ℕ → Type 0 = λ n. AreLogs text (drop n logs) in
+    (subst P (sym none) are, λ g lt. absurd (omega (arith, none, lt)))
+
+pub kept_refuted : (safe : SafeNet) (facts : List Fact) (depth : ℕ) (logs : List (List Learned))
+    → AreKeepsRefuted safe facts logs (groups facts)
+    → AreRefuted safe facts depth logs (groups facts)
+kept_refuted safe facts depth logs right i lt =
+    let P : Asked → Type 0 = λ a. IsRefuted safe a (log_at logs i) in
+    subst P (sym (keep-at facts depth i lt)) (right i lt)
+
+pub refuted_kept : (safe : SafeNet) (facts : List Fact) (depth n : ℕ) (logs : List (List Learned))
+    → groups facts ≤ n → AreRefuted safe facts depth logs n
+    → AreKeepsRefuted safe facts logs (groups facts)
+refuted_kept safe facts depth n logs le right g lt =
+    let P : Asked → Type 0 = λ a. IsRefuted safe a (log_at logs g) in
+    subst P (keep-at facts depth g lt) (right g (omega (arith, le, lt)))
+
+-- the query at a place behind those of the groups
+pub behind_at : (facts : List Fact) (depth i : ℕ)
+    → path_at facts depth i ≡ asked_at facts depth (groups facts + i)
+behind_at facts depth i =
+    let here : groups facts + i - groups facts ≡ i = omega arith in
+    let past : nat_lt (groups facts + i) (groups facts) ≡ false =
+    le-ltb (groups facts + i) (groups facts) (omega arith) in
+    sym (ap (λ b. cond b (Keep facts (groups facts + i))
+    (path_at facts depth (groups facts + i - groups facts))) past ∙ ap (path_at facts depth) here)
+
+pub of_behind : {B : Type 0} (f : Asked → B) (facts : List Fact) (depth i : ℕ) (b : B)
+    → b ≡ f (path_at facts depth i) → b ≡ f (asked_at facts depth (groups facts + i))
+of_behind f facts depth i b e = e ∙ ap f (behind_at facts depth i)

@@ -13,11 +13,14 @@ use Rattle.cnf_frames.specs.Queries.{groups}
 abbrev pub places : List Fact → ℕ → ℕ
 places facts depth = groups facts + (depth + 2)
 
+-- the one at this place behind the keep queries, counted from 0
+abbrev pub path_at : List Fact → ℕ → ℕ → Asked
+path_at facts depth i = cond (nat_le i depth) (Base i) (Step facts depth)
+
 -- the one at this place, counted from 0
 abbrev pub asked_at : List Fact → ℕ → ℕ → Asked
 asked_at facts depth i =
-    cond (nat_lt i (groups facts)) (Keep facts i)
-    (cond (nat_le (i - groups facts) depth) (Base (i - groups facts)) (Step facts depth))
+    cond (nat_lt i (groups facts)) (Keep facts i) (path_at facts depth (i - groups facts))
 
 -- The first n logs refute the queries at their places.
 abbrev pub AreRefuted : SafeNet → List Fact → ℕ → List (List Learned) → ℕ → Type 0

@@ -1,3 +1,4 @@
 pub mod Asking
 pub mod Good
 pub mod Reading
+pub mod Keeps

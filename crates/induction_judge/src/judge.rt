@@ -24,8 +24,9 @@ const MOST_DEPTH: u64 = 100_000;
 /// Whether the lines of the text, each with its line feed, are a good proof by induction that no path
 /// from the start of the net is bad: where they are no proof at all, nothing is said. A depth past
 /// 100,000, and facts that name no latch or are not true at the start, are no good before a query is
-/// made. In time linear in the text, the queries, and the sizes of the clauses of the chains, and in
-/// the memory of one query and of one log's clauses; no count of the text takes memory.
+/// made. In time linear in the text, the queries, where what the keep queries have in common counts
+/// once, and the sizes of the clauses of the chains, and in the memory of one query and of one log's
+/// clauses; no count of the text takes memory.
 ///
 /// # Errors
 ///

@@ -5,6 +5,7 @@
 mod clauses;
 mod facts;
 mod judge;
+mod keeps;
 mod logs;
 mod queries;
 

@@ -1,21 +1,24 @@
 //! A log of learned clauses, checked line by line.
 
-ghost use Rattle.std.specs.Prelude.{◌≡◌, ◌↔◌, ◌<◌, ◌≤◌, [], length, IfOk, IfSome, IsTrue};
+ghost use Rattle.std.specs.Prelude.{◌≡◌, ◌↔◌, ◌<◌, ◌≤◌, ◌^◌, [], length, IfOk, IfSome, IsTrue};
 ghost use Rattle.hy_base.specs.declared.reading.TheConstants.{BYTES_LIMIT};
 ghost use Rattle.induction_judge.specs.Reading.{AreClausesJudged, IsLogJudged};
 
 use cert_text::{log_head, read_learned};
-use chain_check::{Checker, Clause, Cnf};
+use chain_check::{Checker, Clause};
 use hy_base::{M, NumList};
 use hy_text::split_line;
 use std::alloc::Global;
 
-/// What stands behind the log at the front of the text, where that refutes the clauses. In time
-/// linear in the variables, the clauses of the log, and the sizes of the clauses of their chains.
-/// Nothing is kept of the log but its clauses.
-pub fn past_log<'a>(alloc: Global, cnf: &Cnf, text: &'a [u8]) -> M<Option<&'a [u8]>>
-    requires { length text.now ≤ BYTES_LIMIT }
-    ensures judged { IfOk result (IsLogJudged cnf.now.variables cnf.now.clauses text.now) }
+/// What stands behind the log at the front of the text, where that refutes the clauses that the
+/// checker knows. In time linear in the clauses of the log, and the sizes of the clauses of their
+/// chains. Nothing is kept of the log but its clauses.
+pub fn past_log<'a>(alloc: Global, checker: &mut Checker<'_>, text: &'a [u8]) -> M<Option<&'a [u8]>>
+    requires variables { checker.old.variables < 2 ^ 31 }
+    requires few { length checker.old.clauses < 2 ^ 31 }
+    requires short { length text.now ≤ BYTES_LIMIT }
+    ensures judged { IfOk result
+        (IsLogJudged checker.old.variables checker.old.clauses text.now) }
     ensures shorter { IfOk result (λ left.
         IfSome left (λ left. length left.now ≤ length text.now)) }
 {
@@ -26,19 +29,25 @@ pub fn past_log<'a>(alloc: Global, cnf: &Cnf, text: &'a [u8]) -> M<Option<&'a [u
     let Some(count) = log_head(line) else {
         return Ok(None);
     };
-    past_clauses(alloc, cnf, count, rest)
+    past_clauses(alloc, checker, count, rest)
 }
 
 /// What stands behind so many lines at the front of the text, where their clauses follow one after
 /// the other and the last one is empty.
-fn past_clauses<'a>(alloc: Global, cnf: &Cnf, count: u64, text: &'a [u8]) -> M<Option<&'a [u8]>>
-    requires { length text.now ≤ BYTES_LIMIT }
+fn past_clauses<'a>(
+    alloc: Global,
+    checker: &mut Checker<'_>,
+    count: u64,
+    text: &'a [u8],
+) -> M<Option<&'a [u8]>>
+    requires variables { checker.old.variables < 2 ^ 31 }
+    requires few { length checker.old.clauses < 2 ^ 31 }
+    requires short { length text.now ≤ BYTES_LIMIT }
     ensures judged { IfOk result
-        (AreClausesJudged cnf.now.variables cnf.now.clauses text.now count) }
+        (AreClausesJudged checker.old.variables checker.old.clauses text.now count) }
     ensures shorter { IfOk result (λ left.
         IfSome left (λ left. length left.now ≤ length text.now)) }
 {
-    let mut checker = Checker::new(alloc, cnf)?;
     let mut clause = Clause::new(alloc);
     let mut chain = NumList::new(alloc);
     let mut left = text;

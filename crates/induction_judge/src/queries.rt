@@ -4,21 +4,23 @@ ghost use Rattle.std.specs.Prelude.{◌≡◌, ◌↔◌, ◌<◌, ◌≤◌, �
 ghost use Rattle.hy_base.specs.declared.reading.TheConstants.{BYTES_LIMIT};
 ghost use Rattle.chain_check.specs.declared.logs.Learned.{Learned};
 ghost use Rattle.cnf_frames.specs.Facts.{AllIn, IsSafe};
-ghost use Rattle.cnf_frames.specs.Queries.{IsQuery, IsRefusal, groups};
-ghost use Rattle.induction_judge.specs.Asking.{AreRefuted, asked_at, places};
+ghost use Rattle.cnf_frames.specs.Queries.{IsQuery, IsRefusal};
+ghost use Rattle.induction_judge.specs.Asking.{AreRefuted, path_at, places};
 ghost use Rattle.induction_judge.specs.Good.{IsRefusedOf};
 ghost use Rattle.induction_judge.specs.Reading.{AreLogs};
 
+use crate::keeps::past_keeps;
 use crate::logs::past_log;
-use cnf_frames::{FrameError, Inv, Query, base_query, keep_query, step_fits, step_query};
+use chain_check::Checker;
+use cnf_frames::{FrameError, Inv, Query, base_query, step_fits, step_query};
 use live_safe::SafeNet;
 use std::alloc::Global;
 
 /// Whether the logs at the front of the text refute the queries of a proof with these facts and of
 /// this depth: the keep query of each group, the base queries, the step query. Whether the step query
-/// is within its limits is asked first, so that a depth that no query has costs nothing; each query
-/// is dropped before the next is made. In time linear in the queries, the text, and the sizes of the
-/// clauses of its chains.
+/// is within its limits is asked first, so that a depth that no query has costs nothing; of each query
+/// all is dropped before the next is made, save what the keep queries have in common. In time linear
+/// in these queries, where that is counted once, the text, and the sizes of the clauses of its chains.
 ///
 /// # Errors
 ///
@@ -42,10 +44,13 @@ pub fn are_refuted(
     if let Err(limit) = step_fits(safe, facts, depth) {
         return Err(FrameError::Limit(limit));
     }
-    let mut left = text;
-    for place in 0..groups_of(facts) + (u64::from(depth) + 2) {
-        let query = query_at(alloc, safe, facts, depth, place)?;
-        let Some(rest) = past_log(alloc, &query.cnf, left)? else {
+    let Some(mut left) = past_keeps(alloc, safe, facts, text)? else {
+        return Ok(false);
+    };
+    for place in 0..u64::from(depth) + 2 {
+        let query = path_query(alloc, safe, facts, depth, place)?;
+        let mut checker = Checker::new(alloc, &query.cnf)?;
+        let Some(rest) = past_log(alloc, &mut checker, left)? else {
             return Ok(false);
         };
         left = rest;
@@ -53,8 +58,8 @@ pub fn are_refuted(
     Ok(true)
 }
 
-/// The query at a place, counted from 0.
-fn query_at(
+/// The query at a place behind the keep queries, counted from 0.
+fn path_query(
     alloc: Global,
     safe: &SafeNet,
     facts: &Inv,
@@ -63,27 +68,12 @@ fn query_at(
 ) -> Result<Query, FrameError>
     requires safe { IsSafe safe.now }
     requires inside { AllIn (length safe.now.net.latches) facts.now }
-    requires few { length facts.now < 10 ^ 10 }
-    ensures query { IfOk result (λ query. IsQuery safe.now (asked_at facts.now depth place) query) }
-    ensures refused { IfErr result (λ e. IsRefusal safe.now (asked_at facts.now depth place) e) }
+    ensures query { IfOk result (λ query. IsQuery safe.now (path_at facts.now depth place) query) }
+    ensures refused { IfErr result (λ e. IsRefusal safe.now (path_at facts.now depth place) e) }
 {
-    let groups = groups_of(facts);
-    if place < groups {
-        return keep_query(alloc, safe, facts, place as u32);
-    }
-    let steps = place - groups;
-    if steps <= u64::from(depth) {
-        base_query(alloc, safe, steps as u32)
+    if place <= u64::from(depth) {
+        base_query(alloc, safe, place as u32)
     } else {
         step_query(alloc, safe, facts, depth)
     }
-}
-
-/// How many groups the facts have.
-fn groups_of(facts: &Inv) -> u64
-    requires { length facts.now < 10 ^ 10 }
-    ensures groups { result ≡ groups facts.now }
-    ensures few { result < 2 ^ 32 }
-{
-    (facts.len() as u64 + 63) / 64
 }

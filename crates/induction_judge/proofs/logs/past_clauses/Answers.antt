@@ -1,4 +1,4 @@
-use Rattle.std.proofs.Common.{◌≡◌, ℕ, ◌+◌, ◌-◌, ◌<◌, Bool, true, false, List, [], ◌∷◌, ◌++◌, length, sym, ◌∙◌, ap, subst, arith, length-append}
+use Rattle.std.proofs.Common.{◌≡◌, ℕ, ◌+◌, ◌-◌, ◌<◌, Bool, true, false, List, [], ◌∷◌, ◌++◌, length, refl, sym, ◌∙◌, ap, subst, arith, length-append}
 use Rattle.std.specs.Option.{option_copied}
 use Rattle.chain_check.specs.Clauses.{Clause}
 use Rattle.chain_check.specs.Known.{Known}
@@ -8,25 +8,19 @@ use Rattle.induction_judge.proofs.Ending.{going_first, going_on, cut_short, says
 use Rattle.induction_judge.proofs.logs.past_clauses.Goals as goal
 
 pub loop-i-init : goal.loop-i-init
-loop-i-init c =
-    let P : Known → ℕ = λ k. k.variables in
-    let Q : Known → List Clause = λ k. k.clauses in
-    let all : c.in_ok-checker.checker.clauses ≡ c.args.cnf.now.clauses =
-    ap Q c.in_ok-checker.ensures in
-    record {
-      same = ap P c.in_ok-checker.ensures;
-      few = omega (arith, ap length all);
-      shorter = omega arith;
-      going =
-          going_first c.args.cnf.now.variables c.args.cnf.now.clauses
-          c.in_ok-checker.checker.clauses c.args.text.now c.args.count (c.args.count - 0)
-          ((0 < 0) × (c.new-clause.result ≡ [])) (omega arith) all
-          (λ (some, _). omega (arith, some));
-    }
+loop-i-init c = record {
+  same = refl;
+  few = omega arith;
+  shorter = omega arith;
+  going = going_first c.args.checker.now.variables c.args.checker.now.clauses
+      c.args.checker.now.clauses c.args.text.now c.args.count (c.args.count - 0)
+      ((0 < 0) × (c.new-clause.result ≡ [])) (omega arith) refl
+      (λ (some, _). omega (arith, some));
+}
 
 pub returns-in_default-clause-judged : goal.returns-in_default-clause-judged
 returns-in_default-clause-judged c = λ log rest said refutes.
-    cut_short c.args.cnf.now.variables c.args.cnf.now.clauses c.args.text.now c.args.count
+    cut_short c.args.checker.now.variables c.args.checker.now.clauses c.args.text.now c.args.count
     c.loop-i.left.now c.split_line.result.0.now (c.args.count - c.loop-i._i)
     c.loop-i.checker.clauses ((0 < c.loop-i._i) × (c.loop-i.clause ≡ []))
     (omega (arith, c.loop-i-test.true))
@@ -38,7 +32,7 @@ pub returns-then-not-branch-clause-judged : goal.returns-then-not-branch-clause-
 returns-then-not-branch-clause-judged c = λ log rest said refutes.
     let P : Bool → Type 0 = λ b.
     IsLearnedRead c.split_line.result.0.now b c.read_learned.new.clause c.read_learned.new.chain in
-    says_nothing c.args.cnf.now.variables c.args.cnf.now.clauses c.args.text.now c.args.count
+    says_nothing c.args.checker.now.variables c.args.checker.now.clauses c.args.text.now c.args.count
     c.loop-i.left.now c.in-Some.rest.now c.split_line.result.0.now (c.args.count - c.loop-i._i)
     (c.args.count - (c.loop-i._i + 1)) c.loop-i.checker.clauses
     ((0 < c.loop-i._i) × (c.loop-i.clause ≡ [])) (omega (arith, c.loop-i-test.true))
@@ -51,17 +45,17 @@ pub returns-then-not-branch-2-clause-judged : goal.returns-then-not-branch-2-cla
 returns-then-not-branch-2-clause-judged c =
     let P : Bool → Type 0 = λ b.
     IsLearnedRead c.split_line.result.0.now b c.read_learned.new.clause c.read_learned.new.chain in
-    let tried = as_tried c.loop-i.checker.variables c.args.cnf.now.variables
+    let tried = as_tried c.loop-i.checker.variables c.args.checker.now.variables
     c.loop-i.checker.clauses c.as_slice.result.now c.read_learned.new.clause
     c.as_slice-in-loop-i.result.now c.read_learned.new.chain c.in_ok-next.field-0
     c.loop-i.invariant.same c.as_slice.ensures c.as_slice-in-loop-i.ensures
     c.in_ok-next.ensures.exact in
-    not_following c.args.cnf.now.variables c.args.cnf.now.clauses c.args.text.now c.args.count
+    not_following c.args.checker.now.variables c.args.checker.now.clauses c.args.text.now c.args.count
     c.loop-i.left.now c.in-Some.rest.now c.split_line.result.0.now (c.args.count - c.loop-i._i)
     (c.args.count - (c.loop-i._i + 1)) c.loop-i.checker.clauses
     ((0 < c.loop-i._i) × (c.loop-i.clause ≡ [])) c.read_learned.new.clause
-    c.read_learned.new.chain c.args.cnf.now.few_variables
-    (omega (arith, c.loop-i.invariant.few, c.args.cnf.now.few_clauses, c.requires))
+    c.read_learned.new.chain c.requires.variables
+    (omega (arith, c.loop-i.invariant.few, c.requires.few, c.requires.short))
     (omega (arith, c.loop-i-test.true))
     (c.split_line.ensures.lines
     ∙ ap (λ o. c.split_line.result.0.now ∷ left_lines (option_copied o)) c.in-Some.is)
@@ -74,7 +68,7 @@ pub loop-i-preserved : goal.loop-i-preserved
 loop-i-preserved c =
     let P : Bool → Type 0 = λ b.
     IsLearnedRead c.split_line.result.0.now b c.read_learned.new.clause c.read_learned.new.chain in
-    let tried = as_tried c.loop-i.checker.variables c.args.cnf.now.variables
+    let tried = as_tried c.loop-i.checker.variables c.args.checker.now.variables
     c.loop-i.checker.clauses c.as_slice.result.now c.read_learned.new.clause
     c.as_slice-in-loop-i.result.now c.read_learned.new.chain c.in_ok-next.field-0
     c.loop-i.invariant.same c.as_slice.ensures c.as_slice-in-loop-i.ensures
@@ -100,14 +94,14 @@ loop-i-preserved c =
       shorter =
           omega (arith, shorter, c.split_line.ensures.fewer, c.loop-i.invariant.shorter);
       going =
-          going_on c.args.cnf.now.variables c.args.cnf.now.clauses c.args.text.now c.args.count
+          going_on c.args.checker.now.variables c.args.checker.now.clauses c.args.text.now c.args.count
           c.loop-i.left.now c.in-Some.rest.now c.split_line.result.0.now
           (c.args.count - c.loop-i._i) (c.args.count - (c.loop-i._i + 1))
           c.loop-i.checker.clauses c.next.new.self.clauses
           ((0 < c.loop-i._i) × (c.loop-i.clause ≡ []))
           ((0 < c.loop-i._i + 1) × (c.read_learned.new.clause ≡ [])) c.read_learned.new.clause
-          c.read_learned.new.chain c.args.cnf.now.few_variables
-          (omega (arith, c.loop-i.invariant.few, c.args.cnf.now.few_clauses, c.requires))
+          c.read_learned.new.chain c.requires.variables
+          (omega (arith, c.loop-i.invariant.few, c.requires.few, c.requires.short))
           (omega (arith, c.loop-i-test.true))
           (c.split_line.ensures.lines
           ∙ ap (λ o. c.split_line.result.0.now ∷ left_lines (option_copied o)) c.in-Some.is)
@@ -118,7 +112,7 @@ loop-i-preserved c =
 
 pub returns-then-not-is_end-clause-judged : goal.returns-then-not-is_end-clause-judged
 returns-then-not-is_end-clause-judged c = λ log rest said refutes.
-    let ((ends, _), _) = at_end c.args.cnf.now.variables c.args.cnf.now.clauses c.args.text.now
+    let ((ends, _), _) = at_end c.args.checker.now.variables c.args.checker.now.clauses c.args.text.now
     c.args.count c.loop-i.left.now (c.args.count - c.loop-i._i) c.loop-i.checker.clauses
     ((0 < c.loop-i._i) × (c.loop-i.clause ≡ [])) (omega (arith, c.loop-i-test.false))
     c.loop-i.invariant.going log rest said in
@@ -129,7 +123,7 @@ returns-then-not-is_end-clause-judged c = λ log rest said refutes.
 
 pub returns-clause-judged : goal.returns-clause-judged
 returns-clause-judged c = λ log rest said.
-    let ((_, refutes), lines) = at_end c.args.cnf.now.variables c.args.cnf.now.clauses
+    let ((_, refutes), lines) = at_end c.args.checker.now.variables c.args.checker.now.clauses
     c.args.text.now c.args.count c.loop-i.left.now (c.args.count - c.loop-i._i)
     c.loop-i.checker.clauses ((0 < c.loop-i._i) × (c.loop-i.clause ≡ []))
     (omega (arith, c.loop-i-test.false)) c.loop-i.invariant.going log rest said in

@@ -16,10 +16,10 @@ returns-in_default-log_head-clause-judged c = λ log rest at refutes.
 pub returns-clause-judged : goal.returns-clause-judged
 returns-clause-judged c =
     IfOk-weaker c.past_clauses.result
-    (AreClausesJudged c.args.cnf.now.variables c.args.cnf.now.clauses c.in-Some.rest.now
+    (AreClausesJudged c.args.checker.now.variables c.args.checker.now.clauses c.in-Some.rest.now
     c.in-Some-log_head.count)
-    (IsLogJudged c.args.cnf.now.variables c.args.cnf.now.clauses c.args.text.now)
-    (log_judged c.args.cnf.now.variables c.args.cnf.now.clauses c.args.text.now
+    (IsLogJudged c.args.checker.now.variables c.args.checker.now.clauses c.args.text.now)
+    (log_judged c.args.checker.now.variables c.args.checker.now.clauses c.args.text.now
     c.in-Some.rest.now c.split_line.result.0.now c.in-Some-log_head.count
     (c.split_line.ensures.lines
     ∙ ap (λ o. c.split_line.result.0.now ∷ left_lines (option_copied o)) c.in-Some.is)

@@ -1,6 +1,7 @@
-use Rattle.std.proofs.Common.{◌≡◌, ◌≤◌, List, drop, length}
+use Rattle.std.proofs.Common.{◌≡◌, ◌+◌, ◌≤◌, List, drop, length}
 use Rattle.hy_base.specs.declared.reading.TheConstants.{BYTES_LIMIT}
 use Rattle.chain_check.specs.declared.logs.Learned.{Learned}
+use Rattle.cnf_frames.specs.Queries.{groups}
 use Rattle.induction_judge.specs.Asking.{AreRefuted, places}
 use Rattle.induction_judge.specs.Reading.{AreLogs}
 use Rattle.induction_judge.proofs.queries.are_refuted.Given as goal
@@ -11,6 +12,6 @@ invariant-loop-place l = record {
   short : length l.left ≤ BYTES_LIMIT;
   going : (logs : List (List Learned)) → AreLogs l.text logs
       → length logs ≡ places l.facts l.depth
-      → AreLogs l.left (drop l.place logs)
-      × AreRefuted l.safe l.facts l.depth logs l.place;
+      → AreLogs l.left (drop (groups l.facts + l.place) logs)
+      × AreRefuted l.safe l.facts l.depth logs (groups l.facts + l.place);
 }
