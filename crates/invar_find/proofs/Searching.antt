@@ -1,5 +1,5 @@
 -- The steps of the search: facts that a step breaks, and groups that were spent.
-use Rattle.std.proofs.Common.{◌≡◌, ℕ, ◌+◌, ◌*◌, ◌<◌, ◌≤◌, Bool, List, [], ◌∷◌, ◌++◌, length, drop, inl, inr, refl, sym, ap, ◌∙◌, subst, arith, length-drop, length-append}
+use Rattle.std.proofs.Common.{◌≡◌, ℕ, ◌+◌, ◌*◌, ◌<◌, Bool, List, [], ◌∷◌, ◌++◌, length, drop, inl, inr, sym, ap, ◌∙◌, subst, arith, length-drop, length-append}
 use Rattle.std.specs.Prelude.{Contains}
 use Rattle.std.proofs.Math.Seq.{get_or-append_seam}
 use Rattle.std.proofs.lemmas.Bool.{cases_eq}
@@ -19,7 +19,7 @@ use Rattle.cnf_frames.specs.declared.queries.Asked.TheVariants.{Keep}
 use Rattle.cnf_frames.specs.declared.queries.Query.{Query}
 use Rattle.cnf_frames.specs.declared.queries.FrameError.{FrameError}
 use Rattle.cnf_frames.specs.declared.queries.FrameError.TheVariants.{Limit, Memory}
-use Rattle.cnf_frames.specs.Facts.{AllHold, AreAmong, IsInductive, IsSafe, fact_at, HoldsIn}
+use Rattle.cnf_frames.specs.Facts.{AllHold, IsSafe, fact_at}
 use Rattle.cnf_frames.specs.Queries.{IsQuery, IsRefusal, IsWithin, clauses_of, group_of, groups, variables_of}
 use Rattle.cnf_frames.specs.QueryPaths.{IsKeepPath, word_of}
 use Rattle.cnf_frames.specs.Proofs.{AreKeepsWithin, AreKept, IsRefuted, log_at}
@@ -30,8 +30,9 @@ use Rattle.cnf_frames.proofs.Surviving.{survives}
 use Rattle.invar_find.specs.declared.kept.SpentGroup.{SpentGroup}
 use Rattle.invar_find.specs.Kepts.{AreStarting, IsKeptOf, IsSpentGroup, IsStoppedAt}
 use Rattle.invar_find.specs.Parts.{AreThose, IsOutside, IsSublist}
-use Rattle.invar_find.specs.Searches.{AllHoldIn, IsSearching}
-use Rattle.invar_find.proofs.Sublists.{sublist-among, sublist-length, sublist-shorter, sublist-trans, those-all}
+use Rattle.invar_find.specs.Searches.{IsSearching}
+use Rattle.invar_find.specs.Standing.{AreLeft}
+use Rattle.invar_find.proofs.Sublists.{sublist-among, sublist-length, sublist-shorter, sublist-trans}
 use Rattle.invar_find.proofs.Starting.{holds-alike}
 use Rattle.invar_find.proofs.Settled.{AreSettled}
 
@@ -64,18 +65,22 @@ part-spent safe tried conflicts facts left s part was = record {
 
 -- ---- facts that a step breaks
 
--- Facts that hold in a state that has each inductive list among the facts.
-pub held-left : (safe : SafeNet) (tried : List Fact) (conflicts : ℕ) (facts left : List Fact) (gone : List SpentGroup)
-    (state : List Bool) → IsSearching safe tried conflicts facts gone →
-    ((some : List Fact) → IsInductive safe.net some → AreAmong some facts →
-    AllHoldIn (row state) some) →
-    AreThose (HoldsIn (row state)) facts left → IsSearching safe tried conflicts left gone
-held-left safe tried conflicts facts left gone state search survive those = record {
+-- facts that are left of those that hold after a step from a state with all facts
+step-left : (safe : SafeNet) (tried : List Fact) (conflicts : ℕ) (facts left : List Fact)
+    (gone : List SpentGroup) (state : List Bool) (word : Word) →
+    IsSearching safe tried conflicts facts gone → IsPath safe.net 1 word →
+    AllHold safe.net facts (word 0) →
+    ((j : ℕ) → j < length safe.net.latches → row state j ≡ word 1 (latch_variable safe.net j)) →
+    AreLeft safe.net facts (row state) left → IsSearching safe tried conflicts left gone
+step-left safe tried conflicts facts left gone state word search along known same those = record {
   starting = part-starting safe tried facts left search.starting those.sublist;
   unspent = λ f has. search.unspent f (sublist-among _ _ those.sublist f has);
-  greatest = λ some inductive opens f has.
+  greatest = λ some inductive opens.
       let among = search.greatest some inductive opens in
-      those.whole f (among f has) (survive some inductive among f has);
+      those.spared some inductive among (λ f has.
+      (holds-alike safe.net (word 1) (length safe.net.latches) (row state) same f
+      (search.starting.inside f (among f has))).1
+      (survives safe.net facts some inductive among word along known f has));
   spent = λ s has. part-spent safe tried conflicts facts left s those.sublist (search.spent s has);
   few =
       let less = sublist-length those.sublist in
@@ -83,24 +88,12 @@ held-left safe tried conflicts facts left gone state search survive those = reco
       omega (arith, less, few);
 }
 
--- A step from a state with all facts.
-step-left : (safe : SafeNet) (tried : List Fact) (conflicts : ℕ) (facts left : List Fact) (gone : List SpentGroup)
-    (state : List Bool) (word : Word) → IsSearching safe tried conflicts facts gone →
-    IsPath safe.net 1 word → AllHold safe.net facts (word 0) →
-    ((j : ℕ) → j < length safe.net.latches → row state j ≡ word 1 (latch_variable safe.net j)) →
-    AreThose (HoldsIn (row state)) facts left → IsSearching safe tried conflicts left gone
-step-left safe tried conflicts facts left gone state word search along known same =
-    held-left safe tried conflicts facts left gone state search (λ some inductive among f has.
-    (holds-alike safe.net (word 1) (length safe.net.latches) (row state) same f
-    (search.starting.inside f (among f has))).1
-    (survives safe.net facts some inductive among word along known f has))
-
-pub broken-left : (safe : SafeNet) (tried : List Fact) (conflicts group : ℕ) (facts left : List Fact)
+broken-left : (safe : SafeNet) (tried : List Fact) (conflicts group : ℕ) (facts left : List Fact)
     (gone : List SpentGroup) (state : List Bool) (word : Word) →
     IsSearching safe tried conflicts facts gone →
     IsKeepPath safe.net facts (group_of facts group) word →
     ((j : ℕ) → j < length safe.net.latches → row state j ≡ word 1 (latch_variable safe.net j)) →
-    AreThose (HoldsIn (row state)) facts left →
+    AreLeft safe.net facts (row state) left →
     IsSearching safe tried conflicts left gone × (length left < length facts)
 broken-left safe tried conflicts group facts left gone state word search path same those = (
   step-left safe tried conflicts facts left gone state word search path.along path.known same those,
@@ -118,34 +111,13 @@ pub satisfied-left : (safe : SafeNet) (tried : List Fact) (conflicts group : ℕ
     IsOutcome query.cnf.variables query.cnf.clauses conflicts (Satisfied values) →
     ((j : ℕ) → j < length safe.net.latches →
     row state j ≡ word_of safe values 1 (latch_variable safe.net j)) →
-    AreThose (HoldsIn (row state)) facts left →
+    AreLeft safe.net facts (row state) left →
     IsSearching safe tried conflicts left gone × (length left < length facts)
 satisfied-left safe tried conflicts group facts left gone state values query is search right outcome same
     those =
     let C : List Clause → Type 0 = SatisfiesAll values in
     broken-left safe tried conflicts group facts left gone state (word_of safe values) search
     (answered safe (Keep facts group) values is (subst C right.clauses outcome.1)) same those
-
--- An assignment of a query of other facts is such a step where all facts hold before it.
-pub sifted-left : (safe : SafeNet) (tried : List Fact) (conflicts group : ℕ) (basis facts known left : List Fact)
-    (gone : List SpentGroup) (before state values : List Bool) (query : Query) → IsSafe safe →
-    IsSearching safe tried conflicts facts gone → IsQuery safe (Keep basis group) query →
-    IsOutcome query.cnf.variables query.cnf.clauses conflicts (Satisfied values) →
-    ((j : ℕ) → j < length safe.net.latches →
-    row before j ≡ word_of safe values 0 (latch_variable safe.net j)) →
-    AreThose (HoldsIn (row before)) facts known → length facts ≤ length known →
-    ((j : ℕ) → j < length safe.net.latches →
-    row state j ≡ word_of safe values 1 (latch_variable safe.net j)) →
-    AreThose (HoldsIn (row state)) facts left → IsSearching safe tried conflicts left gone
-sifted-left safe tried conflicts group basis facts known left gone before state values query is search
-    right outcome first holds le same those =
-    let C : List Clause → Type 0 = SatisfiesAll values in
-    let path : IsKeepPath safe.net basis (group_of basis group) (word_of safe values) =
-    answered safe (Keep basis group) values is (subst C right.clauses outcome.1) in
-    step-left safe tried conflicts facts left gone state (word_of safe values) search path.along
-    (λ f has. (holds-alike safe.net (word_of safe values 0) (length safe.net.latches) (row before)
-    first f (search.starting.inside f has)).0
-    (those-all (HoldsIn (row before)) facts known holds le f has)) same those
 
 -- ---- groups that were spent
 
@@ -232,14 +204,6 @@ stopped safe tried facts group (Limit limit) starting within (past, most) =
 stopped safe tried facts group Memory starting within refused = tt
 
 -- ---- groups that no step breaks
-
-pub settled-none : (safe : SafeNet) (facts : List Fact) → AreSettled safe facts 0 []
-settled-none safe facts = record {
-  within = omega arith;
-  many = refl;
-  each = λ g lt. absurd (omega arith);
-  made = λ g lt. absurd (omega arith);
-}
 
 pub settled-more : (safe : SafeNet) (facts : List Fact) (group : ℕ)
     (logs more : List (List Learned)) (log : List Learned) → AreSettled safe facts group logs →

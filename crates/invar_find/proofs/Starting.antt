@@ -1,28 +1,37 @@
 -- The candidates, and those that are true at the start.
 use Rattle.std.proofs.Common.{◌≡◌, ℕ, zero, suc, ◌+◌, ◌*◌, ◌<◌, ◌≤◌, ◌^◌, min, Bool, false, List, [], ◌∷◌, ◌++◌, length, inl, inr, refl, sym, ◌∙◌, subst, arith, length-append}
-use Rattle.std.specs.Prelude.{Contains, ◌↔◌, Result, Ok, Err, IfOk}
+use Rattle.std.specs.Prelude.{Contains, ◌↔◌, Result, Ok, Err, IfErr, IfOk}
 use Rattle.std.proofs.lemmas.List.Elements.{Contains-append_cases, Contains-get_or}
 use Rattle.std.proofs.lemmas.List.Folds.{list_any_none}
 use Rattle.hy_base.proofs.Members.{contains-none, contains-cases}
 use Rattle.aig_net.specs.declared.parts.Reset.{Reset}
 use Rattle.aig_net.specs.Nets.{Net, Valuation, IsStart, ResetTo, latch_variable}
-use Rattle.hy_base.specs.Rows.{row}
 use Rattle.live_safe.specs.declared.safe_net.SafeNet.{SafeNet}
 use Rattle.cnf_frames.specs.declared.facts.Fact.{Fact}
 use Rattle.cnf_frames.specs.declared.facts.Fact.TheVariants.{Zero, One, Same, Differ, AnyOf}
-use Rattle.cnf_frames.specs.Facts.{FactHolds, AllIn, IsIn, IsSafe, HoldsIn}
+use Rattle.cnf_frames.specs.declared.queries.FrameError.{FrameError}
+use Rattle.cnf_frames.specs.declared.queries.FrameError.TheVariants.{Limit, Memory}
+use Rattle.cnf_frames.specs.Facts.{FactHolds, AllIn, AreAmong, IsIn, IsInductive, IsSafe, HoldsIn}
 use Rattle.cnf_frames.specs.ProofTexts.{AreSimple, is_clause}
 use Rattle.cnf_frames.proofs.DistinctChosen.{any-alike}
 use Rattle.chain_check.specs.FewClauses.{for_each}
 use Rattle.invar_find.specs.Candidates.{candidates, pairs_with, single_facts}
-use Rattle.invar_find.specs.Parts.{AreThose, IsSublist}
+use Rattle.invar_find.specs.declared.kept.Kept.{Kept}
+use Rattle.invar_find.specs.Kepts.{AreStarting, IsKeptOf, IsStoppedAt}
+use Rattle.invar_find.specs.Parts.{IsSublist}
 use Rattle.invar_find.specs.Searches.{IsSearching}
-use Rattle.invar_find.proofs.Sublists.{sublist-among, sublist-length}
+use Rattle.invar_find.specs.Standing.{AreLeft}
+use Rattle.invar_find.proofs.Sublists.{sublist-among, sublist-length, sublist-trans}
 
 pub if-ok-map : {T E : Type 0} (r : Result T E) (P Q : T → Type 0) → IfOk r P →
     ((v : T) → P v → Q v) → IfOk r Q
 if-ok-map (Ok v) P Q h f = f v h
 if-ok-map (Err e) P Q h f = tt
+
+pub if-err-map : {T E : Type 0} (r : Result T E) (P Q : E → Type 0) → IfErr r P →
+    ((e : E) → P e → Q e) → IfErr r Q
+if-err-map (Ok v) P Q h f = tt
+if-err-map (Err e) P Q h f = f e h
 
 -- ---- which candidates there are
 
@@ -34,13 +43,13 @@ for_each-cases g (suc n) f has = elim (Contains-append_cases (for_each g n) (g n
   | inr here ↦ (n, omega arith, here)
 ]
 
-for_each-all : (P : Fact → Type 0) (g : ℕ → List Fact) (n : ℕ) →
+pub for_each-all : (P : Fact → Type 0) (g : ℕ → List Fact) (n : ℕ) →
     ((i : ℕ) → i < n → (f : Fact) → Contains (g i) f → P f) → (f : Fact) →
     Contains (for_each g n) f → P f
 for_each-all P g n each f has =
     let (i, lt, one) = for_each-cases g n f has in each i lt f one
 
-two-all : (P : Fact → Type 0) (a b : Fact) → P a → P b → (f : Fact) →
+pub two-all : (P : Fact → Type 0) (a b : Fact) → P a → P b → (f : Fact) →
     Contains (a ∷ b ∷ []) f → P f
 two-all P a b first second f has = elim (contains-cases a f (b ∷ []) has) [
   | inl same ↦ subst P same first
@@ -122,36 +131,88 @@ holds-alike net v n state same (AnyOf ls) (some, all) =
 
 -- ---- the start
 
+further-starting : (safe : SafeNet) (tried facts some : List Fact) → IsSublist facts tried →
+    AreStarting safe facts some → AreStarting safe tried some
+further-starting safe tried facts some part was = record {
+  sublist = sublist-trans was.sublist part;
+  inside = was.inside;
+  starts = was.starts;
+}
+
 start-false : (safe : SafeNet) → IsSafe safe → (v : Valuation) → IsStart safe.net v → (j : ℕ) →
     j < length safe.net.latches → v (latch_variable safe.net j) ≡ false
 start-false safe is v start j lt =
     let P : Reset → Type 0 = λ r. ResetTo r (v (latch_variable safe.net j)) in
     subst P (is.zero j) (start j lt)
 
-pub started : (safe : SafeNet) (conflicts : ℕ) (tried facts : List Fact) (state : List Bool) →
-    IsSafe safe → AllIn (length safe.net.latches) tried → length tried < 2 ^ 37 →
-    ((j : ℕ) → j < length safe.net.latches → row state j ≡ false) →
-    AreThose (HoldsIn (row state)) tried facts → IsSearching safe tried conflicts facts []
-started safe conflicts tried facts state is inside room zeros those = record {
-  starting = record {
+module _ (safe : SafeNet) (tried facts : List Fact) (state : ℕ → Bool) (is : IsSafe safe)
+    (inside : AllIn (length safe.net.latches) tried)
+    (zeros : (j : ℕ) → j < length safe.net.latches → state j ≡ false)
+    (those : AreLeft safe.net tried state facts) where
+  left-starting : AreStarting safe tried facts
+  left-starting = record {
     sublist = those.sublist;
     inside = λ f has. inside f (sublist-among _ _ those.sublist f has);
     starts = λ v start f has.
-        (holds-alike safe.net v (length safe.net.latches) (row state)
+        (holds-alike safe.net v (length safe.net.latches) state
         (λ j lt. zeros j lt ∙ sym (start-false safe is v start j lt)) f
         (inside f (sublist-among _ _ those.sublist f has))).0
         (those.right f has);
-  };
-  unspent = λ f has (s, among, _). contains-none s among;
-  greatest = λ some inductive opens f has.
-      let here = (opens f has).candidate in
+  }
+
+  left-greatest : (some : List Fact) → IsInductive safe.net some →
+      ((f : Fact) → Contains some f → Contains tried f) → AreAmong some facts
+  left-greatest some inductive among =
       let v : Valuation = λ _. false in
-      those.whole f here
-      ((holds-alike safe.net v (length safe.net.latches) (row state) zeros f (inside f here)).1
+      those.spared some inductive among (λ f has.
+      (holds-alike safe.net v (length safe.net.latches) state zeros f
+      (inside f (among f has))).1
       (inductive.starts v (λ j lt. let P : Reset → Type 0 = λ r. ResetTo r false in
-      subst P (sym (is.zero j)) refl) f has));
+      subst P (sym (is.zero j)) refl) f has))
+
+pub started : (safe : SafeNet) (conflicts : ℕ) (tried facts : List Fact) (state : ℕ → Bool) →
+    IsSafe safe → AllIn (length safe.net.latches) tried → length tried < 2 ^ 37 →
+    ((j : ℕ) → j < length safe.net.latches → state j ≡ false) →
+    AreLeft safe.net tried state facts → IsSearching safe tried conflicts facts []
+started safe conflicts tried facts state is inside room zeros those = record {
+  starting = left-starting safe tried facts state is inside zeros those;
+  unspent = λ f has (s, among, _). contains-none s among;
+  greatest = λ some inductive opens. left-greatest safe tried facts state is inside zeros those some
+      inductive (λ f has. (opens f has).candidate);
   spent = λ s among. absurd (contains-none s among);
   few =
       let less = sublist-length those.sublist in
       omega (arith, less, room);
 }
+
+-- What is kept of candidates that are left of others is what is kept of these.
+pub kept-further : (safe : SafeNet) (conflicts : ℕ) (tried facts : List Fact) (state : ℕ → Bool)
+    (kept : Kept) → IsSafe safe → AllIn (length safe.net.latches) tried →
+    ((j : ℕ) → j < length safe.net.latches → state j ≡ false) →
+    AreLeft safe.net tried state facts → IsKeptOf safe facts conflicts kept →
+    IsKeptOf safe tried conflicts kept
+kept-further safe conflicts tried facts state kept is inside zeros those was = record {
+  inside = was.inside;
+  inductive = was.inductive;
+  starting = further-starting safe tried facts kept.inv those.sublist was.starting;
+  unspent = was.unspent;
+  greatest = λ some inductive opens. was.greatest some inductive (λ f has. record {
+    candidate = left-greatest safe tried facts state is inside zeros those some inductive
+        (λ g there. (opens g there).candidate) f has;
+    unspent = (opens f has).unspent;
+  });
+  logs = was.logs;
+  within = was.within;
+  spent = λ s has. let spent = was.spent s has in record {
+    starting = further-starting safe tried facts s.facts those.sublist spent.starting;
+    among = spent.among;
+    group = spent.group;
+    spent = spent.spent;
+  };
+}
+
+pub stopped-further : (safe : SafeNet) (tried facts : List Fact) (e : FrameError) →
+    IsSublist facts tried → IsStoppedAt safe facts e → IsStoppedAt safe tried e
+stopped-further safe tried facts (Limit limit) part (some, group, starting, within, past, most) =
+    (some, group, further-starting safe tried facts some part starting, within, past, most)
+stopped-further safe tried facts Memory part stopped = tt

@@ -1,7 +1,8 @@
 -- Sublists, and those facts for which something holds.
 use Rattle.std.proofs.Common.{◌≡◌, ℕ, ◌+◌, ◌<◌, ◌≤◌, List, [], ◌∷◌, ◌++◌, length, inl, inr, sym, ◌∙◌, ap, subst, arith, get_or, take}
-use Rattle.std.specs.Prelude.{Contains}
-use Rattle.std.proofs.lemmas.List.{append-nil, take_all, take_more}
+use Rattle.std.specs.Prelude.{Contains, Some, slice_get}
+use Rattle.std.proofs.lemmas.Option.{get_or_from_slice_get, slice_get_within}
+use Rattle.std.proofs.lemmas.List.{append-nil, take_more}
 use Rattle.std.proofs.lemmas.List.Elements.{Contains-append_left, Contains-append_right, Contains-push, Contains-push_cases}
 use Rattle.hy_base.proofs.Members.{contains-none, contains-cases}
 use Rattle.cnf_frames.specs.declared.facts.Fact.{Fact}
@@ -97,26 +98,6 @@ those-less P all some f those fails = record {
   ];
 }
 
--- ---- none of which is missing
-
-sublist-whole : (some all : List Fact) → IsSublist some all → length all ≤ length some →
-    (f : Fact) → Contains all f → Contains some f
-sublist-whole some all none le f has = has
-sublist-whole some (g ∷ all) (leaves s) le f has =
-    let h = sublist-length s in absurd (omega (arith, h, le))
-sublist-whole (g ∷ some) (g' ∷ all) (takes s) le f has = elim (contains-cases g f all has) [
-  | inl same ↦
-      let P : Fact → Type 0 = λ x. Contains (g ∷ some) x in
-      subst P same (Contains-append_left (g ∷ []) some g (Contains-push [] g))
-  | inr later ↦
-      Contains-append_right (g ∷ []) some f (sublist-whole some all s (omega (arith, le)) f later)
-]
-
-pub those-all : (P : Fact → Type 0) (all some : List Fact) → AreThose P all some →
-    length all ≤ length some → (f : Fact) → Contains all f → P f
-those-all P all some those le f has =
-    those.right f (sublist-whole some all those.sublist le f has)
-
 -- ---- along a list
 
 more-taken : (all : List Fact) (i : ℕ) (f : Fact) → i < length all → f ≡ get_or all i f →
@@ -141,21 +122,16 @@ those-left P all some left i f those lt at fails e =
     subst A (sym (more-taken all i f lt at))
     (subst L (sym e) (those-less P (take i all) some f those fails))
 
-pub those-whole : (P : Fact → Type 0) (all items some : List Fact) (n : ℕ) →
-    AreThose P (take n items) some → items ≡ all → length items ≤ n → AreThose P all some
-those-whole P all items some n those e le =
-    let A : List Fact → Type 0 = λ all. AreThose P all some in
-    subst A (take_all n items le ∙ e) those
-
-pub in-more : (n : ℕ) (facts items basis left : List Fact) (i : ℕ) (g : Fact) → AllIn n facts →
-    items ≡ facts → AllIn n basis → i < length items → g ≡ get_or items i g →
-    left ≡ basis ++ g ∷ [] → AllIn n left
-in-more n facts items basis left i g inside e before lt at made f has =
-    let M : List Fact → Type 0 = λ left. Contains left f in
-    elim (Contains-push_cases basis g f (subst M made has)) [
-      | inl old ↦ before f old
-      | inr same ↦
-          let C : List Fact → Type 0 = λ facts. Contains facts g in
-          let P : Fact → Type 0 = IsIn n in
-          subst P same (inside g (subst C e (i, lt, sym at)))
+pub in-push : (n : ℕ) (facts more : List Fact) (f : Fact) → AllIn n facts → IsIn n f →
+    more ≡ facts ++ f ∷ [] → AllIn n more
+in-push n facts more f inside here made g has =
+    let M : List Fact → Type 0 = λ more. Contains more g in
+    elim (Contains-push_cases facts f g (subst M made has)) [
+      | inl old ↦ inside g old
+      | inr same ↦ let P : Fact → Type 0 = IsIn n in subst P same here
     ]
+
+pub in-at : (n : ℕ) (facts : List Fact) (k : ℕ) (f : Fact) → AllIn n facts →
+    slice_get facts k ≡ Some f → IsIn n f
+in-at n facts k f inside at =
+    inside f (k, slice_get_within facts k f at, get_or_from_slice_get facts k f f at)

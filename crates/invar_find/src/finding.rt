@@ -5,15 +5,18 @@ ghost use Rattle.cnf_frames.specs.declared.queries.Asked.TheVariants.{Keep};
 ghost use Rattle.cnf_frames.specs.Facts.{AllIn, IsSafe};
 ghost use Rattle.cnf_frames.specs.Queries.{IsWithin, groups};
 ghost use Rattle.cnf_frames.specs.Proofs.{AreKeepsWithin, AreKept, IsRefuted};
+ghost use Rattle.invar_find.specs.Candidates.{candidates};
+ghost use Rattle.invar_find.specs.Standing.{AreLeft, start_values};
 ghost use Rattle.invar_find.specs.Kepts.{IsKept, IsKeptOf, IsStopped, IsStoppedAt};
 ghost use Rattle.invar_find.specs.Searches.{IsSearching};
 
-use crate::candidates::candidates;
+use crate::candidates::{PAIRED, candidates_in};
 use crate::kept::{Kept, SpentGroup, SpentList};
-use crate::left::{held, inputs_of, outside, state_after};
-use crate::sifting::sift;
+use crate::leaving::{sifted, walked};
+use crate::left::{count_latches, inputs_of, outside, state_after};
+use crate::seen::Seen;
+use crate::sifting::walk_first;
 use crate::trial::Trial;
-use crate::walking::walk;
 use chain_check::Log;
 use cnf_frames::{FrameError, Inv, LogList, keep_query};
 use hy_base::{List, M};
@@ -22,17 +25,24 @@ use sat_core::{Outcome, solve};
 use std::alloc::Global;
 use std::mem;
 
-/// The candidates that are true at the start.
+/// The candidates that are true at the start, but for those that steps are found to break.
 fn starting(alloc: Global, trial: &Trial<'_>) -> M<Inv>
     requires safe { IsSafe trial.now.safe.now }
     requires inside { AllIn (length trial.now.safe.now.net.latches) trial.now.candidates.now }
     requires few { length trial.now.candidates.now < 2 ^ 37 }
+    requires conflicts { trial.now.conflicts < 2 ^ 31 }
     ensures { IfOk result (λ facts. IsSearching trial.now.safe.now trial.now.candidates.now
         trial.now.conflicts facts []) }
 {
     let latches = trial.safe.net.latches().len();
     let zeros = List::filled(alloc, false, latches)?;
-    held(alloc, zeros.as_slice(), trial.candidates)
+    sifted(
+        alloc,
+        trial.safe,
+        trial.candidates,
+        zeros.as_slice(),
+        trial.conflicts,
+    )
 }
 
 /// Asks whether a step breaks a fact of the group: a refutation, or none where facts were left out,
@@ -62,9 +72,8 @@ fn ask_group(
         Outcome::Refuted(log) => Ok(Some(log)),
         Outcome::Satisfied(values) => {
             let after = state_after(trial.safe, values.as_slice());
-            *facts = held(alloc, after, facts)?;
             let inputs = inputs_of(trial.safe, values.as_slice());
-            walk(alloc, trial, facts, after, inputs)?;
+            *facts = walked(alloc, trial.safe, facts, after, inputs)?;
             Ok(None)
         }
         Outcome::Spent(log) => {
@@ -112,11 +121,11 @@ fn ask_all(
 }
 
 /// Inductive facts: of the candidates those of the greatest inductive list, but for groups on whose
-/// query `conflicts` clauses were learned in vain. First come queries over clauses linear in the
-/// net, some for each latch at most, until they leave no more facts out. Each round then asks one
+/// query `conflicts` clauses were learned in vain. First come rounds of queries over clauses linear in
+/// the net, two for each latch at most, until they leave no more facts out. Each round then asks one
 /// query for each 64 facts, over clauses linear in the net and in all facts; a further round is
-/// needed only where one left facts out. From where a query leads goes a walk, each step in time
-/// linear in the net and the facts, as long as it leaves facts out.
+/// needed only where one left facts out. From where a query leads go walks, 64 at once and each step
+/// in time linear in the net, as long as they leave facts out.
 ///
 /// # Errors
 ///
@@ -140,7 +149,6 @@ pub fn invariants_of(
         conflicts,
     };
     let mut facts = starting(alloc, &trial)?;
-    sift(alloc, &trial, &mut facts)?;
     let mut spent = List::new(alloc);
     'rounds: loop {
         let before = facts.len();
@@ -153,6 +161,21 @@ pub fn invariants_of(
             });
         }
     }
+}
+
+/// The simple candidates that hold at the start, but for those that first walks break.
+fn candidates_behind(alloc: Global, safe: &SafeNet, conflicts: u32) -> M<Inv>
+    requires safe { IsSafe safe.now }
+    requires conflicts { conflicts < 2 ^ 31 }
+    ensures { IfOk result (AreLeft safe.now.net (candidates (length safe.now.net.latches))
+        (start_values safe.now.net)) }
+{
+    let latches = count_latches(safe);
+    let mut seen = Seen::of_pairs(alloc, latches, latches.min(PAIRED))?;
+    let zeros = List::filled(alloc, false, latches as usize)?;
+    seen.meet(zeros.as_slice());
+    walk_first(alloc, safe, &mut seen, conflicts)?;
+    candidates_in(alloc, &seen)
 }
 
 /// Inductive facts of the simple candidates: for each latch that it is 0, and that it is 1, and for
@@ -169,6 +192,6 @@ pub fn invariants(alloc: Global, safe: &SafeNet, conflicts: u32) -> Result<Kept,
     ensures refused { IfErr result (IsStopped safe.now) }
 {
     safe.net.variables(); // what each net keeps
-    let all = candidates(alloc, safe.net.latches().len() as u32)?;
+    let all = candidates_behind(alloc, safe, conflicts)?;
     invariants_of(alloc, safe, &all, conflicts)
 }

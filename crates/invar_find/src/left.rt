@@ -1,6 +1,6 @@
 //! What is left of facts.
 
-ghost use Rattle.std.specs.Prelude.{◌≡◌, ◌*◌, ◌+◌, ◌<◌, ◌≤◌, ◌↔◌, [], ◌∷◌, ◌++◌, ℕ, All, Contains, length, IsTrue, IfOk, OnOk};
+ghost use Rattle.std.specs.Prelude.{◌≡◌, ◌*◌, ◌+◌, ◌<◌, ◌≤◌, ◌^◌, ◌↔◌, [], ◌∷◌, ◌++◌, ℕ, All, Contains, length, IsTrue, IfOk, OnOk};
 ghost use Rattle.aig_net.specs.Nets.{Below, latch_variable, literal_value, variables};
 ghost use Rattle.hy_base.specs.Rows.{row};
 ghost use Rattle.live_safe.specs.declared.safe_net.SafeNet.{SafeNet};
@@ -13,6 +13,15 @@ use cnf_frames::{Fact, Inv};
 use hy_base::{List, M, Remake};
 use live_safe::SafeNet;
 use std::alloc::Global;
+
+/// How many latches a safe net has.
+pub fn count_latches(safe: &SafeNet) -> u32
+    ensures many { result ≡ length safe.now.net.latches }
+    ensures few { result < 2 ^ 31 }
+{
+    safe.net.variables(); // what each net keeps
+    safe.net.latches().len() as u32
+}
 
 /// The latch values after the step of an assignment.
 pub fn state_after<'a>(safe: &SafeNet, values: &'a [bool]) -> &'a [bool]
@@ -69,7 +78,7 @@ fn is_any_true(state: &[bool], literals: &[u32]) -> bool
 }
 
 /// Whether the fact holds in a state.
-fn holds(state: &[bool], fact: &Fact) -> bool
+pub fn holds(state: &[bool], fact: &Fact) -> bool
     requires { IsIn (length state.now) fact.now }
     ensures { IsTrue result ↔ HoldsIn (row state.now) fact.now }
 {
@@ -88,20 +97,6 @@ pub fn push_copy(alloc: Global, facts: &mut Inv, fact: &Fact) -> M<()>
 {
     let copy = fact.remake(alloc)?;
     facts.push(copy)
-}
-
-/// The facts that hold in a state, in time linear in the facts.
-pub fn held(alloc: Global, state: &[bool], facts: &Inv) -> M<Inv>
-    requires { AllIn (length state.now) facts.now }
-    ensures { IfOk result (AreThose (HoldsIn (row state.now)) facts.now) }
-{
-    let mut left = List::new(alloc);
-    for fact in facts.as_slice() {
-        if holds(state, fact) {
-            push_copy(alloc, &mut left, fact)?;
-        }
-    }
-    Ok(left)
 }
 
 /// Whether both facts are the same.

@@ -1,11 +1,9 @@
-use Rattle.std.proofs.Common.{ℕ, sym, ap, subst, ◌∙◌, arith}
+use Rattle.std.proofs.Common.{ap, subst, ◌∙◌}
 use Rattle.std.proofs.lemmas.Result.{err_from_is_err_and}
 use Rattle.aig_net.specs.Nets.{latch_variable}
-use Rattle.cnf_frames.specs.Facts.{AllIn}
 use Rattle.cnf_frames.specs.QueryPaths.{word_of}
 use Rattle.sat_core.specs.declared.solving.Outcome.{Outcome}
 use Rattle.sat_core.specs.Outcomes.{IsOutcome}
-use Rattle.invar_find.proofs.Sublists.{sublist-among, sublist-length}
 use Rattle.invar_find.proofs.Searching.{stopped, satisfied-left, spent-pushed}
 use Rattle.invar_find.proofs.finding.ask_group.Goals as goal
 
@@ -20,18 +18,12 @@ returns-in_err-query-clause-refused c =
     (stopped c.args.trial.now.safe.now c.args.trial.now.candidates.now c.args.facts.now c.args.group c.in_err-query.field-0.0
     c.requires.searching.starting c.requires.group c.in_err-query.ensures.refused)
 
-pub held-requires : goal.held-requires
-held-requires c =
-    let N : ℕ → Type 0 = λ n. AllIn n c.args.facts.now in
-    subst N (sym c.state_after-after.ensures.many)
+pub walked-requires-clause-inside : goal.walked-requires-clause-inside
+walked-requires-clause-inside c =
     c.requires.searching.starting.inside
 
-pub walk-requires-clause-inside : goal.walk-requires-clause-inside
-walk-requires-clause-inside c f has =
-    c.requires.searching.starting.inside f (sublist-among _ _ c.in_ok-facts-in-Satisfied.ensures.sublist f has)
-
 pub returns-in-Satisfied-clause-searching : goal.returns-in-Satisfied-clause-searching
-returns-in-Satisfied-clause-searching c = c.in_ok-walk-in-Satisfied.ensures.goes c.args.spent.now
+returns-in-Satisfied-clause-searching c =
     (satisfied-left c.args.trial.now.safe.now c.args.trial.now.candidates.now c.args.trial.now.conflicts c.args.group c.args.facts.now _
     c.args.spent.now c.state_after-after.result.now c.in-Satisfied.values c.in_ok-query.query
     c.requires.safe c.requires.searching c.in_ok-query.ensures.query
@@ -45,7 +37,7 @@ returns-in-Satisfied-clause-searching c = c.in_ok-walk-in-Satisfied.ensures.goes
 
 pub returns-in-Satisfied-clause-reply : goal.returns-in-Satisfied-clause-reply
 returns-in-Satisfied-clause-reply c =
-    let fewer = (satisfied-left c.args.trial.now.safe.now c.args.trial.now.candidates.now c.args.trial.now.conflicts c.args.group c.args.facts.now _
+    (satisfied-left c.args.trial.now.safe.now c.args.trial.now.candidates.now c.args.trial.now.conflicts c.args.group c.args.facts.now _
     c.args.spent.now c.state_after-after.result.now c.in-Satisfied.values c.in_ok-query.query
     c.requires.safe c.requires.searching c.in_ok-query.ensures.query
     (let P : Outcome → Type 0 = IsOutcome c.in_ok-query.query.cnf.variables
@@ -54,9 +46,7 @@ returns-in-Satisfied-clause-reply c =
     (λ j lt. c.state_after-after.ensures.state j lt
     ∙ ap (λ values. word_of c.args.trial.now.safe.now values 1 (latch_variable c.args.trial.now.safe.now.net j))
     c.as_slice.ensures)
-    c.in_ok-facts-in-Satisfied.ensures).1 in
-    let less = sublist-length c.in_ok-walk-in-Satisfied.ensures.part in
-    omega (arith, fewer, less)
+    c.in_ok-facts-in-Satisfied.ensures).1
 
 pub returns-clause-searching : goal.returns-clause-searching
 returns-clause-searching c =

@@ -7,8 +7,8 @@ use Rattle.invar_find.proofs.finding.invariants_of.Goals as goal
 pub rounds-init : goal.rounds-init
 rounds-init c =
     let S : List SpentGroup → Type 0 =
-    IsSearching c.args.safe.now c.args.candidates.now c.args.conflicts c.sift.new.facts in
-    subst S (sym c.new-spent.ensures) c.in_ok-sift.ensures
+    IsSearching c.args.safe.now c.args.candidates.now c.args.conflicts c.in_ok-facts.facts in
+    subst S (sym c.new-spent.ensures) c.in_ok-facts.ensures
 
 pub returns-then-len-before-clause-kept : goal.returns-then-len-before-clause-kept
 returns-then-len-before-clause-kept c =

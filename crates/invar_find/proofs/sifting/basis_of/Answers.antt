@@ -1,25 +1,27 @@
-use Rattle.std.proofs.Common.{List, sym, subst, ◌∙◌}
-use Rattle.hy_base.proofs.Members.{contains-none}
+use Rattle.std.proofs.Common.{List, length, subst, sym, ◌∙◌}
 use Rattle.cnf_frames.specs.declared.facts.Fact.{Fact}
 use Rattle.cnf_frames.specs.Facts.{AllIn}
-use Rattle.invar_find.proofs.Sublists.{in-more}
+use Rattle.invar_find.proofs.Sublists.{in-at, in-push}
 use Rattle.invar_find.proofs.sifting.basis_of.Goals as goal
-use Rattle.invar_find.proofs.sifting.basis_of.Goals.{then-mark_last+in_ok-push_copy, else-mark_last}
+use Rattle.invar_find.proofs.sifting.basis_of.Goals.{in-Some+in_ok-push, in_default, then-alive+in_ok-push_copy, else-alive}
 
-pub loop-fact-init : goal.loop-fact-init
-loop-fact-init c =
-    let A : List Fact → Type 0 = AllIn c.args.latches in
-    subst A (sym c.new-basis.ensures) (λ f has. absurd (contains-none f has))
+pub loop-latch-preserved : goal.loop-latch-preserved
+loop-latch-preserved c =
+    let I : List Fact → Type 0 = AllIn (length c.args.seen.now.ones) in
+    elim c.match-fact_about.branch [
+      | in-Some+in_ok-push w ↦
+          in-push _ c.loop-latch.basis _ w.in-Some.fact c.loop-latch.invariant w.in-Some.ensures
+          (w.basis-is ∙ w.in_ok-push.ensures.added)
+      | in_default w ↦ subst I (sym w.basis-is) c.loop-latch.invariant
+    ]
 
-pub loop-fact-preserved : goal.loop-fact-preserved
-loop-fact-preserved c =
-    elim c.if-mark_last.branch [
-      | then-mark_last+in_ok-push_copy w ↦
-          in-more c.args.latches c.args.facts.now c.as_slice-fact-items.result.now
-          c.loop-fact.basis _ c.loop-fact.fact-index c.fact-item.result c.requires
-          c.as_slice-fact-items.ensures c.loop-fact.invariant c.loop-fact-test.true c.fact-item.is
+pub loop-k-preserved : goal.loop-k-preserved
+loop-k-preserved c =
+    let I : List Fact → Type 0 = AllIn (length c.args.seen.now.ones) in
+    elim c.if-alive.branch [
+      | then-alive+in_ok-push_copy w ↦
+          in-push _ c.loop-k.basis _ w.at.result.now c.loop-k.invariant
+          (in-at _ c.args.seen.now.others c.loop-k.k _ c.requires.others w.at.ensures)
           (w.basis-is ∙ w.in_ok-push_copy.ensures)
-      | else-mark_last w ↦
-          let A : List Fact → Type 0 = AllIn c.args.latches in
-          subst A (sym w.basis-is) c.loop-fact.invariant
+      | else-alive w ↦ subst I (sym w.basis-is) c.loop-k.invariant
     ]

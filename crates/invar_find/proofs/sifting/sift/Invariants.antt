@@ -1,6 +1,5 @@
-use Rattle.std.proofs.Common.{[]}
-use Rattle.invar_find.specs.Searches.{IsSearching}
+use Rattle.invar_find.specs.Standing.{Spares}
 use Rattle.invar_find.proofs.sifting.sift.Given as goal
 
-abbrev pub invariant-loop-step : goal.invariant-loop-step
-invariant-loop-step l = IsSearching l.trial.safe.now l.trial.candidates.now l.trial.conflicts l.facts []
+abbrev pub invariant-loop-round : goal.invariant-loop-round
+invariant-loop-round l = Spares l.safe.net l.fn.seen l.seen
