@@ -1,5 +1,5 @@
 -- The bit of an atom in the codes of a list of atoms.
-use Rattle.std.proofs.Common.{◌≡◌, ◌^◌, ◌<◌, ℕ, true, false, ◌&&◌, nat_eq, List, length, take, map, get_or, sym, ap, ◌∙◌, arith}
+use Rattle.std.proofs.Common.{◌≡◌, ◌^◌, ◌<◌, ℕ, true, false, ◌&&◌, nat_eq, List, length, take, map, get_or, ap, ◌∙◌, arith}
 use Rattle.std.specs.List.{list_any}
 use Rattle.std.proofs.lemmas.List.{take-map}
 use Rattle.hy_bits.specs.Binary.{has_one}

@@ -1,18 +1,19 @@
 -- What is added to a family.
-use Rattle.std.proofs.Common.{◌≡◌, ◌⊎◌, ◌+◌, ◌<◌, ℕ, true, false, not, List, [], ◌∷◌, ◌++◌, take, drop, map, length, get_or, set, inl, inr, refl, sym, ap, ◌∙◌, subst, arith, append_assoc}
-use Rattle.std.specs.List.{Contains, list_any}
+use Rattle.std.proofs.Common.{◌≡◌, ◌⊎◌, ◌+◌, ◌<◌, ◌≤◌, ℕ, zero, suc, Bool, true, false, not, cond, List, [], ◌∷◌, ◌++◌, take, drop, filter, map, length, get_or, set, inl, inr, refl, sym, ap, ◌∙◌, subst, arith, append_assoc}
+use Rattle.std.specs.List.{Contains, AllWithin, list_any}
 use Rattle.std.specs.List.Sorted.{IsPermutation}
-use Rattle.std.proofs.lemmas.List.{take_more, take-append-drop, append-nil, map-append}
-use Rattle.std.proofs.lemmas.List.Elements.{Contains-append_left, Contains-append_right, Contains-push_cases}
+use Rattle.std.proofs.lemmas.List.{take_more, take-append-drop, append-nil, map-append, length-take, length-append}
+use Rattle.std.proofs.Math.Seq.{take-append_seam, drop-append_seam}
+use Rattle.std.proofs.lemmas.List.Elements.{Contains-append_left, Contains-append_cases, Contains-push_cases, filter-append}
 use Rattle.std.proofs.lemmas.List.Sorted.{IsPermutation-insert, IsPermutation-to_front, IsPermutation-trans, IsPermutation-sym, Contains-permutation}
-use Rattle.hy_base.proofs.Members.{filter-from, any-of, contains-here, contains-cases, contains-none}
+use Rattle.hy_base.proofs.Members.{filter-from, from-take, any-of, contains-here, contains-later, contains-cases, contains-none}
 use Rattle.hy_formula.specs.Quantifiers.{Each}
-use Rattle.hy_formula.proofs.Each.{each-from, each-at}
+use Rattle.hy_formula.proofs.Each.{each-from, each-at, each-filter}
 use Rattle.fin_monitor.specs.Duties.{Duty, both, joined, within, minimal, Same, AreAlike}
 use Rattle.fin_monitor.specs.Lefts.{kept, precedes, IsAscending, IsFamily, IsPlaceFor}
 use Rattle.fin_monitor.proofs.Alike.{within-itself, alike-itself, alike-through, alike-append}
 use Rattle.fin_monitor.proofs.Minimal.{IsApart, with_duty, alike-kept, kept-alike, apart-kept, apart-minimal}
-use Rattle.fin_monitor.proofs.Order.{precedes-through, precedes-other, same-ascending, ascending-filter, ascending-between, ascending-later}
+use Rattle.fin_monitor.proofs.Order.{within-earlier, precedes-other, same-ascending, ascending-filter, ascending-between}
 
 pub family-kept : (list : List Duty) (d : Duty) → IsFamily list → IsFamily (kept list d)
 family-kept list d is =
@@ -21,17 +22,82 @@ family-kept list d is =
       apart = λ x y cx cy w. is.apart x y (filter-from (λ (e : Duty). not (within d e)) list x cx).0 (filter-from (λ (e : Duty). not (within d e)) list y cy).0 w;
     }
 
--- what stands behind the place
-behind-place : (rest : List Duty) (d : Duty) → IsAscending rest → ((e : Duty) (more : List Duty) → rest ≡ e ∷ more → ¬ (precedes e d ≡ true)) → ((e : Duty) → Contains rest e → ¬ (d ≡ e))
-    → Each (λ (e : Duty). precedes d e ≡ true) rest
-behind-place [] d up first apart = tt
-behind-place (x ∷ xs) d (above, up) first apart =
-    let here : precedes d x ≡ true = precedes-other d x (first x xs refl) (apart x (contains-here x xs)) in
-    (here, each-from (λ (e : Duty). precedes d e ≡ true) xs (λ e c. precedes-through d x e here (each-at (λ (z : Duty). precedes x z ≡ true) xs e above c)))
+-- what holds from one place on up to another, of the front or of the rest
+each-front : (P : Duty → Type 0) (xs : List Duty) (n : ℕ) → n ≤ length xs → AllWithin P xs 0 n → Each P (take n xs)
+each-front P xs zero le h = tt
+each-front P [] (suc n) le h = absurd (omega arith)
+each-front P (x ∷ xs) (suc n) le h = (h 0 x (omega arith) (omega arith), each-front P xs n (omega arith) (λ k d low lt. h (suc k) d (omega arith) (omega arith)))
 
-module _ (list : List Duty) (d : Duty) (is : IsFamily list) (none : list_any (λ (e : Duty). within e d) list ≡ false) (place : ℕ) (at : IsPlaceFor (kept list d) d place) where
+each-rest : (P : Duty → Type 0) (xs : List Duty) (n : ℕ) → AllWithin P xs n (length xs) → Each P (drop n xs)
+each-rest P [] zero h = tt
+each-rest P [] (suc n) h = tt
+each-rest P (x ∷ xs) zero h = (h 0 x (omega arith) (omega arith), each-rest P xs zero (λ k d low lt. h (suc k) d (omega arith) (omega arith)))
+each-rest P (x ∷ xs) (suc n) h = each-rest P xs n (λ k d low lt. h (suc k) d (omega arith) (omega arith))
+
+filter-whole : (p : Duty → Bool) (xs : List Duty) → ((e : Duty) → Contains xs e → p e ≡ true) → filter p xs ≡ xs
+filter-whole p [] h = refl
+filter-whole p (x ∷ xs) h =
+    ap (λ b. cond b (x ∷ filter p xs) (filter p xs)) (h x (contains-here x xs))
+    ∙ ap (λ l. x ∷ l) (filter-whole p xs (λ e c. h e (contains-later x e xs c)))
+
+module _ (list : List Duty) (d : Duty) (is : IsFamily list) (place : ℕ) (at : IsPlaceFor list d place) (none : list_any (λ (e : Duty). within e d) (take place list) ≡ false) where
+  before : (e : Duty) → Contains (take place list) e → precedes d e ≡ false
+  before e c = each-at (λ (x : Duty). precedes d x ≡ false) (take place list) e (each-front (λ (x : Duty). precedes d x ≡ false) list place at.inside at.before) c
+
+  behind : Each (λ (e : Duty). precedes d e ≡ true) (drop place list)
+  behind = each-rest (λ (e : Duty). precedes d e ≡ true) list place at.behind
+
+  parts : take place list ++ drop place list ≡ list
+  parts = take-append-drop place list
+
   no-within : (e : Duty) → Contains list e → within e d ≡ true → ⊥
-  no-within e c w = let some = any-of (λ (x : Duty). within x d) list e c w in cc
+  no-within e c w =
+      let P : List Duty → Type 0 = λ l. Contains l e in
+      elim (Contains-append_cases (take place list) (drop place list) e (subst P (sym parts) c)) [
+        | inl front ↦ let some = any-of (λ (x : Duty). within x d) (take place list) e front w in cc
+        | inr rest ↦
+            let later = each-at (λ (x : Duty). precedes d x ≡ true) (drop place list) e behind rest in
+            let earlier = within-earlier e d w in
+            cc
+      ]
+
+  other : (e : Duty) → Contains list e → ¬ (d ≡ e)
+  other e c same = let P : Duty → Type 0 = λ z. within z d ≡ true in no-within e c (subst P same (within-itself d))
+
+  earlier : (e : Duty) → Contains (take place list) e → precedes e d ≡ true
+  earlier e c =
+      precedes-other e d (λ h. let wrong = before e c in cc) (λ same. other e (from-take list place e c) (sym same))
+
+  pub front-kept : kept (take place list) d ≡ take place list
+  front-kept = filter-whole (λ (e : Duty). not (within d e)) (take place list) (λ e c. step e c (within d e) refl)
+    where
+      step : (e : Duty) → Contains (take place list) e → (b : Bool) → within d e ≡ b → not (within d e) ≡ true
+      step e c false w = ap not w
+      step e c true w = let no = within-earlier d e w in let yes = earlier e c in absurd (cc)
+
+  kept-parts : kept list d ≡ take place list ++ kept (drop place list) d
+  kept-parts =
+      ap (λ l. kept l d) (sym parts)
+      ∙ filter-append (λ (e : Duty). not (within d e)) (take place list) (drop place list)
+      ∙ ap (λ l. l ++ kept (drop place list) d) front-kept
+
+  long : length (take place list) ≡ place
+  long = omega (arith, length-take place list, at.inside)
+
+  pub kept-long : place ≤ length (kept list d)
+  kept-long = omega (arith, ap (λ (l : List Duty). length l) kept-parts, length-append (take place list) (kept (drop place list) d), long)
+
+  front : take place (kept list d) ≡ take place list
+  front =
+      ap (take place) kept-parts
+      ∙ ap (λ n. take n (take place list ++ kept (drop place list) d)) (sym long)
+      ∙ take-append_seam (take place list) (kept (drop place list) d)
+
+  rest : drop place (kept list d) ≡ kept (drop place list) d
+  rest =
+      ap (drop place) kept-parts
+      ∙ ap (λ n. drop n (take place list ++ kept (drop place list) d)) (sym long)
+      ∙ drop-append_seam (take place list) (kept (drop place list) d)
 
   abbrev put : List Duty
   put = take place (kept list d) ++ d ∷ drop place (kept list d)
@@ -55,12 +121,12 @@ module _ (list : List Duty) (d : Duty) (is : IsFamily list) (none : list_any (λ
   family-put =
       let P : List Duty → Type 0 = IsAscending in
       let up : IsAscending (take place (kept list d) ++ drop place (kept list d)) = subst P (sym split) (ascending-filter (λ (e : Duty). not (within d e)) list is.ascending) in
+      let Q : List Duty → Type 0 = Each (λ (e : Duty). precedes e d ≡ true) in
+      let R : List Duty → Type 0 = Each (λ (e : Duty). precedes d e ≡ true) in
       record {
-        ascending = ascending-between (take place (kept list d)) (drop place (kept list d)) d up at.before
-            (behind-place (drop place (kept list d)) d (ascending-later (take place (kept list d)) (drop place (kept list d)) up) at.behind
-            (λ e c same. let Q : List Duty → Type 0 = λ l. Contains l e in
-            let R : Duty → Type 0 = λ z. within z d ≡ true in
-            no-within e (filter-from (λ (x : Duty). not (within d x)) list e (subst Q split (Contains-append_right (take place (kept list d)) (drop place (kept list d)) e c))).0 (subst R same (within-itself d))));
+        ascending = ascending-between (take place (kept list d)) (drop place (kept list d)) d up
+            (subst Q (sym front) (each-from (λ (e : Duty). precedes e d ≡ true) (take place list) earlier))
+            (subst R (sym rest) (each-filter (λ (e : Duty). precedes d e ≡ true) (λ (e : Duty). not (within d e)) (drop place list) behind));
         apart = λ x y cx cy w. apart-with.apart x y (back x cx) (back y cy) w;
       }
 

@@ -1,14 +1,21 @@
 -- The order of duties, and families: each set of duties is one family at most.
-use Rattle.std.proofs.Common.{◌≡◌, ◌⊎◌, ◌<◌, Bool, true, false, ◌&&◌, nat_eq, nat_lt, cond, List, [], ◌∷◌, ◌++◌, filter, inl, inr, refl, sym, ap, ◌∙◌, subst, arith}
+use Rattle.std.proofs.Common.{◌≡◌, ◌⊎◌, ℕ, ◌<◌, ◌≤◌, Bool, true, false, ◌&&◌, nat_eq, nat_lt, not, zero, suc, length, get_or, cond, max, List, [], ◌∷◌, ◌++◌, filter, inl, inr, refl, sym, ap, ◌∙◌, subst, arith}
+use Rattle.std.specs.Cmp.{nat_cmp_total}
+use Rattle.std.specs.FinSet.{contains, is_subset, is_subset-contains}
+use Rattle.std.specs.Int.{bit_at}
+use Rattle.std.specs.Int.RustNames.{bit_or}
 use Rattle.std.specs.List.{Contains}
-use Rattle.std.proofs.lemmas.Bool.{cases_lt, eq-eqb, eqb-true, ltb-true, lt-ltb, or_cases, or_left, or_right, and_parts, and_from}
+use Rattle.std.specs.List.Sorted.{IsPartitionedBy}
+use Rattle.std.proofs.lemmas.Nat.{le_or_l}
+use Rattle.std.proofs.lemmas.Nat.Bits.{bit_at_or, same_from_bits}
+use Rattle.std.proofs.lemmas.Bool.{cases_eq, cases_lt, eq-eqb, eqb-true, ltb-true, lt-ltb, or_cases, or_left, or_right, and_parts, and_from}
 use Rattle.hy_base.proofs.Members.{contains-here, contains-later, contains-cases, contains-none}
 use Rattle.hy_bits.specs.Sets.{NumberSet}
 use Rattle.hy_bits.specs.Binary.{number, ones}
-use Rattle.hy_bits.specs.BinaryLaws.{ones-number}
+use Rattle.hy_bits.specs.BinaryLaws.{ones-number, bit_at-number}
 use Rattle.hy_formula.specs.Quantifiers.{Each}
-use Rattle.hy_formula.proofs.Each.{each-at}
-use Rattle.fin_monitor.specs.Duties.{Duty, Same}
+use Rattle.hy_formula.proofs.Each.{each-at, each-place}
+use Rattle.fin_monitor.specs.Duties.{Duty, within, Same}
 use Rattle.fin_monitor.specs.Lefts.{precedes, IsAscending}
 
 pub same-number : (s t : NumberSet) → number s ≡ number t → s ≡ t
@@ -40,6 +47,40 @@ precedes-through d e f p q = before-of d f (before-through d e f (before-from d 
 
 pub precedes-never : (d : Duty) → precedes d d ≡ true → ⊥
 precedes-never d h = elim (before-from d d h) [ inl a ↦ omega arith | inr (s, b) ↦ omega arith ]
+
+-- ---- what is within another precedes it
+
+one-max : (a b : Bool) → (a ≡ true → b ≡ true) → cond b 1 0 ≡ max (cond a 1 0) (cond b 1 0)
+one-max true true h = refl
+one-max false true h = refl
+one-max false false h = refl
+one-max true false h = let wrong : false ≡ true = h refl in absurd (cc)
+
+pub subset-number : (s t : NumberSet) → is_subset s t ≡ true → number s ≤ number t
+subset-number s t h =
+    let a = number s in
+    let b = number t in
+    let P : ℕ → Type 0 = λ n. number s ≤ n in
+    let bits : (q : ℕ) → bit_at b q ≡ bit_at (bit_or a b) q = λ q. bit_at-number t q
+    ∙ one-max (contains s q) (contains t q) (is_subset-contains nat_cmp_total s t h q)
+    ∙ ap (λ x. max x (cond (contains t q) 1 0)) (sym (bit_at-number s q))
+    ∙ ap (λ x. max (bit_at a q) x) (sym (bit_at-number t q))
+    ∙ sym (bit_at_or a b q) in
+    subst P (sym (same_from_bits b (bit_or a b) bits)) (le_or_l a b)
+
+pub within-earlier : (e d : Duty) → within e d ≡ true → precedes d e ≡ false
+within-earlier e d w = step (precedes d e) refl
+  where
+    never : IsBefore d e → ⊥
+    never before =
+        let (s, t) = and_parts (is_subset e.strong d.strong) (is_subset e.weak d.weak) w in
+        let strong = subset-number e.strong d.strong s in
+        let weak = subset-number e.weak d.weak t in
+        elim before [ inl lt ↦ omega arith | inr (same, lt) ↦ omega arith ]
+
+    step : (b : Bool) → precedes d e ≡ b → precedes d e ≡ false
+    step false p = p
+    step true p = absurd (never (before-from d e p))
 
 pub duty-by : (d e : Duty) → d.strong ≡ e.strong → d.weak ≡ e.weak → d ≡ e
 duty-by d e s w =
@@ -133,3 +174,26 @@ ascending-between (x ∷ xs) ys d (first, up) (h, before) behind = (with_d xs fi
 pub ascending-later : (xs ys : List Duty) → IsAscending (xs ++ ys) → IsAscending ys
 ascending-later [] ys up = up
 ascending-later (x ∷ xs) ys (first, up) = ascending-later xs ys up
+
+-- ---- what a duty precedes stands behind what it does not
+
+pub ascending-at : (xs : List Duty) → IsAscending xs → (i j : ℕ) (d : Duty) → i < j → j < length xs → precedes (get_or xs i d) (get_or xs j d) ≡ true
+ascending-at [] up i j d lt within = absurd (omega arith)
+ascending-at (x ∷ xs) (first, up) zero zero d lt within = absurd (omega arith)
+ascending-at (x ∷ xs) (first, up) zero (suc j) d lt within = each-place (λ (e : Duty). precedes x e ≡ true) xs d first j (omega arith)
+ascending-at (x ∷ xs) (first, up) (suc i) zero d lt within = absurd (omega arith)
+ascending-at (x ∷ xs) (first, up) (suc i) (suc j) d lt within = ascending-at xs up i j d (omega arith) (omega arith)
+
+pub ascending-parted : (xs : List Duty) (d : Duty) → IsAscending xs → IsPartitionedBy (λ e. not (precedes d e)) xs
+ascending-parted xs d up i j e le lt h = step (precedes d (get_or xs i e)) refl
+  where
+    step : (b : Bool) → precedes d (get_or xs i e) ≡ b → not (precedes d (get_or xs i e)) ≡ true
+    step false p = ap not p
+    step true p =
+        elim (cases_eq i j) [
+          | inl same ↦ let P : ℕ → Type 0 = λ k. not (precedes d (get_or xs k e)) ≡ true in subst P (sym same) h
+          | inr apart ↦
+              let later = precedes-through d (get_or xs i e) (get_or xs j e) p (ascending-at xs up i j e (omega arith) lt) in
+              let wrong : false ≡ true = sym (ap not later) ∙ h in
+              absurd (cc)
+        ]

@@ -9,9 +9,9 @@ use Rattle.ltl_closure.specs.Nodes.{Node, and, or, until, release, node_at}
 use Rattle.hy_formula.specs.Atoms.{IndexedAtom}
 use Rattle.fin_monitor.specs.Codes.{letter_of}
 use Rattle.fin_monitor.specs.Duties.{Duty, no_duty, strongly, weakly, joined, after, after_members, after_duty, after_each, AreAlike}
-use Rattle.fin_monitor.specs.Lefts.{IsFamily, IsFamilyOf, IsLeft, AreLefts, IsUnionsBelow, IsStepOf, IsAsked, kept_lists, list_at}
+use Rattle.fin_monitor.specs.Lefts.{IsFamily, IsFamilyOf, IsLeft, AreLefts, IsUnionsBelow, IsStepOf, IsPartialStep, IsJoinedWith, IsAsked, kept_lists, list_at}
 use Rattle.fin_monitor.proofs.Alike.{alike-itself, alike-through, alike-append, alike-joined}
-use Rattle.fin_monitor.proofs.FamilySteps.{alike-more, family-none, family-single}
+use Rattle.fin_monitor.proofs.FamilySteps.{alike-more, joined-append, family-none, family-single}
 use Rattle.fin_monitor.proofs.Unrolled.{left-by, family-like}
 
 -- the list at a place
@@ -118,25 +118,51 @@ unions-skip lists code s from (suc to) made le none is =
 
 -- ---- residuals
 
-pub step-none : (lists : List (List Duty)) (code : ℕ) (made : List Duty) → made ≡ [] → IsStepOf lists code [] made
-step-none lists code made e nodes atoms long lefts = let P : List Duty → Type 0 = λ l. AreAlike l [] in subst P (sym e) (alike-itself [])
-
 pub each-append : (nodes : List Node) (l : ℕ → ℕ → Bool) (xs ys : List Duty) → after_each nodes l (xs ++ ys) ≡ after_each nodes l xs ++ after_each nodes l ys
 each-append nodes l [] ys = refl
 each-append nodes l (x ∷ xs) ys = ap (λ z. after_duty nodes l x ++ z) (each-append nodes l xs ys) ∙ sym (append_assoc (after_duty nodes l x) (after_each nodes l xs) (after_each nodes l ys))
 
-pub step-more : (lists : List (List Duty)) (code : ℕ) (residual : List Duty) (i : ℕ) (d : Duty) (made strong weak more : List Duty) → i < length residual → d ≡ get_or residual i d → IsStepOf lists code (take i residual) made
-    → IsUnionsBelow lists code d.strong (length lists) strong → IsUnionsBelow lists code d.weak (length lists) weak → AreAlike more (made ++ joined strong weak) → IsStepOf lists code (take (i + 1) residual) more
-step-more lists code residual i d made strong weak more lt is so s w alike nodes atoms long lefts =
-    let l : ℕ → ℕ → Bool = letter_of atoms code in
-    let P : ℕ → Type 0 = λ n. AreAlike strong (after_members nodes l d.strong n) in
-    let Q : ℕ → Type 0 = λ n. AreAlike weak (after_members nodes l d.weak n) in
-    let R : List Duty → Type 0 = AreAlike more in
-    let here : AreAlike (joined strong weak) (after_duty nodes l d ++ []) =
-    let S : List Duty → Type 0 = AreAlike (joined strong weak) in
-    subst S (sym (append-nil (after_duty nodes l d))) (alike-joined strong _ weak _ (subst P (sym long) (s nodes atoms long lefts)) (subst Q (sym long) (w nodes atoms long lefts))) in
-    subst R (sym (each-append nodes l (take i residual) (d ∷ [])) ∙ ap (after_each nodes l) (ap (λ y. take i residual ++ y ∷ []) is ∙ sym (take_more residual i d lt)))
-    (alike-through more (made ++ joined strong weak) _ alike (alike-append made (after_each nodes l (take i residual)) (joined strong weak) (after_duty nodes l d ++ []) (so nodes atoms long lefts) here))
+module _ (lists : List (List Duty)) (code : ℕ) where
+  pub partial-none : (done strong : List Duty) (weak : NumberSet) → done ≡ [] → strong ≡ [] → IsPartialStep lists code [] done strong weak
+  partial-none done strong weak e f nodes atoms long lefts =
+      let w : List Duty = after_members nodes (letter_of atoms code) weak (length lists) in
+      let P : List Duty → Type 0 = λ l. AreAlike (l ++ joined strong w) [] in
+      let Q : List Duty → Type 0 = λ l. AreAlike ([] ++ joined l w) [] in
+      subst P (sym e) (subst Q (sym f) (alike-itself []))
+
+  pub joined-by : (done strong left made : List Duty) (weak : NumberSet) → AreAlike made (done ++ joined strong left) → IsUnionsBelow lists code weak (length lists) left → IsJoinedWith lists code done strong weak made
+  joined-by done strong left made weak alike is nodes atoms long lefts =
+      alike-through made (done ++ joined strong left) _ alike
+      (alike-append done done (joined strong left) _ (alike-itself done) (alike-joined strong strong left _ (alike-itself strong) (is nodes atoms long lefts)))
+
+  pub partial-closed : (residual done strong made : List Duty) (weak : NumberSet) → IsPartialStep lists code residual done strong weak → IsJoinedWith lists code done strong weak made → IsStepOf lists code residual made
+  partial-closed residual done strong made weak so joins nodes atoms long lefts = alike-through made _ _ (joins nodes atoms long lefts) (so nodes atoms long lefts)
+
+  pub step-partial : (residual done strong : List Duty) (weak : NumberSet) → IsStepOf lists code residual done → strong ≡ [] → IsPartialStep lists code residual done strong weak
+  step-partial residual done strong weak so none nodes atoms long lefts =
+      let w : List Duty = after_members nodes (letter_of atoms code) weak (length lists) in
+      let P : List Duty → Type 0 = λ l. AreAlike (done ++ joined l w) (after_each nodes (letter_of atoms code) residual) in
+      let Q : List Duty → Type 0 = λ l. AreAlike l (after_each nodes (letter_of atoms code) residual) in
+      subst P (sym none) (subst Q (sym (append-nil done)) (so nodes atoms long lefts))
+
+  pub partial-more : (residual : List Duty) (i : ℕ) (d : Duty) (done strong left more : List Duty) → i < length residual → d ≡ get_or residual i d → IsPartialStep lists code (take i residual) done strong d.weak
+      → IsUnionsBelow lists code d.strong (length lists) left → AreAlike more (strong ++ left) → IsPartialStep lists code (take (i + 1) residual) done more d.weak
+  partial-more residual i d done strong left more lt is so s alike nodes atoms long lefts =
+      let l : ℕ → ℕ → Bool = letter_of atoms code in
+      let w : List Duty = after_members nodes l d.weak (length lists) in
+      let P : ℕ → Type 0 = λ n. AreAlike left (after_members nodes l d.strong n) in
+      let Q : ℕ → Type 0 = λ n. AreAlike w (after_members nodes l d.weak n) in
+      let R : List Duty → Type 0 = AreAlike (done ++ joined more w) in
+      let S : List Duty → Type 0 = AreAlike (joined left w) in
+      let T : List Duty → Type 0 = AreAlike (joined more w) in
+      let here : AreAlike (joined left w) (after_duty nodes l d ++ []) =
+      subst S (sym (append-nil (after_duty nodes l d))) (alike-joined left _ w _ (subst P (sym long) (s nodes atoms long lefts)) (subst Q (sym long) (alike-itself w))) in
+      let parted : AreAlike (joined more w) (joined strong w ++ joined left w) =
+      subst T (joined-append strong left w) (alike-joined more (strong ++ left) w w alike (alike-itself w)) in
+      let all : AreAlike (done ++ joined more w) ((done ++ joined strong w) ++ joined left w) =
+      subst R (sym (append_assoc done (joined strong w) (joined left w))) (alike-append done done (joined more w) _ (alike-itself done) parted) in
+      subst R (sym (each-append nodes l (take i residual) (d ∷ [])) ∙ ap (after_each nodes l) (ap (λ y. take i residual ++ y ∷ []) is ∙ sym (take_more residual i d lt)))
+      (alike-through (done ++ joined more w) _ _ all (alike-append (done ++ joined strong w) (after_each nodes l (take i residual)) (joined left w) (after_duty nodes l d ++ []) (so nodes atoms long lefts) here))
 
 -- ---- lists that say what members leave
 

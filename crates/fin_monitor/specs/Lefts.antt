@@ -1,6 +1,6 @@
 -- Families of duties, and what is kept of what members leave after a letter.
-use Rattle.std.specs.Prelude.{◌≡◌, ℕ, ◌<◌, ◌≤◌, Bool, true, ◌&&◌, ◌||◌, nat_eq, nat_lt, List, [], ◌∷◌, length, drop, map, filter, not, take, slice_index, slice_index_or, Vec, vec_items}
-use Rattle.std.specs.List.{Contains}
+use Rattle.std.specs.Prelude.{◌≡◌, ℕ, ◌<◌, ◌≤◌, Bool, true, false, ◌&&◌, ◌||◌, nat_eq, nat_lt, List, [], ◌∷◌, ◌++◌, length, map, filter, not, slice_index, slice_index_or, Vec, vec_items}
+use Rattle.std.specs.List.{Contains, AllWithin}
 use Rattle.std.specs.FinSet.{contains}
 use Rattle.std.specs.Int.RustNames.{bit_and}
 use Rattle.hy_bits.specs.Binary.{number}
@@ -9,7 +9,7 @@ use Rattle.hy_formula.specs.Quantifiers.{Each}
 use Rattle.ltl_closure.specs.Nodes.{Node, literal, and, or, until, release}
 use Rattle.hy_formula.specs.Atoms.{IndexedAtom}
 use Rattle.fin_monitor.specs.Codes.{letter_of}
-use Rattle.fin_monitor.specs.Duties.{Duty, within, after, after_members, after_each, AreAlike}
+use Rattle.fin_monitor.specs.Duties.{Duty, within, joined, after, after_members, after_each, AreAlike}
 
 -- the order in which duties stand
 abbrev pub precedes : Duty → Duty → Bool
@@ -35,11 +35,11 @@ pub record IsFamilyOf (list ds : List Duty) : Type 0 where
 abbrev pub kept : List Duty → Duty → List Duty
 kept list d = filter (λ (e : Duty). not (within d e)) list
 
--- The duties before the place precede d, and the one there does not.
+-- d precedes the duties from the place on, and none before it.
 pub record IsPlaceFor (list : List Duty) (d : Duty) (place : ℕ) : Type 0 where
   pub inside : place ≤ length list
-  pub before : Each (λ e. precedes e d ≡ true) (take place list)
-  pub behind : (e : Duty) (rest : List Duty) → drop place list ≡ e ∷ rest → ¬ (precedes e d ≡ true)
+  pub before : AllWithin (λ e. precedes d e ≡ false) list 0 place
+  pub behind : AllWithin (λ e. precedes d e ≡ true) list place (length list)
 
 -- the lists in the buffers
 abbrev pub kept_lists : {A : Type 0} → List (Vec Duty A) → List (List Duty)
@@ -107,3 +107,18 @@ IsStepOf lists code residual made =
     (nodes : List Node) (atoms : List IndexedAtom) → length nodes ≡ length lists
     → AreLefts nodes atoms code lists (length lists)
     → AreAlike made (after_each nodes (letter_of atoms code) residual)
+
+-- The list is alike those that are done and each union of a strong one and one that the set leaves.
+abbrev pub IsJoinedWith : List (List Duty) → ℕ → List Duty → List Duty → NumberSet → List Duty → Type 0
+IsJoinedWith lists code done strong weak made =
+    (nodes : List Node) (atoms : List IndexedAtom) → length nodes ≡ length lists
+    → AreLefts nodes atoms code lists (length lists)
+    → AreAlike made (done ++ joined strong (after_members nodes (letter_of atoms code) weak (length lists)))
+
+-- Those that are done and these unions are alike what the duties leave.
+abbrev pub IsPartialStep : List (List Duty) → ℕ → List Duty → List Duty → List Duty → NumberSet → Type 0
+IsPartialStep lists code residual done strong weak =
+    (nodes : List Node) (atoms : List IndexedAtom) → length nodes ≡ length lists
+    → AreLefts nodes atoms code lists (length lists)
+    → AreAlike (done ++ joined strong (after_members nodes (letter_of atoms code) weak (length lists)))
+    (after_each nodes (letter_of atoms code) residual)

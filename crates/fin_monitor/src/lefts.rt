@@ -1,9 +1,9 @@
 //! What the members of a closure leave after a joint letter, and what residuals do by it.
 
-ghost use Rattle.std.specs.Prelude.{◌≡◌, ◌≤◌, ◌<◌, ◌*◌, ◌∷◌, ◌++◌, [], cond, length, map, IfOk, OnOk};
+ghost use Rattle.std.specs.Prelude.{◌≡◌, ◌≤◌, ◌<◌, ◌*◌, ◌∷◌, ◌++◌, [], cond, length, map, IfOk, OnOk, List as Sequence};
 ghost use Rattle.hy_formula.specs.Atoms.{plain_atom};
-ghost use Rattle.fin_monitor.specs.Duties.{no_duty, joined, AreAlike};
-ghost use Rattle.fin_monitor.specs.Lefts.{kept_lists, IsFamily, IsFamilyOf, IsLeft, AreLefts, AreAsked, IsStepOf, IsUnionsBelow};
+ghost use Rattle.fin_monitor.specs.Duties.{Duty as Duties, no_duty, joined, AreAlike};
+ghost use Rattle.fin_monitor.specs.Lefts.{kept_lists, IsFamily, IsFamilyOf, IsLeft, AreLefts, AreAsked, IsStepOf, IsPartialStep, IsJoinedWith, IsUnionsBelow};
 
 use crate::atoms::holds;
 use crate::duty::Duty;
@@ -79,7 +79,8 @@ impl<const W: usize> Lefts<W> {
         Ok(())
     }
 
-    /// What is left of a residual.
+    /// What is left of a residual. Duties one after another with the same weak obligations, as
+    /// many have, share what these leave, and are joined with it at once.
     pub fn step(&self, alloc: Global, residual: &[Duty<W>]) -> M<Family<W>>
         requires width { W ≤ 16 }
         requires members { length self.now.lists ≤ 64 * W }
@@ -88,12 +89,65 @@ impl<const W: usize> Lefts<W> {
             self.now.code residual.now next.items) }
     {
         let mut next = Vec::new(alloc);
+        let mut strong = Vec::new(alloc);
+        let mut weak = Obl::empty();
         for d in residual {
-            let strong = self.unions(alloc, &d.strong)?;
-            let weak = self.unions(alloc, &d.weak)?;
-            add_joined(&mut next, &strong, &weak)?;
+            self.turn_to(alloc, &mut next, &mut strong, &mut weak, &d.weak)?;
+            let left = self.unions(alloc, &d.strong)?;
+            add_all(&mut strong, &left)?;
         }
+        self.close(alloc, &mut next, &mut strong, &weak)?;
         Ok(next)
+    }
+
+    /// Goes on to duties with other weak obligations, unless they are the same.
+    fn turn_to(
+        &self,
+        alloc: Global,
+        next: &mut Family<W>,
+        strong: &mut Family<W>,
+        weak: &mut Obl<W>,
+        other: &Obl<W>,
+    ) -> M<()>
+        requires width { W ≤ 16 }
+        requires members { length self.now.lists ≤ 64 * W }
+        requires families { IsFamily next.old.items × IsFamily strong.old.items }
+        ensures families { OnOk result (IsFamily next.new.items × IsFamily strong.new.items) }
+        ensures weak { OnOk result (weak.new ≡ other.now) }
+        ensures partial { OnOk result ((residual : Sequence Duties) → IsPartialStep
+            (kept_lists self.now.lists) self.now.code residual next.old.items strong.old.items
+            weak.old → IsPartialStep (kept_lists self.now.lists) self.now.code residual
+            next.new.items strong.new.items other.now) }
+    {
+        if *weak == *other {
+            return Ok(());
+        }
+        self.close(alloc, next, strong, weak)?;
+        *weak = *other;
+        Ok(())
+    }
+
+    /// Adds each union of a duty of `strong` and one that weak obligations leave, and leaves none
+    /// in `strong`.
+    fn close(
+        &self,
+        alloc: Global,
+        next: &mut Family<W>,
+        strong: &mut Family<W>,
+        weak: &Obl<W>,
+    ) -> M<()>
+        requires width { W ≤ 16 }
+        requires members { length self.now.lists ≤ 64 * W }
+        requires family { IsFamily next.old.items }
+        ensures family { IsFamily next.new.items }
+        ensures none { OnOk result (strong.new.items ≡ []) }
+        ensures joined { OnOk result (IsJoinedWith (kept_lists self.now.lists) self.now.code
+            next.old.items strong.old.items weak.now next.new.items) }
+    {
+        let left = self.unions(alloc, weak)?;
+        add_joined(next, strong, &left)?;
+        strong.clear();
+        Ok(())
     }
 
     /// The unions that take one duty that each member of a set leaves.

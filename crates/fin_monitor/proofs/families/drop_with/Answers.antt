@@ -1,7 +1,17 @@
-use Rattle.std.proofs.Common.{not, ap, sym, ◌∙◌, arith}
+use Rattle.std.proofs.Common.{not, refl, ap, sym, ◌∙◌, arith}
 use Rattle.std.proofs.lemmas.List.Filters.{FiltersInPlace-more_set, FiltersInPlace-more_no}
 use Rattle.fin_monitor.proofs.families.drop_with.Goals as goal
 use Rattle.fin_monitor.proofs.families.drop_with.Goals.{then-not-within, else-not-within}
+
+pub loop-i-init : goal.loop-i-init
+loop-i-init g c =
+    record {
+      front = sym c.requires.before;
+      rest = refl;
+      behind = omega arith;
+      within = c.requires.inside;
+      long = refl;
+    }
 
 pub loop-i-preserved : goal.loop-i-preserved
 loop-i-preserved g c =

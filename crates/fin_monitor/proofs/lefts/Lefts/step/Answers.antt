@@ -1,39 +1,45 @@
-use Rattle.std.proofs.Common.{◌++◌, List, ℕ, length, sym, ap, subst}
+use Rattle.std.proofs.Common.{◌≡◌, ◌++◌, ◌+◌, List, ℕ, take, length, sym, ap, ◌∙◌, subst}
 use Rattle.std.proofs.lemmas.List.{take_all}
 use Rattle.hy_bits.specs.Sets.{NumberSet}
-use Rattle.fin_monitor.specs.Duties.{Duty, joined, AreAlike}
-use Rattle.fin_monitor.specs.Lefts.{kept_lists, IsFamily, IsUnionsBelow, IsStepOf}
+use Rattle.fin_monitor.specs.Duties.{Duty, AreAlike}
+use Rattle.fin_monitor.specs.Lefts.{kept_lists, IsFamily, IsUnionsBelow, IsPartialStep, IsStepOf}
 use Rattle.fin_monitor.proofs.FamilySteps.{family-none}
-use Rattle.fin_monitor.proofs.Stepping.{step-none, step-more, kept-length}
+use Rattle.fin_monitor.proofs.Stepping.{partial-none, partial-more, partial-closed, kept-length}
 use Rattle.fin_monitor.proofs.lefts.Lefts.step.Goals as goal
 
 pub loop-d-init : goal.loop-d-init
 loop-d-init g c =
     let P : List Duty → Type 0 = IsFamily in
     record {
-      family = subst P (sym c.new-next.ensures.items) family-none;
-      alike = step-none (kept_lists c.args.self.now.lists) c.args.self.now.code c.new-next.result.items c.new-next.ensures.items;
+      next = subst P (sym c.new-next.ensures.items) family-none;
+      strong = subst P (sym c.new-strong.ensures.items) family-none;
+      partial = partial-none (kept_lists c.args.self.now.lists) c.args.self.now.code c.new-next.result.items c.new-strong.result.items c.empty-weak.result c.new-next.ensures.items c.new-strong.ensures.items;
     }
 
 pub loop-d-preserved : goal.loop-d-preserved
 loop-d-preserved g c =
     let lists : List (List Duty) = kept_lists c.args.self.now.lists in
     let code : ℕ = c.args.self.now.code in
-    let P : NumberSet → Type 0 = λ s. IsUnionsBelow lists code s (length lists) c.in_ok-strong.strong.items in
-    let Q : NumberSet → Type 0 = λ s. IsUnionsBelow lists code s (length lists) c.in_ok-weak.weak.items in
-    let S : ℕ → Type 0 = λ n. IsUnionsBelow lists code c.d.inside.strong n c.in_ok-strong.strong.items in
-    let T : ℕ → Type 0 = λ n. IsUnionsBelow lists code c.d.inside.weak n c.in_ok-weak.weak.items in
-    let R : List Duty → List Duty → Type 0 = λ l m. AreAlike c.add_joined.new.family.items (c.loop-d.next.items ++ joined l m) in
+    let P : NumberSet → Type 0 = λ s. IsUnionsBelow lists code s (length lists) c.in_ok-left.left.items in
+    let S : ℕ → Type 0 = λ n. IsUnionsBelow lists code c.d.inside.strong n c.in_ok-left.left.items in
+    let strong : c.d.inside.strong ≡ c.d-item.result.strong = ap (λ (d : Duty). d.strong) c.d.view_is in
+    let weak : c.d.inside.weak ≡ c.d-item.result.weak = ap (λ (d : Duty). d.weak) c.d.view_is in
+    let T : NumberSet → Type 0 = IsPartialStep lists code (take c.loop-d.d-index c.args.residual.now) c.turn_to.new.next.items c.turn_to.new.strong.items in
+    let U : NumberSet → Type 0 = IsPartialStep lists code (take (c.loop-d.d-index + 1) c.args.residual.now) c.turn_to.new.next.items c.add_all.new.family.items in
+    let R : List Duty → Type 0 = λ l. AreAlike c.add_all.new.family.items (c.turn_to.new.strong.items ++ l) in
     record {
-      family = c.add_joined.ensures.family;
-      alike = step-more lists code c.args.residual.now c.loop-d.d-index c.d-item.result c.loop-d.next.items c.in_ok-strong.strong.items c.in_ok-weak.weak.items c.add_joined.new.family.items
-          c.loop-d-test.true c.d-item.is c.loop-d.invariant.alike
-          (subst P (ap (λ (d : Duty). d.strong) c.d.view_is) (subst S (sym (kept-length c.args.self.now.lists)) c.in_ok-strong.ensures))
-          (subst Q (ap (λ (d : Duty). d.weak) c.d.view_is) (subst T (sym (kept-length c.args.self.now.lists)) c.in_ok-weak.ensures))
-          (subst (λ l. R l c.in_ok-weak.weak.items) c.deref.ensures.value (subst (R c.deref.result.now) c.deref-in-loop-d.ensures.value c.in_ok-add_joined.ensures.added));
+      next = c.in_ok-turn_to.ensures.families.0;
+      strong = c.add_all.ensures.family;
+      partial = subst U (sym (c.in_ok-turn_to.ensures.weak ∙ weak)) (partial-more lists code c.args.residual.now c.loop-d.d-index c.d-item.result c.turn_to.new.next.items c.turn_to.new.strong.items c.in_ok-left.left.items c.add_all.new.family.items
+          c.loop-d-test.true c.d-item.is
+          (subst T weak (c.in_ok-turn_to.ensures.partial _ c.loop-d.invariant.partial))
+          (subst P strong (subst S (sym (kept-length c.args.self.now.lists)) c.in_ok-left.ensures))
+          (subst R c.deref.ensures.value c.in_ok-add_all.ensures.added));
     }
 
-pub returns : goal.returns
-returns g c =
-    let P : List Duty → Type 0 = λ l. IsStepOf (kept_lists c.args.self.now.lists) c.args.self.now.code l c.loop-d.next.items in
-    record { family = c.loop-d.invariant.family; alike = subst P (take_all c.loop-d.d-index c.args.residual.now c.loop-d-test.false) c.loop-d.invariant.alike }
+pub returns-clause-alike : goal.returns-clause-alike
+returns-clause-alike g c =
+    let lists : List (List Duty) = kept_lists c.args.self.now.lists in
+    let P : List Duty → Type 0 = λ l. IsStepOf lists c.args.self.now.code l c.close.new.next.items in
+    subst P (take_all c.loop-d.d-index c.args.residual.now c.loop-d-test.false)
+    (partial-closed lists c.args.self.now.code _ c.loop-d.next.items c.loop-d.strong.items c.close.new.next.items c.loop-d.weak c.loop-d.invariant.partial c.in_ok-close.ensures.joined)
