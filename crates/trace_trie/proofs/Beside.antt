@@ -1,5 +1,5 @@
 -- The newest trace beside the others that pass a point.
-use Rattle.std.proofs.Common.{◌≡◌, ◌≢◌, ℕ, zero, suc, ◌<◌, Bool, true, false, cond, List, [], ◌∷◌, ◌++◌, length, length-append, append-nil, map, drop, slice_get, Option, Some, None, refl, sym, ap, ◌∙◌, subst, arith}
+use Rattle.std.proofs.Common.{◌≡◌, ◌≢◌, ℕ, zero, suc, ◌<◌, Bool, true, false, cond, List, [], ◌∷◌, ◌++◌, length, length-append, append-nil, map, drop, get_or, slice_get, Option, Some, None, refl, sym, ap, ◌∙◌, subst, arith}
 use Rattle.std.specs.List.{Contains, filter}
 use denote.Ref.{Bor}
 use Rattle.std.proofs.lemmas.List.Elements.{Contains-append_left, Contains-append_right}
@@ -8,7 +8,7 @@ use Rattle.hy_bits.specs.Letter.{Letter}
 use Rattle.hy_formula.specs.Quantifiers.{Each}
 use Rattle.hy_formula.proofs.Each.{each-append, each-like}
 use Rattle.trace_trie.specs.Numbered.{Numbered, same_letter, begins, tail, under}
-use Rattle.trace_trie.specs.Cursors.{AreDistinct, AreLetters, GoesOn, and_new_letter, and_waiting, left_waiting, letter_where_none, new_letter}
+use Rattle.trace_trie.specs.Cursors.{AreDistinct, AreLetters, GoesOn, and_new_letter, and_waiting, letter_where_none, new_letter}
 use Rattle.trace_trie.proofs.Lettering.{equal-letter, letter-itself}
 use Rattle.trace_trie.proofs.Rests.{under-append}
 
@@ -141,33 +141,20 @@ taken rests (b ∷ u) a e lt =
     none [] lt = absurd (omega arith)
     none (p ∷ ps) lt = refl
 
-module _ (rests : List Numbered) (n : ℕ) (a : Letter) where
-  pub child-beside : (t : List Letter) (child : List Numbered)
-      (newest : Option (ℕ × Bor (List Letter))) → child ≡ under a rests
-      → left_waiting newest ≡ under a ((n, t) ∷ [])
-      → and_waiting child newest ≡ under a (rests ++ (n, t) ∷ [])
-  child-beside t child newest e f =
-      and-waiting child newest ∙ ap (λ (l : List Numbered). l ++ left_waiting newest) e
-      ∙ ap (λ (l : List Numbered). under a rests ++ l) f ∙ sym (under-append a rests ((n, t) ∷ []))
-    where
-      and-waiting : (xs : List Numbered) (o : Option (ℕ × Bor (List Letter)))
-          → and_waiting xs o ≡ xs ++ left_waiting o
-      and-waiting xs None = sym (append-nil xs)
-      and-waiting xs (Some p) = refl
-
-  pub child-new : (t : List Letter) (i : ℕ) → slice_get (new_letter rests t) i ≡ Some a
-      → (n, drop 1 t) ∷ [] ≡ under a (rests ++ (n, t) ∷ [])
-  child-new [] i e = absurd (cc)
-  child-new (b ∷ u) i e = by (under b rests) refl e
-    where
-      by : (l : List Numbered) → under b rests ≡ l → slice_get (letter_where_none b l) i ≡ Some a
-          → (n, u) ∷ [] ≡ under a (rests ++ (n, b ∷ u) ∷ [])
-      by [] none e =
-          let P : Letter → Type 0 = λ q. (n, u) ∷ [] ≡ under q (rests ++ (n, b ∷ u) ∷ []) in
-          subst P (letter-is b a i e)
-          (sym (under-append b rests ((n, b ∷ u) ∷ [])
-          ∙ ap (λ (l : List Numbered). l ++ under b ((n, b ∷ u) ∷ [])) none ∙ under-one b n u))
-      by (p ∷ ps) none e = absurd (cc)
+-- the child of a letter that no other rest has first
+pub child-new : (rests : List Numbered) (n : ℕ) (t : List Letter) (d : Letter)
+    → 0 < length (new_letter rests t)
+    → (n, drop 1 t) ∷ [] ≡ under (get_or t 0 d) (rests ++ (n, t) ∷ [])
+child-new rests n [] d some = absurd (omega arith)
+child-new rests n (b ∷ u) d some = by (under b rests) refl some
+  where
+    by : (l : List Numbered) → under b rests ≡ l → 0 < length (letter_where_none b l)
+        → (n, u) ∷ [] ≡ under b (rests ++ (n, b ∷ u) ∷ [])
+    by [] none some =
+        sym (under-append b rests ((n, b ∷ u) ∷ [])
+        ∙ ap (λ (l : List Numbered). l ++ under b ((n, b ∷ u) ∷ [])) none
+        ∙ under-one b n u)
+    by (p ∷ ps) none some = absurd (omega arith)
 
 pub newest-passes : {newest : Option (ℕ × Bor (List Letter))} {p : ℕ × Bor (List Letter)}
     (rests : List Numbered) → newest ≡ Some p

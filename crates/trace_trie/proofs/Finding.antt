@@ -1,5 +1,5 @@
 -- What a cursor finds.
-use Rattle.std.proofs.Common.{◌≡◌, ◌≢◌, ℕ, zero, suc, ◌<◌, cond, List, [], ◌∷◌, ◌++◌, length, append-nil, drop, slice_get, Some, refl, sym, ap, ◌∙◌, subst, inl, inr, arith}
+use Rattle.std.proofs.Common.{◌≡◌, ◌≢◌, ℕ, zero, suc, ◌<◌, cond, List, [], ◌∷◌, ◌++◌, length, append-nil, drop, get_or, slice_get, Some, refl, sym, ap, ◌∙◌, subst, inl, inr, arith}
 use Rattle.std.specs.Option.{IfSome, IfNone}
 use Rattle.std.specs.List.{Contains}
 use Rattle.std.proofs.lemmas.List.Elements.{Contains-append_left, Contains-append_right}
@@ -118,13 +118,14 @@ module _ (n : ℕ) (t : List Letter) where
       let P : List Numbered → Type 0 = λ q. Contains q (n, t) in
       (t, subst P (sym (alone-rests n t)) (contains-here (n, t) []))
 
-  pub alone-child : (i : ℕ) (a : Letter) → slice_get (kid_letters (kids_alone n t)) i ≡ Some a
-      → (n, drop 1 t) ∷ [] ≡ under a (in_order (passing (ends_alone n t) (kids_alone n t)))
-  alone-child i a e = by t i e
+  pub alone-child : (i : ℕ) (d : Letter) → i < length (kid_letters (kids_alone n t))
+      → (n, drop 1 t) ∷ []
+      ≡ under (get_or t 0 d) (in_order (passing (ends_alone n t) (kids_alone n t)))
+  alone-child i d lt = by t lt
     where
-      by : (t : List Letter) (i : ℕ) → slice_get (kid_letters (kids_alone n t)) i ≡ Some a
-          → (n, drop 1 t) ∷ [] ≡ under a (in_order (passing (ends_alone n t) (kids_alone n t)))
-      by [] i e = absurd (cc)
-      by (b ∷ u) zero e =
-          child-right [] (kids_alone n (b ∷ u)) 0 a (b, (n, u) ∷ []) (alone-kids n (b ∷ u)) refl e
-      by (b ∷ u) (suc i) e = absurd (cc)
+      by : (t : List Letter) → i < length (kid_letters (kids_alone n t))
+          → (n, drop 1 t) ∷ []
+          ≡ under (get_or t 0 d) (in_order (passing (ends_alone n t) (kids_alone n t)))
+      by [] lt = absurd (omega arith)
+      by (b ∷ u) lt =
+          child-right [] (kids_alone n (b ∷ u)) 0 b (b, (n, u) ∷ []) (alone-kids n (b ∷ u)) refl refl

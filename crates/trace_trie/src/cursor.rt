@@ -91,43 +91,31 @@ impl<'a> Cursor<'a> {
         self.point.letters_differ();
     }
 
-    /// The letter of child `i`, counted from 0. Takes no memory, and at most 64 steps.
-    pub fn letter(&self, i: usize) -> LetterMask
+    /// Child `i`, counted from 0: its letter, and what is left behind it of the traces that pass it.
+    /// Takes no memory, and at most 64 steps.
+    pub fn at(&self, i: usize) -> (LetterMask, Cursor<'a>)
         requires { i < length (letters_of self.now) }
-        ensures { slice_get (letters_of self.now) i ≡ Some result }
+        ensures letter { slice_get (letters_of self.now) i ≡ Some result.0 }
+        ensures child { rests_at result.1 ≡ under result.0 (rests_at self.now) }
     {
         match &self.newest {
-            Some((_, rest)) if i >= self.point.len() => rest[0],
-            _ => self.point.letter(i),
-        }
-    }
-
-    /// Child `i`, counted from 0: what is left behind its letter of the traces that pass it. Takes
-    /// no memory, and at most 64 steps.
-    pub fn child(&self, i: usize) -> Cursor<'a>
-        requires { i < length (letters_of self.now) }
-        ensures { (a : Letter) → slice_get (letters_of self.now) i ≡ Some a
-            → rests_at result ≡ under a (rests_at self.now) }
-    {
-        match &self.newest {
-            None => Cursor {
-                point: self.point.child(i),
-                newest: None,
-            },
+            Some((number, rest)) if i >= self.point.len() => {
+                (rest[0], Cursor::of_one(*number, &rest[1..]))
+            }
             Some((number, rest)) => {
-                if i < self.point.len() {
-                    Cursor {
-                        point: self.point.child(i),
-                        newest: behind(self.point.letter(i), *number, rest),
-                    }
-                } else {
-                    Cursor::of_one(*number, &rest[1..])
-                }
+                let (letter, point) = self.point.at(i);
+                let newest = behind(letter, *number, rest);
+                (letter, Cursor { point, newest })
+            }
+            None => {
+                let (letter, point) = self.point.at(i);
+                let newest = None;
+                (letter, Cursor { point, newest })
             }
         }
     }
 
-    /// The child of a letter, as `child`; `None` where no trace goes on by it. Takes no memory, and
+    /// The child of a letter, as `at`; `None` where no trace goes on by it. Takes no memory, and
     /// at most 64 steps.
     pub fn child_of(&self, letter: LetterMask) -> Option<Cursor<'a>>
         ensures some { IfSome result (λ child.

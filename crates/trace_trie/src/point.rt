@@ -1,6 +1,6 @@
 //! Points of a trie, one after another down a trace.
 
-ghost use Rattle.std.specs.Prelude.{◌≡◌, ℕ, ◌+◌, ◌^◌, ◌<◌, List, [], ◌∷◌, length, slice_get, Option, Some, None, IfSome, IfNone, is_some, true};
+ghost use Rattle.std.specs.Prelude.{◌≡◌, ◌+◌, ◌^◌, ◌<◌, List, [], ◌∷◌, length, slice_get, Option, Some, None, IfSome, IfNone, is_some, true};
 ghost use Rattle.std.specs.List.{Contains};
 ghost use Rattle.hy_bits.specs.Letter.{Letter};
 ghost use Rattle.hy_formula.specs.Quantifiers.{Each};
@@ -99,34 +99,24 @@ impl<'a> Point<'a> {
         }
     }
 
-    /// The letter of child `i`, counted from 0. Takes no memory, and at most 64 steps.
-    pub(crate) fn letter(&self, i: usize) -> LetterMask
+    /// Child `i`, counted from 0: its letter, and what is left behind it of the traces that pass it.
+    /// Takes no memory, and at most 64 steps.
+    pub(crate) fn at(&self, i: usize) -> (LetterMask, Point<'a>)
         requires { i < length (kid_letters_of self.now) }
-        ensures { slice_get (kid_letters_of self.now) i ≡ Some result }
-    {
-        match self {
-            Point::Node(_, children) => children.at(i).0,
-            Point::Alone(_, rest) => rest[0],
-        }
-    }
-
-    /// Child `i`, counted from 0: what is left behind its letter of the traces that pass it. Takes
-    /// no memory, and at most 64 steps.
-    pub(crate) fn child(&self, i: usize) -> Point<'a>
-        requires { i < length (kid_letters_of self.now) }
-        ensures { (a : Letter) → slice_get (kid_letters_of self.now) i ≡ Some a
-            → rests_of result ≡ under a (rests_of self.now) }
+        ensures letter { slice_get (kid_letters_of self.now) i ≡ Some result.0 }
+        ensures child { rests_of result.1 ≡ under result.0 (rests_of self.now) }
     {
         match self {
             Point::Node(_, children) => {
                 children.kids_differ();
-                Point::behind(children.at(i).1)
+                let (letter, grown) = children.at(i);
+                (letter, Point::behind(grown))
             }
-            Point::Alone(number, rest) => Point::of_one(*number, &rest[1..]),
+            Point::Alone(number, rest) => (rest[0], Point::of_one(*number, &rest[1..])),
         }
     }
 
-    /// The child of a letter, as `child`; `None` where no trace goes on by it. Takes no memory, and
+    /// The child of a letter, as `at`; `None` where no trace goes on by it. Takes no memory, and
     /// at most 64 steps.
     pub(crate) fn child_of(&self, letter: LetterMask) -> Option<Point<'a>>
         ensures some { IfSome result (λ child.

@@ -249,6 +249,9 @@ entry-set lengths ls i e w lt first rows (tuple, h, pre) =
     ∙ ap entry (sym is)
     ∙ first p c
 
+pub no-steps : (lengths : Lengths) (ls : List (List Numbered)) → AreSteps lengths ls 0
+no-steps lengths ls = record { visited = []; apart = tt; inside = tt; many = omega arith }
+
 module _ (lengths : Lengths) (ls : List (List Numbered)) (i : ℕ) where
   pub no-steps_by : (letters : List Letter) → AreStepsBy lengths i letters ls 0
   no-steps_by letters =

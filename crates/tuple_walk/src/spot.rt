@@ -116,9 +116,10 @@ impl<'a> Spot<'a> {
             },
             Spot::Node(cursor) => {
                 cursor.letters_differ();
+                let (letter, child) = cursor.at(i);
                 Place {
-                    taken: Taken::Letter(cursor.letter(i)),
-                    spot: Spot::of(cursor.child(i)),
+                    taken: Taken::Letter(letter),
+                    spot: Spot::of(child),
                 }
             }
         }

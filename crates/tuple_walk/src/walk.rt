@@ -43,9 +43,6 @@ impl<'a, L: Ledger> Walk<'a, L> {
         ensures counted { AreSteps self.now.lengths (rests_in self.now places.now)
             (steps.new - steps.old) }
     {
-        if self.monitor.is_settled(q) {
-            return None;
-        }
         if self.are_alone(places) {
             return self.follow(places, q, steps);
         }
@@ -141,6 +138,10 @@ impl<'a, L: Ledger> Walk<'a, L> {
             (steps.new - steps.old) }
     {
         let q = self.monitor.step(q, self.joint(places), steps);
+        // From a settled state on nothing is rejected, so no place need be opened.
+        if self.monitor.is_settled(q) {
+            return None;
+        }
         self.search(&places.opened(), q, steps)
     }
 

@@ -1,4 +1,4 @@
-use Rattle.std.proofs.Common.{◌≡◌, ◌<◌, length, List, slice_get, Some, sym, ◌∙◌, subst}
+use Rattle.std.proofs.Common.{◌≡◌, ◌<◌, length, List, slice_get, Some, sym, ap, ◌∙◌, subst}
 use Rattle.hy_bits.specs.Letter.{Letter as NameSet}
 use Rattle.hy_formula.proofs.Each.{each-at}
 use Rattle.trace_trie.specs.Cursors.{letters_of, rests_at}
@@ -15,14 +15,14 @@ returns-in-Node-clause-way c a e =
     let letters = letters_of c.in-Node.cursor in
     let At : Spot → Type 0 = λ s. slice_get (letters_at s) c.args.i ≡ Some a in
     let at : slice_get letters c.args.i ≡ Some a = subst At c.in-Node.is e in
-    let is : c.letter.result ≡ a = cc (c.letter.ensures, at) in
-    let child : rests_of c.of.result ≡ under a rests = c.of.ensures ∙ c.child.ensures a at in
+    let first = c.at-letter.result.0 in
+    let is : first ≡ a = cc (c.at-letter.ensures.letter, at) in
     let way : IsWay rests (Some a) (led_by a (under a rests)) =
     letter-way a rests (each-at (λ (b : NameSet). 0 < length (under b rests)) letters a
     c.letters_differ.ensures.some (get-contains letters c.args.i a at)) in
-    let led : led_by c.letter.result (rests_of c.of.result) ≡ led_by a (under a rests) =
-    λ i. led_by (is i) (child i) in
-    let P : Spot → Type 0 = λ s. IsWay (rests_of s) (Some a)
-    (led_by c.letter.result (rests_of c.of.result)) in
+    let led : led_by first (rests_of c.of.result) ≡ led_by a (under a rests) =
+    ap (led_by first) (c.of.ensures ∙ c.at-letter.ensures.child)
+    ∙ ap (λ (b : NameSet). led_by b (under b rests)) is in
+    let P : Spot → Type 0 = λ s. IsWay (rests_of s) (Some a) (led_by first (rests_of c.of.result)) in
     let Q : List Numbered → Type 0 = IsWay rests (Some a) in
     subst P (sym c.in-Node.is) (subst Q (sym led) way)

@@ -11,7 +11,7 @@ use Rattle.tuple_walk.specs.Four.{four, first_places, letters_in}
 use Rattle.tuple_walk.specs.Places.{whole_of, letters_at, letter_or, IsOpen, IsMoved, AreSome}
 use Rattle.tuple_walk.specs.Searches.{AreSteps, AreStepsBy, AreAcceptedBy}
 use Rattle.tuple_walk.specs.Walks.{machine_in, places_in, rests_in, wholes_in}
-use Rattle.tuple_walk.proofs.Choosing.{no-steps_by, steps-letters}
+use Rattle.tuple_walk.proofs.Choosing.{no-steps, no-steps_by, steps-letters}
 use Rattle.tuple_walk.proofs.Ending.{settled-accepted}
 use Rattle.tuple_walk.proofs.Longest.{longest, longest-step}
 use Rattle.tuple_walk.proofs.Nexts.{next-longest, next-some, next-rejected, next-more, next-steps, next-gap, no-gap-accepted, tuple-search, chosen-search, no-letter, step-search, at-some, gap-search}
@@ -21,6 +21,34 @@ use Rattle.tuple_walk.proofs.Stepping.{left_at, some-left, step-steps, taken-cod
 use Rattle.tuple_walk.proofs.walk.Walk.+walk.Goals as goal
 
 -- ---- advance
+
+pub advance-returns-then-is_settled-clause-searched :
+    goal.advance-returns-then-is_settled-clause-searched
+advance-returns-then-is_settled-clause-searched g t c =
+    let w = c.args.self.now in
+    let n = (machine_in w).variables in
+    let ps = four c.args.places.now in
+    let left = map left_at (take n ps) in
+    step-search (machine_in w) w.lengths c.args.q c.joint.result c.step-q.result (take n ps)
+    c.requires.moved c.requires.letter c.step-q.ensures.next c.joint.ensures.code left refl None
+    (settled-accepted (machine_in w) w.monitor.monitor.now.right w.lengths c.step-q.result
+    (eqb-true c.step-q.result (settled_state (machine_in w))
+    (sym c.is_settled.ensures ∙ c.if-is_settled.true)) left)
+
+pub advance-returns-then-is_settled-clause-counted :
+    goal.advance-returns-then-is_settled-clause-counted
+advance-returns-then-is_settled-clause-counted g t c =
+    let w = c.args.self.now in
+    let n = (machine_in w).variables in
+    let ps = four c.args.places.now in
+    let Q : ℕ → Type 0 = AreSteps w.lengths (map whole_of (take n ps)) in
+    let one : 0 + 1 ≡ c.step-q.new.steps - c.args.steps.now =
+    omega (arith, c.step-q.ensures.counted) in
+    subst Q one (step-steps (machine_in w) w.lengths c.args.q c.joint.result c.step-q.result
+    (take n ps) c.requires.moved c.requires.letter
+    c.step-q.ensures.next
+    (λ ts f. c.joint.ensures.code ∙ taken-code (machine_in w) _ ts (ap (map letter_or) f))
+    0 c.requires.members (no-steps w.lengths (map left_at (take n ps))))
 
 pub advance-search-requires : goal.advance-search-requires
 advance-search-requires g t c κs within =
@@ -352,14 +380,6 @@ choose_letter-returns-clause-counted g t c =
     (c.loop-k.steps - c.args.steps.now) c.loop-k.invariant.counted
 
 -- ---- search
-
-pub search-returns-then-is_settled-clause-searched :
-    goal.search-returns-then-is_settled-clause-searched
-search-returns-then-is_settled-clause-searched g t c =
-    let w = c.args.self.now in
-    settled-accepted (machine_in w) w.monitor.monitor.now.right w.lengths c.args.q
-    (eqb-true c.args.q (settled_state (machine_in w))
-    (sym c.is_settled.ensures ∙ c.if-is_settled.true)) (rests_in w c.args.places.now)
 
 pub search-returns-then-rejects-clause-searched : goal.search-returns-then-rejects-clause-searched
 search-returns-then-rejects-clause-searched g t c =
