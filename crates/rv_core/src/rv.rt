@@ -39,6 +39,13 @@ impl Rv {
         self.traces
     }
 
+    /// How many specs are watched.
+    pub fn specs(&self) -> u32
+        ensures { result ≡ length (specs_of (held self.now)) }
+    {
+        self.watches.len() as u32
+    }
+
     /// How many traces are kept for a spec, by its number. Where dominated ones are dropped these
     /// are the leaders, and it takes time linear in them, times the logarithm of their number. Else
     /// each trace that has arrived counts, also one that another stands for, in constant time.

@@ -110,7 +110,7 @@ fn judge(alloc: Global, specs: &SpecList, lengths: Lengths, drop: bool, source: 
         (IsOutcome lengths drop (plain_formulas specs.now) (AreLeft source.now) result) }
 {
     match Rv::new(alloc, specs.as_slice(), lengths, drop) {
-        Ok(mut rv) => watch(alloc, &mut rv, specs.len() as u32, source),
+        Ok(mut rv) => watch(alloc, &mut rv, source),
         Err(error) => unwatched(alloc, error, source),
     }
 }

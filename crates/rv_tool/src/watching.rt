@@ -34,12 +34,11 @@ pub enum Watched {
     Unread,
 }
 
-/// What the events of a source come to with a monitor of `specs` formulas to which nothing has come
-/// yet; or the first line at fault. Each line is read once: those behind the last event that is given
+/// What the events of a source come to with a monitor to which nothing has come yet; or the first
+/// line at fault. Each line is read once: those behind the last event that is given
 /// are checked alone.
-pub fn watch(alloc: Global, rv: &mut Rv, specs: u32, source: &Source) -> RvAnswer
+pub fn watch(alloc: Global, rv: &mut Rv, source: &Source) -> RvAnswer
     requires stands { StandsFor (held rv.old) empty_history }
-    requires specs { specs ≡ length (specs_of (held rv.old)) }
     requires few { count_left source.now < 2 ^ 31 }
     requires numbered { AreNumbered source.now }
     ensures { OrFault source.now result (OrMemory result (EventsCome (held rv.old).rule
@@ -48,7 +47,7 @@ pub fn watch(alloc: Global, rv: &mut Rv, specs: u32, source: &Source) -> RvAnswe
     let mut left = *source;
     let watched = watch_on::<Brand>(alloc, rv, &mut left, Blank::new(1));
     match left.check(alloc) {
-        Ok(()) => watched_answer(alloc, rv, specs, watched),
+        Ok(()) => watched_answer(alloc, rv, watched),
         Err(fault) => Err(file_refusal(1, FileFault::from(fault))),
     }
 }
@@ -118,14 +117,13 @@ fn watch_events<L: Ledger>(
 }
 
 /// The answer where all lines are taken.
-fn watched_answer(alloc: Global, rv: &Rv, specs: u32, watched: Watched) -> RvAnswer
-    requires { specs ≡ length (specs_of (held rv.now)) }
+fn watched_answer(alloc: Global, rv: &Rv, watched: Watched) -> RvAnswer
     ensures { (source : Source) → IsWatched (held rv.now).rule (held rv.now).drop
         (specs_of (held rv.now)) source (held rv.now) watched → OrMemory result (EventsCome
         (held rv.now).rule (held rv.now).drop (specs_of (held rv.now)) (AreLeft source) result) }
 {
     match watched {
-        Watched::Through => clean_answer(alloc, rv, specs),
+        Watched::Through => clean_answer(alloc, rv),
         Watched::Refused { error, line } => Err(event_refusal(error, line)),
         Watched::Violated { spec, trace, tuple } => {
             Ok(RvVerdict::Violation { spec, trace, tuple })
@@ -148,13 +146,12 @@ fn event_refusal(error: RvError, line: u32) -> Refusal<RvFault>
     }
 }
 
-/// The answer that no event was refused or violated one of `specs` formulas.
-fn clean_answer(alloc: Global, rv: &Rv, specs: u32) -> RvAnswer
-    requires { specs ≡ length (specs_of (held rv.now)) }
+/// The answer that no event was refused or violated a formula.
+fn clean_answer(alloc: Global, rv: &Rv) -> RvAnswer
     ensures { OrMemory result ((h : History) → StandsFor (held rv.now) h
         → IsNoViolation (held rv.now).rule (held rv.now).drop (specs_of (held rv.now)) h result) }
 {
-    match kept_of(alloc, rv, specs) {
+    match kept_of(alloc, rv) {
         Ok(kept) => Ok(RvVerdict::NoViolation {
             traces: rv.traces(),
             kept,
@@ -164,17 +161,16 @@ fn clean_answer(alloc: Global, rv: &Rv, specs: u32) -> RvAnswer
     }
 }
 
-/// How many traces are kept for each of `specs` formulas: all that arrived, or, where dominated
-/// ones are dropped, their leaders. In time linear in what is kept, times the logarithm of it.
-fn kept_of(alloc: Global, rv: &Rv, specs: u32) -> M<NumList>
-    requires { specs ≡ length (specs_of (held rv.now)) }
+/// How many traces are kept for each formula: all that arrived, or, where dominated ones are
+/// dropped, their leaders. In time linear in what is kept, times the logarithm of it.
+fn kept_of(alloc: Global, rv: &Rv) -> M<NumList>
     ensures { IfOk result (λ kept. (h : History) → StandsFor (held rv.now) h
         → AreKeptCounts (held rv.now).rule (held rv.now).drop (specs_of (held rv.now))
         h.present.arrived kept) }
 {
     keeping();
     let mut kept = NumList::new(alloc);
-    for spec in 0..specs {
+    for spec in 0..rv.specs() {
         kept.push(rv.kept(spec))?;
     }
     Ok(kept)
