@@ -131,6 +131,13 @@ in-push n facts more f inside here made g has =
       | inr same ↦ let P : Fact → Type 0 = IsIn n in subst P same here
     ]
 
+pub in-more : (n : ℕ) (facts items basis left : List Fact) (i : ℕ) (g : Fact) → AllIn n facts →
+    items ≡ facts → AllIn n basis → i < length items → g ≡ get_or items i g →
+    left ≡ basis ++ g ∷ [] → AllIn n left
+in-more n facts items basis left i g inside e before lt at made =
+    let C : List Fact → Type 0 = λ facts. Contains facts g in
+    in-push n basis left g before (inside g (subst C e (i, lt, sym at))) made
+
 pub in-at : (n : ℕ) (facts : List Fact) (k : ℕ) (f : Fact) → AllIn n facts →
     slice_get facts k ≡ Some f → IsIn n f
 in-at n facts k f inside at =
