@@ -173,7 +173,8 @@ module _ (safe : SafeNet) (asked : ℕ → Asked) (i variables : ℕ) (clauses :
     pub one_refuted : (next : List ℕ)
         → ((log : List Learned) (rest : List Line) → IsLogAt text log rest
         → IsRefutation variables clauses log × AreLines next rest)
-        → AreLogs text (drop i logs) × AreBefore i → AreLogs next (drop (i + 1) logs) × AreBefore (i + 1)
+        → AreLogs text (drop i logs) × AreBefore i
+        → AreLogs next (drop (i + 1) logs) × AreBefore (i + 1)
     one_refuted next judged (are, before) =
         let (rest, at, more) = first_log text (log_at logs i) (drop (suc i) logs)
         (here text logs i lt are) in

@@ -79,9 +79,11 @@ returns-in_default-3-clause-judged c = λ logs are many.
           c.in_ok-checker.checker.variables c.in_ok-checker.checker.clauses
           c.loop-place.left.now logs lt
           (of_behind (variables_of c.args.safe.now) c.args.facts.now c.args.depth
-          c.loop-place.place _ (ap V c.in_ok-checker.ensures ∙ c.in_ok-query.ensures.query.variables))
+          c.loop-place.place _
+          (ap V c.in_ok-checker.ensures ∙ c.in_ok-query.ensures.query.variables))
           (of_behind (clauses_of c.args.safe.now) c.args.facts.now c.args.depth
-          c.loop-place.place _ (ap K c.in_ok-checker.ensures ∙ c.in_ok-query.ensures.query.clauses))
+          c.loop-place.place _
+          (ap K c.in_ok-checker.ensures ∙ c.in_ok-query.ensures.query.clauses))
           (subst P c.in_default-3.is c.in_ok-rest.ensures.judged)
           (c.loop-place.invariant.going logs are many).0 (length logs) lt right),
     )
@@ -109,9 +111,11 @@ loop-place-preserved c =
           c.in_ok-checker.checker.clauses c.loop-place.left.now logs
           (omega (arith, c.loop-place-test.true, many))
           (of_behind (variables_of c.args.safe.now) c.args.facts.now c.args.depth
-          c.loop-place.place _ (ap V c.in_ok-checker.ensures ∙ c.in_ok-query.ensures.query.variables))
+          c.loop-place.place _
+          (ap V c.in_ok-checker.ensures ∙ c.in_ok-query.ensures.query.variables))
           (of_behind (clauses_of c.args.safe.now) c.args.facts.now c.args.depth
-          c.loop-place.place _ (ap K c.in_ok-checker.ensures ∙ c.in_ok-query.ensures.query.clauses))
+          c.loop-place.place _
+          (ap K c.in_ok-checker.ensures ∙ c.in_ok-query.ensures.query.clauses))
           c.in-Some-2.rest.now (subst P c.in-Some-2.is c.in_ok-rest.ensures.judged)
           (c.loop-place.invariant.going logs are many));
     }
