@@ -163,6 +163,10 @@ chosen-search m lengths q ls wholes e None here s =
     let P : List (List Numbered) → Type 0 = AreAccepted m lengths q 1 in
     from-none m lengths q ls (subst P e s) here
 
+pub where-none : {A : Type 0} (r : Option A) (P Q : Type 0) → (P → Q) → IfNone r P → IfNone r Q
+where-none (Some x) P Q f h = tt
+where-none None P Q f h = f h
+
 pub no-letter : (m : Machine) (lengths : Lengths) (q : ℕ) (places : List Place)
     → Each (IsMoved lengths) places → list_any is_letter (map taken_of places) ≡ false
     → AreAccepted m lengths q 1 (map whole_of places)

@@ -54,6 +54,13 @@ open-less {A} P i n xs x next e h =
     less zero (y ∷ ys) h = h.1
     less (suc i) (y ∷ ys) h = less i ys h
 
+-- a place put back
+pub set-back : {A : Type 0} (xs : List A) (i : ℕ) (x : A) → slice_get xs i ≡ Some x
+    → set xs i x ≡ xs
+set-back [] i x e = refl
+set-back (y ∷ ys) zero x e = let is : y ≡ x = cc in ap (λ z. z ∷ ys) (sym is)
+set-back (y ∷ ys) (suc i) x e = ap (λ zs. y ∷ zs) (set-back ys i x e)
+
 pub some-set : (ls : List (List Numbered)) (i : ℕ) (w : List Numbered) → AreSome ls → 0 < length w
     → AreSome (set ls i w)
 some-set [] i w h some = tt

@@ -178,8 +178,8 @@ impl<'a, L: Ledger> Walk<'a, L> {
             (starts version.now (number, trace.now) (machine_in self.now).variables place)
             (steps.new - steps.old) }
     {
-        let places = start(version, place, number, trace);
-        self.search(&places, self.monitor.start(), steps)
+        let mut places = start(version, place, number, trace);
+        self.search(&mut places, self.monitor.start(), steps)
     }
 }
 

@@ -86,36 +86,16 @@ impl<'a> Places<'a> {
         }
     }
 
-    /// The same with another place `i`.
-    pub(crate) fn with(&self, i: usize, place: &Place<'a>) -> Places<'a>
+    /// Puts another at place `i`, and copies no other.
+    pub(crate) fn put(&mut self, i: usize, place: &Place<'a>)
         requires { i < 4 }
-        ensures { four result ≡ set (four self.now) i place.now }
+        ensures { four self.new ≡ set (four self.old) i place.now }
     {
         match i {
-            0 => Places {
-                first: place.copied(),
-                second: self.second.copied(),
-                third: self.third.copied(),
-                fourth: self.fourth.copied(),
-            },
-            1 => Places {
-                first: self.first.copied(),
-                second: place.copied(),
-                third: self.third.copied(),
-                fourth: self.fourth.copied(),
-            },
-            2 => Places {
-                first: self.first.copied(),
-                second: self.second.copied(),
-                third: place.copied(),
-                fourth: self.fourth.copied(),
-            },
-            _ => Places {
-                first: self.first.copied(),
-                second: self.second.copied(),
-                third: self.third.copied(),
-                fourth: place.copied(),
-            },
+            0 => self.first = place.copied(),
+            1 => self.second = place.copied(),
+            2 => self.third = place.copied(),
+            _ => self.fourth = place.copied(),
         }
     }
 

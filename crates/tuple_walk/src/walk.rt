@@ -1,6 +1,6 @@
 //! The walk down from one place for each variable.
 
-ghost use Rattle.std.specs.Prelude.{◌≡◌, ◌-◌, ◌<◌, ◌≤◌, true, map, drop, Some, None};
+ghost use Rattle.std.specs.Prelude.{◌≡◌, ◌-◌, ◌<◌, ◌≤◌, true, map, drop, Some, None, IfNone};
 ghost use Rattle.std.specs.List.{list_any};
 ghost use Rattle.hy_formula.specs.Quantifiers.{Each};
 ghost use Rattle.fin_monitor.specs.Codes.{code_of, joint_letter};
@@ -32,15 +32,20 @@ pub(crate) struct Walk<'a, L: Ledger> {
 impl<'a, L: Ledger> Walk<'a, L> {
     /// A tuple from the places that is rejected from state `q` on.
     #[cycle(walk)]
-    pub(crate) fn search(&self, places: &Places<'a>, q: u32, steps: &mut Steps<L>) -> Option<Tuple>
+    pub(crate) fn search(
+        &self,
+        places: &mut Places<'a>,
+        q: u32,
+        steps: &mut Steps<L>,
+    ) -> Option<Tuple>
         requires some { 1 ≤ (machine_in self.now).variables }
         requires state { q < states_of (machine_in self.now) }
-        requires open { Each IsOpen (places_in self.now places.now) }
-        requires members { AreSome (rests_in self.now places.now) }
+        requires open { Each IsOpen (places_in self.now places.old) }
+        requires members { AreSome (rests_in self.now places.old) }
         ensures searched { IsSearch (machine_in self.now) self.now.lengths q 0
-            (rests_in self.now places.now) result }
+            (rests_in self.now places.old) result }
         ensures steps { steps.old ≤ steps.new }
-        ensures counted { AreSteps self.now.lengths (rests_in self.now places.now)
+        ensures counted { AreSteps self.now.lengths (rests_in self.now places.old)
             (steps.new - steps.old) }
     {
         if self.are_alone(places) {
@@ -56,18 +61,26 @@ impl<'a, L: Ledger> Walk<'a, L> {
     }
 
     /// As `search`, where what a step takes is chosen at the first `i` places; at least one step.
+    /// Where nothing is found the places are as before.
     #[cycle(walk)]
-    fn choose(&self, places: &Places<'a>, i: usize, q: u32, steps: &mut Steps<L>) -> Option<Tuple>
+    fn choose(
+        &self,
+        places: &mut Places<'a>,
+        i: usize,
+        q: u32,
+        steps: &mut Steps<L>,
+    ) -> Option<Tuple>
         requires some { 1 ≤ (machine_in self.now).variables }
         requires state { q < states_of (machine_in self.now) }
         requires within { i ≤ (machine_in self.now).variables }
-        requires moved { Each (IsMoved self.now.lengths) (first_places i places.now) }
-        requires open { Each IsOpen (drop i (places_in self.now places.now)) }
-        requires members { AreSome (wholes_in self.now places.now) }
+        requires moved { Each (IsMoved self.now.lengths) (first_places i places.old) }
+        requires open { Each IsOpen (drop i (places_in self.now places.old)) }
+        requires members { AreSome (wholes_in self.now places.old) }
         ensures searched { IsSearch (machine_in self.now) self.now.lengths q 1
-            (wholes_in self.now places.now) result }
+            (wholes_in self.now places.old) result }
+        ensures same { IfNone result (four places.new ≡ four places.old) }
         ensures steps { steps.old ≤ steps.new }
-        ensures counted { AreSteps self.now.lengths (wholes_in self.now places.now)
+        ensures counted { AreSteps self.now.lengths (wholes_in self.now places.old)
             (steps.new - steps.old) }
     {
         if i == self.monitor.vars() as usize {
@@ -80,10 +93,15 @@ impl<'a, L: Ledger> Walk<'a, L> {
             Some(tuple) => return Some(tuple),
             None => {}
         }
-        let spot = places.at(i).spot;
-        spot.letters_differ();
-        match self.gap(&spot) {
-            Some(place) => self.choose(&places.with(i, &place), i + 1, q, steps),
+        let here = places.at(i);
+        here.spot.letters_differ();
+        match self.gap(&here.spot) {
+            Some(place) => {
+                places.put(i, &place);
+                let found = self.choose(places, i + 1, q, steps);
+                places.put(i, &here);
+                found
+            }
             None => None,
         }
     }
@@ -92,7 +110,7 @@ impl<'a, L: Ledger> Walk<'a, L> {
     #[cycle(walk)]
     fn choose_letter(
         &self,
-        places: &Places<'a>,
+        places: &mut Places<'a>,
         i: usize,
         q: u32,
         steps: &mut Steps<L>,
@@ -100,26 +118,28 @@ impl<'a, L: Ledger> Walk<'a, L> {
         requires some { 1 ≤ (machine_in self.now).variables }
         requires state { q < states_of (machine_in self.now) }
         requires within { i < (machine_in self.now).variables }
-        requires moved { Each (IsMoved self.now.lengths) (first_places i places.now) }
-        requires open { Each IsOpen (drop i (places_in self.now places.now)) }
-        requires members { AreSome (wholes_in self.now places.now) }
+        requires moved { Each (IsMoved self.now.lengths) (first_places i places.old) }
+        requires open { Each IsOpen (drop i (places_in self.now places.old)) }
+        requires members { AreSome (wholes_in self.now places.old) }
         ensures searched { IsSearchBy (machine_in self.now) self.now.lengths q i
-            (letters_in i (four places.now))
-            (wholes_in self.now places.now) result }
+            (letters_in i (four places.old))
+            (wholes_in self.now places.old) result }
+        ensures same { IfNone result (four places.new ≡ four places.old) }
         ensures steps { steps.old ≤ steps.new }
-        ensures counted { AreStepsBy self.now.lengths i (letters_in i (four places.now))
-            (wholes_in self.now places.now)
+        ensures counted { AreStepsBy self.now.lengths i (letters_in i (four places.old))
+            (wholes_in self.now places.old)
             (steps.new - steps.old) }
     {
-        let spot = places.at(i).spot;
-        spot.letters_differ();
-        for k in 0..spot.len() {
-            let next = places.with(i, &spot.letter(k));
-            match self.choose(&next, i + 1, q, steps) {
+        let here = places.at(i);
+        here.spot.letters_differ();
+        for k in 0..here.spot.len() {
+            places.put(i, &here.spot.letter(k));
+            match self.choose(places, i + 1, q, steps) {
                 Some(tuple) => return Some(tuple),
                 None => {}
             }
         }
+        places.put(i, &here);
         None
     }
 
@@ -142,7 +162,8 @@ impl<'a, L: Ledger> Walk<'a, L> {
         if self.monitor.is_settled(q) {
             return None;
         }
-        self.search(&places.opened(), q, steps)
+        let mut next = places.opened();
+        self.search(&mut next, q, steps)
     }
 
     /// The code of the letters that are taken.

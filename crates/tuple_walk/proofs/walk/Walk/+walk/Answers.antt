@@ -1,6 +1,6 @@
-use Rattle.std.proofs.Common.{◌≡◌, ◌+◌, ◌-◌, ◌<◌, ◌≤◌, ℕ, List, [], length, map, take, slice_get, Some, None, refl, sym, ap, ◌∙◌, subst, arith}
+use Rattle.std.proofs.Common.{◌≡◌, ◌+◌, ◌-◌, ◌<◌, ◌≤◌, ℕ, List, [], length, map, take, set, slice_get, Some, None, refl, sym, ap, ◌∙◌, subst, arith}
 use Rattle.std.proofs.lemmas.Bool.{eqb-true, OnTrue_at, OnFalse_at}
-use Rattle.std.proofs.lemmas.List.{take_all}
+use Rattle.std.proofs.lemmas.List.{set-set, take_all}
 use Rattle.hy_base.proofs.Members.{contains-none}
 use Rattle.hy_bits.specs.Letter.{Letter}
 use Rattle.hy_formula.specs.Quantifiers.{Each}
@@ -10,13 +10,14 @@ use Rattle.trace_trie.specs.Numbered.{Numbered}
 use Rattle.tuple_walk.specs.Four.{four, first_places, letters_in}
 use Rattle.tuple_walk.specs.Places.{whole_of, letters_at, letter_or, IsOpen, IsMoved, AreSome}
 use Rattle.tuple_walk.specs.Searches.{AreSteps, AreStepsBy, AreAcceptedBy}
+use Rattle.tuple_walk.specs.declared.place.Place.{Place}
 use Rattle.tuple_walk.specs.Walks.{machine_in, places_in, rests_in, wholes_in}
 use Rattle.tuple_walk.proofs.Choosing.{no-steps, no-steps_by, steps-letters}
 use Rattle.tuple_walk.proofs.Ending.{settled-accepted}
 use Rattle.tuple_walk.proofs.Longest.{longest, longest-step}
-use Rattle.tuple_walk.proofs.Nexts.{next-longest, next-some, next-rejected, next-more, next-steps, next-gap, no-gap-accepted, tuple-search, chosen-search, no-letter, step-search, at-some, gap-search}
+use Rattle.tuple_walk.proofs.Nexts.{where-none, next-longest, next-some, next-rejected, next-more, next-steps, next-gap, no-gap-accepted, tuple-search, chosen-search, no-letter, step-search, at-some, gap-search}
 use Rattle.tuple_walk.proofs.Onlys.{only-longest, only-some, only-search, only-steps}
-use Rattle.tuple_walk.proofs.Placing.{moved-more, open-less, at-letters, open-wholes, opened-left, opened-open}
+use Rattle.tuple_walk.proofs.Placing.{set-back, moved-more, open-less, at-letters, open-wholes, opened-left, opened-open}
 use Rattle.tuple_walk.proofs.Stepping.{left_at, some-left, step-steps, taken-code}
 use Rattle.tuple_walk.proofs.walk.Walk.+walk.Goals as goal
 
@@ -55,7 +56,7 @@ advance-search-requires g t c κs within =
     let w = c.args.self.now in
     let n = (machine_in w).variables in
     let ps = four c.args.places.now in
-    let left = opened-left n ps (four c.opened.result) c.opened.ensures in
+    let left = opened-left n ps (four c.opened-next.result) c.opened-next.ensures in
     let fewer = longest-step w.lengths (take n ps) c.requires.moved c.requires.members c.requires.letter in
     let same = ap longest left in (
       omega (arith, c.decreases, fewer, same),
@@ -66,7 +67,7 @@ advance-search-requires g t c κs within =
           (
             c.step-q.ensures.within,
             (
-              opened-open n ps (four c.opened.result) c.opened.ensures,
+              opened-open n ps (four c.opened-next.result) c.opened-next.ensures,
               subst AreSome (sym left) (some-left (take n ps) c.requires.members),
             ),
           ),
@@ -81,8 +82,8 @@ advance-returns-clause-searched g t c =
     let ps = four c.args.places.now in
     step-search (machine_in w) w.lengths c.args.q c.joint.result c.step-q.result (take n ps)
     c.requires.moved c.requires.letter
-    c.step-q.ensures.next c.joint.ensures.code (rests_in w c.opened.result)
-    (opened-left n ps (four c.opened.result) c.opened.ensures) c.search.result
+    c.step-q.ensures.next c.joint.ensures.code (rests_in w c.opened-next.result)
+    (opened-left n ps (four c.opened-next.result) c.opened-next.ensures) c.search.result
     c.search.ensures.searched
 
 pub advance-returns-clause-counted : goal.advance-returns-clause-counted
@@ -100,7 +101,7 @@ advance-returns-clause-counted g t c =
     c.step-q.ensures.next
     (λ ts f. c.joint.ensures.code ∙ taken-code (machine_in w) _ ts (ap (map letter_or) f))
     behind c.requires.members
-    (subst P (opened-left n ps (four c.opened.result) c.opened.ensures) c.search.ensures.counted))
+    (subst P (opened-left n ps (four c.opened-next.result) c.opened-next.ensures) c.search.ensures.counted))
 
 -- ---- choose
 
@@ -150,17 +151,22 @@ choose-choose_letter-requires g t c κs within =
       ),
     )
 
-pub choose-choose-requires : goal.choose-choose-requires
-choose-choose-requires g t c κs within =
+pub choose-choose-found-requires : goal.choose-choose-found-requires
+choose-choose-found-requires g t c κs within =
     let w = c.args.self.now in
     let n = (machine_in w).variables in
     let i = c.args.i in
     let ps = four c.args.places.now in
-    let next = four c.with.result in
+    let same : four c.choose_letter.new.places ≡ ps = c.in-None.ensures.same in
+    let At : List Place → Type 0 = λ qs. slice_get qs i ≡ Some c.at-here.result in
+    let at = subst At same c.at-here.ensures in
+    let is : four c.put.new.self ≡ set ps i c.in-Some-gap.place =
+    c.put.ensures ∙ ap (λ (qs : List Place). set qs i c.in-Some-gap.place) same in
+    let next = four c.put.new.self in
     let few : n ≤ 4 = w.monitor.monitor.now.right.few in
     let lt : i < n = omega (arith, c.vars.ensures.vars) in
-    let fewer = next-longest n i ps next c.at.result c.in-Some-gap.place lt few c.at.ensures
-    c.requires.open c.with.ensures None c.in-Some-gap.ensures.way in (
+    let fewer = next-longest n i ps next c.at-here.result c.in-Some-gap.place lt few at
+    c.requires.open is None c.in-Some-gap.ensures.way in (
       omega (arith, c.decreases, few, fewer),
       (
         within,
@@ -172,11 +178,11 @@ choose-choose-requires g t c κs within =
               omega arith,
               (
                 moved-more (IsMoved w.lengths) i ps c.in-Some-gap.place next (omega arith)
-                    c.with.ensures c.requires.moved c.in-Some-gap.ensures.moved,
+                    is c.requires.moved c.in-Some-gap.ensures.moved,
                 (
-                  open-less IsOpen i n ps c.in-Some-gap.place next c.with.ensures c.requires.open,
-                  next-some n i ps next c.at.result c.in-Some-gap.place lt few c.at.ensures
-                      c.requires.open c.with.ensures None c.in-Some-gap.ensures.way
+                  open-less IsOpen i n ps c.in-Some-gap.place next is c.requires.open,
+                  next-some n i ps next c.at-here.result c.in-Some-gap.place lt few at
+                      c.requires.open is None c.in-Some-gap.ensures.way
                       c.requires.members,
                 ),
               ),
@@ -192,14 +198,19 @@ choose-returns-in-Some-gap-clause-searched g t c =
     let n = (machine_in w).variables in
     let i = c.args.i in
     let ps = four c.args.places.now in
+    let same : four c.choose_letter.new.places ≡ ps = c.in-None.ensures.same in
+    let At : List Place → Type 0 = λ qs. slice_get qs i ≡ Some c.at-here.result in
+    let at = subst At same c.at-here.ensures in
+    let is : four c.put.new.self ≡ set ps i c.in-Some-gap.place =
+    c.put.ensures ∙ ap (λ (qs : List Place). set qs i c.in-Some-gap.place) same in
     let few : n ≤ 4 = w.monitor.monitor.now.right.few in
     let lt : i < n = omega (arith, c.vars.ensures.vars) in
-    let P : List Letter → Type 0 = λ l. AreLetters l (left_at c.at.result) in
-    gap-search (machine_in w) w.lengths c.args.q n i ps (four c.with.result) c.at.result
-    c.in-Some-gap.place lt few c.at.ensures c.requires.open c.with.ensures
+    let P : List Letter → Type 0 = λ l. AreLetters l (left_at c.at-here.result) in
+    gap-search (machine_in w) w.lengths c.args.q n i ps (four c.put.new.self) c.at-here.result
+    c.in-Some-gap.place lt few at c.requires.open is
     c.in-Some-gap.ensures.way (letters_in i ps)
-    (subst P (sym (at-letters i ps c.at.result c.at.ensures)) c.letters_differ.ensures)
-    c.in-None.ensures.searched c.choose.result c.choose.ensures.searched
+    (subst P (sym (at-letters i ps c.at-here.result at)) c.letters_differ.ensures)
+    c.in-None.ensures.searched c.choose-found.result c.choose-found.ensures.searched
 
 pub choose-returns-in-Some-gap-clause-counted : goal.choose-returns-in-Some-gap-clause-counted
 choose-returns-in-Some-gap-clause-counted g t c =
@@ -207,15 +218,20 @@ choose-returns-in-Some-gap-clause-counted g t c =
     let n = (machine_in w).variables in
     let i = c.args.i in
     let ps = four c.args.places.now in
+    let same : four c.choose_letter.new.places ≡ ps = c.in-None.ensures.same in
+    let At : List Place → Type 0 = λ qs. slice_get qs i ≡ Some c.at-here.result in
+    let at = subst At same c.at-here.ensures in
+    let is : four c.put.new.self ≡ set ps i c.in-Some-gap.place =
+    c.put.ensures ∙ ap (λ (qs : List Place). set qs i c.in-Some-gap.place) same in
     let few : n ≤ 4 = w.monitor.monitor.now.right.few in
     let lt : i < n = omega (arith, c.vars.ensures.vars) in
-    next-gap n i ps (four c.with.result) c.at.result c.in-Some-gap.place lt few c.at.ensures
-    c.requires.open c.with.ensures None c.in-Some-gap.ensures.way w.lengths (letters_in i ps) refl
+    next-gap n i ps (four c.put.new.self) c.at-here.result c.in-Some-gap.place lt few at
+    c.requires.open is None c.in-Some-gap.ensures.way w.lengths (letters_in i ps) refl
     (c.choose_letter.new.steps - c.args.steps.now)
-    (c.choose.new.steps - c.choose_letter.new.steps)
-    (c.choose.new.steps - c.args.steps.now)
-    (omega (arith, c.choose_letter.ensures.steps, c.choose.ensures.steps))
-    c.choose_letter.ensures.counted c.choose.ensures.counted
+    (c.choose-found.new.steps - c.choose_letter.new.steps)
+    (c.choose-found.new.steps - c.args.steps.now)
+    (omega (arith, c.choose_letter.ensures.steps, c.choose-found.ensures.steps))
+    c.choose_letter.ensures.counted c.choose-found.ensures.counted
 
 pub choose-returns-in-None-gap-clause-searched : goal.choose-returns-in-None-gap-clause-searched
 choose-returns-in-None-gap-clause-searched g t c =
@@ -223,13 +239,35 @@ choose-returns-in-None-gap-clause-searched g t c =
     let n = (machine_in w).variables in
     let i = c.args.i in
     let ps = four c.args.places.now in
+    let same : four c.choose_letter.new.places ≡ ps = c.in-None.ensures.same in
+    let At : List Place → Type 0 = λ qs. slice_get qs i ≡ Some c.at-here.result in
+    let at = subst At same c.at-here.ensures in
     let few : n ≤ 4 = w.monitor.monitor.now.right.few in
     let lt : i < n = omega (arith, c.vars.ensures.vars) in
-    let P : List Letter → Type 0 = λ l. AreLetters l (left_at c.at.result) in
-    no-gap-accepted (machine_in w) w.lengths c.args.q n i ps c.at.result lt few c.at.ensures
+    let P : List Letter → Type 0 = λ l. AreLetters l (left_at c.at-here.result) in
+    no-gap-accepted (machine_in w) w.lengths c.args.q n i ps c.at-here.result lt few at
     c.requires.open (letters_in i ps)
-    (subst P (sym (at-letters i ps c.at.result c.at.ensures)) c.letters_differ.ensures)
+    (subst P (sym (at-letters i ps c.at-here.result at)) c.letters_differ.ensures)
     c.in-None-gap.ensures.none c.in-None.ensures.searched
+
+pub choose-returns-in-Some-gap-clause-same : goal.choose-returns-in-Some-gap-clause-same
+choose-returns-in-Some-gap-clause-same g t c =
+    let i = c.args.i in
+    let ps = four c.args.places.now in
+    let here = c.at-here.result in
+    let same : four c.choose_letter.new.places ≡ ps = c.in-None.ensures.same in
+    let At : List Place → Type 0 = λ qs. slice_get qs i ≡ Some c.at-here.result in
+    let at = subst At same c.at-here.ensures in
+    let is : four c.put.new.self ≡ set ps i c.in-Some-gap.place =
+    c.put.ensures ∙ ap (λ (qs : List Place). set qs i c.in-Some-gap.place) same in
+    where-none c.choose-found.result (four c.choose-found.new.places ≡ four c.put.new.self)
+    (four c.put-in-Some-gap.new.self ≡ ps) (λ e. c.put-in-Some-gap.ensures
+    ∙ ap (λ (qs : List Place). set qs i here) (e ∙ is)
+    ∙ set-set ps i c.in-Some-gap.place here
+    ∙ set-back ps i here at) c.choose-found.ensures.same
+
+pub choose-returns-in-None-gap-clause-same : goal.choose-returns-in-None-gap-clause-same
+choose-returns-in-None-gap-clause-same g t c = c.in-None.ensures.same
 
 -- ---- choose_letter
 
@@ -239,6 +277,7 @@ choose_letter-loop-k-init g t c =
     let P : ℕ → Type 0 = AreStepsBy w.lengths c.args.i [] (wholes_in w c.args.places.now) in
     let none : 0 ≡ c.args.steps.now - c.args.steps.now = omega arith in
     record {
+      kept = λ x. refl;
       accepted = λ tuple h some a e f. absurd (contains-none a e);
       steps = omega arith;
       counted = subst P none (no-steps_by w.lengths (wholes_in w c.args.places.now) c.args.i []);
@@ -250,13 +289,13 @@ choose_letter-choose-requires g t c κs within =
     let n = (machine_in w).variables in
     let i = c.args.i in
     let ps = four c.args.places.now in
-    let next = four c.with-next.result in
+    let next = four c.put.new.self in
     let few : n ≤ 4 = w.monitor.monitor.now.right.few in
-    let (a, there) = at-some (letters_at c.at.result.spot) c.loop-k.k
+    let (a, there) = at-some (letters_at c.at-here.result.spot) c.loop-k.k
     (omega (arith, c.len-k-end.ensures, c.loop-k-test.true)) in
     let way = c.letter.ensures.way a there in
-    let fewer = next-longest n i ps next c.at.result c.letter.result c.requires.within few
-    c.at.ensures c.requires.open c.with-next.ensures (Some a) way in (
+    let fewer = next-longest n i ps next c.at-here.result c.letter.result c.requires.within few
+    c.at-here.ensures c.requires.open (c.put.ensures ∙ c.loop-k.invariant.kept c.letter.result) (Some a) way in (
       omega (arith, c.decreases, few, fewer, c.requires.within),
       (
         within,
@@ -268,13 +307,13 @@ choose_letter-choose-requires g t c κs within =
               omega (arith, c.requires.within),
               (
                 moved-more (IsMoved w.lengths) i ps c.letter.result next
-                    (omega (arith, c.requires.within)) c.with-next.ensures c.requires.moved
+                    (omega (arith, c.requires.within)) (c.put.ensures ∙ c.loop-k.invariant.kept c.letter.result) c.requires.moved
                     (c.letter.ensures.moved w.lengths),
                 (
-                  open-less IsOpen i n ps c.letter.result next c.with-next.ensures
+                  open-less IsOpen i n ps c.letter.result next (c.put.ensures ∙ c.loop-k.invariant.kept c.letter.result)
                       c.requires.open,
-                  next-some n i ps next c.at.result c.letter.result c.requires.within few
-                      c.at.ensures c.requires.open c.with-next.ensures (Some a) way
+                  next-some n i ps next c.at-here.result c.letter.result c.requires.within few
+                      c.at-here.ensures c.requires.open (c.put.ensures ∙ c.loop-k.invariant.kept c.letter.result) (Some a) way
                       c.requires.members,
                 ),
               ),
@@ -289,11 +328,11 @@ pub choose_letter-returns-in-Some-clause-searched :
 choose_letter-returns-in-Some-clause-searched g t c =
     let w = c.args.self.now in
     let few : (machine_in w).variables ≤ 4 = w.monitor.monitor.now.right.few in
-    let (a, there) = at-some (letters_at c.at.result.spot) c.loop-k.k
+    let (a, there) = at-some (letters_at c.at-here.result.spot) c.loop-k.k
     (omega (arith, c.len-k-end.ensures, c.loop-k-test.true)) in
     next-rejected (machine_in w).variables c.args.i (four c.args.places.now)
-    (four c.with-next.result) c.at.result c.letter.result c.requires.within few c.at.ensures
-    c.requires.open c.with-next.ensures (Some a) (c.letter.ensures.way a there) (machine_in w)
+    (four c.put.new.self) c.at-here.result c.letter.result c.requires.within few c.at-here.ensures
+    c.requires.open (c.put.ensures ∙ c.loop-k.invariant.kept c.letter.result) (Some a) (c.letter.ensures.way a there) (machine_in w)
     w.lengths c.args.q c.in-Some.tuple c.in-Some.ensures.searched
 
 pub choose_letter-returns-in-Some-clause-steps : goal.choose_letter-returns-in-Some-clause-steps
@@ -306,20 +345,20 @@ choose_letter-returns-in-Some-clause-counted g t c =
     let w = c.args.self.now in
     let ps = four c.args.places.now in
     let few : (machine_in w).variables ≤ 4 = w.monitor.monitor.now.right.few in
-    let (a, there) = at-some (letters_at c.at.result.spot) c.loop-k.k
+    let (a, there) = at-some (letters_at c.at-here.result.spot) c.loop-k.k
     (omega (arith, c.len-k-end.ensures, c.loop-k-test.true)) in
     let letters = letters_in c.args.i ps in
-    let is : letters ≡ letters_at c.at.result.spot =
-    at-letters c.args.i ps c.at.result c.at.ensures in
-    let P : List Letter → Type 0 = λ l. AreLetters l (left_at c.at.result) in
+    let is : letters ≡ letters_at c.at-here.result.spot =
+    at-letters c.args.i ps c.at-here.result c.at-here.ensures in
+    let P : List Letter → Type 0 = λ l. AreLetters l (left_at c.at-here.result) in
     let Q : List Letter → Type 0 = λ l. slice_get l c.loop-k.k ≡ Some a in
-    let are : AreLetters letters (left_at c.at.result) =
+    let are : AreLetters letters (left_at c.at-here.result) =
     subst P (sym is) c.letters_differ.ensures in
     steps-letters w.lengths (wholes_in w c.args.places.now) c.args.i letters (c.loop-k.k + 1)
     (c.choose.new.steps - c.args.steps.now)
     (next-steps (machine_in w).variables c.args.i ps
-    (four c.with-next.result) c.at.result c.letter.result c.requires.within few c.at.ensures
-    c.requires.open c.with-next.ensures (Some a) (c.letter.ensures.way a there) w.lengths letters
+    (four c.put.new.self) c.at-here.result c.letter.result c.requires.within few c.at-here.ensures
+    c.requires.open (c.put.ensures ∙ c.loop-k.invariant.kept c.letter.result) (Some a) (c.letter.ensures.way a there) w.lengths letters
     c.loop-k.k a refl are.distinct (subst Q (sym is) there)
     (c.loop-k.steps - c.args.steps.now) (c.choose.new.steps - c.loop-k.steps)
     (c.choose.new.steps - c.args.steps.now)
@@ -331,25 +370,28 @@ choose_letter-loop-k-preserved g t c =
     let w = c.args.self.now in
     let ps = four c.args.places.now in
     let few : (machine_in w).variables ≤ 4 = w.monitor.monitor.now.right.few in
-    let (a, there) = at-some (letters_at c.at.result.spot) c.loop-k.k
+    let (a, there) = at-some (letters_at c.at-here.result.spot) c.loop-k.k
     (omega (arith, c.len-k-end.ensures, c.loop-k-test.true)) in
     let letters = letters_in c.args.i ps in
-    let is : letters ≡ letters_at c.at.result.spot =
-    at-letters c.args.i ps c.at.result c.at.ensures in
-    let P : List Letter → Type 0 = λ l. AreLetters l (left_at c.at.result) in
+    let is : letters ≡ letters_at c.at-here.result.spot =
+    at-letters c.args.i ps c.at-here.result c.at-here.ensures in
+    let P : List Letter → Type 0 = λ l. AreLetters l (left_at c.at-here.result) in
     let Q : List Letter → Type 0 = λ l. slice_get l c.loop-k.k ≡ Some a in
-    let are : AreLetters letters (left_at c.at.result) =
+    let are : AreLetters letters (left_at c.at-here.result) =
     subst P (sym is) c.letters_differ.ensures in
     record {
-      accepted = next-more (machine_in w).variables c.args.i ps (four c.with-next.result)
-          c.at.result c.letter.result c.requires.within few c.at.ensures c.requires.open
-          c.with-next.ensures (Some a) (c.letter.ensures.way a there) (machine_in w) w.lengths
+      kept = λ x. ap (λ (qs : List Place). set qs c.args.i x)
+          (c.in-None.ensures.same ∙ c.put.ensures ∙ c.loop-k.invariant.kept c.letter.result)
+          ∙ set-set ps c.args.i c.letter.result x;
+      accepted = next-more (machine_in w).variables c.args.i ps (four c.put.new.self)
+          c.at-here.result c.letter.result c.requires.within few c.at-here.ensures c.requires.open
+          (c.put.ensures ∙ c.loop-k.invariant.kept c.letter.result) (Some a) (c.letter.ensures.way a there) (machine_in w) w.lengths
           c.args.q letters c.loop-k.k a refl (subst Q (sym is) there) c.loop-k.invariant.accepted
           c.in-None.ensures.searched;
       steps = omega (arith, c.loop-k.invariant.steps, c.choose.ensures.steps);
-      counted = next-steps (machine_in w).variables c.args.i ps (four c.with-next.result)
-          c.at.result c.letter.result c.requires.within few c.at.ensures c.requires.open
-          c.with-next.ensures (Some a) (c.letter.ensures.way a there) w.lengths letters
+      counted = next-steps (machine_in w).variables c.args.i ps (four c.put.new.self)
+          c.at-here.result c.letter.result c.requires.within few c.at-here.ensures c.requires.open
+          (c.put.ensures ∙ c.loop-k.invariant.kept c.letter.result) (Some a) (c.letter.ensures.way a there) w.lengths letters
           c.loop-k.k a refl are.distinct (subst Q (sym is) there)
           (c.loop-k.steps - c.args.steps.now) (c.choose.new.steps - c.loop-k.steps)
           (c.choose.new.steps - c.args.steps.now)
@@ -362,7 +404,7 @@ choose_letter-returns-clause-searched g t c =
     let w = c.args.self.now in
     let ps = four c.args.places.now in
     let letters = letters_in c.args.i ps in
-    let long = ap length (at-letters c.args.i ps c.at.result c.at.ensures) in
+    let long = ap length (at-letters c.args.i ps c.at-here.result c.at-here.ensures) in
     let P : List Letter → Type 0 = λ l. AreAcceptedBy (machine_in w) w.lengths c.args.q c.args.i l
     (wholes_in w c.args.places.now) in
     subst P (take_all c.loop-k.k letters
@@ -378,6 +420,12 @@ choose_letter-returns-clause-counted g t c =
     steps-letters w.lengths (wholes_in w c.args.places.now) c.args.i
     (letters_in c.args.i (four c.args.places.now)) c.loop-k.k
     (c.loop-k.steps - c.args.steps.now) c.loop-k.invariant.counted
+
+pub choose_letter-returns-clause-same : goal.choose_letter-returns-clause-same
+choose_letter-returns-clause-same g t c =
+    c.put-2.ensures
+    ∙ c.loop-k.invariant.kept c.at-here.result
+    ∙ set-back (four c.args.places.now) c.args.i c.at-here.result c.at-here.ensures
 
 -- ---- search
 

@@ -1,4 +1,5 @@
-use Rattle.std.proofs.Common.{◌+◌, ◌*◌, ◌-◌, ◌≤◌, take}
+use Rattle.std.proofs.Common.{◌≡◌, ◌+◌, ◌*◌, ◌-◌, ◌≤◌, take, set}
+use Rattle.tuple_walk.specs.declared.place.Place.{Place}
 use Rattle.tuple_walk.specs.Four.{four, letters_in}
 use Rattle.tuple_walk.specs.Searches.{AreAcceptedBy, AreStepsBy}
 use Rattle.tuple_walk.specs.Walks.{machine_in, rests_in, wholes_in}
@@ -19,11 +20,12 @@ decreases-search g l = 11 * longest (rests_in l.self.now l.places.now) + 10
 
 abbrev pub invariant-choose_letter-loop-k : goal.invariant-choose_letter-loop-k
 invariant-choose_letter-loop-k g l =
-    let letters = take l.k (letters_in l.i (four l.places)) in
+    let letters = take l.k (letters_in l.i (four l.fn.places)) in
     record {
+      kept : (x : Place) → set (four l.places) l.i x ≡ set (four l.fn.places) l.i x;
       accepted : AreAcceptedBy (machine_in l.self) l.self.lengths l.q l.i letters
-          (wholes_in l.self l.places);
+          (wholes_in l.self l.fn.places);
       steps : l.fn.steps ≤ l.steps;
-      counted : AreStepsBy l.self.lengths l.i letters (wholes_in l.self l.places)
+      counted : AreStepsBy l.self.lengths l.i letters (wholes_in l.self l.fn.places)
           (l.steps - l.fn.steps);
     }
