@@ -86,8 +86,8 @@ class Builder:
 
     def of(self, tree: Tree, literal_of: Callable[[str, str], int]) -> int:
         """The literal of a part without temporal operators, from that of each name and run."""
-        ways = {"true": lambda: TRUE, "false": lambda: FALSE, "!": lambda it: it ^ 1, "&": lambda *parts: self.every(parts),
-                "|": self.either, "->": lambda left, right: self.either(left ^ 1, right), "<->": self.same}
+        ways = {"true": lambda: TRUE, "false": lambda: FALSE, "!": lambda it: it ^ 1, "|": self.either, "<->": self.same,
+                "&": lambda *parts: self.every(parts), "->": lambda left, right: self.either(left ^ 1, right)}
         if tree.sign == "atom":
             return literal_of(tree.name, tree.run)
         if tree.sign not in ways:

@@ -58,7 +58,7 @@ class Names:
             return [word]
         part = PART.fullmatch(word)
         if not part:
-            return sorted(self.vectors.get(word, []), key=_places)
+            return sorted(self.vectors.get(word, []), key=lambda it: [int(place) for place in re.findall(r"\[(\d+)\]", it)])
         rows = [self.bits(it) for it in places_of(part)]
         return [name for row in rows for name in row] if all(rows) else []
 
@@ -88,10 +88,6 @@ def said_bits(word: str) -> list[str]:
     """The bits that a word says by itself, where nothing else is known of it."""
     part = PART.fullmatch(word)
     return places_of(part) if part else [word]
-
-
-def _places(name: str) -> list[int]:
-    return [int(it) for it in re.findall(r"\[(\d+)\]", name)]
 
 
 def atom(name: str, variable: str) -> str:

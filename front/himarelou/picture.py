@@ -77,7 +77,6 @@ def _line(label: str, bits: Sequence[int], runs: Sequence[Run]) -> Line:
     return Line(label, len(bits), values)
 
 
-
 def svg(scene: Scene) -> str:
     return "\n".join(_Drawing(scene).lines()) + "\n"
 
@@ -113,20 +112,17 @@ class _Drawing:
         yield '<rect width="100%" height="100%" fill="white"/>'
         for step in range(scene.steps + 1):
             yield f'<path class="g" d="M{self.x(step):g},{self.top + 30} V{y - 12:g}"/>'
-        yield from self.head()
+        for place, words in enumerate(scene.title):
+            yield _text(10, 16 + 18 * place, words, 'class="b"' if place == 0 else "")
+        for place, (label, (stem, cycle)) in enumerate(zip(scene.labels, scene.shapes)):
+            row, end = self.top + 30 + 12 * place, min(stem + cycle, scene.steps)
+            yield _text(self.left - 12, row + 3, f"run {label} repeats" if cycle else f"run {label}", 'class="e s"')
+            if stem < end:
+                yield f'<rect x="{self.x(stem) + 2:g}" y="{row - 2}" width="{(end - stem) * self.step - 4}" height="4" class="c"/>'
+        for step in range(scene.steps):
+            yield _text(self.x(step + 0.5), self.top + 16, str(step), 'class="n s"')
         yield from drawn
         yield "</svg>"
-
-    def head(self) -> Iterator[str]:
-        for place, words in enumerate(self.scene.title):
-            yield _text(10, 16 + 18 * place, words, 'class="b"' if place == 0 else "")
-        for place, (label, (stem, cycle)) in enumerate(zip(self.scene.labels, self.scene.shapes)):
-            y, end = self.top + 30 + 12 * place, min(stem + cycle, self.scene.steps)
-            yield _text(self.left - 12, y + 3, f"run {label} repeats" if cycle else f"run {label}", 'class="e s"')
-            if stem < end:
-                yield f'<rect x="{self.x(stem) + 2:g}" y="{y - 2}" width="{(end - stem) * self.step - 4}" height="4" class="c"/>'
-        for step in range(self.scene.steps):
-            yield _text(self.x(step + 0.5), self.top + 16, str(step), 'class="n s"')
 
     def signal(self, line: Line, y: float) -> Iterator[str]:
         parted, high, tall = line.parted(), y - TALL + 5, TALL * len(line.values)
