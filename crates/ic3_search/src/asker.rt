@@ -3,39 +3,56 @@
 ghost use Rattle.std.specs.Prelude.{◌≡◌, suc, ◌+◌, ◌*◌, ◌<◌, ◌≤◌, ◌^◌, length, IsTrue, IfOk};
 ghost use Rattle.aig_net.specs.Nets.{variables};
 ghost use Rattle.chain_check.specs.Clauses.{AreLiterals};
-ghost use Rattle.cnf_frames.specs.Facts.{AllIn, IsSafe};
+ghost use Rattle.cnf_frames.specs.Facts.{AllIn};
 
+use crate::numbers::Numbers;
+use crate::question::Question;
 use chain_check::{Cnf, Literal};
-use cnf_frames::{Inv, add_facts, add_frames};
+use cnf_frames::{add_facts, add_frames};
 use hy_base::M;
-use live_safe::SafeNet;
 use sat_core::{Reply, Session};
 use std::alloc::Global;
 
-/// How many clauses a call may learn.
-const CONFLICTS: u32 = 1_000;
+/// What a solver may do.
+#[derive(Clone, Copy)]
+pub struct Budget {
+    /// How often it may be called.
+    pub calls: u32,
+    /// How many clauses a call may learn.
+    pub conflicts: u32,
+    ghost few: { conflicts < 2 ^ 31 },
+}
 
-/// Asks about steps from states that have all facts, in as many calls as are left.
+/// Asks about steps from states that have all facts, within a budget.
 #[derive(Drop)]
 pub struct Asker {
     /// The clauses of a step, without what was added.
     cnf: Cnf,
     session: Session,
-    calls: u32,
+    left: Budget,
     ghost same: { session.variables ≡ cnf.variables },
 }
 
-/// The clauses of a step from a state that has all facts.
-fn step_clauses(alloc: Global, safe: &SafeNet, inv: &Inv, count: u32) -> M<Cnf>
-    requires safe { IsSafe safe.now }
-    requires inside { AllIn (length safe.now.net.latches) inv.now }
-    requires room { 2 * variables safe.now.net ≤ count }
+/// The clauses of a step from a state that has all facts, as far as they matter to the target, over
+/// so many variables.
+fn step_clauses(alloc: Global, question: &Question<'_>, numbers: &Numbers, count: u32) -> M<Cnf>
+    requires inside { AllIn (length question.now.safe.now.net.latches) question.now.facts.now }
+    requires room { 2 * variables question.now.safe.now.net < 2 ^ 31 }
     requires few { count < 2 ^ 31 }
     ensures { IfOk result (λ cnf. cnf.variables ≡ count) }
 {
+    let net = &question.safe.net;
+    let mut whole = Cnf::new(alloc, 2 * net.variables())?;
+    add_frames(&mut whole, net, 1)?;
+    add_facts(alloc, &mut whole, net, 0, question.facts.as_slice())?;
     let mut cnf = Cnf::new(alloc, count)?;
-    add_frames(&mut cnf, &safe.net, 1)?;
-    add_facts(alloc, &mut cnf, &safe.net, 0, inv.as_slice())?;
+    let mut clause = Vec::new(alloc);
+    for i in 0..whole.clauses.len() {
+        let matters = numbers.translate(whole.clauses.clause(i), &mut clause)?;
+        if matters && cnf.takes(clause.as_slice()) {
+            cnf.add_literals(clause.as_slice())?;
+        }
+    }
     Ok(cnf)
 }
 
@@ -55,28 +72,28 @@ impl Asker {
     /// With as many further variables as there are switches, in time linear in the net and the facts.
     pub(crate) fn new(
         alloc: Global,
-        safe: &SafeNet,
-        inv: &Inv,
+        question: &Question<'_>,
+        numbers: &Numbers,
         switches: u32,
-        calls: u32,
+        budget: Budget,
     ) -> M<Asker>
-        requires safe { IsSafe safe.now }
-        requires inside { AllIn (length safe.now.net.latches) inv.now }
-        requires room { 2 * variables safe.now.net + switches < 2 ^ 31 }
+        requires inside { AllIn (length question.now.safe.now.net.latches) question.now.facts.now }
+        requires room { 2 * variables question.now.safe.now.net < 2 ^ 31 }
+        requires few { numbers.now.many + switches < 2 ^ 31 }
     {
-        let count = 2 * safe.net.variables() + switches;
-        let cnf = step_clauses(alloc, safe, inv, count)?;
+        let count = numbers.many + switches;
+        let cnf = step_clauses(alloc, question, numbers, count)?;
         let session = Session::new(alloc, &cnf)?;
         Ok(Asker {
             cnf,
             session,
-            calls,
+            left: budget,
         })
     }
 
-    /// How many calls are left.
-    pub(crate) fn calls(&self) -> u32 {
-        self.calls
+    /// What is left of the budget.
+    pub(crate) fn left(&self) -> Budget {
+        self.left
     }
 
     /// Begins anew, without what was added.
@@ -95,10 +112,10 @@ impl Asker {
 
     /// Asks for values under assumptions. Spent where no call is left.
     pub(crate) fn ask(&mut self, alloc: Global, assumptions: &[Literal]) -> M<Reply> {
-        if self.calls == 0 || !are_literals(assumptions, self.cnf.variables) {
+        if self.left.calls == 0 || !are_literals(assumptions, self.cnf.variables) {
             return Ok(Reply::Spent);
         }
-        self.calls -= 1;
-        self.session.ask(alloc, assumptions, CONFLICTS)
+        self.left.calls -= 1;
+        self.session.ask(alloc, assumptions, self.left.conflicts)
     }
 }

@@ -6,9 +6,24 @@ use hy_base::M;
 use std::alloc::Global;
 
 /// Marks the variable of a literal.
-fn mark(marks: &mut [bool], literal: u32) {
+pub(crate) fn mark(marks: &mut [bool], literal: u32) {
     if let Some(marked) = marks.get_mut(literal as usize / 2) {
         *marked = true;
+    }
+}
+
+/// Marks what the marked ands depend on in the same frame, in time linear in the net.
+pub(crate) fn mark_below(net: &Net, marks: &mut [bool]) {
+    net.variables(); // what each net keeps
+    let ands = net.ands().as_slice();
+    for back in 0..ands.len() {
+        let i = ands.len() - 1 - back;
+        let variable = 1 + net.inputs() as usize + net.latches().len() + i;
+        if marks.get(variable) == Some(&true) {
+            let gate = ands[i];
+            mark(marks, gate.left);
+            mark(marks, gate.right);
+        }
     }
 }
 
@@ -18,16 +33,7 @@ fn constrained_variables(alloc: Global, net: &Net) -> M<Vec<bool>> {
     for literal in net.constraints().as_slice() {
         mark(marks.as_mut_slice(), *literal);
     }
-    let ands = net.ands().as_slice();
-    for back in 0..ands.len() {
-        let i = ands.len() - 1 - back;
-        let variable = 1 + net.inputs() as usize + net.latches().len() + i;
-        if marks.get(variable) == Some(&true) {
-            let gate = ands[i];
-            mark(marks.as_mut_slice(), gate.left);
-            mark(marks.as_mut_slice(), gate.right);
-        }
-    }
+    mark_below(net, marks.as_mut_slice());
     Ok(marks)
 }
 

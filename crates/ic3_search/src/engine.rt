@@ -3,18 +3,18 @@
 //! Level 0 has the start alone. Level i has all states that no lemma of level i or above excludes:
 //! each that is reached in at most i steps, and others.
 
-ghost use Rattle.std.specs.Prelude.{◌+◌, ◌*◌, ◌<◌, ◌≤◌, ◌^◌, length};
+ghost use Rattle.std.specs.Prelude.{◌*◌, ◌≤◌, ◌^◌, length};
 ghost use Rattle.aig_net.specs.Nets.{variables};
-ghost use Rattle.cnf_frames.specs.Facts.{AllIn, IsSafe};
+ghost use Rattle.cnf_frames.specs.Facts.{AllIn};
 
-use crate::asker::Asker;
+use crate::asker::{Asker, Budget};
 use crate::cubes::{Cube, part_of};
 use crate::layout::{Layout, Switch, clause_outside, push_cube};
 use crate::lemmas::Lemmas;
+use crate::numbers::Numbers;
+use crate::question::Question;
 use chain_check::{Clause, Literal};
-use cnf_frames::Inv;
-use hy_base::M;
-use live_safe::SafeNet;
+use hy_base::{List, M};
 use sat_core::{Assignment, Reply};
 use std::alloc::Global;
 
@@ -39,6 +39,8 @@ pub enum Step {
 pub struct Engine {
     pub layout: Layout,
     pub asker: Asker,
+    /// The states that are to be excluded.
+    pub target: Cube,
     pub lemmas: Lemmas,
     /// How many levels there are.
     pub levels: u32,
@@ -52,7 +54,7 @@ pub struct Engine {
 /// excludes the start.
 fn named_part(
     alloc: Global,
-    table: &[Literal],
+    table: &[Option<Literal>],
     cube: &[u32],
     core: &Clause,
     stay: &[bool],
@@ -63,8 +65,8 @@ fn named_part(
     let mut named = Vec::new(alloc);
     for literal in cube {
         let is_named = match table.get(*literal as usize) {
-            Some(number) => numbers.as_slice().binary_search(&number.number()).is_ok(),
-            None => true,
+            Some(Some(number)) => numbers.as_slice().binary_search(&number.number()).is_ok(),
+            _ => true,
         };
         named.push(is_named || stay.get(*literal as usize / 2) == Some(&true))?;
     }
@@ -73,18 +75,23 @@ fn named_part(
 
 impl Engine {
     /// A search without lemmas, which may call the solver so often.
-    pub(crate) fn new(alloc: Global, safe: &SafeNet, inv: &Inv, calls: u32) -> M<Engine>
-        requires safe { IsSafe safe.now }
-        requires inside { AllIn (length safe.now.net.latches) inv.now }
-        requires few { 2 * variables safe.now.net ≤ 2 ^ 24 }
+    pub(crate) fn new(
+        alloc: Global,
+        question: &Question<'_>,
+        numbers: &Numbers,
+        budget: Budget,
+    ) -> M<Engine>
+        requires inside { AllIn (length question.now.safe.now.net.latches) question.now.facts.now }
+        requires few { 2 * variables question.now.safe.now.net ≤ 2 ^ 24 }
     {
         let switches = LEVELS + PASSING;
         Ok(Engine {
-            layout: Layout::new(alloc, safe, inv, switches)?,
-            asker: Asker::new(alloc, safe, inv, switches, calls)?,
+            layout: Layout::new(alloc, question, numbers, switches)?,
+            asker: Asker::new(alloc, question, numbers, switches, budget)?,
+            target: List::from_vec(Vec::from_slice(alloc, question.target)?),
             lemmas: Lemmas::new(alloc),
             levels: 1,
-            scores: vec![in alloc; 0; safe.net.latches().len()]?,
+            scores: vec![in alloc; 0; question.safe.net.latches().len()]?,
             passing: 0,
         })
     }
@@ -173,17 +180,6 @@ impl Engine {
         Ok(step)
     }
 
-    /// Asks for a step from a state of the level to a bad one.
-    pub(crate) fn step_to_bad(&mut self, alloc: Global, level: u32) -> M<Step> {
-        let mut assumptions = self.level(alloc, level)?;
-        assumptions.push(self.layout.bad)?;
-        match self.asker.ask(alloc, assumptions.as_slice())? {
-            Reply::Values(values) => Ok(Step::From(values)),
-            Reply::Core(_) => Ok(Step::None(Cube::new(alloc))),
-            Reply::Spent => Ok(Step::Unknown),
-        }
-    }
-
     /// A part of the state before a step, from whose states the inputs of the step lead where the
     /// assumption is false. It keeps all latches on which constraints depend.
     fn lifted(&mut self, alloc: Global, values: &Assignment, elsewhere: Literal) -> M<Cube> {
@@ -204,12 +200,6 @@ impl Engine {
             ),
             _ => Ok(state),
         }
-    }
-
-    /// A cube of states that have a step to a bad one, with that before the step.
-    pub(crate) fn before_bad(&mut self, alloc: Global, values: &Assignment) -> M<Cube> {
-        let good = self.layout.good;
-        self.lifted(alloc, values, good)
     }
 
     /// A cube of states that have a step into a cube, with that before the step.

@@ -1,21 +1,21 @@
-//! Which numbers the literals of a net have in the queries: those of two frames of the net, and
-//! behind them further variables, by which clauses are switched on.
+//! Which numbers the literals of latches have in the queries, before a step and after it, and behind
+//! them further variables, by which clauses are switched on.
 
-ghost use Rattle.std.specs.Prelude.{◌≡◌, suc, ◌+◌, ◌*◌, ◌<◌, ◌^◌, length};
-ghost use Rattle.aig_net.specs.Nets.{variables};
-ghost use Rattle.cnf_frames.specs.Facts.{AllIn, IsSafe};
+ghost use Rattle.std.specs.Prelude.{◌≡◌, ◌+◌, ◌<◌, ◌^◌};
 
 use crate::constrained::constrained_latches;
 use crate::cubes::Cube;
+use crate::numbers::{Numbers, Pair};
+use crate::question::Question;
 use aig_net::{Net, opposite_of};
 use chain_check::Literal;
-use cnf_frames::{Fact, Inv, latch_number, number_of, opposite};
+use cnf_frames::Fact;
 use hy_base::{List, M};
 use live_safe::SafeNet;
 use std::alloc::Global;
 
-/// By literal of a latch: its literal in a frame.
-pub type Table = Vec<Literal>;
+/// By literal of a latch: its literal in the queries, if it has one.
+pub type Table = Vec<Option<Literal>>;
 
 /// A latch that states are told by.
 #[derive(Clone, Copy)]
@@ -37,43 +37,75 @@ pub struct Switch {
     pub off: i32,
 }
 
-/// The numbers of the literals of a net.
+/// The numbers of the literals of latches.
 #[derive(Drop)]
 pub struct Layout {
     /// The latches before a step.
     pub now: Table,
-    /// The latches after it.
+    /// The latches after it, and behind them `bad` as if it were one.
     pub next: Table,
-    /// The state after the step is bad.
-    pub bad: Literal,
-    /// The state after the step is not bad.
-    pub good: Literal,
     /// By latch: whether a constraint depends on it.
     pub constrained: Vec<bool>,
-    /// The latches but for those that are known by the facts and the others.
+    /// The latches that matter, but for those that are known by the facts and the others.
     places: Vec<Place>,
-    /// How many inputs there are.
-    inputs: u32,
-    /// How many variables two frames have.
+    /// The inputs that matter.
+    inputs: Vec<Pair>,
+    /// How many variables a step has.
     first: u32,
     /// How many switches there are.
     switches: u32,
-    ghost few_inputs: { inputs + 2 < 2 ^ 31 },
     ghost room: { first + switches < 2 ^ 31 },
 }
 
-/// The literals of the latches in a frame.
-fn table(alloc: Global, net: &Net, frame: u32) -> M<Table>
-    requires { suc frame * variables net.now < 2 ^ 31 }
-{
+/// Adds the literals of a variable.
+fn push_pair(table: &mut Table, pair: Option<Pair>) -> M<()> {
+    match pair {
+        Some(Pair { one, zero }) => {
+            table.push(Some(one))?;
+            table.push(Some(zero))?;
+        }
+        None => {
+            table.push(None)?;
+            table.push(None)?;
+        }
+    }
+    Ok(())
+}
+
+/// The literals of the latches before a step.
+fn table_before(alloc: Global, net: &Net, numbers: &Numbers) -> M<Table> {
     net.variables(); // what each net keeps
+    let first = 1 + net.inputs() as usize;
     let mut table = Vec::new(alloc);
-    for latch in 0..net.latches().len() as u32 {
-        let one = latch_number(net, frame, latch);
-        table.push(one)?;
-        table.push(opposite(one))?;
+    for latch in 0..net.latches().len() {
+        push_pair(&mut table, numbers.before(first + latch))?;
     }
     Ok(table)
+}
+
+/// The literals of the latches after a step, and of `bad`.
+fn table_after(alloc: Global, safe: &SafeNet, numbers: &Numbers) -> M<Table> {
+    let net = &safe.net;
+    net.variables(); // what each net keeps
+    let first = 1 + net.inputs() as usize;
+    let mut table = Vec::new(alloc);
+    for latch in 0..net.latches().len() {
+        push_pair(&mut table, numbers.after(first + latch))?;
+    }
+    push_pair(&mut table, numbers.after_literal(safe.bad))?;
+    Ok(table)
+}
+
+/// The inputs that matter before a step.
+fn inputs(alloc: Global, net: &Net, numbers: &Numbers) -> M<Vec<Pair>> {
+    net.variables(); // what each net keeps
+    let mut inputs = Vec::new(alloc);
+    for variable in 1..net.inputs() as usize + 1 {
+        if let Some(pair) = numbers.before(variable) {
+            inputs.push(pair)?;
+        }
+    }
+    Ok(inputs)
 }
 
 /// The latch whose value is known by the fact, and by an earlier latch if it names two.
@@ -99,14 +131,17 @@ fn open_latches(alloc: Global, latches: usize, facts: &[Fact]) -> M<Vec<bool>> {
 }
 
 /// The latches that states are told by, in time linear in latches and facts.
-fn places(alloc: Global, net: &Net, facts: &[Fact]) -> M<Vec<Place>> {
+fn places(alloc: Global, net: &Net, facts: &[Fact], numbers: &Numbers) -> M<Vec<Place>> {
     net.variables(); // what each net keeps
     let open = open_latches(alloc, net.latches().len(), facts)?;
     let mut places = Vec::new(alloc);
     for latch in 0..net.latches().len() as u32 {
-        if open.get(latch as usize) == Some(&true) {
+        let variable = 1 + net.inputs() + latch;
+        if open.get(latch as usize) == Some(&true)
+            && let Some(pair) = numbers.before(variable as usize)
+        {
             places.push(Place {
-                value: 1 + net.inputs() as usize + latch as usize,
+                value: pair.place(),
                 one: 2 * latch,
                 zero: 2 * latch + 1,
             })?;
@@ -116,9 +151,13 @@ fn places(alloc: Global, net: &Net, facts: &[Fact]) -> M<Vec<Place>> {
 }
 
 /// Adds the literals that a table has for those of a cube.
-pub(crate) fn push_cube(table: &[Literal], cube: &[u32], literals: &mut Vec<Literal>) -> M<()> {
+pub(crate) fn push_cube(
+    table: &[Option<Literal>],
+    cube: &[u32],
+    literals: &mut Vec<Literal>,
+) -> M<()> {
     for literal in cube {
-        if let Some(number) = table.get(*literal as usize) {
+        if let Some(Some(number)) = table.get(*literal as usize) {
             literals.push(*number)?;
         }
     }
@@ -129,14 +168,14 @@ pub(crate) fn push_cube(table: &[Literal], cube: &[u32], literals: &mut Vec<Lite
 /// literals of the cube are true.
 pub(crate) fn clause_outside(
     alloc: Global,
-    table: &[Literal],
+    table: &[Option<Literal>],
     off: i32,
     cube: &[u32],
 ) -> M<Vec<i32>> {
     let mut clause = Vec::new(alloc);
     clause.push(off)?;
     for literal in cube {
-        if let Some(number) = table.get(opposite_of(*literal) as usize) {
+        if let Some(Some(number)) = table.get(opposite_of(*literal) as usize) {
             clause.push(number.number())?;
         }
     }
@@ -144,22 +183,24 @@ pub(crate) fn clause_outside(
 }
 
 impl Layout {
-    /// With so many switches, in time linear in latches and facts.
-    pub(crate) fn new(alloc: Global, safe: &SafeNet, inv: &Inv, switches: u32) -> M<Layout>
-        requires safe { IsSafe safe.now }
-        requires room { 2 * variables safe.now.net + switches < 2 ^ 31 }
+    /// With so many switches, in time linear in the net and the facts.
+    pub(crate) fn new(
+        alloc: Global,
+        question: &Question<'_>,
+        numbers: &Numbers,
+        switches: u32,
+    ) -> M<Layout>
+        requires { numbers.now.many + switches < 2 ^ 31 }
     {
-        let net = &safe.net;
-        let bad = number_of(net, 1, safe.bad);
+        let net = &question.safe.net;
+        let facts = question.facts.as_slice();
         Ok(Layout {
-            now: table(alloc, net, 0)?,
-            next: table(alloc, net, 1)?,
-            bad,
-            good: opposite(bad),
-            constrained: constrained_latches(alloc, net, inv.as_slice())?,
-            places: places(alloc, net, inv.as_slice())?,
-            inputs: net.inputs(),
-            first: 2 * net.variables(),
+            now: table_before(alloc, net, numbers)?,
+            next: table_after(alloc, question.safe, numbers)?,
+            constrained: constrained_latches(alloc, net, facts)?,
+            places: places(alloc, net, facts, numbers)?,
+            inputs: inputs(alloc, net, numbers)?,
+            first: numbers.many,
             switches,
         })
     }
@@ -191,12 +232,9 @@ impl Layout {
 
     /// Adds the values of the inputs before the step.
     pub(crate) fn push_inputs(&self, values: &[bool], literals: &mut Vec<Literal>) -> M<()> {
-        for input in 0..self.inputs {
-            let number = (input + 2) as i32;
-            match values.get(input as usize + 1) {
-                Some(true) => literals.push(Literal::new(number))?,
-                Some(false) => literals.push(Literal::new(-number))?,
-                None => {}
+        for input in &self.inputs {
+            if let Some(value) = values.get(input.place()) {
+                literals.push(input.of(*value))?;
             }
         }
         Ok(())
@@ -205,7 +243,9 @@ impl Layout {
     /// Adds that all latches are 0 before the step.
     pub(crate) fn push_start(&self, literals: &mut Vec<Literal>) -> M<()> {
         for (literal, number) in self.now.iter().enumerate() {
-            if literal % 2 == 1 {
+            if literal % 2 == 1
+                && let Some(number) = number
+            {
                 literals.push(*number)?;
             }
         }

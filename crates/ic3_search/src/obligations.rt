@@ -1,4 +1,4 @@
-//! Cubes that are to be excluded from levels, since they lead to bad states.
+//! Cubes that are to be excluded from levels, since they lead to the target.
 
 use crate::cubes::{Cube, excludes_start, is_part, without};
 use crate::engine::{Engine, Step};
@@ -9,11 +9,23 @@ use std::alloc::Global;
 /// What a lemma adds to the score of each of its latches.
 const WEIGHT: u64 = 1_048_576;
 
-/// A cube that is to be excluded from a level.
+/// A cube that is to be excluded from a level, since so many steps lead from it to the target.
 #[derive(Drop)]
 struct Obligation {
     level: u32,
     cube: Cube,
+    steps: u32,
+}
+
+/// What comes of it that states are to be excluded.
+#[derive(Clone, Copy)]
+pub enum Course {
+    /// They are excluded.
+    Excluded,
+    /// A path of so many steps leads to the target.
+    Path(u32),
+    /// It was not decided.
+    Open,
 }
 
 /// Takes the last obligation of the lowest level out, in time linear in their number.
@@ -107,55 +119,62 @@ impl Engine {
 
     /// Takes up an obligation again, one level above, if there is one.
     fn take_up(&self, obligation: Obligation, open: &mut Vec<Obligation>) -> M<()> {
-        let Obligation { level, cube } = obligation;
-        let above = level.saturating_add(1);
+        let above = obligation.level.saturating_add(1);
         if above < self.levels {
-            open.push(Obligation { level: above, cube })?;
+            open.push(Obligation {
+                level: above,
+                ..obligation
+            })?;
         }
         Ok(())
     }
 
-    /// Deals with an obligation. False where that does not succeed.
-    fn meet(&mut self, alloc: Global, due: Obligation, open: &mut Vec<Obligation>) -> M<bool> {
+    /// Deals with an obligation: it is excluded, or others were added.
+    fn meet(&mut self, alloc: Global, due: Obligation, open: &mut Vec<Obligation>) -> M<Course> {
         if due.level == 0 || !excludes_start(due.cube.as_slice()) {
-            return Ok(false);
+            return Ok(Course::Path(due.steps));
         }
         if self.lemmas.exclude(due.level, due.cube.as_slice()) {
             self.take_up(due, open)?;
-            return Ok(true);
+            return Ok(Course::Excluded);
         }
         match self.step_from_outside(alloc, due.level - 1, due.cube.as_slice())? {
             Step::From(values) => {
                 let level = due.level - 1;
                 let cube = self.before(alloc, &values, due.cube.as_slice())?;
+                let steps = due.steps.saturating_add(1);
                 open.push(due)?;
-                open.push(Obligation { level, cube })?;
-                Ok(true)
+                open.push(Obligation { level, cube, steps })?;
+                Ok(Course::Excluded)
             }
             Step::None(larger) => {
                 self.learn(alloc, due.level, larger)?;
                 self.take_up(due, open)?;
-                Ok(true)
+                Ok(Course::Excluded)
             }
-            Step::Unknown => Ok(false),
+            Step::Unknown => Ok(Course::Open),
         }
     }
 
-    /// Excludes a cube from the last level, and what leads to it from those before. False where that
-    /// does not succeed.
-    pub(crate) fn exclude(&mut self, alloc: Global, cube: Cube) -> M<bool> {
+    /// Excludes a cube, from which one step leads to the target, from the last level, and what leads
+    /// to it from those before.
+    pub(crate) fn exclude(&mut self, alloc: Global, cube: Cube) -> M<Course> {
         let mut open = Vec::new(alloc);
-        let level = self.levels.saturating_sub(1);
-        open.push(Obligation { level, cube })?;
-        let turns = 256 * (self.asker.calls() as u64 + 1);
+        open.push(Obligation {
+            level: self.levels.saturating_sub(1),
+            cube,
+            steps: 1,
+        })?;
+        let turns = 256 * (self.asker.left().calls as u64 + 1);
         for _turn in 0..turns {
             let Some(due) = take_lowest(&mut open) else {
-                return Ok(true);
+                return Ok(Course::Excluded);
             };
-            if !self.meet(alloc, due, &mut open)? {
-                return Ok(false);
+            match self.meet(alloc, due, &mut open)? {
+                Course::Excluded => {}
+                course => return Ok(course),
             }
         }
-        Ok(false)
+        Ok(Course::Open)
     }
 }

@@ -1,17 +1,17 @@
-//! The cubes that are needed: those from which it follows that no step is bad, and that no step leads
+//! The cubes that are needed: those from which it follows that no step leads to the target, and that no step leads
 //! into one of those that are needed.
 
-ghost use Rattle.std.specs.Prelude.{◌+◌, ◌*◌, ◌<◌, ◌≤◌, ◌^◌, length};
+ghost use Rattle.std.specs.Prelude.{◌*◌, ◌≤◌, ◌^◌, length};
 ghost use Rattle.aig_net.specs.Nets.{variables};
-ghost use Rattle.cnf_frames.specs.Facts.{AllIn, IsSafe};
+ghost use Rattle.cnf_frames.specs.Facts.{AllIn};
 
-use crate::asker::Asker;
+use crate::asker::{Asker, Budget};
 use crate::cubes::Cube;
 use crate::layout::{Layout, Switch, clause_outside, push_cube};
+use crate::numbers::Numbers;
+use crate::question::Question;
 use chain_check::{Clause, Literal};
-use cnf_frames::Inv;
 use hy_base::M;
-use live_safe::SafeNet;
 use sat_core::Reply;
 use std::alloc::Global;
 
@@ -115,9 +115,10 @@ impl Reduction {
     }
 
     /// Finds all that is needed. False where that does not succeed.
-    fn run(&mut self, alloc: Global) -> M<bool> {
-        let bad = vec![in alloc; self.layout.bad]?;
-        if !self.exclude(alloc, bad)? {
+    fn run(&mut self, alloc: Global, target: &[u32]) -> M<bool> {
+        let mut ends = Vec::new(alloc);
+        push_cube(self.layout.next.as_slice(), target, &mut ends)?;
+        if !self.exclude(alloc, ends)? {
             return Ok(false);
         }
         for _cube in 0..self.candidates.len() {
@@ -144,31 +145,30 @@ impl Reduction {
     }
 }
 
-/// The cubes that are needed, if no step from outside all cubes leads into one or is bad, and so many
-/// calls of the solver show it; else all cubes. A call for each needed cube and one more.
+/// The cubes that are needed, if no step from outside all cubes leads into one or to the target, and so
+/// many calls of the solver show it; else all cubes. A call for each needed cube and one more.
 pub(crate) fn reduced(
     alloc: Global,
-    safe: &SafeNet,
-    inv: &Inv,
+    question: &Question<'_>,
+    numbers: &Numbers,
     cubes: Vec<Cube>,
-    calls: u32,
+    budget: Budget,
 ) -> M<Vec<Cube>>
-    requires safe { IsSafe safe.now }
-    requires inside { AllIn (length safe.now.net.latches) inv.now }
-    requires few { 2 * variables safe.now.net ≤ 2 ^ 24 }
+    requires inside { AllIn (length question.now.safe.now.net.latches) question.now.facts.now }
+    requires few { 2 * variables question.now.safe.now.net ≤ 2 ^ 24 }
 {
     if MOST_CUBES < cubes.len() {
         return Ok(cubes);
     }
     let switches = cubes.len() as u32;
     let mut reduction = Reduction {
-        layout: Layout::new(alloc, safe, inv, switches)?,
-        asker: Asker::new(alloc, safe, inv, switches, calls)?,
+        layout: Layout::new(alloc, question, numbers, switches)?,
+        asker: Asker::new(alloc, question, numbers, switches, budget)?,
         candidates: Vec::new(alloc),
         open: Vec::new(alloc),
     };
     reduction.add(alloc, cubes.as_slice())?;
-    if reduction.run(alloc)? {
+    if reduction.run(alloc, question.target)? {
         reduction.needed(alloc)
     } else {
         Ok(cubes)

@@ -1,5 +1,5 @@
 -- What verdicts on the safe net of a formula say of the formula.
-use Rattle.std.proofs.Common.{◌≡◌, Bool, true, false, not, List, [], length, Option, Some, None, refl, sym, subst}
+use Rattle.std.proofs.Common.{◌≡◌, ℕ, ◌≤◌, Bool, true, false, not, List, [], length, Option, Some, None, refl, sym, subst, arith}
 use Rattle.hy_bits.specs.Letter.{Letter}
 use Rattle.hy_formula.specs.Lassos as letters
 use Rattle.hy_formula.specs.Normals.{Signed}
@@ -25,10 +25,10 @@ use Rattle.mc_core.specs.declared.ask.Ask.{Ask}
 use Rattle.mc_core.specs.declared.checked.Checked.{Checked}
 use Rattle.mc_core.specs.Answers.{IsChecked, IsEvidence, IsProved, IsUsable, answered, whole_proof}
 
-pub proved : (safe : SafeNet) (ask : Ask) (kept : Kept) (proof : SafeProof) →
-    IsUsable safe kept → (ask.calls ≡ 0 → AreSimple kept.inv) →
-    IsSafeProof safe kept.inv ask.depth proof → IsProved safe ask (whole_proof kept proof)
-proved safe ask kept proof usable simple is = record {
+pub proved : (safe : SafeNet) (ask : Ask) (kept : Kept) (proof : SafeProof) (depth : ℕ) →
+    depth ≤ ask.depth → IsUsable safe kept → (ask.calls ≡ 0 → AreSimple kept.inv) →
+    IsSafeProof safe kept.inv depth proof → IsProved safe ask (whole_proof kept proof)
+proved safe ask kept proof depth few usable simple is = record {
   right = record {
     inside = usable.inside;
     starts = usable.inductive.starts;
@@ -36,7 +36,7 @@ proved safe ask kept proof usable simple is = record {
     bases = is.base;
     step = is.step;
   };
-  low = is.within;
+  low = let w = is.within in omega (arith, few, w);
   within = record { keeps = usable.within; bases = is.base_within; step = is.step_within };
   simple = simple;
 }

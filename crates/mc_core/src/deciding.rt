@@ -7,41 +7,18 @@ ghost use Rattle.mc_core.specs.Answers.{IsWorkRefusal};
 ghost use Rattle.mc_core.specs.Decisions.{IsDecision};
 
 use crate::ask::Ask;
+use crate::decision::Decision;
 use crate::mc_error::McError;
-use crate::proving::{facts_for, prove_by_clauses, prove_early, whole_proof};
-use chain_check::Log;
-use cnf_frames::{FrameError, InductionProof};
+use crate::proving::{facts_for, whole_proof};
+use crate::searching::{decide_early, search};
+use cnf_frames::FrameError;
 use hy_base::{M, Memory};
-use invar_find::Kept;
 use k_induct::{Shortest, Verdict, prove, shortest};
 use live_safe::{Path, SafeNet};
 use std::alloc::Global;
 
 /// How many steps a path has at most that is looked for before facts are.
 const SHORT: u32 = 4;
-
-/// Whether a path from the start of a safe net reaches `bad`.
-#[derive(Drop)]
-pub enum Decision {
-    /// None does.
-    Safe(InductionProof),
-    /// A shortest one that does.
-    Path(Path),
-    /// No path of so many steps as were asked for does, and induction with the facts that were kept
-    /// leaves this path of states.
-    Depth {
-        kept: Kept,
-        path: Path,
-    },
-    /// The conflicts were spent on the query for one more step from any states, with the facts that
-    /// were kept, behind `k` steps, where `step`; and else on that for a path of `k` steps.
-    Spent {
-        k: u32,
-        step: bool,
-        kept: Kept,
-        log: Log,
-    },
-}
 
 /// A shortest path to `bad`, if one has few steps. None also where a query for it is past a limit or
 /// spends the conflicts.
@@ -58,8 +35,8 @@ fn short_path(alloc: Global, safe: &SafeNet, ask: &Ask) -> M<Option<Path>>
 }
 
 /// Decides it by a path of few steps, or else by facts and induction. If calls of the solver are
-/// asked for, clauses are searched for, too: before induction goes deep, with a third of the calls,
-/// and with all of them where it leaves it open.
+/// asked for, it first tries facts about all latches with few steps of work, and clauses that a search
+/// finds with a third of the calls; and where induction leaves it open, a search with all of them.
 pub fn decide(alloc: Global, safe: &SafeNet, ask: &Ask) -> Result<Decision, McError>
     requires good { IsSafe safe.now }
     requires conflicts { ask.now.conflicts < 2 ^ 31 }
@@ -69,22 +46,20 @@ pub fn decide(alloc: Global, safe: &SafeNet, ask: &Ask) -> Result<Decision, McEr
     if let Some(path) = short_path(alloc, safe, ask)? {
         return Ok(Decision::Path(path));
     }
-    let kept = facts_for(alloc, safe, ask)?;
-    if let Some(proof) = prove_early(alloc, safe, &kept.inv, ask)? {
-        return Ok(Decision::Safe(proof));
+    if let Some(decision) = decide_early(alloc, safe, ask)? {
+        return Ok(decision);
     }
+    let kept = facts_for(alloc, safe, ask)?;
     match prove(alloc, safe, &kept.inv, ask.depth, ask.conflicts) {
         Ok(Verdict::Safe(proof)) => Ok(Decision::Safe(whole_proof(kept, proof))),
         Ok(Verdict::Path(path)) => Ok(Decision::Path(path)),
-        Ok(Verdict::Depth(path)) => {
-            match prove_by_clauses(alloc, safe, &kept.inv, ask, ask.calls)? {
-                Some(proof) => Ok(Decision::Safe(proof)),
-                None => Ok(Decision::Depth { kept, path }),
-            }
-        }
+        Ok(Verdict::Depth(path)) => match search(alloc, safe, &kept.inv, ask, ask.calls)? {
+            Some(decision) => Ok(decision),
+            None => Ok(Decision::Depth { kept, path }),
+        },
         Ok(Verdict::Spent { k, step, log }) => {
-            match prove_by_clauses(alloc, safe, &kept.inv, ask, ask.calls)? {
-                Some(proof) => Ok(Decision::Safe(proof)),
+            match search(alloc, safe, &kept.inv, ask, ask.calls)? {
+                Some(decision) => Ok(decision),
                 None => Ok(Decision::Spent { k, step, kept, log }),
             }
         }

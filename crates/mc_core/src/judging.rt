@@ -9,7 +9,8 @@ ghost use Rattle.mc_core.specs.Answers.{IsChecked, IsWorkRefusal, answered};
 
 use crate::ask::Ask;
 use crate::checked::Checked;
-use crate::deciding::{Decision, decide};
+use crate::deciding::decide;
+use crate::decision::Decision;
 use crate::mc_error::McError;
 use aig_net::{Net, RunList, Signals};
 use cnf_frames::InductionProof;
@@ -52,7 +53,7 @@ pub fn judge(
             List::new(alloc),
             Some(proof),
         )),
-        Decision::Path(path) => {
+        Decision::Path(path) | Decision::FarPath(path) => {
             let found = find_witnesses(alloc, net, formula, signals, safe, &path)?;
             Ok(answer(existential, found.traces, found.runs, None))
         }

@@ -5,10 +5,12 @@ mod ask;
 mod checked;
 mod checking;
 mod deciding;
+mod decision;
 mod judging;
 mod laws;
 mod mc_error;
 mod proving;
+mod searching;
 
 pub use ask::Ask;
 pub use checked::Checked;

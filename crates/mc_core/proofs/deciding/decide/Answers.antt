@@ -1,4 +1,4 @@
-use Rattle.std.proofs.Common.{sym, subst}
+use Rattle.std.proofs.Common.{sym, subst, arith}
 use Rattle.cnf_frames.specs.declared.inductions.InductionProof.{InductionProof}
 use Rattle.k_induct.specs.Verdicts.{IsSafeProof}
 use Rattle.mc_core.specs.Answers.{IsProved}
@@ -12,6 +12,6 @@ returns-in-Ok-Safe-clause-decided c =
     let P : InductionProof → Type 0 = IsProved c.args.safe.now c.args.ask.now in (
       subst P (sym c.whole_proof.ensures)
           (proved c.args.safe.now c.args.ask.now c.in_ok-kept.kept c.in-Ok-Safe.proof
-          c.in_ok-kept.ensures.usable (λ none. c.in_ok-kept.ensures.simple) is),
+          c.args.ask.now.depth (omega arith) c.in_ok-kept.ensures.usable (λ none. c.in_ok-kept.ensures.simple) is),
       is.good,
     )

@@ -9,7 +9,7 @@ use Rattle.k_induct.specs.Verdicts.{IsShortest}
 use Rattle.formula_nets.specs.Posed.{is_existential}
 use Rattle.mc_core.specs.Answers.{IsProved, answered}
 use Rattle.mc_core.specs.Decisions.{HasNoBadPath, IsDecision}
-use Rattle.mc_core.specs.declared.deciding.Decision.{Decision}
+use Rattle.mc_core.specs.declared.decision.Decision.{Decision}
 use Rattle.mc_core.proofs.Verdicts.{goes-to-bad, path-answer, proof-answer}
 use Rattle.mc_core.proofs.judging.judge.Goals as goal
 

@@ -4,17 +4,16 @@ use Rattle.invar_find.specs.declared.kept.Kept.{Kept}
 use Rattle.k_induct.specs.Verdicts.{IsSafeProof}
 use Rattle.mc_core.specs.Answers.{IsProved, IsUsable}
 use Rattle.mc_core.proofs.Verdicts.{proved}
-use Rattle.mc_core.proofs.proving.prove_by_clauses.Goals as goal
+use Rattle.mc_core.proofs.searching.prove_by.Goals as goal
 
 pub returns-in-Ok-Safe-clause-proved : goal.returns-in-Ok-Safe-clause-proved
 returns-in-Ok-Safe-clause-proved c =
     let K : Option Kept → Type 0 = λ found. IfSome found (IsUsable c.args.safe.now) in
-    let usable : IsUsable c.args.safe.now c.in-Some-2.kept =
-    subst K c.in-Some-2.is c.in_ok-kept.ensures in
-    let is : IsSafeProof c.args.safe.now c.in-Some-2.kept.inv c.args.ask.now.depth
+    let usable : IsUsable c.args.safe.now c.in-Some.kept =
+    subst K c.in-Some.is c.in_ok-kept.ensures in
+    let is : IsSafeProof c.args.safe.now c.in-Some.kept.inv c.args.ask.now.depth
     c.in-Ok-Safe.proof = rw c.in-Ok-Safe.field-0-is at c.in-Ok-Safe.ensures.verdict in
     let P : InductionProof → Type 0 = IsProved c.args.safe.now c.args.ask.now in
     subst P (sym c.whole_proof.ensures)
-    (proved c.args.safe.now c.args.ask.now c.in-Some-2.kept c.in-Ok-Safe.proof usable
-    (λ none. absurd (c.if-calls-eq0.false
-    (let few = c.requires.asked in omega (arith, few, none)))) is)
+    (proved c.args.safe.now c.args.ask.now c.in-Some.kept c.in-Ok-Safe.proof c.args.ask.now.depth
+    (omega arith) usable (λ none. absurd (c.requires.asked none)) is)

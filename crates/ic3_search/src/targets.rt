@@ -1,0 +1,61 @@
+//! Which states a search is to exclude: those in which all literals of a cube are true. Behind the
+//! latches one place more stands for `bad`.
+
+ghost use Rattle.aig_net.specs.Nets.{variables};
+
+use crate::cubes::Cube;
+use aig_net::Net;
+use hy_base::{List, M};
+use live_safe::SafeNet;
+use std::alloc::Global;
+
+/// The bad states.
+pub(crate) fn bad_states(alloc: Global, safe: &SafeNet) -> M<Cube> {
+    safe.net.variables(); // what each net keeps
+    let mut target = List::new(alloc);
+    target.push(2 * safe.net.latches().len() as u32)?;
+    Ok(target)
+}
+
+/// Marks the variable that is 1 where the literal is true.
+fn mark_true(marks: &mut [bool], literal: u32) {
+    if literal % 2 == 0
+        && let Some(marked) = marks.get_mut(literal as usize / 2)
+    {
+        *marked = true;
+    }
+}
+
+/// For each variable whether ands alone make it 1 wherever the literal is true, in time linear in
+/// the net.
+fn implied(alloc: Global, net: &Net, literal: u32) -> M<Vec<bool>> {
+    let mut marks = vec![in alloc; false; net.variables() as usize]?;
+    mark_true(marks.as_mut_slice(), literal);
+    let ands = net.ands().as_slice();
+    for back in 0..ands.len() {
+        let i = ands.len() - 1 - back;
+        let variable = 1 + net.inputs() as usize + net.latches().len() + i;
+        if marks.get(variable) == Some(&true) {
+            let gate = ands[i];
+            mark_true(marks.as_mut_slice(), gate.left);
+            mark_true(marks.as_mut_slice(), gate.right);
+        }
+    }
+    Ok(marks)
+}
+
+/// The states in which all latches are 1 that are so in each bad state: a state was saved, and each
+/// until was seen since. Bad states also repeat what was saved, which is left out: what is saved
+/// matters to nothing else. In time linear in the net.
+pub(crate) fn seen_states(alloc: Global, safe: &SafeNet) -> M<Cube> {
+    safe.net.variables(); // what each net keeps
+    let marks = implied(alloc, &safe.net, safe.bad)?;
+    let first = 1 + safe.net.inputs() as usize;
+    let mut target = List::new(alloc);
+    for latch in 0..safe.net.latches().len() {
+        if marks.get(first + latch) == Some(&true) {
+            target.push(2 * latch as u32)?;
+        }
+    }
+    Ok(target)
+}
