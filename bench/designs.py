@@ -397,6 +397,53 @@ endmodule"""
 
 ONE_GRANT = " & ".join(f"!(gnt[{i}]_p = 1 & gnt[{j}]_p = 1)" for i in range(4) for j in range(i))
 
+REGISTERS = """
+// A file of bytes, each with who wrote it last. What the second writes is secret, and a read of it gives 0.
+module registers #(parameter LEAK = 0, parameter BITS = 4) (input clk, input enable, input who, input [BITS - 1:0] to,
+    input [BITS - 1:0] from, input [7:0] data, input [7:0] hidden, output reg [7:0] out);
+  reg [(8 << BITS) - 1:0] store = 0;
+  reg [(1 << BITS) - 1:0] owner = 0;
+  initial out = 0;
+  always @(posedge clk) begin
+    if (enable) begin
+      store[8 * to +: 8] <= who ? hidden : data;
+      owner[to] <= who;
+    end
+    out <= owner[from] && !LEAK ? 0 : store[8 * from +: 8];
+  end
+endmodule"""
+
+CORE = """
+// A processor with registers of 16 bits. What is loaded is secret, how long a step takes is not.
+module core #(parameter LEAK = 0, parameter BITS = 4) (input clk, input [2:0] code, input [BITS - 1:0] to,
+    input [BITS - 1:0] left, input [BITS - 1:0] right, input [15:0] word, output ready, output reg [15:0] shown);
+  reg [(16 << BITS) - 1:0] file = 0;
+  reg [15:0] factor = 0, rest = 0, sum = 0;
+  reg [4:0] more = 0;
+  reg [BITS - 1:0] target = 0;
+  initial shown = 0;
+  wire [15:0] one = file[16 * left +: 16], other = file[16 * right +: 16];
+  assign ready = more == 0;
+  // leaks: a product ends where no bit of its factor is left
+  wire last = more == 1 || LEAK && rest[15:1] == 0;
+  wire [15:0] next = rest[0] ? sum + factor : sum;
+  always @(posedge clk)
+    if (!ready) begin
+      sum <= next;
+      factor <= factor << 1;
+      rest <= rest >> 1;
+      more <= last ? 0 : more - 1;
+      if (last) file[16 * target +: 16] <= next;
+    end else case (code)
+      0: file[16 * to +: 16] <= word;
+      1: file[16 * to +: 16] <= one + other;
+      2: file[16 * to +: 16] <= one ^ other;
+      3: begin factor <= one; rest <= other; sum <= 0; more <= 16; target <= to; end
+      4: shown <= one;
+      default: ;
+    endcase
+endmodule"""
+
 DESIGNS = [
     ("fifo", FIFO, {}, {
         "timing": reset("push pop", "empty full"),
@@ -476,5 +523,13 @@ DESIGNS = [
     ("pipe", PIPE, {}, {
         "timing": pair("issue divide", "stall retire"),
         "bounded": "forall p. G !(left[2]_p = 1 & left[1]_p = 1)",
+    }),
+    *((f"registers-{8 << bits}", REGISTERS, {"BITS": bits}, {
+        "owned": pair(f"enable who to[{bits - 1}:0] from[{bits - 1}:0] data[7:0]", "out[7:0]"),
+        "function": pair(f"enable who to[{bits - 1}:0] from[{bits - 1}:0] data[7:0] hidden[7:0]", "out[7:0]"),
+    }) for bits in (4, 6)),
+    ("core", CORE, {}, {
+        "timing": pair("code[2:0] to[3:0] left[3:0] right[3:0]", "ready"),
+        "function": pair("code[2:0] to[3:0] left[3:0] right[3:0] word[15:0]", "ready shown[15:0]"),
     }),
 ]

@@ -52,7 +52,7 @@ impl Classes {
     }
 
     /// Splits the classes such that variables of one class have the same word. Whether there are more
-    /// of them then. In time linear in the variables, where there are n log n.
+    /// of them then. In time linear in the variables where there are not, and else n log n.
     pub(crate) fn split(&mut self, alloc: Global, words: &[u64]) -> M<bool> {
         if !self.is_split_by(words) {
             return Ok(false);

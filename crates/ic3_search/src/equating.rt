@@ -263,11 +263,11 @@ fn equal_latches(alloc: Global, question: &Question<'_>, conflicts: u32) -> M<Eq
 }
 
 /// For each latch of a class one fact: that it is 0, or that it is as the first latch of the class.
-/// Where these hold, each step keeps them: so it is meant, and the caller asks. First come the latches
-/// on which it depends whether each until is seen, and where these facts are many and do not keep that
-/// from being so, all on which `bad` depends. There is none where a query about one step is past the
-/// limits of queries, and a latch is alone where `conflicts` learned clauses leave open whether it may
-/// differ.
+/// Where these hold, each step keeps them: so it is meant, and the caller asks. First come the
+/// latches on which it depends whether each until is seen, and where these facts are many and do not
+/// keep that from being so, all on which `bad` depends. There is none where a query about one step
+/// is past the limits of queries, and a latch is alone where `conflicts` learned clauses leave open
+/// whether it may differ.
 ///
 /// Each call of the solver is about one latch. Rounds over all latches follow one another as long as
 /// a latch leaves its class, and between two calls it takes time linear in the net.

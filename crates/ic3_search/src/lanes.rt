@@ -128,7 +128,8 @@ impl<'a> Lanes<'a> {
         kept
     }
 
-    /// Goes to the states after the step, and to the inputs that were tried, where constraints are true.
+    /// Goes to the states after the step, and to the inputs that were tried, where constraints are
+    /// true.
     fn advance(&mut self, kept: u64) {
         let net = self.net;
         let first = net.inputs() as usize + 1;

@@ -1,5 +1,5 @@
-//! The cubes that are needed: those from which it follows that no step leads to the target, and that no step leads
-//! into one of those that are needed.
+//! The cubes that are needed: those from which it follows that no step leads to the target, and that
+//! no step leads into one of those that are needed.
 
 ghost use Rattle.std.specs.Prelude.{◌*◌, ◌≤◌, ◌^◌, length};
 ghost use Rattle.aig_net.specs.Nets.{variables};
@@ -90,7 +90,8 @@ impl Reduction {
         Ok(())
     }
 
-    /// Finds what excludes a step to where these literals are true. False where that does not succeed.
+    /// Finds what excludes a step to where these literals are true. False where that does not
+    /// succeed.
     fn exclude(&mut self, alloc: Global, ends: Vec<Literal>) -> M<bool> {
         let mut assumptions = ends;
         self.push_switches(true, &mut assumptions)?;
@@ -145,8 +146,8 @@ impl Reduction {
     }
 }
 
-/// The cubes that are needed, if no step from outside all cubes leads into one or to the target, and so
-/// many calls of the solver show it; else all cubes. A call for each needed cube and one more.
+/// The cubes that are needed, if no step from outside all cubes leads into one or to the target, and
+/// so many calls of the solver show it; else all cubes. A call for each needed cube and one more.
 pub(crate) fn reduced(
     alloc: Global,
     question: &Question<'_>,

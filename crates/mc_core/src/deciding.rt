@@ -35,8 +35,8 @@ fn short_path(alloc: Global, safe: &SafeNet, ask: &Ask) -> M<Option<Path>>
 }
 
 /// Decides it by a path of few steps, or else by facts and induction. If calls of the solver are
-/// asked for, it first tries facts about all latches with few steps of work, and clauses that a search
-/// finds with a third of the calls; and where induction leaves it open, a search with all of them.
+/// asked for, facts about all latches are tried before that, and clauses that a search finds behind
+/// them with a third of the calls; and where induction leaves it open, a search with all of them.
 pub fn decide(alloc: Global, safe: &SafeNet, ask: &Ask) -> Result<Decision, McError>
     requires good { IsSafe safe.now }
     requires conflicts { ask.now.conflicts < 2 ^ 31 }
