@@ -1,5 +1,5 @@
 -- What verdicts on the safe net of a formula say of the formula.
-use Rattle.std.proofs.Common.{◌≡◌, ℕ, ◌≤◌, Bool, true, false, not, List, [], length, Option, Some, None, refl, sym, subst, arith}
+use Rattle.std.proofs.Common.{◌≡◌, ℕ, ◌≤◌, ◌⊎◌, Bool, true, false, not, List, [], length, Option, Some, None, inl, inr, refl, sym, subst, arith}
 use Rattle.hy_bits.specs.Letter.{Letter}
 use Rattle.hy_formula.specs.Lassos as letters
 use Rattle.hy_formula.specs.Normals.{Signed}
@@ -23,7 +23,10 @@ use Rattle.formula_nets.specs.Posed.{checked_safe, is_existential}
 use Rattle.formula_nets.specs.Witnesses.{AreWitnesses}
 use Rattle.mc_core.specs.declared.ask.Ask.{Ask}
 use Rattle.mc_core.specs.declared.checked.Checked.{Checked}
+use Rattle.mc_core.specs.declared.decision.Decision.{Decision}
+use Rattle.mc_core.specs.declared.decision.Decision.TheVariants.{Path as Shortest, FarPath}
 use Rattle.mc_core.specs.Answers.{IsChecked, IsEvidence, IsProved, IsUsable, answered, whole_proof}
+use Rattle.mc_core.specs.Decisions.{IsDecision}
 
 pub proved : (safe : SafeNet) (ask : Ask) (kept : Kept) (proof : SafeProof) (depth : ℕ) →
     depth ≤ ask.depth → IsUsable safe kept → (ask.calls ≡ 0 → AreSimple kept.inv) →
@@ -40,6 +43,17 @@ proved safe ask kept proof depth few usable simple is = record {
   within = record { keeps = usable.within; bases = is.base_within; step = is.step_within };
   simple = simple;
 }
+
+-- Either path that is decided answers the query.
+pub met : (safe : SafeNet) (ask : Ask) (decision : Decision) (path : Path) →
+    IsDecision safe ask decision → (decision ≡ Shortest path) ⊎ (decision ≡ FarPath path) →
+    IsAnswer safe (Base (length path.inputs)) path
+met safe ask decision path is (inl shortest) =
+    let D : Decision → Type 0 = IsDecision safe ask in
+    (subst D shortest is).bad
+met safe ask decision path is (inr far) =
+    let D : Decision → Type 0 = IsDecision safe ask in
+    (subst D far is).1
 
 -- The path answers the query, so it goes to bad.
 pub goes-to-bad : (safe : SafeNet) (path : Path) → IsAnswer safe (Base (length path.inputs)) path →

@@ -5,12 +5,11 @@ use Rattle.hy_formula.specs.Trees.{tree_of}
 use Rattle.aig_net.specs.declared.run.Run.{Run}
 use Rattle.live_safe.specs.declared.safe_net.SafeNet.{SafeNet}
 use Rattle.live_safe.specs.Paths.{IsBadPath}
-use Rattle.k_induct.specs.Verdicts.{IsShortest}
 use Rattle.formula_nets.specs.Posed.{is_existential}
 use Rattle.mc_core.specs.Answers.{IsProved, answered}
 use Rattle.mc_core.specs.Decisions.{HasNoBadPath, IsDecision}
 use Rattle.mc_core.specs.declared.decision.Decision.{Decision}
-use Rattle.mc_core.proofs.Verdicts.{goes-to-bad, path-answer, proof-answer}
+use Rattle.mc_core.proofs.Verdicts.{goes-to-bad, met, path-answer, proof-answer}
 use Rattle.mc_core.proofs.judging.judge.Goals as goal
 
 pub returns-in-Safe-clause-checked : goal.returns-in-Safe-clause-checked
@@ -36,19 +35,16 @@ returns-in-Safe-clause-checked c =
 
 pub find_witnesses-requires-clause-path : goal.find_witnesses-requires-clause-path
 find_witnesses-requires-clause-path c =
-    let D : Decision → Type 0 = IsDecision c.args.safe.now c.args.ask.now in
-    let is : IsShortest c.args.safe.now c.args.ask.now.depth c.in-Path.path =
-    subst D c.in-Path.is c.in_ok-proof.ensures.decided in
-    goes-to-bad c.args.safe.now c.in-Path.path is.bad
+    goes-to-bad c.args.safe.now c.in-Path.path
+    (met c.args.safe.now c.args.ask.now c.in_ok-proof.field-0 c.in-Path.path
+    c.in_ok-proof.ensures.decided c.in-Path.is)
 
 pub returns-in_ok-found-in-Path-clause-checked : goal.returns-in_ok-found-in-Path-clause-checked
 returns-in_ok-found-in-Path-clause-checked c =
     let some : 0 < length c.args.formula.now.prefix =
     (let a = c.len.ensures.len in let b = c.len.ensures.some in omega (arith, a, b)) in
-    let D : Decision → Type 0 = IsDecision c.args.safe.now c.args.ask.now in
-    let is : IsShortest c.args.safe.now c.args.ask.now.depth c.in-Path.path =
-    subst D c.in-Path.is c.in_ok-proof.ensures.decided in
-    let (word, bad, _, _) = is.bad in
+    let (word, bad, _, _) = met c.args.safe.now c.args.ask.now c.in_ok-proof.field-0 c.in-Path.path
+    c.in_ok-proof.ensures.decided c.in-Path.is in
     let P : SafeNet → Type 0 = λ s. IsBadPath s (length c.in-Path.path.inputs) word in
     path-answer c.args.net.now c.args.signals.now c.args.formula.now.prefix
     (tree_of c.args.formula.now.body) c.args.ask.now
