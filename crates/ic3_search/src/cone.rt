@@ -5,6 +5,7 @@ ghost use Rattle.std.specs.Prelude.{◌≡◌, ◌*◌, ◌≤◌, ◌^◌, leng
 ghost use Rattle.aig_net.specs.Nets.{variables};
 
 use crate::constrained::{mark, mark_below};
+use crate::variables::{first_and, first_latch};
 use aig_net::Net;
 use cnf_frames::Fact;
 use hy_base::M;
@@ -50,8 +51,7 @@ impl Marking {
 
     /// Marks what a variable depends on in this step and in the one before.
     fn visit(&mut self, net: &Net, variable: usize) -> M<()> {
-        net.variables(); // what each net keeps
-        let first = 1 + net.inputs() as usize;
+        let first = first_latch(net) as usize;
         let latches = net.latches().as_slice();
         let Some(latch) = variable.checked_sub(first) else {
             return Ok(());
@@ -91,12 +91,12 @@ pub struct Cone {
 /// For each variable whether the target depends on it in the same frame.
 fn below(alloc: Global, safe: &SafeNet, target: &[u32]) -> M<Vec<bool>> {
     let net = &safe.net;
-    net.variables(); // what each net keeps
+    let first = first_latch(net);
     let mut marks = vec![in alloc; false; net.variables() as usize]?;
     for literal in target {
         let latch = *literal / 2;
         if (latch as usize) < net.latches().len() {
-            mark(marks.as_mut_slice(), 2 * (1 + net.inputs() + latch));
+            mark(marks.as_mut_slice(), 2 * (first + latch));
         } else {
             mark(marks.as_mut_slice(), safe.bad);
         }
@@ -108,7 +108,6 @@ fn below(alloc: Global, safe: &SafeNet, target: &[u32]) -> M<Vec<bool>> {
 /// For each variable whether it matters before the step: constraints or a latch depend on it that
 /// matters, or facts compare it with one; those latches matter that do so after the step.
 fn above(alloc: Global, net: &Net, facts: &[Fact], after: &[bool]) -> M<Vec<bool>> {
-    net.variables(); // what each net keeps
     let mut marking = Marking {
         marks: vec![in alloc; false; net.variables() as usize]?,
         open: Vec::new(alloc),
@@ -117,10 +116,9 @@ fn above(alloc: Global, net: &Net, facts: &[Fact], after: &[bool]) -> M<Vec<bool
     for literal in net.constraints().as_slice() {
         marking.mark(*literal as usize / 2)?;
     }
-    let first = 1 + net.inputs() as usize;
-    for latch in first..first + net.latches().len() {
-        if after.get(latch) == Some(&true) {
-            marking.mark(latch)?;
+    for latch in first_latch(net)..first_and(net) {
+        if after.get(latch as usize) == Some(&true) {
+            marking.mark(latch as usize)?;
         }
     }
     marking.run(net)?;
@@ -132,13 +130,11 @@ impl Cone {
     /// facts.
     pub(crate) fn new(alloc: Global, safe: &SafeNet, facts: &[Fact], target: &[u32]) -> M<Cone> {
         let net = &safe.net;
-        net.variables(); // what each net keeps
         let mut after = below(alloc, safe, target)?;
         let before = above(alloc, net, facts, after.as_slice())?;
-        for latch in 0..net.latches().len() as u32 {
-            let variable = 1 + net.inputs() + latch;
-            if before.get(variable as usize) == Some(&true) {
-                mark(after.as_mut_slice(), 2 * variable);
+        for latch in first_latch(net)..first_and(net) {
+            if before.get(latch as usize) == Some(&true) {
+                mark(after.as_mut_slice(), 2 * latch);
             }
         }
         Ok(Cone { before, after })

@@ -1,5 +1,6 @@
 //! Which latches decide, with the inputs, whether the constraints of a net are true.
 
+use crate::variables::{first_and, first_latch};
 use aig_net::Net;
 use cnf_frames::Fact;
 use hy_base::M;
@@ -14,12 +15,11 @@ pub(crate) fn mark(marks: &mut [bool], literal: u32) {
 
 /// Marks what the marked ands depend on in the same frame, in time linear in the net.
 pub(crate) fn mark_below(net: &Net, marks: &mut [bool]) {
-    net.variables(); // what each net keeps
+    let first = first_and(net) as usize;
     let ands = net.ands().as_slice();
     for back in 0..ands.len() {
         let i = ands.len() - 1 - back;
-        let variable = 1 + net.inputs() as usize + net.latches().len() + i;
-        if marks.get(variable) == Some(&true) {
+        if marks.get(first + i) == Some(&true) {
             let gate = ands[i];
             mark(marks, gate.left);
             mark(marks, gate.right);
@@ -50,12 +50,10 @@ fn mark_earlier(marks: &mut [bool], fact: &Fact) {
 /// For each latch whether a constraint depends on it, or on a later one that facts say to be equal
 /// or to differ. In time linear in the net and the facts.
 pub(crate) fn constrained_latches(alloc: Global, net: &Net, facts: &[Fact]) -> M<Vec<bool>> {
-    net.variables(); // what each net keeps
     let variables = constrained_variables(alloc, net)?;
-    let first = 1 + net.inputs() as usize;
     let mut marks = Vec::new(alloc);
-    for latch in 0..net.latches().len() {
-        marks.push(variables.get(first + latch) == Some(&true))?;
+    for latch in first_latch(net)..first_and(net) {
+        marks.push(variables.get(latch as usize) == Some(&true))?;
     }
     for fact in facts {
         mark_earlier(marks.as_mut_slice(), fact);

@@ -15,6 +15,7 @@ use crate::layout::{Layout, push_cube};
 use crate::numbers::{Numbers, Pair};
 use crate::question::Question;
 use crate::targets::{bad_states, seen_states};
+use crate::variables::{first_and, first_latch};
 use aig_net::Net;
 use chain_check::Literal;
 use cnf_frames::Inv;
@@ -79,11 +80,10 @@ fn couple_of(
 /// For each variable of the constant, the inputs and the latches whether it is the constant, or a
 /// latch that matters.
 fn zeros(alloc: Global, net: &Net, cone: &Cone) -> M<Vec<bool>> {
-    net.variables(); // what each net keeps
-    let first = 1 + net.inputs() as usize;
+    let first = first_latch(net);
     let mut zeros = Vec::new(alloc);
-    for variable in 0..first + net.latches().len() {
-        let matters = cone.before.get(variable) == Some(&true);
+    for variable in 0..first_and(net) {
+        let matters = cone.before.get(variable as usize) == Some(&true);
         zeros.push(variable == 0 || first <= variable && matters)?;
     }
     Ok(zeros)
@@ -228,7 +228,6 @@ fn equal_latches(alloc: Global, question: &Question<'_>, conflicts: u32) -> M<Eq
         length equal.facts ≤ length question.now.safe.now.net.latches) }
 {
     let net = &question.safe.net;
-    net.variables(); // what each net keeps
     let cone = Cone::new(
         alloc,
         question.safe,
@@ -251,7 +250,7 @@ fn equal_latches(alloc: Global, question: &Question<'_>, conflicts: u32) -> M<Eq
     };
     equating.run(alloc)?;
     let excluded = equating.excludes(alloc, &layout, question.target)?;
-    let start = 1 + net.inputs() as usize;
+    let start = first_latch(net) as usize;
     let facts = equating
         .classes
         .facts(alloc, start, net.latches().len() as u32)?;

@@ -2,6 +2,7 @@
 //! is in no list of facts that each step keeps and that these states have.
 
 use crate::classes::Classes;
+use crate::variables::{first_and, first_latch};
 use aig_net::Net;
 use hy_base::M;
 use rand_core::{Rng, SeedableRng};
@@ -60,8 +61,7 @@ fn choose(test: u64, some: u64, other: u64) -> u64 {
 impl<'a> Lanes<'a> {
     /// 64 times the start, with inputs 0.
     pub(crate) fn new(alloc: Global, net: &'a Net, cone: Vec<bool>) -> M<Lanes<'a>> {
-        net.variables(); // what each net keeps
-        let given = 1 + net.inputs() as usize + net.latches().len();
+        let given = first_and(net) as usize;
         Ok(Lanes {
             net,
             cone,
@@ -132,7 +132,7 @@ impl<'a> Lanes<'a> {
     /// true.
     fn advance(&mut self, kept: u64) {
         let net = self.net;
-        let first = net.inputs() as usize + 1;
+        let first = first_latch(net) as usize;
         for variable in 1..first {
             let old = word_at(self.given.as_slice(), variable);
             let tried = word_at(self.tried.as_slice(), variable);

@@ -7,6 +7,7 @@ use crate::constrained::constrained_latches;
 use crate::cubes::Cube;
 use crate::numbers::{Numbers, Pair};
 use crate::question::Question;
+use crate::variables::{first_and, first_latch};
 use aig_net::{Net, opposite_of};
 use chain_check::Literal;
 use cnf_frames::Fact;
@@ -74,11 +75,9 @@ fn push_pair(table: &mut Table, pair: Option<Pair>) -> M<()> {
 
 /// The literals of the latches before a step.
 fn table_before(alloc: Global, net: &Net, numbers: &Numbers) -> M<Table> {
-    net.variables(); // what each net keeps
-    let first = 1 + net.inputs() as usize;
     let mut table = Vec::new(alloc);
-    for latch in 0..net.latches().len() {
-        push_pair(&mut table, numbers.before(first + latch))?;
+    for latch in first_latch(net)..first_and(net) {
+        push_pair(&mut table, numbers.before(latch as usize))?;
     }
     Ok(table)
 }
@@ -86,11 +85,9 @@ fn table_before(alloc: Global, net: &Net, numbers: &Numbers) -> M<Table> {
 /// The literals of the latches after a step, and of `bad`.
 fn table_after(alloc: Global, safe: &SafeNet, numbers: &Numbers) -> M<Table> {
     let net = &safe.net;
-    net.variables(); // what each net keeps
-    let first = 1 + net.inputs() as usize;
     let mut table = Vec::new(alloc);
-    for latch in 0..net.latches().len() {
-        push_pair(&mut table, numbers.after(first + latch))?;
+    for latch in first_latch(net)..first_and(net) {
+        push_pair(&mut table, numbers.after(latch as usize))?;
     }
     push_pair(&mut table, numbers.after_literal(safe.bad))?;
     Ok(table)
@@ -98,10 +95,9 @@ fn table_after(alloc: Global, safe: &SafeNet, numbers: &Numbers) -> M<Table> {
 
 /// The inputs that matter before a step.
 fn inputs(alloc: Global, net: &Net, numbers: &Numbers) -> M<Vec<Pair>> {
-    net.variables(); // what each net keeps
     let mut inputs = Vec::new(alloc);
-    for variable in 1..net.inputs() as usize + 1 {
-        if let Some(pair) = numbers.before(variable) {
+    for variable in 1..first_latch(net) {
+        if let Some(pair) = numbers.before(variable as usize) {
             inputs.push(pair)?;
         }
     }
@@ -132,13 +128,12 @@ fn open_latches(alloc: Global, latches: usize, facts: &[Fact]) -> M<Vec<bool>> {
 
 /// The latches that states are told by, in time linear in latches and facts.
 fn places(alloc: Global, net: &Net, facts: &[Fact], numbers: &Numbers) -> M<Vec<Place>> {
-    net.variables(); // what each net keeps
+    let first = first_latch(net);
     let open = open_latches(alloc, net.latches().len(), facts)?;
     let mut places = Vec::new(alloc);
     for latch in 0..net.latches().len() as u32 {
-        let variable = 1 + net.inputs() + latch;
         if open.get(latch as usize) == Some(&true)
-            && let Some(pair) = numbers.before(variable as usize)
+            && let Some(pair) = numbers.before((first + latch) as usize)
         {
             places.push(Place {
                 value: pair.place(),

@@ -23,6 +23,7 @@ mod pushing;
 mod question;
 mod reducing;
 mod targets;
+mod variables;
 
 pub use equating::classes_of;
 pub use finding::{Found, find_clauses};

@@ -4,6 +4,7 @@
 ghost use Rattle.aig_net.specs.Nets.{variables};
 
 use crate::cubes::Cube;
+use crate::variables::{first_and, first_latch};
 use aig_net::Net;
 use hy_base::{List, M};
 use live_safe::SafeNet;
@@ -31,11 +32,11 @@ fn mark_true(marks: &mut [bool], literal: u32) {
 fn implied(alloc: Global, net: &Net, literal: u32) -> M<Vec<bool>> {
     let mut marks = vec![in alloc; false; net.variables() as usize]?;
     mark_true(marks.as_mut_slice(), literal);
+    let first = first_and(net) as usize;
     let ands = net.ands().as_slice();
     for back in 0..ands.len() {
         let i = ands.len() - 1 - back;
-        let variable = 1 + net.inputs() as usize + net.latches().len() + i;
-        if marks.get(variable) == Some(&true) {
+        if marks.get(first + i) == Some(&true) {
             let gate = ands[i];
             mark_true(marks.as_mut_slice(), gate.left);
             mark_true(marks.as_mut_slice(), gate.right);
@@ -48,13 +49,12 @@ fn implied(alloc: Global, net: &Net, literal: u32) -> M<Vec<bool>> {
 /// until was seen since. Bad states also repeat what was saved, which is left out: what is saved
 /// matters to nothing else. In time linear in the net.
 pub(crate) fn seen_states(alloc: Global, safe: &SafeNet) -> M<Cube> {
-    safe.net.variables(); // what each net keeps
     let marks = implied(alloc, &safe.net, safe.bad)?;
-    let first = 1 + safe.net.inputs() as usize;
+    let first = first_latch(&safe.net);
     let mut target = List::new(alloc);
-    for latch in 0..safe.net.latches().len() {
-        if marks.get(first + latch) == Some(&true) {
-            target.push(2 * latch as u32)?;
+    for latch in 0..safe.net.latches().len() as u32 {
+        if marks.get((first + latch) as usize) == Some(&true) {
+            target.push(2 * latch)?;
         }
     }
     Ok(target)
