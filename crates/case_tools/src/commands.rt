@@ -145,6 +145,7 @@ fn take_part(alloc: Global, trial: &mut Trial, directive: &str, text: &str) -> R
         "traces" => trial.add_traces(text.parse::<u32>().context("no number")?),
         "room" => set_room(trial, text),
         "most" => set_most(trial, text),
+        "piece" => set_piece(trial, text),
         _ => bail!("no line of a case begins with {directive:?}"),
     }
 }
@@ -158,6 +159,12 @@ fn set_room(trial: &mut Trial, text: &str) -> Result<()> {
 /// Sets how many bytes one put takes at most.
 fn set_most(trial: &mut Trial, text: &str) -> Result<()> {
     trial.most = text.parse::<NonZeroU32>().context("no number from 1")?;
+    Ok(())
+}
+
+/// Sets how many bytes one read gives at most.
+fn set_piece(trial: &mut Trial, text: &str) -> Result<()> {
+    trial.piece = text.parse::<NonZeroU32>().context("no number from 1")?;
     Ok(())
 }
 

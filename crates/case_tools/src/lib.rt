@@ -12,6 +12,7 @@
 //! file NAME TEXT      a file of the shelf, whose name ends at the first space
 //! repeat N TEXT       the text N times more at the end of the last file
 //! traces N            there, a line for each trace of N letters, each of which is {} or {a}
+//! piece N             how many bytes one read gives at most
 //! fail-shelf N N ..   the opens and reads that fail, counted together from 1
 //! fail-out N N ..     the puts of the output that fail, counted from 1
 //! fail-err N N ..     the puts of the error text that fail, counted from 1
@@ -61,10 +62,12 @@ mod commands;
 mod escape;
 mod files;
 mod lassos;
+mod piece_shelf;
 mod runs;
 mod tally;
 mod tools;
 mod trial;
 
 pub use files::run_files;
+pub use piece_shelf::PieceShelf;
 pub use tools::Tools;

@@ -1,6 +1,7 @@
 //! What runs the commands of cases.
 
-use hy_base::{MemShelf, MemSink};
+use crate::piece_shelf::PieceShelf;
+use hy_base::MemSink;
 use std::alloc::Global;
 
 /// The tools that are tried.
@@ -11,7 +12,7 @@ pub trait Tools {
         alloc: Global,
         name: &str,
         words: &[String],
-        shelf: &mut MemShelf,
+        shelf: &mut PieceShelf,
         out: &mut MemSink,
         err: &mut MemSink,
     ) -> Option<u8>;

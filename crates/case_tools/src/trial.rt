@@ -1,5 +1,6 @@
 //! A command over files and streams in memory, and its run.
 
+use crate::piece_shelf::PieceShelf;
 use crate::tools::Tools;
 use anyhow::{Context, Result, ensure};
 use hy_base::{File, FileList, M, MemShelf, MemSink, NumList, Text};
@@ -24,12 +25,14 @@ pub(crate) struct Trial {
     pub room: u32,
     /// How many bytes one put takes at most.
     pub most: NonZeroU32,
+    /// How many bytes one read gives at most.
+    pub piece: NonZeroU32,
 }
 
 /// The files and the streams of a run.
 #[derive(Drop)]
 struct Stage {
-    shelf: MemShelf,
+    shelf: PieceShelf,
     out: MemSink,
     err: MemSink,
 }
@@ -54,6 +57,7 @@ impl Trial {
             fail_err: NumList::new(alloc),
             room: ROOM,
             most: NonZeroU32::MAX,
+            piece: NonZeroU32::MAX,
         }
     }
 
@@ -116,8 +120,9 @@ impl Trial {
         )?;
         let files = mem::replace(&mut self.files, Vec::new(alloc));
         let fail = taken(alloc, &mut self.fail_shelf);
+        let shelf = MemShelf::new(FileList::from_vec(files), fail);
         Ok(Stage {
-            shelf: MemShelf::new(FileList::from_vec(files), fail),
+            shelf: PieceShelf::new(shelf, self.piece),
             out,
             err,
         })

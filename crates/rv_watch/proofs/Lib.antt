@@ -1,0 +1,14 @@
+mod Asking
+mod Commands
+mod Counting
+mod Feeding
+mod FirstSpecs
+mod Inputs
+mod Leading
+mod Once
+mod Pieces
+mod Replying
+mod Running
+mod Silence
+mod Taking
+mod Watching

@@ -1,0 +1,7 @@
+pub mod Agreeing
+pub mod At
+pub mod Courses
+pub mod Input
+pub mod Runs
+pub mod Texts
+pub mod Words
