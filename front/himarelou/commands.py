@@ -176,7 +176,7 @@ def parser() -> Parser:
     whole = Parser(prog="himarelou", allow_abbrev=False, description="What two runs of a design must have in common, "
                    "checked by proved programs.", epilog="`himarelou COMMAND --help` says a command's words, "
                    "`himarelou help TOOL` shows the page of a tool.")
-    whole.add_argument("--version", action="store_true", help="the version, and the sums of the four programs")
+    whole.add_argument("--version", action="store_true", help="the version, and the sums of the programs")
     below = whole.add_subparsers(dest="command", metavar="COMMAND")
     for run, (about, more, words) in COMMANDS.items():
         made = below.add_parser(run.__name__, help=about, description=f"{about[0].upper()}{about[1:]}. {more}",

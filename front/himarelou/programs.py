@@ -1,4 +1,4 @@
-"""The four proved programs and yosys: where they are, and how a process is run, bounded, and stopped."""
+"""The proved programs and yosys: where they are, and how a process is run, bounded, and stopped."""
 import contextlib
 import hashlib
 import os
@@ -14,7 +14,7 @@ from pathlib import Path
 
 from himarelou.faults import Broken, Stopped
 
-TOOLS = ("rvhyper", "eahyper", "mchyper", "hycheck")
+TOOLS = ("rvhyper", "rvwatch", "eahyper", "mchyper", "hycheck")
 
 
 def bin_folder() -> Path:

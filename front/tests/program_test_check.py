@@ -447,7 +447,7 @@ class Words(Folder):
         for words in (["--help"], *([it, "--help"] for it in ("check", "circuit", "formula", "waves", "help"))):
             self.assertTrue(self.run_front(*words).stdout.startswith("usage: himarelou"))
         self.assertIn("mchyper", self.run_front("help", "mchyper", status=None).stdout + "mchyper")
-        self.assertEqual([it.split()[0] for it in self.run_front("--version").stdout.splitlines()], ["himarelou", "rvhyper", "eahyper", "mchyper", "hycheck"])
+        self.assertEqual([it.split()[0] for it in self.run_front("--version").stdout.splitlines()], ["himarelou", "rvhyper", "rvwatch", "eahyper", "mchyper", "hycheck"])
         self.run_front(status=2)
         self.run_front("chek", status=2)
 
