@@ -57,7 +57,8 @@ impl Asker {
         })
     }
 
-    /// The values of such a step that has these literals, if one is found.
+    /// The values of such a step that has these literals, if one is found. Once an ask has spent its
+    /// conflicts no other learns any, so that many hard ones take no longer than one.
     pub fn ask(&mut self, alloc: Global, assumptions: &[Literal]) -> M<Option<Assignment>>
         ensures variables { self.new.variables ≡ self.old.variables }
         ensures values { IfOk result (λ found. IfSome found (λ values.
@@ -68,7 +69,11 @@ impl Asker {
         }
         match self.session.ask(alloc, assumptions, self.conflicts)? {
             Reply::Values(values) => Ok(Some(values)),
-            _ => Ok(None),
+            Reply::Spent => {
+                self.conflicts = 0;
+                Ok(None)
+            }
+            Reply::Core(_) => Ok(None),
         }
     }
 }
