@@ -33,7 +33,7 @@ count-once lengths true spec arrived n m (kept, are, n_is) (others, also, m_is) 
     ∙ ap length (leaders-one (Dominates lengths spec.variables spec.body) arrived kept others are also)
     ∙ sym m_is
 
-counts-once : (lengths : Lengths) (drop : Bool) (arrived : List Trace) (specs : List Spec)
+pub counts-once : (lengths : Lengths) (drop : Bool) (arrived : List Trace) (specs : List Spec)
     (counts others : List ℕ) → AreKeptCounts lengths drop specs arrived counts
     → AreKeptCounts lengths drop specs arrived others → counts ≡ others
 counts-once lengths drop arrived [] [] [] one two = refl

@@ -131,7 +131,7 @@ each-plain Q (f ∷ formulas) (is, each) = (is, each-plain Q formulas each)
 
 -- ---- why formulas are not monitored
 
-are-too-large : (formulas : List Formula) (kind : Kind) → IsTooLarge formulas kind → AreTooLarge (plain_formulas formulas) kind
+pub are-too-large : (formulas : List Formula) (kind : Kind) → IsTooLarge formulas kind → AreTooLarge (plain_formulas formulas) kind
 are-too-large formulas kinds.Closure some = some-plain HasLargeClosure formulas some
 are-too-large formulas kinds.Atoms (small, some) =
     (each-plain HasSmallClosure formulas small, some-plain HasManyAtoms formulas some)
@@ -150,7 +150,7 @@ limit-outcome lengths drop formulas AreSo kind universal large =
 
 -- ---- what they come to
 
-specs-same : (formulas : List Formula) → map spec_of_formula formulas ≡ specs_of (plain_formulas formulas)
+pub specs-same : (formulas : List Formula) → map spec_of_formula formulas ≡ specs_of (plain_formulas formulas)
 specs-same [] = refl
 specs-same (f ∷ formulas) = ap (λ specs. spec_of_formula f ∷ specs) (specs-same formulas)
 

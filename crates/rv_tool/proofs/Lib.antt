@@ -1,8 +1,8 @@
-mod Asking
-mod Counting
+pub mod Asking
+pub mod Counting
 mod EventFiles
 mod EventSteps
-mod FirstSpecs
+pub mod FirstSpecs
 mod Following
 mod Outcomes
 mod Printed

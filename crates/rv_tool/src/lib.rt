@@ -12,3 +12,5 @@ mod words;
 
 pub use tool::RvHyper;
 pub use verdict::{Question, RvFault, RvVerdict};
+pub use watching::kept_of;
+pub use words::rule_of;

@@ -1,6 +1,6 @@
 //! Events, given to a monitor one after another.
 
-ghost use Rattle.std.specs.Prelude.{◌≡◌, ◌<◌, ◌^◌, IfOk, length};
+ghost use Rattle.std.specs.Prelude.{◌≡◌, ◌<◌, ◌^◌, IfOk};
 ghost use Rattle.rv_core.specs.Held.{StandsFor, specs_of};
 ghost use Rattle.rv_core.specs.Seen.{held};
 ghost use Rattle.rv_core.specs.Histories.{History, empty_history};
@@ -163,7 +163,7 @@ fn clean_answer(alloc: Global, rv: &Rv) -> RvAnswer
 
 /// How many traces are kept for each formula: all that arrived, or, where dominated ones are
 /// dropped, their leaders. In time linear in what is kept, times the logarithm of it.
-fn kept_of(alloc: Global, rv: &Rv) -> M<NumList>
+pub fn kept_of(alloc: Global, rv: &Rv) -> M<NumList>
     ensures { IfOk result (λ kept. (h : History) → StandsFor (held rv.now) h
         → AreKeptCounts (held rv.now).rule (held rv.now).drop (specs_of (held rv.now))
         h.present.arrived kept) }

@@ -67,7 +67,7 @@ fn ordered<'a>(files: &[&'a str], found: &Found<'a>) -> Option<Order<'a, Questio
 }
 
 /// The rule of lengths that a text names; that of the least length for no text.
-fn rule_of(text: Option<&str>) -> Option<Lengths>
+pub fn rule_of(text: Option<&str>) -> Option<Lengths>
     ensures some { IfSome result (IsRule (listed_slice text.entry)) }
     ensures none { IfNone result ((rule : Lengths) → ¬ IsRule (listed_slice text.entry) rule) }
 {

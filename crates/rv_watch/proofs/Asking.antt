@@ -1,11 +1,11 @@
 -- Which question words ask: as what is found in them tells.
-use Rattle.std.proofs.Common.{◌≡◌, ℕ, ◌<◌, ◌≤◌, List, [], ◌∷◌, map, length, slice_index_or, Bor, Option, Some, None, IfNone, refl, ap, arith}
+use Rattle.std.proofs.Common.{◌≡◌, List, [], ◌∷◌, slice_index_or, Option, Some, None, IfNone, ap}
 use Rattle.hy_words.specs.Found.{Tells}
 use Rattle.hy_words.specs.Words.{AreItems, Item}
 use Rattle.hy_words.specs.declared.found.Found.{Found}
 use Rattle.hy_run.specs.Names.{Text}
 use Rattle.rv_watch.specs.Runs.{HasNoCommand}
-use Rattle.rv_watch.specs.Words.{Orders, asks, watch_syntax}
+use Rattle.rv_watch.specs.Words.{Orders, watch_syntax}
 use Rattle.rv_watch.specs.declared.verdict.Question.{Question}
 use Rattle.rv_watch.specs.declared.words.Order.{Order}
 
@@ -16,12 +16,6 @@ pub question_none : (words : List Text) (found : Found) (o : Option Order)
     → IfNone o (HasNoCommand words)
 question_none words found (Some order) told none = tt
 question_none words found None told none = λ question file (items, are, orders). none items question file (told items are) orders
-
-pub one_file : (files : List (Bor Text)) (d : Bor Text) → 1 ≤ length files → length files < 2
-    → map (λ (n : Bor Text). n.now) files ≡ (slice_index_or files 0 d).now ∷ []
-one_file [] d some few = absurd (omega arith)
-one_file (a ∷ []) d some few = refl
-one_file (a ∷ b ∷ files) d some few = absurd (omega arith)
 
 pub same_head : (a b : Text) → a ∷ [] ≡ b ∷ [] → a ≡ b
 same_head a b e = ap (λ (names : List Text). slice_index_or names 0 []) e

@@ -1,5 +1,5 @@
 -- How a command comes to its answer, by its formulas and by what a watch of standard input comes to.
-use Rattle.std.proofs.Common.{◌≡◌, List, [], ℕ, Err, map, sym, subst, ◌∙◌}
+use Rattle.std.proofs.Common.{◌≡◌, List, [], Err, map, subst, ◌∙◌}
 use Rattle.hy_base.specs.declared.shelf.Shelf.{Ghosts}
 use Rattle.hy_formula.specs.Formulas.{plain_formulas}
 use Rattle.hy_formula.specs.declared.formula.Formula.{Formula}
@@ -10,12 +10,12 @@ use Rattle.rv_core.specs.Endings.{Spec}
 use Rattle.rv_core.specs.declared.rv_error.RvNewError.{RvNewError}
 use Rattle.rv_core.specs.declared.rv_error.RvNewError.TheVariants.{Prefix, Limit, Memory}
 use Rattle.hy_run.specs.Names.{Text}
+use Rattle.rv_tool.proofs.FirstSpecs.{are-too-large, are-universal, each-plain, first-untaken, specs-same}
 use Rattle.rv_watch.specs.At.{new_refusal}
 use Rattle.rv_watch.specs.Courses.{WatchAnswer}
 use Rattle.rv_watch.specs.Input.{Watches}
 use Rattle.rv_watch.specs.Runs.{Follows, TakesSpecs, too_large, unmade, untaken, watched}
 use Rattle.rv_watch.specs.declared.verdict.Question.{Question}
-use Rattle.rv_watch.proofs.FirstSpecs.{are-too-large, are-universal, each-plain, first-untaken, specs-same}
 
 module _ {S : Type 0} (g : Ghosts S) (old mid : S) (q : Question) (file : Text) (formulas : List Formula) (names : List Text)
     (takes : TakesSpecs g old mid file (plain_formulas formulas) names) where

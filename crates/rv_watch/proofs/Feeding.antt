@@ -1,5 +1,5 @@
 -- How the lines of a piece are taken behind what came before, and how many bytes may still come.
-use Rattle.std.proofs.Common.{◌≡◌, ◌⊎◌, ◌+◌, ◌-◌, ◌*◌, ◌^◌, ℕ, suc, ◌≤◌, ◌<◌, List, [], ◌∷◌, ◌++◌, length, Option, Some, None, IfSome, IfNone, Ok, Err, inl, inr, refl, sym, ap, subst, ◌∙◌, arith, length-append, append_assoc, append-nil}
+use Rattle.std.proofs.Common.{◌≡◌, ◌+◌, ◌^◌, ℕ, suc, ◌≤◌, ◌<◌, List, [], ◌∷◌, ◌++◌, length, Option, Some, None, IfSome, IfNone, Ok, Err, inl, inr, refl, sym, ap, subst, ◌∙◌, arith, length-append, append_assoc, append-nil}
 use Rattle.hy_base.specs.declared.limit.Kind.TheVariants.{Bytes}
 use Rattle.hy_base.specs.declared.reading.TheConstants.{BYTES_LIMIT}
 use Rattle.hy_base.specs.declared.sink.Sink.{Ghosts}
@@ -12,9 +12,8 @@ use Rattle.rv_core.specs.Seen.{held}
 use Rattle.hy_run.specs.declared.refusal.Refusal.TheVariants.{Limit, Memory}
 use Rattle.rv_tool.specs.Monitoring.{AreKeptCounts}
 use Rattle.rv_tool.specs.declared.verdict.RvVerdict.TheVariants.{NoViolation}
-use Rattle.rv_watch.specs.At.{IsAt, IsBehind, IsFed, IsFinished, IsPassing, IsStopped, IsTaken, StopsHere, TakenLines, at_last, at_end, at_line, glued, room, short, short_last}
+use Rattle.rv_watch.specs.At.{IsBehind, IsFed, IsFinished, IsPassing, IsStopped, IsTaken, TakenLines, at_last, at_end, at_line, glued, room, short, short_last}
 use Rattle.rv_watch.specs.Courses.{Course, Takes, WatchAnswer, arrived, large, most_lines, quiet, silent, start}
-use Rattle.rv_watch.specs.Input.{HasEnded, IsOpen, IsThrough}
 use Rattle.rv_watch.specs.declared.course.Terms.{Terms}
 use Rattle.rv_watch.specs.declared.course.Watcher.{Watcher}
 use Rattle.rv_watch.proofs.Leading.{leads-more}

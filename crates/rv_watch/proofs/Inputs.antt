@@ -1,17 +1,17 @@
 -- What the bytes of an input come to is one answer, and that of a watch on a sound shelf.
-use Rattle.std.proofs.Common.{◌≡◌, ◌⊎◌, ℕ, ◌≤◌, ◌<◌, List, [], ◌∷◌, ◌++◌, length, Some, None, Ok, Err, inl, inr, refl, sym, ap, subst, ◌∙◌, arith, length-append, append_assoc}
+use Rattle.std.proofs.Common.{◌≡◌, ◌⊎◌, ℕ, ◌<◌, List, [], ◌∷◌, ◌++◌, length, Some, None, Ok, Err, inl, inr, refl, sym, ap, subst, ◌∙◌, arith, length-append}
 use Rattle.hy_base.specs.declared.reading.TheConstants.{BYTES_LIMIT}
 use Rattle.hy_base.specs.declared.shelf.Shelf.{Ghosts}
 use Rattle.hy_text.specs.Lines.{lines_of}
 use Rattle.rv_core.specs.Endings.{Spec}
 use Rattle.hy_run.specs.declared.refusal.Refusal.TheVariants.{Memory}
 use Rattle.rv_tool.specs.declared.verdict.RvVerdict.TheVariants.{NoViolation}
+use Rattle.rv_tool.proofs.Counting.{counts-once}
 use Rattle.rv_watch.specs.Agreeing.{Agree, same}
 use Rattle.rv_watch.specs.At.{glued}
 use Rattle.rv_watch.specs.Courses.{Course, Stops, WatchAnswer, faulty, large, long, says_event, start, uncounted}
 use Rattle.rv_watch.specs.Input.{AreTaken, InputComes, IsThrough, Watches, input_name, runs_short, stops_at, to_end, unopened, unread, stopped, last, through, spent, spent_last}
 use Rattle.rv_watch.specs.declared.verdict.Question.{Question}
-use Rattle.rv_watch.proofs.Counting.{counts-once}
 use Rattle.rv_watch.proofs.Once.{leads-once, lines-one, lines-through}
 use Rattle.rv_watch.proofs.Pieces.{lines-on, melded, lines-melded, melded-within, some-lines}
 

@@ -1,5 +1,5 @@
 -- Lines that are taken one after another, and lines that are written.
-use Rattle.std.proofs.Common.{◌≡◌, ℕ, List, [], ◌∷◌, ◌++◌, Option, refl, subst}
+use Rattle.std.proofs.Common.{ℕ, List, [], ◌∷◌, ◌++◌, Option, refl, subst}
 use Rattle.hy_base.specs.declared.sink.Sink.{Ghosts}
 use Rattle.hy_files.specs.ErrorLines.{Received}
 use Rattle.hy_finite.specs.declared.lengths.Lengths.{Lengths}

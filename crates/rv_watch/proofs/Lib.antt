@@ -1,8 +1,6 @@
 mod Asking
 mod Commands
-mod Counting
 mod Feeding
-mod FirstSpecs
 mod Inputs
 mod Leading
 mod Once

@@ -1,11 +1,8 @@
 -- A line leads to one course or stops a watch, and the lines of an input come to one answer.
-use Rattle.std.proofs.Common.{◌≡◌, ◌≢◌, ◌⊎◌, ℕ, suc, ◌≤◌, ◌<◌, Bool, true, false, true≢false, List, [], ◌∷◌, ◌++◌, length, Option, Some, None, Ok, Err, Result, inl, inr, refl, sym, ap, subst, ◌∙◌, arith}
-use Rattle.hy_base.specs.Limits.{most}
-use Rattle.hy_base.specs.declared.limit.Kind.TheVariants as kinds
-use Rattle.hy_base.specs.declared.reading.TheConstants.{BYTES_LIMIT}
+use Rattle.std.proofs.Common.{◌≡◌, ℕ, suc, ◌≤◌, ◌<◌, true, false, true≢false, List, [], ◌∷◌, ◌++◌, length, Option, Ok, Err, refl, sym, ap, subst, ◌∙◌, arith}
 use Rattle.hy_text.specs.Bytes.{past_blanks}
 use Rattle.hy_finite.specs.EventFiles.{event_of}
-use Rattle.hy_finite.specs.EventLines.{Said, word, SaysNothing, Says, IsShort, IsFaulty, IsTooLong}
+use Rattle.hy_finite.specs.EventLines.{Said, word, Says, IsShort, IsTooLong}
 use Rattle.hy_finite.specs.Traces.{most_letters}
 use Rattle.hy_finite.specs.declared.event.Event.{Event}
 use Rattle.hy_finite.specs.declared.lengths.Lengths.{Lengths}
@@ -14,10 +11,9 @@ use Rattle.rv_core.specs.Endings.{Spec, FirstViolated, IsClean}
 use Rattle.rv_core.specs.Histories.{History, Refusal, refused, goes, step, arrives}
 use Rattle.rv_core.specs.Replies.{IsFound, error_of}
 use Rattle.rv_core.proofs.Ending.{first-one}
-use Rattle.hy_run.specs.declared.refusal.Refusal.TheVariants.{Limit, Own, Memory}
 use Rattle.rv_tool.specs.declared.verdict.RvVerdict.TheVariants.{Violation}
 use Rattle.rv_watch.specs.Agreeing.{Agree, same, other_tuple}
-use Rattle.rv_watch.specs.Courses.{Course, EventStops, IsWithin, Leads, Stops, Takes, WatchAnswer, arrived, behind, counted, crowded, event_refusal, faulty, large, long, quiet, refuses, says_event, silent, uncounted, violates}
+use Rattle.rv_watch.specs.Courses.{Course, EventStops, Leads, Stops, Takes, WatchAnswer, arrived, behind, counted, crowded, event_refusal, faulty, large, long, quiet, refuses, says_event, silent, uncounted, violates}
 
 agree : {a b : WatchAnswer} → a ≡ b → Agree a b
 agree {a} e = subst (Agree a) e (same a)

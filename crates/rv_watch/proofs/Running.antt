@@ -1,5 +1,5 @@
 -- Runs whose words are no command, and what is received of one line.
-use Rattle.std.proofs.Common.{◌≡◌, ◌⊎◌, ℕ, List, [], ◌∷◌, ◌++◌, Ok, Err, inl, inr, refl, ap, sym, subst, ◌∙◌}
+use Rattle.std.proofs.Common.{◌≡◌, ◌⊎◌, ℕ, List, [], ◌∷◌, ◌++◌, Err, inl, inr, refl, ap, sym, subst, ◌∙◌}
 use Rattle.hy_base.specs.declared.shelf.Shelf.{Ghosts as ShelfGhosts}
 use Rattle.hy_base.specs.declared.sink.Sink.{Ghosts}
 use Rattle.hy_files.specs.ErrorLines.{Received}

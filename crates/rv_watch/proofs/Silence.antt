@@ -1,5 +1,5 @@
 -- A sink to which nothing is given, and what a call says that writes a line.
-use Rattle.std.proofs.Common.{◌≡◌, ℕ, List, [], Ok, Err, OnOk, OnErr, Result, inl, inr, refl, sym, append-nil}
+use Rattle.std.proofs.Common.{ℕ, List, [], Ok, Err, OnOk, OnErr, Result, inl, inr, refl, sym, append-nil}
 use Rattle.hy_base.specs.Sink.{GivesWhole, FailsToGive, nothing}
 use Rattle.hy_base.specs.declared.sink.Sink.{Ghosts}
 use Rattle.hy_base.specs.declared.sink.SinkFailed.{SinkFailed}

@@ -1,6 +1,5 @@
 -- What a line does to a watch, by what was read of it and by what the monitor answered to its event.
-use Rattle.std.proofs.Common.{◌≡◌, ◌⊎◌, ◌+◌, ℕ, suc, ◌≤◌, ◌<◌, Bool, true, false, nat_lt, List, [], ◌∷◌, ◌++◌, length, Option, Some, None, Ok, Err, inl, inr, refl, sym, ap, subst, ◌∙◌, arith}
-use Rattle.hy_base.specs.declared.limit.Kind.{Kind}
+use Rattle.std.proofs.Common.{◌≡◌, ◌+◌, ℕ, suc, ◌≤◌, ◌<◌, Bool, true, false, nat_lt, List, length, Option, Some, None, Ok, Err, inl, inr, refl, sym, ap, subst, ◌∙◌, arith}
 use Rattle.hy_base.specs.declared.reading.TheConstants.{BYTES_LIMIT}
 use Rattle.hy_base.specs.declared.sink.Sink.{Ghosts}
 use Rattle.std.proofs.lemmas.Bool.Decides.{nat_tests}
@@ -8,18 +7,17 @@ use Rattle.hy_files.specs.ErrorLines.{Received}
 use Rattle.hy_text.specs.declared.line_error.LineError.{LineError}
 use Rattle.hy_text.specs.declared.line_error.LineError.TheVariants as line_errors
 use Rattle.hy_finite.specs.EventAnswers.{IsLineAnswer}
-use Rattle.hy_finite.specs.EventLines.{Said, SaysNothing}
+use Rattle.hy_finite.specs.EventLines.{SaysNothing}
 use Rattle.hy_finite.specs.declared.event.Event.{Event}
 use Rattle.rv_core.specs.Endings.{Spec, IsClean}
-use Rattle.rv_core.specs.Held.{Held, StandsFor, specs_of}
+use Rattle.rv_core.specs.Held.{StandsFor, specs_of}
 use Rattle.rv_core.specs.Histories.{History}
 use Rattle.rv_core.specs.Replies.{Answers, IsFound}
 use Rattle.rv_core.specs.Seen.{held}
 use Rattle.rv_core.specs.declared.rv.Rv.{Rv}
 use Rattle.rv_core.specs.declared.reply.Reply.TheVariants.{Quiet, Arrived, Violation}
 use Rattle.rv_core.specs.declared.rv_error.RvError.{RvError}
-use Rattle.rv_core.specs.declared.rv_error.RvError.TheVariants as errors
-use Rattle.hy_run.specs.declared.refusal.Refusal.TheVariants.{Own, Memory}
+use Rattle.hy_run.specs.declared.refusal.Refusal.TheVariants.{Own}
 use Rattle.rv_tool.specs.declared.verdict.RvVerdict.TheVariants as verdicts
 use Rattle.rv_watch.specs.At.{IsAt, IsTaken, line_refusal}
 use Rattle.rv_watch.specs.Courses.{Course, IsWithin, WatchAnswer, arrived, behind, counted, counted_if, crowded, event_refusal, faulty, long, most_lines, most_traces, quiet, refuses, says_event, silent, uncounted, violates}
@@ -29,7 +27,7 @@ use Rattle.rv_watch.proofs.Leading.{receives-more}
 use Rattle.rv_watch.specs.declared.course.Terms.{Terms}
 use Rattle.rv_watch.specs.declared.course.Watcher.{Watcher}
 use Rattle.rv_watch.specs.declared.verdict.WatchFault.TheVariants.{Traces, Lines}
-use Rattle.rv_watch.proofs.Replying.{GoesQuietly, GoesOn, IsViolating, IsRefusing, answered-quiet, answered-arrived, answered-violation, answered-error}
+use Rattle.rv_watch.proofs.Replying.{answered-quiet, answered-arrived, answered-violation, answered-error}
 
 -- ---- counts
 

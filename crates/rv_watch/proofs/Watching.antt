@@ -1,5 +1,5 @@
 -- What reads of standard input gave, and what a watch of it comes to.
-use Rattle.std.proofs.Common.{◌≡◌, ℕ, ◌≤◌, List, [], ◌∷◌, ◌++◌, length, Some, Err, refl, sym, ap, subst, ◌∙◌, append_assoc, append-nil, arith}
+use Rattle.std.proofs.Common.{◌≡◌, ℕ, List, [], ◌∷◌, ◌++◌, length, Some, Err, refl, sym, ap, subst, ◌∙◌, append_assoc, append-nil, arith}
 use Rattle.hy_base.specs.Counts.{Rose}
 use Rattle.hy_base.specs.Shelf.{FailsToOpen, nothing, more}
 use Rattle.hy_base.specs.Talks.{opened, gave, at_end, not_read}

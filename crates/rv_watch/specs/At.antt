@@ -1,5 +1,5 @@
 -- What the code of a watch has in hand, and what its steps come to.
-use Rattle.std.specs.Prelude.{◌≡◌, ◌⊎◌, ◌+◌, ◌-◌, ◌*◌, ◌^◌, ℕ, ◌≤◌, ◌<◌, List, [], ◌∷◌, ◌++◌, length, Option, Some, None, Ok, Err}
+use Rattle.std.specs.Prelude.{◌≡◌, ◌⊎◌, ◌+◌, ◌-◌, ◌*◌, ◌^◌, ℕ, ◌≤◌, ◌<◌, List, [], ◌∷◌, ◌++◌, length, Option, Some, None, Err}
 use Rattle.hy_base.specs.Limits.{most}
 use Rattle.hy_base.specs.declared.limit.Kind.TheVariants.{Length}
 use Rattle.hy_base.specs.declared.reading.TheConstants.{BYTES_LIMIT}
@@ -9,13 +9,13 @@ use Rattle.hy_text.specs.Lines.{lines_of}
 use Rattle.hy_text.specs.declared.line_error.LineError.{LineError}
 use Rattle.hy_text.specs.declared.line_error.LineError.TheVariants as line_errors
 use Rattle.rv_core.specs.Endings.{Spec}
-use Rattle.rv_core.specs.Held.{Held, StandsFor, specs_of}
+use Rattle.rv_core.specs.Held.{StandsFor, specs_of}
 use Rattle.rv_core.specs.Seen.{held}
 use Rattle.hy_run.specs.declared.refusal.Refusal as refusals
 use Rattle.hy_run.specs.declared.refusal.Refusal.TheVariants.{Prefix, Limit, Own, Memory}
 use Rattle.rv_core.specs.declared.rv_error.RvNewError.{RvNewError}
 use Rattle.rv_core.specs.declared.rv_error.RvNewError.TheVariants as new_errors
-use Rattle.rv_watch.specs.Courses.{Course, Leads, Stops, Takes, WatchAnswer, most_lines, start}
+use Rattle.rv_watch.specs.Courses.{Course, Leads, Stops, Takes, WatchAnswer, start}
 use Rattle.rv_watch.specs.Input.{HasEnded, IsOpen, IsThrough, Watches}
 use Rattle.rv_watch.specs.Runs.{ReceivesAll}
 use Rattle.rv_watch.specs.declared.course.Terms.{Terms}

@@ -1,5 +1,5 @@
 -- What lines do, taken one after another: each says nothing or an event that leads on, or it stops the watch.
-use Rattle.std.specs.Prelude.{◌≡◌, ◌^◌, ℕ, suc, ◌<◌, ◌≤◌, Bool, true, false, nat_lt, List, [], ◌∷◌, ◌++◌, length, Option, Some, None, Ok, Err}
+use Rattle.std.specs.Prelude.{◌≡◌, ℕ, suc, ◌<◌, ◌≤◌, Bool, true, false, nat_lt, List, [], ◌∷◌, ◌++◌, length, Option, Some, None, Ok, Err}
 use Rattle.hy_base.specs.Limits.{most}
 use Rattle.hy_base.specs.declared.limit.Kind.TheVariants as kinds
 use Rattle.hy_base.specs.declared.reading.TheConstants.{BYTES_LIMIT}

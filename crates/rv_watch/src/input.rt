@@ -12,23 +12,22 @@ ghost use Rattle.rv_watch.specs.At.{IsAt, IsBehind, IsFed, IsFinished, IsTaken, 
 ghost use Rattle.rv_watch.specs.Courses.{Course};
 
 use crate::course::{Terms, Watcher};
-use crate::kept::kept_of;
 use crate::verdict::WatchAnswer;
 use hy_base::{BYTES_LIMIT, Kind, Memory, Shelf, ShelfFailed, Sink, Steps, Text};
 use hy_files::FileFault;
 use hy_finite::split_line;
 use hy_run::Refusal;
 use rv_core::Rv;
-use rv_tool::RvVerdict;
+use rv_tool::{RvVerdict, kept_of};
 use std::alloc::Global;
 use std::sync::ledger::Ledger;
 
 /// How many bytes one read asks for.
 const READ_SIZE: usize = 65_536;
 
-/// What standard input comes to with a monitor of `specs` formulas to which nothing has come yet. It
-/// is opened, and read in pieces; each line that ended in a piece is taken before the next read. The
-/// last line may end without a line feed.
+/// What standard input comes to with a monitor to which nothing has come yet. It is opened, and read
+/// in pieces; each line that ended in a piece is taken before the next read. The last line may end
+/// without a line feed.
 ///
 /// In time linear in the bytes, however they are cut into pieces, and that of `Rv::event` for each
 /// event. Of them the line in hand alone is kept: in at most three times its memory.
@@ -36,7 +35,6 @@ pub fn watch_input<S: Shelf, L: Ledger, E: Sink>(
     alloc: Global,
     shelf: &mut S,
     rv: Rv,
-    specs: u32,
     terms: &Terms<'_>,
     steps: &mut Steps<L>,
     err: &mut E,
@@ -44,7 +42,6 @@ pub fn watch_input<S: Shelf, L: Ledger, E: Sink>(
     requires stands { StandsFor (held rv) empty_history }
     requires rule { (held rv).rule ≡ terms.now.question.lengths }
     requires dropping { (held rv).drop ≡ terms.now.question.drop }
-    requires specs { specs ≡ length (specs_of (held rv)) }
     ensures keeps_shelf { KeepsShelf S.Shelf shelf.old shelf.new }
     ensures keeps_err { KeepsSink E.Sink err.old err.new }
     ensures watched { IsWatched terms.now (specs_of (held rv)) E.Sink err.old S.Shelf shelf.old shelf.new err.new result }
@@ -58,15 +55,7 @@ pub fn watch_input<S: Shelf, L: Ledger, E: Sink>(
     loop {
         match shelf.read(&mut buffer) {
             Err(ShelfFailed) => return input_fault(FileFault::Read),
-            Ok(0) => return finish(
-                alloc,
-                &mut watcher,
-                front.as_slice(),
-                specs,
-                terms,
-                steps,
-                err,
-            ),
+            Ok(0) => return finish(alloc, &mut watcher, front.as_slice(), terms, steps, err),
             Ok(count) => {
                 let piece = &buffer[..count];
                 let fed = feed(alloc, &mut watcher, &mut front, piece, terms, steps, err);
@@ -172,22 +161,21 @@ fn finish<L: Ledger, E: Sink>(
     alloc: Global,
     watcher: &mut Watcher,
     line: &[u8],
-    specs: u32,
     terms: &Terms<'_>,
     steps: &mut Steps<L>,
     err: &mut E,
 ) -> WatchAnswer
-    requires { (formulas : List Spec) × (from : E) × (bytes : List ℕ) × (specs ≡ length formulas)
-        × IsBehind terms.now formulas E.Sink from err.old watcher.old line.now bytes }
+    requires { (specs : List Spec) × (from : E) × (bytes : List ℕ)
+        × IsBehind terms.now specs E.Sink from err.old watcher.old line.now bytes }
     ensures keeps { KeepsSink E.Sink err.old err.new }
-    ensures finished { (formulas : List Spec) (from : E) (bytes : List ℕ) → specs ≡ length formulas
-        → IsBehind terms.now formulas E.Sink from err.old watcher.old line.now bytes
-        → IsFinished terms.now formulas E.Sink from err.new bytes result }
+    ensures finished { (specs : List Spec) (from : E) (bytes : List ℕ)
+        → IsBehind terms.now specs E.Sink from err.old watcher.old line.now bytes
+        → IsFinished terms.now specs E.Sink from err.new bytes result }
 {
     if let Some(answer) = watcher.take(alloc, line, terms, steps, err) {
         return answer;
     }
-    match kept_of(alloc, &watcher.rv, specs) {
+    match kept_of(alloc, &watcher.rv) {
         Ok(kept) => Ok(RvVerdict::NoViolation {
             traces: watcher.rv.traces(),
             kept,

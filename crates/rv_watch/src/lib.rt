@@ -4,7 +4,6 @@
 mod course;
 mod host;
 mod input;
-mod kept;
 pub mod laws;
 mod monitoring;
 mod runs;

@@ -1,6 +1,6 @@
 //! From the file of formulas and standard input to an answer.
 
-ghost use Rattle.std.specs.Prelude.{◌≡◌, ◌<◌, [], List, ℕ, length};
+ghost use Rattle.std.specs.Prelude.{◌≡◌, ◌<◌, [], List, ℕ};
 ghost use Rattle.hy_base.specs.Shelf.{KeepsShelf};
 ghost use Rattle.hy_base.specs.Sink.{KeepsSink};
 ghost use Rattle.rv_core.specs.Held.{StandsFor, specs_of};
@@ -48,9 +48,8 @@ pub fn monitor<S: Shelf, E: Sink>(
     let question = order.question;
     match Rv::new(alloc, specs.as_slice(), question.lengths, question.drop) {
         Ok(rv) => {
-            let count = specs.len() as u32;
             let terms = Terms { question, names };
-            watch_on::<S, Brand, E>(alloc, shelf, rv, count, &terms, Blank::new(1), err)
+            watch_on::<S, Brand, E>(alloc, shelf, rv, &terms, Blank::new(1), err)
         }
         Err(error) => Err(new_refusal(error)),
     }
@@ -61,7 +60,6 @@ fn watch_on<S: Shelf, L: Ledger, E: Sink>(
     alloc: Global,
     shelf: &mut S,
     rv: Rv,
-    specs: u32,
     terms: &Terms<'_>,
     blank: Blank,
     err: &mut E,
@@ -69,7 +67,6 @@ fn watch_on<S: Shelf, L: Ledger, E: Sink>(
     requires stands { StandsFor (held rv) empty_history }
     requires rule { (held rv).rule ≡ terms.now.question.lengths }
     requires dropping { (held rv).drop ≡ terms.now.question.drop }
-    requires specs { specs ≡ length (specs_of (held rv)) }
     requires name { blank.name ≡ L.name }
     requires parts { blank.parts ≡ L.parts }
     requires some { 0 < blank.parts }
@@ -77,7 +74,7 @@ fn watch_on<S: Shelf, L: Ledger, E: Sink>(
         × IsWatched terms.now (specs_of (held rv)) E.Sink err.old S.Shelf shelf.old shelf.new err.new result }
 {
     let mut steps = Steps::<L>::new(blank);
-    watch_input(alloc, shelf, rv, specs, terms, &mut steps, err)
+    watch_input(alloc, shelf, rv, terms, &mut steps, err)
 }
 
 /// Why formulas are refused that are not monitored.

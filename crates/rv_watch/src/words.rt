@@ -4,16 +4,14 @@ ghost use Rattle.std.specs.Prelude.{◌≡◌, ℕ, List, Option, IfOk, IfSome, 
 ghost use Rattle.hy_words.specs.Found.{Tells, found_files, listed_slice};
 ghost use Rattle.hy_words.specs.Words.{Item};
 ghost use Rattle.hy_run.specs.Names.{Text, texts};
-ghost use Rattle.rv_tool.specs.Words.{IsRule};
-ghost use Rattle.hy_finite.specs.declared.lengths.Lengths.{Lengths as Rule};
 ghost use Rattle.rv_watch.specs.Runs.{HasNoCommand};
 ghost use Rattle.rv_watch.specs.Words.{IsEvery, Orders, asks, watch_syntax};
 ghost use Rattle.rv_watch.specs.declared.verdict.Question.{Question as Asked};
 
 use crate::verdict::Question;
 use hy_base::M;
-use hy_finite::Lengths;
 use hy_words::{Found, Syntax, found_in, number_in};
+use rv_tool::rule_of;
 use std::alloc::Global;
 
 /// A command: what is asked, and the name of the file of formulas.
@@ -78,17 +76,5 @@ fn every_of(text: Option<&str>) -> Option<Option<u32>>
     match text {
         None => Some(None),
         Some(text) => Some(Some(number_in(text, 1, 1_000_000_000)?)),
-    }
-}
-
-/// The rule of lengths that a text names; that of the least length for no text.
-fn rule_of(text: Option<&str>) -> Option<Lengths>
-    ensures some { IfSome result (IsRule (listed_slice text.entry)) }
-    ensures none { IfNone result ((rule : Rule) → ¬ IsRule (listed_slice text.entry) rule) }
-{
-    match text {
-        None | Some("min") => Some(Lengths::Min),
-        Some("pad") => Some(Lengths::Pad),
-        Some(_) => None,
     }
 }

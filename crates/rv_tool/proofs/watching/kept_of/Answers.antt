@@ -10,10 +10,10 @@ pub returns : goal.returns
 returns c h stands =
     let m = held c.args.rv.now in
     let made = c.loop-spec.invariant in
-    let all : c.loop-spec.spec ≡ c.specs.result = omega arith in
+    let all : c.loop-spec.spec ≡ c.specs-spec-end.result = omega arith in
     counts-in-turn m.rule m.drop h.present.arrived (specs_of m) c.loop-spec.kept
-    (made.long ∙ all ∙ c.specs.ensures)
+    (made.long ∙ all ∙ c.specs-spec-end.ensures)
     (λ s lt.
     let P : ℕ → Type 0 = IsKeptCount m.rule m.drop (spec_at (specs_of m) s) h.present.arrived in
-    let inside = c.specs.ensures in
+    let inside = c.specs-spec-end.ensures in
     subst P (sym (made.counts s (omega (arith, lt, inside, all)))) (c.keeping.ensures.counts m h s stands lt))

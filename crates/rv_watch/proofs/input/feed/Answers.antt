@@ -1,4 +1,4 @@
-use Rattle.std.proofs.Common.{◌≡◌, ◌++◌, ◌≤◌, ◌<◌, ◌∷◌, [], List, ℕ, length, refl, arith, length-append, ◌∙◌}
+use Rattle.std.proofs.Common.{◌≡◌, ◌++◌, ◌≤◌, ◌<◌, ◌∷◌, [], length, refl, arith, length-append}
 use Rattle.hy_base.specs.declared.reading.TheConstants.{BYTES_LIMIT}
 use Rattle.hy_text.specs.Lines.{lines_of}
 use Rattle.rv_watch.specs.Courses.{most_lines}

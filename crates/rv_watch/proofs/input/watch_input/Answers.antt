@@ -1,7 +1,4 @@
-use Rattle.std.proofs.Common.{◌≡◌, ◌<◌, ◌≤◌, ◌++◌, [], List, ℕ, length, take, refl, sym, true≢false, ◌∙◌, arith, rules}
-use Rattle.std.proofs.lemmas.List.{length-take}
-use Rattle.hy_base.specs.Shelf.{KeepsShelf}
-use Rattle.rv_watch.specs.Courses.{start}
+use Rattle.std.proofs.Common.{◌<◌, ◌++◌, [], length, take, refl, sym, true≢false, ◌∙◌, arith, rules}
 use Rattle.rv_watch.proofs.Watching.{behind-first, given-first, given-more, whole-last, watched-unopened, watched-unread, watched-stopped, watched-whole}
 use Rattle.rv_watch.proofs.input.watch_input.Goals as goal
 
@@ -49,7 +46,7 @@ returns-in-Ok-eq0-clause-watched g c =
     let whole = whole-last g.S.Shelf c.args.shelf.now c.loop-front.shelf c.read.new.self before.bytes before.given (c.in-Ok-eq0.ensures.at_end some c.in-Ok-eq0.field-0-test)
     (λ t. c.in-Ok-eq0.ensures.ended (before.keeps_shelf.tells t) some c.in-Ok-eq0.field-0-test) in
     watched-whole c.args.terms.now _ g.E.Sink c.args.err.now c.finish.new.err g.S.Shelf c.args.shelf.now before.bytes c.read.new.self _ whole
-    (rw c.as_slice.ensures at c.finish.ensures.finished _ c.args.err.now before.bytes c.requires.specs before.behind)
+    (rw c.as_slice.ensures at c.finish.ensures.finished _ c.args.err.now before.bytes before.behind)
 
 pub returns-in-Some-clause-watched : goal.returns-in-Some-clause-watched
 returns-in-Some-clause-watched g c =

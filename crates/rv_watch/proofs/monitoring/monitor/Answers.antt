@@ -1,6 +1,6 @@
-use Rattle.std.proofs.Common.{true, [], refl, ap, ◌∙◌}
+use Rattle.std.proofs.Common.{true, [], refl}
 use Rattle.rv_watch.specs.Runs.{unspecified}
-use Rattle.rv_watch.proofs.FirstSpecs.{few-quantifiers, read-few}
+use Rattle.rv_tool.proofs.FirstSpecs.{few-quantifiers, read-few}
 use Rattle.rv_watch.proofs.Commands.{monitored-follows, unmonitored-follows}
 use Rattle.rv_watch.proofs.monitoring.monitor.Goals as goal
 

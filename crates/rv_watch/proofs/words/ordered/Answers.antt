@@ -1,6 +1,7 @@
 use Rattle.std.proofs.Common.{codes, sym, ◌∙◌}
 use Rattle.hy_base.proofs.Truths.{same-bytes}
-use Rattle.rv_watch.proofs.Asking.{one_file, same_head}
+use Rattle.rv_tool.proofs.Asking.{one_file}
+use Rattle.rv_watch.proofs.Asking.{same_head}
 use Rattle.rv_watch.proofs.words.ordered.Goals as goal
 
 pub returns-then-eq-clause-none : goal.returns-then-eq-clause-none

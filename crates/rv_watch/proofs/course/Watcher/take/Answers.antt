@@ -1,5 +1,4 @@
-use Rattle.std.proofs.Common.{◌≡◌, ◌<◌, ◌≤◌, ◌∙◌, Ok, Err, Some, None, Option, Result, ap, refl, subst, sym, arith}
-use Rattle.hy_text.specs.declared.line_error.LineError.{LineError}
+use Rattle.std.proofs.Common.{◌<◌, ◌≤◌, ◌∙◌, Ok, Err, Option, Result, ap, refl, subst, arith}
 use Rattle.hy_finite.specs.EventAnswers.{IsLineAnswer}
 use Rattle.hy_finite.specs.declared.event.Event.{Event}
 use Rattle.rv_core.specs.Replies.{Answers}
