@@ -1,5 +1,5 @@
 -- What was found in words asks one question: the given options make it, and it is the only one.
-use Rattle.std.proofs.Common.{◌≡◌, ◌⊎◌, inl, inr, ℕ, ◌<◌, ◌^◌, ◌-◌, Bool, false, true≢false, not, List, [], ◌∷◌, ◌++◌, length, codes, Option, Some, None, IfSome, IfNone, Bor, refl, sym, ap, subst, ◌∙◌, arith, ne_eqb}
+use Rattle.std.proofs.Common.{◌≡◌, ◌⊎◌, inl, inr, ℕ, ◌<◌, ◌^◌, ◌-◌, Bool, true, false, true≢false, not, List, [], ◌∷◌, ◌++◌, length, codes, Option, Some, None, IfSome, IfNone, Bor, refl, sym, ap, subst, ◌∙◌, arith, ne_eqb}
 use Rattle.std.specs.Bool.{IsTrue}
 use Rattle.bound_search.specs.declared.bound.Bound.{Bound}
 use Rattle.bound_search.specs.Bounds.{IsBound}
@@ -14,9 +14,9 @@ use Rattle.hy_run.specs.Names.{names_in}
 use Rattle.hy_run.specs.Runs.{HasNoCommand}
 use Rattle.hy_run.specs.declared.order.Order.{Order}
 use Rattle.ea_tool.specs.Rules.{ea_rules}
-use Rattle.ea_tool.specs.Words.{Asks, AsksFor, Finds, Orders, TellsNothing, TellsOrder, bound_text, ea_syntax}
+use Rattle.ea_tool.specs.Words.{Asks, AsksFor, Finds, Sorts, Orders, TellsNothing, TellsOrder, bound_text, ea_syntax}
 use Rattle.ea_tool.specs.declared.verdict.Question.{Question}
-use Rattle.ea_tool.specs.declared.verdict.Question.TheVariants.{Judge, Decide, Relate, Find}
+use Rattle.ea_tool.specs.declared.verdict.Question.TheVariants.{Sort, Judge, Decide, Relate, Find}
 use Rattle.ea_tool.specs.declared.verdict.Relation.{Relation}
 use Rattle.ea_tool.specs.declared.verdict.Relation.TheVariants.{Implication, Equivalence}
 use Rattle.ea_tool.proofs.BoundTexts.{same-bound}
@@ -51,8 +51,18 @@ record IsFinding (items : List Item) (question : Question) (files : List Text) :
   question_is : question ≡ Find bound conflicts
   files_are : files ≡ formula ∷ []
 
+-- The quantifiers are asked about.
+record IsSorting (items : List Item) (question : Question) (files : List Text) : Type 0 where
+  formula : Text
+  sorts : Sorts items formula
+  question_is : question ≡ Sort
+  files_are : files ≡ formula ∷ []
+
 kind_of : (items : List Item) (question : Question) (files : List Text) → Orders items question files
-    → IsQuestion items question files ⊎ IsFinding items question files
+    → IsQuestion items question files ⊎ IsFinding items question files ⊎ IsSorting items question files
+kind_of items Sort (f ∷ []) sorts = inr (inr (record { formula = f; sorts = sorts; question_is = refl; files_are = refl }))
+kind_of items Sort [] none = absurd none
+kind_of items Sort (f ∷ g ∷ rest) none = absurd none
 kind_of items Judge (f ∷ l ∷ []) (n, b, asks) =
     inl (record { formula = f; on = l ∷ []; implied = []; equal = []; states = n; proof = b; asks = asks; question_is = refl; files_are = refl })
 kind_of items (Decide n b) (f ∷ []) asks =
@@ -62,7 +72,7 @@ kind_of items (Relate Implication n b) (f ∷ g ∷ []) asks =
 kind_of items (Relate Equivalence n b) (f ∷ g ∷ []) asks =
     inl (record { formula = f; on = []; implied = []; equal = g ∷ []; states = n; proof = b; asks = asks; question_is = refl; files_are = refl })
 kind_of items (Find b n) (f ∷ []) finds =
-    inr (record { formula = f; bound = b; conflicts = n; finds = finds; question_is = refl; files_are = refl })
+    inr (inl (record { formula = f; bound = b; conflicts = n; finds = finds; question_is = refl; files_are = refl }))
 kind_of items Judge [] none = absurd none
 kind_of items Judge (f ∷ []) none = absurd none
 kind_of items Judge (f ∷ g ∷ h ∷ rest) none = absurd none
@@ -82,7 +92,8 @@ pub one_formula : (items : List Item) (question : Question) (files : List Text) 
     → (formula : Text) × (files_in items ≡ formula ∷ [])
 one_formula items question files orders = elim (kind_of items question files orders) [
   | inl is ↦ (is.formula, is.asks.files)
-  | inr is ↦ (is.formula, is.finds.files)
+  | inr (inl is) ↦ (is.formula, is.finds.files)
+  | inr (inr is) ↦ (is.formula, is.sorts.files)
 ]
 
 -- ---- the question that items ask is one
@@ -124,12 +135,29 @@ module _ (items others : List Item) (same : GiveSame ea_syntax items others) (qu
         x.files_are ∙ formulas ∙ sym y.files_are,
       )
 
-  one_kind : IsQuestion items question files ⊎ IsFinding items question files → IsQuestion others other names ⊎ IsFinding others other names
+  one_sorting : IsSorting items question files → IsSorting others other names → (question ≡ other) × (files ≡ names)
+  one_sorting x y =
+      let formulas : x.formula ∷ [] ≡ y.formula ∷ [] = sym x.sorts.files ∙ same.files ∙ y.sorts.files in
+      (x.question_is ∙ sym y.question_is, x.files_are ∙ formulas ∙ sym y.files_are)
+
+  sorts-are : is_given (given_in (codes "sort") items) ≡ is_given (given_in (codes "sort") others)
+  sorts-are = same.flags.1.0
+
+  unsorted : (given : List Text) → given ≡ [] → is_given given ≡ false
+  unsorted given e = ap is_given e
+
+  one_kind : IsQuestion items question files ⊎ IsFinding items question files ⊎ IsSorting items question files
+      → IsQuestion others other names ⊎ IsFinding others other names ⊎ IsSorting others other names
       → (question ≡ other) × (files ≡ names)
   one_kind (inl x) (inl y) = one_question x y
-  one_kind (inl x) (inr y) = absurd (some-nothing (sym y.finds.bounded ∙ sym bounds_are ∙ x.asks.unbounded.0))
-  one_kind (inr x) (inl y) = absurd (some-nothing (sym x.finds.bounded ∙ bounds_are ∙ y.asks.unbounded.0))
-  one_kind (inr x) (inr y) = one_finding x y
+  one_kind (inl x) (inr (inl y)) = absurd (some-nothing (sym y.finds.bounded ∙ sym bounds_are ∙ x.asks.unbounded.0))
+  one_kind (inr (inl x)) (inl y) = absurd (some-nothing (sym x.finds.bounded ∙ bounds_are ∙ y.asks.unbounded.0))
+  one_kind (inr (inl x)) (inr (inl y)) = one_finding x y
+  one_kind (inr (inr x)) (inr (inr y)) = one_sorting x y
+  one_kind (inr (inr x)) (inl y) = absurd (true≢false (sym x.sorts.sort ∙ sorts-are ∙ unsorted _ y.asks.unbounded.1.1.0))
+  one_kind (inr (inr x)) (inr (inl y)) = absurd (true≢false (sym x.sorts.sort ∙ sorts-are ∙ unsorted _ y.finds.alone.1.1.1.1.1.0))
+  one_kind (inl x) (inr (inr y)) = absurd (true≢false (sym y.sorts.sort ∙ sym sorts-are ∙ unsorted _ x.asks.unbounded.1.1.0))
+  one_kind (inr (inl x)) (inr (inr y)) = absurd (true≢false (sym y.sorts.sort ∙ sym sorts-are ∙ unsorted _ x.finds.alone.1.1.1.1.1.0))
 
 -- Words ask one question of files of one list of names.
 pub asks_once : ((syntax : Syntax) → IsTrue (is_syntax syntax) → (words : List Text) (items others : List Item) → AreItems syntax words items
@@ -162,14 +190,18 @@ unworded words none question files (items, are, orders) = none items are
 pub named : (items : List Item) (question : Question) (files names : List Text) → files ≡ names → Orders items question names → Orders items question files
 named items question files names e is = let P : List Text → Type 0 = λ fs. Orders items question fs in subst P (sym e) is
 
+not-given : (given : List Text) → is_given given ≡ false → given ≡ []
+not-given [] e = refl
+not-given (v ∷ vs) e = absurd (true≢false (sym (ap not (ne_eqb (length (v ∷ vs)) 0 (λ z. omega (arith, z)))) ∙ e))
+
 module _ (items : List Item) (found : Found) (tells : Tells ea_syntax items found) (formula : Text) (file : found_files found ≡ formula ∷ []) where
   pub asks_of : (on implies equivalent states conflicts : Option (Bor Text)) → listed_slice on ≡ found_value found (codes "on")
       → listed_slice implies ≡ found_value found (codes "implies") → listed_slice equivalent ≡ found_value found (codes "equivalent")
       → listed_slice states ≡ found_value found (codes "states") → (n : ℕ) → IsNumberOr 100000 (listed_slice states) 1 4194304 n
-      → (proof : Bool) → proof ≡ found_flag found (codes "proof") → found_value found (codes "bound") ≡ []
+      → (proof : Bool) → proof ≡ found_flag found (codes "proof") → found_value found (codes "bound") ≡ [] → false ≡ found_flag found (codes "sort")
       → listed_slice conflicts ≡ found_value found (codes "conflicts") → conflicts ≡ None
       → (a b c : List Text) → listed_slice on ≡ a → listed_slice implies ≡ b → listed_slice equivalent ≡ c → Asks items formula a b c n proof
-  asks_of on implies equivalent states conflicts one two three four n number proof proves unbounded six none a b c is_a is_b is_c =
+  asks_of on implies equivalent states conflicts one two three four n number proof proves unbounded unsorted six none a b c is_a is_b is_c =
       let (at_on, (at_implies, (at_equivalent, (at_states, (at_bound, (at_conflicts, nil)))))) = tells.options in
       let P : List Text → Type 0 = λ vs. IsNumberOr 100000 vs 1 4194304 n in
       record {
@@ -179,12 +211,8 @@ module _ (items : List Item) (found : Found) (tells : Tells ea_syntax items foun
         equivalent = at_equivalent ∙ sym three ∙ is_c;
         budget = subst P (four ∙ sym at_states) number;
         proves = proves ∙ sym tells.flags.0;
-        unbounded = (at_bound ∙ unbounded, (at_conflicts ∙ sym six ∙ ap listed_slice none, tt));
+        unbounded = (at_bound ∙ unbounded, (at_conflicts ∙ sym six ∙ ap listed_slice none, (not-given (given_in (codes "sort") items) (tells.flags.1.0 ∙ sym unsorted), tt)));
       }
-
-  not-given : (given : List Text) → is_given given ≡ false → given ≡ []
-  not-given [] e = refl
-  not-given (v ∷ vs) e = absurd (true≢false (sym (ap not (ne_eqb (length (v ∷ vs)) 0 (λ z. omega (arith, z)))) ∙ e))
 
   pub finds_of : (bound : Bound) → found_value found (codes "bound") ≡ bound_text bound ∷ [] → IsBound bound
       → (on implies equivalent states conflicts : Option (Bor Text)) → listed_slice on ≡ found_value found (codes "on") → on ≡ None
@@ -192,8 +220,8 @@ module _ (items : List Item) (found : Found) (tells : Tells ea_syntax items foun
       → listed_slice equivalent ≡ found_value found (codes "equivalent") → equivalent ≡ None
       → listed_slice states ≡ found_value found (codes "states") → states ≡ None
       → listed_slice conflicts ≡ found_value found (codes "conflicts") → (n : ℕ) → IsNumberOr 100000 (listed_slice conflicts) 0 1000000000 n
-      → false ≡ found_flag found (codes "proof") → Finds items formula bound n
-  finds_of bound bounded range on implies equivalent states conflicts one no_on two no_implies three no_equivalent four no_states six n number no_proof =
+      → false ≡ found_flag found (codes "proof") → false ≡ found_flag found (codes "sort") → Finds items formula bound n
+  finds_of bound bounded range on implies equivalent states conflicts one no_on two no_implies three no_equivalent four no_states six n number no_proof no_sort =
       let (at_on, (at_implies, (at_equivalent, (at_states, (at_bound, (at_conflicts, nil)))))) = tells.options in
       let P : List Text → Type 0 = λ vs. IsNumberOr 100000 vs 0 1000000000 n in
       record {
@@ -209,7 +237,43 @@ module _ (items : List Item) (found : Found) (tells : Tells ea_syntax items foun
               at_equivalent ∙ sym three ∙ ap listed_slice no_equivalent,
               (
                 at_states ∙ sym four ∙ ap listed_slice no_states,
-                (not-given (given_in (codes "proof") items) (tells.flags.0 ∙ sym no_proof), tt),
+                (
+                  not-given (given_in (codes "proof") items) (tells.flags.0 ∙ sym no_proof),
+                  (not-given (given_in (codes "sort") items) (tells.flags.1.0 ∙ sym no_sort), tt),
+                ),
+              ),
+            ),
+          ),
+        );
+      }
+
+  pub sorts_of : (on implies equivalent states bound conflicts : Option (Bor Text)) → listed_slice on ≡ found_value found (codes "on") → on ≡ None
+      → listed_slice implies ≡ found_value found (codes "implies") → implies ≡ None
+      → listed_slice equivalent ≡ found_value found (codes "equivalent") → equivalent ≡ None
+      → listed_slice states ≡ found_value found (codes "states") → states ≡ None
+      → listed_slice bound ≡ found_value found (codes "bound") → bound ≡ None
+      → listed_slice conflicts ≡ found_value found (codes "conflicts") → conflicts ≡ None
+      → true ≡ found_flag found (codes "sort") → false ≡ found_flag found (codes "proof") → Sorts items formula
+  sorts_of on implies equivalent states bound conflicts one no_on two no_implies three no_equivalent four no_states five no_bound six no_conflicts sort no_proof =
+      let (at_on, (at_implies, (at_equivalent, (at_states, (at_bound, (at_conflicts, nil)))))) = tells.options in
+      record {
+        files = tells.files ∙ file;
+        sort = tells.flags.1.0 ∙ sym sort;
+        alone = (
+          at_on ∙ sym one ∙ ap listed_slice no_on,
+          (
+            at_implies ∙ sym two ∙ ap listed_slice no_implies,
+            (
+              at_equivalent ∙ sym three ∙ ap listed_slice no_equivalent,
+              (
+                at_states ∙ sym four ∙ ap listed_slice no_states,
+                (
+                  at_bound ∙ sym five ∙ ap listed_slice no_bound,
+                  (
+                    at_conflicts ∙ sym six ∙ ap listed_slice no_conflicts,
+                    (not-given (given_in (codes "proof") items) (tells.flags.0 ∙ sym no_proof), tt),
+                  ),
+                ),
               ),
             ),
           ),
@@ -225,6 +289,11 @@ states-few (v ∷ vs) n (e, from, to) = omega (arith, to)
 conflicts-few : (given : List Text) (n : ℕ) → IsNumberOr 100000 given 0 1000000000 n → n < 2 ^ 31
 conflicts-few [] n e = omega (arith, e)
 conflicts-few (v ∷ vs) n (e, from, to) = omega (arith, to)
+
+sorts-at : (words files : List Text) (first : Text) → AsksFor words Sort files → first ≡ name_of_file files 0 → files ≡ first ∷ []
+sorts-at words [] first (items, are, none) d = absurd none
+sorts-at words (f ∷ []) first (items, are, sorts) d = λ i. sym d i ∷ []
+sorts-at words (f ∷ g ∷ rest) first (items, are, none) d = absurd none
 
 judges-at : (words files : List Text) (first second : Text) → AsksFor words Judge files → first ≡ name_of_file files 0
     → second ≡ name_of_file files 1 → files ≡ first ∷ second ∷ []
@@ -263,6 +332,9 @@ finds-at words (f ∷ g ∷ rest) bound n first (items, are, none) d = absurd no
 module _ (words files : List Text) (question : Question) (asks : AsksFor words question files) where
   asks_this : (other : Question) → question ≡ other → AsksFor words other files
   asks_this other e = let P : Question → Type 0 = λ q. AsksFor words q files in subst P e asks
+
+  pub sorts : question ≡ Sort → (first : Text) → first ≡ name_of_file files 0 → files ≡ first ∷ []
+  sorts is first d = sorts-at words files first (asks_this Sort is) d
 
   pub judges : question ≡ Judge → (first second : Text) → first ≡ name_of_file files 0 → second ≡ name_of_file files 1
       → files ≡ first ∷ second ∷ []

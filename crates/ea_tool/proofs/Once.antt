@@ -1,5 +1,5 @@
 -- The rules are settled: words ask one question, files are one text, and a question comes to one answer.
-use Rattle.std.proofs.Common.{◌≡◌, ◌≢◌, ℕ, Bool, true, false, List, [], ◌∷◌, Result, Err, sym, subst, ◌∙◌}
+use Rattle.std.proofs.Common.{◌≡◌, ◌≢◌, ℕ, Bool, true, false, List, [], ◌∷◌, Result, Err, inl, inr, sym, subst, ◌∙◌}
 use Rattle.std.specs.Bool.{IsTrue}
 use Rattle.hy_bits.specs.Letter.{Letter}
 use Rattle.hy_formula.specs.Formulas.{Plain}
@@ -15,15 +15,16 @@ use Rattle.hy_run.specs.Laws.{AgreeOrShort, AreSettled}
 use Rattle.hy_run.specs.Names.{Text}
 use Rattle.hy_run.specs.Runs.{Answer}
 use Rattle.bound_search.specs.declared.bound.Bound.{Bound}
-use Rattle.ea_tool.specs.Agreeing.{same}
+use Rattle.ea_tool.specs.Agreeing.{Agree, same}
 use Rattle.ea_tool.specs.Deciding.{IsDecision, IsRelated}
 use Rattle.ea_tool.specs.Finding.{IsSearch}
 use Rattle.ea_tool.specs.Judging.{IsJudgement}
 use Rattle.ea_tool.specs.Rules.{ComesTo, IsTextIn, IsRefusedIn, ea_rules, has_lassos}
+use Rattle.ea_tool.specs.Sorting.{IsSort}
 use Rattle.ea_tool.specs.declared.verdict.EaFault.{EaFault}
 use Rattle.ea_tool.specs.declared.verdict.EaVerdict.{EaVerdict}
 use Rattle.ea_tool.specs.declared.verdict.Question.{Question}
-use Rattle.ea_tool.specs.declared.verdict.Question.TheVariants.{Judge, Decide, Relate, Find}
+use Rattle.ea_tool.specs.declared.verdict.Question.TheVariants.{Sort, Judge, Decide, Relate, Find}
 use Rattle.ea_tool.specs.declared.verdict.Relation.{Relation}
 use Rattle.ea_tool.proofs.Agreements.{decisions_once, judged_once, relations_once}
 use Rattle.ea_tool.proofs.Asking.{asks_once}
@@ -67,6 +68,14 @@ module _ (reading : (syntax : Syntax) → IsTrue (is_syntax syntax) → (words :
 
   -- ---- questions
 
+  sorts_once : (one : List ℕ) (names : List Text) (a b : Answer EaVerdict EaFault) → ComesTo Sort (one ∷ []) names a → ComesTo Sort (one ∷ []) names b
+      → AgreeOrShort ea_rules a b
+  sorts_once one names a b (f, first, is) (g, also, was) =
+      let P : Plain → Type 0 = λ h. IsSort h a in
+      let both : a ≡ b = subst P (formula_once [] one f g names names first also).0 is ∙ sym was in
+      let R : Answer EaVerdict EaFault → Type 0 = λ x. Agree a x in
+      inr (inr (subst R both (same a)))
+
   judges_once : (one two : List ℕ) (names : List Text) (a b : Answer EaVerdict EaFault) → ComesTo Judge (one ∷ two ∷ []) names a
       → ComesTo Judge (one ∷ two ∷ []) names b → AgreeOrShort ea_rules a b
   judges_once one two names a b (f, list, first, second, is) (g, other, also, then, was) =
@@ -101,6 +110,9 @@ module _ (reading : (syntax : Syntax) → IsTrue (is_syntax syntax) → (words :
 
   comes_once : (question : Question) (files : List (List ℕ)) (names : List Text) (a b : Answer EaVerdict EaFault) → ComesTo question files names a
       → ComesTo question files names b → AgreeOrShort ea_rules a b
+  comes_once Sort (x ∷ []) names a b one two = sorts_once x names a b one two
+  comes_once Sort [] names a b one two = absurd one
+  comes_once Sort (x ∷ y ∷ rest) names a b one two = absurd one
   comes_once Judge (x ∷ y ∷ []) names a b one two = judges_once x y names a b one two
   comes_once (Decide n p) (x ∷ []) names a b one two = decides_once n p x names a b one two
   comes_once (Relate r n p) (x ∷ y ∷ []) names a b one two = relates_once r n p x y names a b one two

@@ -4,5 +4,6 @@ pub mod Finding
 pub mod Judging
 pub mod Lassos
 pub mod Rules
+pub mod Sorting
 pub mod Texts
 pub mod Words

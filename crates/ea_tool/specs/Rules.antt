@@ -13,12 +13,13 @@ use Rattle.ea_tool.specs.Deciding.{IsDecision, IsRelated}
 use Rattle.ea_tool.specs.Finding.{IsSearch}
 use Rattle.ea_tool.specs.Judging.{IsJudgement}
 use Rattle.ea_tool.specs.Lassos.{AreLassos, AreNoLassos}
+use Rattle.ea_tool.specs.Sorting.{IsSort}
 use Rattle.ea_tool.specs.Texts.{text_of, status_of, fault_line, fault_status}
 use Rattle.ea_tool.specs.Words.{AsksFor}
 use Rattle.ea_tool.specs.declared.verdict.EaFault.{EaFault}
 use Rattle.ea_tool.specs.declared.verdict.EaVerdict.{EaVerdict}
 use Rattle.ea_tool.specs.declared.verdict.Question.{Question}
-use Rattle.ea_tool.specs.declared.verdict.Question.TheVariants.{Judge, Decide, Relate, Find}
+use Rattle.ea_tool.specs.declared.verdict.Question.TheVariants.{Sort, Judge, Decide, Relate, Find}
 
 -- whether file k of a question is one of lassos; all others are formulas
 abbrev pub has_lassos : Question → ℕ → Bool
@@ -37,6 +38,7 @@ IsRefusedIn false old bytes fault = IsNoFormula 8 old bytes fault
 
 -- What the question comes to where its files have these bytes and names.
 abbrev pub ComesTo : Question → List (List ℕ) → List Text → Answer EaVerdict EaFault → Type 0
+ComesTo Sort (one ∷ []) names answer = (f : Plain) × IsFormula 8 [] one f names × IsSort f answer
 ComesTo Judge (one ∷ two ∷ []) names answer =
     (f : Plain) × (list : List (Lasso Letter)) × IsFormula 8 [] one f names × AreLassos names two list
     × IsJudgement f.prefix f.body list answer

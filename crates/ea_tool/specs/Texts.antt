@@ -6,12 +6,13 @@ use Rattle.rank_proofs.specs.ProofTexts.{proof_text}
 use Rattle.ea_tool.specs.declared.verdict.EaFault.{EaFault}
 use Rattle.ea_tool.specs.declared.verdict.EaFault.TheVariants.{States}
 use Rattle.ea_tool.specs.declared.verdict.EaVerdict.{EaVerdict}
-use Rattle.ea_tool.specs.declared.verdict.EaVerdict.TheVariants.{Sat, Unsat, NoneWithin, Spent, Implied, NotImplied, Equivalent, NotEquivalent, OnTrue, OnFalse}
+use Rattle.ea_tool.specs.declared.verdict.EaVerdict.TheVariants.{Sat, Unsat, NoneWithin, Spent, Implied, NotImplied, Equivalent, NotEquivalent, Sorted, OnTrue, OnFalse}
 use Rattle.ea_tool.specs.declared.verdict.Question.{Question}
-use Rattle.ea_tool.specs.declared.verdict.Question.TheVariants.{Judge, Decide, Relate, Find}
+use Rattle.ea_tool.specs.declared.verdict.Question.TheVariants.{Sort, Judge, Decide, Relate, Find}
 
 -- whether a proof is shown beside the verdict
 abbrev pub shows_proof : Question → Bool
+shows_proof Sort = false
 shows_proof Judge = false
 shows_proof (Decide states proof) = proof
 shows_proof (Relate relation states proof) = proof
@@ -38,6 +39,7 @@ verdict_text shown names (Equivalent first second) =
     codes "equivalent\n" ++ shown_proof shown first ++ shown_proof shown second
 verdict_text shown names (NotEquivalent side list) =
     codes "not equivalent " ++ side_text side ++ codes "\n" ++ printed_lassos names list
+verdict_text shown names (Sorted universal) = if universal then codes "universal\n" else codes "not universal\n"
 verdict_text shown names OnTrue = codes "true\n"
 verdict_text shown names OnFalse = codes "false\n"
 
@@ -55,6 +57,7 @@ status_of (Implied proof) = 0
 status_of (NotImplied list) = 1
 status_of (Equivalent first second) = 0
 status_of (NotEquivalent side list) = 1
+status_of (Sorted universal) = 0
 status_of OnTrue = 0
 status_of OnFalse = 1
 

@@ -1,5 +1,5 @@
 -- Which words ask which question. A question is asked of files of these names, in the order in which they are read.
-use Rattle.std.specs.Prelude.{◌≡◌, ℕ, Bool, List, [], ◌∷◌, ◌++◌, codes, decimal}
+use Rattle.std.specs.Prelude.{◌≡◌, ℕ, Bool, true, List, [], ◌∷◌, ◌++◌, codes, decimal}
 use Rattle.bound_search.specs.declared.bound.Bound.{Bound}
 use Rattle.bound_search.specs.Bounds.{IsBound}
 use Rattle.hy_words.specs.Found.{Tells}
@@ -7,13 +7,13 @@ use Rattle.hy_words.specs.Numbers.{AreConflicts, IsNumberOr}
 use Rattle.hy_words.specs.declared.found.Found.{Found}
 use Rattle.hy_words.specs.Words.{Text, Syntax, Item, AreItems, AreMissing, files_in, given_in, is_given}
 use Rattle.ea_tool.specs.declared.verdict.Question.{Question}
-use Rattle.ea_tool.specs.declared.verdict.Question.TheVariants.{Judge, Decide, Relate, Find}
+use Rattle.ea_tool.specs.declared.verdict.Question.TheVariants.{Sort, Judge, Decide, Relate, Find}
 use Rattle.ea_tool.specs.declared.verdict.Relation.TheVariants.{Implication, Equivalence}
 
 -- the names of flags and options
 abbrev pub ea_syntax : Syntax
 ea_syntax = record {
-  flags = codes "proof" ∷ [];
+  flags = codes "proof" ∷ codes "sort" ∷ [];
   options = codes "on" ∷ codes "implies" ∷ codes "equivalent" ∷ codes "states" ∷ codes "bound" ∷ codes "conflicts" ∷ [];
 }
 
@@ -34,7 +34,7 @@ pub record Asks (items : List Item) (formula : Text) (lassos implied equal : Lis
   pub equivalent : given_in (codes "equivalent") items ≡ equal
   pub budget : AreStates (given_in (codes "states") items) states
   pub proves : proof ≡ is_given (given_in (codes "proof") items)
-  pub unbounded : AreMissing (codes "bound" ∷ codes "conflicts" ∷ []) items
+  pub unbounded : AreMissing (codes "bound" ∷ codes "conflicts" ∷ codes "sort" ∷ []) items
 
 -- The items ask for a list of lassos within this bound, with this budget, and for nothing else: neither another
 -- question, nor its budget, nor a proof.
@@ -43,10 +43,17 @@ pub record Finds (items : List Item) (formula : Text) (bound : Bound) (conflicts
   pub bounded : given_in (codes "bound") items ≡ bound_text bound ∷ []
   pub range : IsBound bound
   pub budget : AreConflicts (given_in (codes "conflicts") items) conflicts
-  pub alone : AreMissing (codes "on" ∷ codes "implies" ∷ codes "equivalent" ∷ codes "states" ∷ codes "proof" ∷ []) items
+  pub alone : AreMissing (codes "on" ∷ codes "implies" ∷ codes "equivalent" ∷ codes "states" ∷ codes "proof" ∷ codes "sort" ∷ []) items
+
+-- The items ask which quantifiers a formula has, and nothing else.
+pub record Sorts (items : List Item) (formula : Text) : Type 0 where
+  pub files : files_in items ≡ formula ∷ []
+  pub sort : is_given (given_in (codes "sort") items) ≡ true
+  pub alone : AreMissing (codes "on" ∷ codes "implies" ∷ codes "equivalent" ∷ codes "states" ∷ codes "bound" ∷ codes "conflicts" ∷ codes "proof" ∷ []) items
 
 -- The items ask this of files of these names.
 abbrev pub Orders : List Item → Question → List Text → Type 0
+Orders items Sort (formula ∷ []) = Sorts items formula
 Orders items Judge (formula ∷ lassos ∷ []) = (states : ℕ) × (proof : Bool) × Asks items formula (lassos ∷ []) [] [] states proof
 Orders items (Decide states proof) (formula ∷ []) = Asks items formula [] [] [] states proof
 Orders items (Relate Implication states proof) (first ∷ second ∷ []) = Asks items first [] (second ∷ []) [] states proof

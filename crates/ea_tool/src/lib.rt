@@ -8,6 +8,7 @@ mod judging;
 mod lassos;
 pub mod laws;
 mod relating;
+mod sorting;
 mod texts;
 mod tool;
 mod verdict;

@@ -18,7 +18,7 @@ pub fn shows_proof(question: Question) -> bool
 {
     match question {
         Question::Decide { proof, .. } | Question::Relate { proof, .. } => proof,
-        Question::Judge | Question::Find { .. } => false,
+        Question::Sort | Question::Judge | Question::Find { .. } => false,
     }
 }
 

@@ -4,6 +4,7 @@ use crate::deciding::decide;
 use crate::finding::find;
 use crate::judging::judge;
 use crate::relating::relate;
+use crate::sorting::sort;
 use crate::texts::{shows_proof, status_of, verdict_text};
 use crate::verdict::{EaFault, EaVerdict, Question};
 use crate::words::order_of;
@@ -42,6 +43,7 @@ impl Tool for EaHyper {
         let first = order.files.name(0);
         let second = order.files.name(1);
         match order.question {
+            Question::Sort => sort(alloc, shelf, first, names),
             Question::Judge => judge(alloc, shelf, first, second, names),
             Question::Decide { states, .. } => decide(alloc, shelf, first, states, names),
             Question::Relate {

@@ -18,6 +18,8 @@ pub enum Relation {
 /// from 1 to 4,194,304, and `proof` asks for a proof beside the verdict.
 #[derive(Clone, Copy)]
 pub enum Question {
+    /// Whether all quantifiers of the formula are universal.
+    Sort,
     /// Whether the lassos of the second file satisfy the formula of the first.
     Judge,
     /// Whether the formula is satisfiable.
@@ -59,6 +61,8 @@ pub enum EaVerdict {
     /// The formulas are not equivalent: these lassos satisfy one alone, the first for side 0, the
     /// second for side 1.
     NotEquivalent { side: u8, list: LassoList },
+    /// All quantifiers of the formula are universal, or not.
+    Sorted { universal: bool },
     /// The given lassos satisfy the formula.
     OnTrue,
     /// The given lassos do not satisfy the formula.

@@ -1,8 +1,8 @@
 //! Which words ask which question.
 
-ghost use Rattle.std.specs.Prelude.{◌≡◌, ◌∷◌, [], IfOk, IfSome, IfNone, codes};
+ghost use Rattle.std.specs.Prelude.{◌≡◌, ◌∷◌, [], IfOk, IfSome, IfNone, codes, false, true};
 ghost use Rattle.bound_search.specs.Bounds.{IsBound};
-ghost use Rattle.hy_words.specs.Found.{found_files, found_value};
+ghost use Rattle.hy_words.specs.Found.{found_files, found_flag, found_value};
 ghost use Rattle.hy_run.specs.Names.{names_in, texts};
 ghost use Rattle.hy_run.specs.Runs.{HasNoCommand};
 ghost use Rattle.ea_tool.specs.Rules.{ea_rules};
@@ -35,7 +35,7 @@ pub fn order_of<'a>(alloc: Global, words: &'a [String]) -> M<Option<Order<'a, Qu
         (HasNoCommand ea_rules (texts words.entry.now))) }
 {
     let syntax = Syntax {
-        flags: &["proof"],
+        flags: &["proof", "sort"],
         options: &[
             "on",
             "implies",
@@ -60,6 +60,9 @@ fn ordered<'a>(found: &Found<'a>) -> Option<Order<'a, Question>>
     let Some(&[formula]) = found.files() else {
         return None;
     };
+    if found.has("sort") {
+        return sorting(formula, found);
+    }
     match found.value("bound") {
         None => asking(formula, found),
         Some(bound) => finding(formula, bound_in(bound)?, found),
@@ -69,6 +72,7 @@ fn ordered<'a>(found: &Found<'a>) -> Option<Order<'a, Question>>
 /// The question about a formula that the words ask, where they give no bound.
 fn asking<'a>(formula: &'a str, found: &Found<'a>) -> Option<Order<'a, Question>>
     requires file { found_files found.now ≡ formula.now ∷ [] }
+    requires unsorted { false ≡ found_flag found.now (codes "sort") }
     requires unbounded { found_value found.now (codes "bound") ≡ [] }
     ensures some { IfSome result (λ order.
         TellsOrder found.now order.question (names_in order.files)) }
@@ -108,9 +112,35 @@ fn asking<'a>(formula: &'a str, found: &Found<'a>) -> Option<Order<'a, Question>
     }
 }
 
+/// The question about the quantifiers of a formula, beside which nothing is asked.
+fn sorting<'a>(formula: &'a str, found: &Found<'a>) -> Option<Order<'a, Question>>
+    requires file { found_files found.now ≡ formula.now ∷ [] }
+    requires sorts { true ≡ found_flag found.now (codes "sort") }
+    ensures some { IfSome result (λ order.
+        TellsOrder found.now order.question (names_in order.files)) }
+    ensures none { IfNone result (TellsNothing found.now) }
+{
+    if found.has("proof") {
+        return None;
+    }
+    let on = found.value("on");
+    let implies = found.value("implies");
+    let equivalent = found.value("equivalent");
+    let states = found.value("states");
+    let bound = found.value("bound");
+    match (on, implies, equivalent, states, bound, found.value("conflicts")) {
+        (None, None, None, None, None, None) => Some(Order {
+            question: Question::Sort,
+            files: FileNames::one(formula),
+        }),
+        _ => None,
+    }
+}
+
 /// The search for lassos within the bound that the words ask for.
 fn finding<'a>(formula: &'a str, bound: Bound, found: &Found<'a>) -> Option<Order<'a, Question>>
     requires file { found_files found.now ≡ formula.now ∷ [] }
+    requires unsorted { false ≡ found_flag found.now (codes "sort") }
     requires bounded { found_value found.now (codes "bound") ≡ bound_text bound ∷ [] }
     requires range { IsBound bound }
     ensures some { IfSome result (λ order.

@@ -1,8 +1,14 @@
 use Rattle.std.proofs.Common.{[], ◌∷◌}
 use Rattle.hy_run.specs.Names.{names_in}
-use Rattle.ea_tool.proofs.Asking.{decides, finds, judges, relates}
+use Rattle.ea_tool.proofs.Asking.{decides, finds, judges, relates, sorts}
 use Rattle.ea_tool.proofs.Reading.{of_files}
 use Rattle.ea_tool.proofs.tool.EaHyperTool.answer.Goals as goal
+
+pub returns-in-Sort-clause-follows : goal.returns-in-Sort-clause-follows
+returns-in-Sort-clause-follows g c =
+    of_files g.S.Shelf _ _ _ c.args.order.now.question (c.name-first.result.now ∷ []) (names_in c.args.order.now.files) _ _ c.in-Sort.is
+    (sorts c.requires.asked.0 (names_in c.args.order.now.files) c.args.order.now.question c.requires.asked.1 c.in-Sort.is c.name-first.result.now c.name-first.ensures)
+    c.sort.ensures.follows
 
 pub returns-in-Judge-clause-follows : goal.returns-in-Judge-clause-follows
 returns-in-Judge-clause-follows g c =
