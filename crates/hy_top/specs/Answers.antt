@@ -23,7 +23,7 @@ use Rattle.rv_tool.specs.declared.verdict.RvFault.TheVariants as rv_faults
 use Rattle.rv_tool.specs.declared.verdict.RvVerdict.{RvVerdict}
 use Rattle.rv_tool.specs.declared.verdict.RvVerdict.TheVariants as rv
 use Rattle.hy_top.specs.declared.answer.Answer.{Answer}
-use Rattle.hy_top.specs.declared.answer.Answer.TheVariants.{Sat, Unsat, NoneWithin, Implied, NotImplied, Equivalent, NotEquivalent, OnTrue, OnFalse, NoViolation, Violation, Checked, StrategyHolds, StrategyFails}
+use Rattle.hy_top.specs.declared.answer.Answer.TheVariants.{Sat, Unsat, NoneWithin, Implied, NotImplied, Equivalent, NotEquivalent, Sorted, OnTrue, OnFalse, NoViolation, Violation, Checked, StrategyHolds, StrategyFails}
 use Rattle.hy_top.specs.declared.answer.Answer.TheVariants.{Words, Syntax, Unbound, Prefix, Line, Session, Circuit, Strategy, Name, OpenFault, ReadFault, WriteFault, Limit, CnfLimit, States, Memory}
 
 -- ---- refusals
@@ -77,6 +77,7 @@ ea_answer (Ok (ea.Implied proof)) = Implied proof
 ea_answer (Ok (ea.NotImplied list)) = NotImplied list
 ea_answer (Ok (ea.Equivalent first second)) = Equivalent first second
 ea_answer (Ok (ea.NotEquivalent side list)) = NotEquivalent side list
+ea_answer (Ok (ea.Sorted universal)) = Sorted universal
 ea_answer (Ok ea.OnTrue) = OnTrue
 ea_answer (Ok ea.OnFalse) = OnFalse
 ea_answer (Err refusal) = refusal_answer ea_fault refusal

@@ -46,6 +46,10 @@ pub enum Answer {
         side: u8,
         list: LassoList,
     },
+    /// All quantifiers of the formula are universal, or not.
+    Sorted {
+        universal: bool,
+    },
     /// The given lassos satisfy the formula.
     OnTrue,
     /// The given lassos do not satisfy the formula.
