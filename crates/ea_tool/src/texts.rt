@@ -106,6 +106,8 @@ pub fn verdict_text(alloc: Global, shown: bool, names: &NameTable, verdict: &EaV
         EaVerdict::NotEquivalent { side, list } => {
             with_lassos(alloc, side_line(*side), list, names)
         }
+        EaVerdict::Sorted { universal: true } => line_text(alloc, b"universal\n"),
+        EaVerdict::Sorted { universal: false } => line_text(alloc, b"not universal\n"),
         EaVerdict::OnTrue => line_text(alloc, b"true\n"),
         EaVerdict::OnFalse => line_text(alloc, b"false\n"),
     }
@@ -119,6 +121,7 @@ pub fn status_of(verdict: &EaVerdict) -> u8
         EaVerdict::Sat { .. }
         | EaVerdict::Implied { .. }
         | EaVerdict::Equivalent { .. }
+        | EaVerdict::Sorted { .. }
         | EaVerdict::OnTrue => 0,
         EaVerdict::Unsat { .. }
         | EaVerdict::NoneWithin { .. }
