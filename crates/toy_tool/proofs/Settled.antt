@@ -1,5 +1,5 @@
 -- The rules are settled.
-use Rattle.std.proofs.Common.{◌≡◌, ℕ, List, [], ◌∷◌, sym, subst, ◌∙◌, refl, inl, inr, ap}
+use Rattle.std.proofs.Common.{◌≡◌, ℕ, false, List, [], ◌∷◌, sym, subst, refl, inr, ◌∙◌, arith}
 use Rattle.hy_formula.specs.Formulas.{Plain}
 use Rattle.hy_files.specs.declared.fault.FileFault.{FileFault}
 use Rattle.hy_files.proofs.Texts.{refused_once, text_not_refused, text_once}
@@ -15,8 +15,8 @@ use Rattle.toy_tool.specs.declared.verdict.ToyVerdict.{ToyVerdict}
 
 count_once : (f : Plain) (a b : Answer ToyVerdict ToyFault) → IsCount f a → IsCount f b → a ≡ b
 count_once f _ _ (counted few) (counted also) = refl
-count_once f _ _ (counted few) (many more) = absurd (omega (few, more))
-count_once f _ _ (many more) (counted few) = absurd (omega (few, more))
+count_once f _ _ (counted few) (many more) = absurd (omega (arith, few, more))
+count_once f _ _ (many more) (counted few) = absurd (omega (arith, few, more))
 count_once f _ _ (many more) (many also) = refl
 
 comes_once : (question : Question) (contents : List (List ℕ)) (names : List Text) (a b : Answer ToyVerdict ToyFault)
