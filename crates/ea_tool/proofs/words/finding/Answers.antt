@@ -9,4 +9,4 @@ returns-in-None-None-None-None-false-clause-some c = λ items tells.
     (finds_of items c.args.found.now tells c.args.formula.now c.requires.file c.args.bound c.requires.bounded c.requires.range
     c.value-on.result c.value-implies.result c.value-equivalent.result c.value-states.result c.value.result
     c.value-on.ensures w.is-0 c.value-implies.ensures w.is-1 c.value-equivalent.ensures w.is-2 c.value-states.ensures w.is-3
-    c.value.ensures _ c.in_ok-conflicts.ensures.some w.ensures)
+    c.value.ensures _ c.in_ok-conflicts.ensures.some w.ensures c.requires.unsorted)
