@@ -11,7 +11,7 @@ use Rattle.hy_formula.specs.Lassos.{Lasso}
 use Rattle.hy_formula.specs.Trees.{Tree, vars_below}
 use Rattle.hy_formula.specs.Temporal.{Words, Repeats}
 use Rattle.hy_formula.specs.declared.prefix.Quant.{Quant}
-use Rattle.hy_formula.specs.Quantifiers.{Quantified, Each}
+use Rattle.hy_formula.specs.Quantifiers.{Quantified}
 use Rattle.hy_formula.proofs.Each.{each-place}
 use Rattle.hy_lasso.specs.Joint.{IsPeriod}
 use Rattle.hy_lasso.specs.Words.{no_lasso, letter_at, lasso_words, Meets}
@@ -27,11 +27,13 @@ use Rattle.bound_search.specs.declared.frame.Frame.{Frame}
 use Rattle.bound_search.specs.declared.sheets.Sheet.{Sheet}
 use Rattle.bound_search.specs.Rows.{Row, first_or}
 use Rattle.bound_search.specs.Choices.{chosen_gates}
+use Rattle.bound_search.specs.Shapes.{Shape, shape_of}
 use Rattle.bound_search.specs.Sheets.{variables_in, row_of, first_gates}
 use Rattle.bound_search.specs.Drawings.{never}
 use Rattle.bound_search.specs.Queries.{round, places, variables_of_member, letter_variable, first_gate, letters_row, frame_of, tuple_literal, formula_literal}
 use Rattle.bound_search.proofs.Atoms.{EachAtom, atoms-like}
 use Rattle.bound_search.proofs.RightGates.{Gives, gives-plain, gives-followed}
+use Rattle.bound_search.proofs.Shapes.{tree-shaped}
 use Rattle.bound_search.proofs.Saying.{Says, says-variable}
 use Rattle.bound_search.proofs.Telling.{IsTold, told-listed}
 use Rattle.bound_search.proofs.SheetRows.{IsAtomTold, TellsSheet, row-told, first-sheet-told}
@@ -48,6 +50,9 @@ module _ (bound : Bound) (ok : IsBound bound) (prefix : List Quant) (body : Tree
     (known : vars_below (length prefix) body ≡ true) where
   abbrev names : List ℕ
   names = names_of body
+
+  abbrev shape : Shape
+  shape = shape_of body
 
   abbrev frame : Frame
   frame = frame_of bound (length prefix)
@@ -94,26 +99,26 @@ module _ (bound : Bound) (ok : IsBound bound) (prefix : List Quant) (body : Tree
 
   -- The literal of a tuple is one of its sheet.
   fits-tuple : (m : ℕ) → 0 < m → (sheet : Sheet) →
-      IsSheetFor frame ok.some_traces 1 (variables_in body) m sheet →
+      IsSheetFor frame ok.some_traces 1 (variables_in shape) m sheet →
       (tuple : List ℕ) → Chosen tuple → Fits (tuple_literal frame sheet tuple) m 0 IsLiteral
   fits-tuple m up sheet s tuple choice =
       let row = row_of frame sheet tuple in
-      let r = row-chosen frame ok.some_traces 1 (variables_in body) m sheet s tuple
+      let r = row-chosen frame ok.some_traces 1 (variables_in shape) m sheet s tuple
       choice in
       fits-plain (first_or never row) m IsLiteral (λ o le.
       literal-more m o (first_or never row) le
       (first-literal 1 m never row (omega arith, omega arith) r))
 
   pub fits-formula : Fits (formula_literal names bound prefix body) first
-      (first_gates bound.traces (places bound) (round bound) body
+      (first_gates bound.traces (places bound) (round bound) shape
       + chosen_gates bound.traces 0 (length prefix)) IsLiteral
   fits-formula =
-      fits-followed _ _ first (first_gates bound.traces (places bound) (round bound) body)
+      fits-followed _ _ first (first_gates bound.traces (places bound) (round bound) shape)
       (chosen_gates bound.traces 0 (length prefix)) _
-      (IsSheetFor frame ok.some_traces 1 (variables_in body)) IsLiteral refl
+      (IsSheetFor frame ok.some_traces 1 (variables_in shape)) IsLiteral refl
       (fits-first-sheet frame ok.some_traces (round bound) first (omega arith)
-      (common-some bound.cycle ok.short_cycle) refl (letters_row names bound) body
-      (atoms-like (IsAtomOf names (length prefix)) _ letters-right body (own-atoms
+      (common-some bound.cycle ok.short_cycle) refl (letters_row names bound) shape
+      (atoms-like (IsAtomOf names (length prefix)) _ letters-right shape (own-atoms
       (length prefix) body known)))
       (λ m sheet le s. fits-chosen bound.traces m 0 (omega arith) prefix _
       (λ tuple long each. fits-tuple m (omega arith) sheet s tuple (long, each)))
@@ -186,23 +191,25 @@ module _ (bound : Bound) (ok : IsBound bound) (prefix : List Quant) (body : Tree
     first-says P n (l ∷ row) some t = t.told.0
 
     abbrev atoms : EachAtom (IsAtomTold a sure_is frame ok.some_traces (round bound) refl words repeats alike
-        (letters_row names bound)) body
-    atoms = atoms-like _ _ atom-told body (own-atoms (length prefix) body known)
+        (letters_row names bound)) shape
+    atoms = atoms-like _ _ atom-told shape (own-atoms (length prefix) body known)
 
     says-tuple : (sheet : Sheet) →
         TellsSheet a sure_is frame ok.some_traces (round bound) refl words repeats alike
-        (letters_row names bound) 1 body sheet → (tuple : List ℕ) → Chosen tuple →
+        (letters_row names bound) 1 shape sheet → (tuple : List ℕ) → Chosen tuple →
         Gives a (tuple_literal frame sheet tuple) (λ l. Says a l (Meets body (tuple_of tuple)))
     says-tuple sheet t tuple choice =
-        gives-plain a _ _ (first-says _ 1 (row_of frame sheet tuple) (omega arith)
+        let row : Row = row_of frame sheet tuple in
+        let P : Tree → Type 0 = λ f. Says a (first_or never row) (Meets f (tuple_of tuple)) in
+        gives-plain a _ _ (subst P (tree-shaped body) (first-says _ 1 row (omega arith)
         (row-told a sure_is frame ok.some_traces (round bound) refl words repeats alike
-        (letters_row names bound) 1 body atoms sheet t tuple choice))
+        (letters_row names bound) 1 shape atoms sheet t tuple choice)))
 
     pub says-formula : Gives a (formula_literal names bound prefix body)
         (λ l. Says a l (Quantified (IsMember bound.traces member) (Meets body) prefix))
     says-formula =
         gives-followed a _ _ _ _
         (first-sheet-told a sure_is frame ok.some_traces (round bound) refl words repeats alike
-        (letters_row names bound) body atoms)
+        (letters_row names bound) shape atoms)
         (λ sheet t. says-chosen a sure_is bound.traces member prefix _ (Meets body)
         (λ tuple long each. says-tuple sheet t tuple (long, each)))

@@ -1,11 +1,11 @@
 -- The lists that are read off answers of a query.
-use Rattle.std.proofs.Common.{◌≡◌, ℕ, ◌+◌, ◌<◌, ◌≤◌, ◌⊎◌, ◌↔◌, Bool, true, List, [], ◌∷◌, ◌++◌, take, length, get_or, inl, inr, refl, sym, ap, ◌∙◌, subst, arith, length-append}
+use Rattle.std.proofs.Common.{◌≡◌, ℕ, ◌+◌, ◌<◌, Bool, true, List, [], ◌∷◌, ◌++◌, take, length, get_or, inl, inr, sym, ap, ◌∙◌, subst, arith, length-append}
 use Rattle.std.specs.FinSet.{contains}
 use Rattle.std.specs.List.{Contains}
 use Rattle.std.proofs.lemmas.Bool.{cases_lt}
 use Rattle.std.proofs.lemmas.List.{get_or_append_left, get_or_default, take_more}
 use Rattle.std.proofs.lemmas.List.Elements.{Contains-append_left, Contains-append_right, Contains-append_cases}
-use Rattle.hy_base.proofs.Members.{contains-here, contains-one}
+use Rattle.hy_base.proofs.Members.{contains-one}
 use Rattle.hy_base.proofs.Places.{last-of}
 use Rattle.hy_base.specs.Rows.{row}
 use Rattle.hy_bits.specs.Letter.{Letter}
@@ -18,7 +18,7 @@ use Rattle.chain_check.specs.Clauses.{SatisfiesAll}
 use Rattle.chain_check.specs.Values.{AllMet}
 use Rattle.chain_check.proofs.Values.{satisfied-met}
 use Rattle.bound_search.specs.declared.bound.Bound.{Bound}
-use Rattle.bound_search.specs.Bounds.{IsBound, IsShort, IsWithin}
+use Rattle.bound_search.specs.Bounds.{IsBound, IsWithin}
 use Rattle.bound_search.specs.Names.{names_of}
 use Rattle.bound_search.specs.Queries.{clauses_of, member_clauses}
 use Rattle.bound_search.specs.Searches.{StandOnce, AddsOnce, HasEachOnce, IsFound}

@@ -4,9 +4,11 @@ pub mod RightGates
 pub mod Saying
 pub mod Telling
 pub mod Stepping
+pub mod Shapes
 pub mod Agreeing
 pub mod Variables
 pub mod Picking
+pub mod OperatorRows
 pub mod SheetRows
 pub mod Filling
 pub mod Fitting

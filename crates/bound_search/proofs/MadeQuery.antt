@@ -10,6 +10,7 @@ use Rattle.bound_search.specs.declared.frame.Frame.{Frame}
 use Rattle.bound_search.specs.declared.gates.Gates.{Gates}
 use Rattle.bound_search.specs.declared.sheets.Sheet.{Sheet}
 use Rattle.bound_search.specs.Choices.{chosen}
+use Rattle.bound_search.specs.Shapes.{shape_of}
 use Rattle.bound_search.specs.Sheets.{first_sheet}
 use Rattle.bound_search.proofs.Making.{draws-followed}
 use Rattle.bound_search.specs.Drawings.{Drawn, sure, gate_clauses}
@@ -25,7 +26,7 @@ module _ (bound : Bound) (prefix : List Quant) (body : Tree) where
   -- the parts of the body, and then where members were chosen for no quantifier yet
   pub parts-drawn : (names members : List ℕ) (drawn : Sheet) (old mid new : Gates) (root : ℤ) →
       members ≡ [] →
-      Draws (first_sheet (frame_of bound (length prefix)) (letters_row names bound) body) old mid drawn →
+      Draws (first_sheet (frame_of bound (length prefix)) (letters_row names bound) (shape_of body)) old mid drawn →
       Draws (chosen bound.traces (λ more. tuple_literal (frame_of bound (length prefix)) drawn
       (members ++ more)) (drop (length members) prefix)) mid new root →
       Draws (literal names) old new root
@@ -33,7 +34,7 @@ module _ (bound : Bound) (prefix : List Quant) (body : Tree) where
       let frame : Frame = frame_of bound (length prefix) in
       let P : List ℕ → Type 0 = λ l. Draws (chosen bound.traces
       (λ more. tuple_literal frame drawn (l ++ more)) (drop (length l) prefix)) mid new root in
-      draws-followed (first_sheet frame (letters_row names bound) body)
+      draws-followed (first_sheet frame (letters_row names bound) (shape_of body))
       (λ drawn. chosen bound.traces (tuple_literal frame drawn) prefix) old mid new drawn root p
       (subst P e q)
 

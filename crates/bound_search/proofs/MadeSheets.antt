@@ -1,8 +1,7 @@
 -- The sheets that code draws: choices and their places, step by step.
-use Rattle.std.proofs.Common.{◌≡◌, ℕ, zero, suc, ◌+◌, ◌-◌, ◌*◌, ◌/◌, ◌%◌, ◌^◌, ◌<◌, ◌≤◌, Bool, true, false, cond, nat_eq, List, [], ◌∷◌, ◌++◌, length, map, get_or, replicate, take, drop, slice_get, Some, All, refl, sym, ap, ◌∙◌, subst, arith, length-append}
-use Rattle.std.proofs.Math.Nat.{mul-le-mul_right, pow-le-pow_right, pow-suc, pow-zero}
+use Rattle.std.proofs.Common.{◌≡◌, ℕ, zero, suc, ◌+◌, ◌-◌, ◌*◌, ◌^◌, ◌<◌, ◌≤◌, List, [], ◌∷◌, ◌++◌, length, map, get_or, replicate, take, drop, slice_get, Some, All, refl, sym, ap, ◌∙◌, subst, arith, length-append}
+use Rattle.std.proofs.Math.Nat.{mul-le-mul_right, pow-le-pow_right, pow-suc}
 use Rattle.std.proofs.lemmas.List.{get_or_default, map-append, take_more}
-use Rattle.std.proofs.lemmas.Option.{get_or_from_slice_get}
 use Rattle.std.proofs.lemmas.List.Elements.{All-push}
 use Rattle.hy_base.proofs.Places.{drop-at}
 use Rattle.bound_search.specs.declared.connectives.Binary.{Binary}
@@ -11,10 +10,10 @@ use Rattle.bound_search.specs.declared.frame.Frame.{Frame}
 use Rattle.bound_search.specs.declared.gates.Gates.{Gates}
 use Rattle.bound_search.specs.declared.sheets.Sheet.{Sheet}
 use Rattle.bound_search.specs.Drawings.{Drawing, plain, followed, never}
-use Rattle.bound_search.specs.Making.{Draws, row_by_one, row_by_two}
+use Rattle.bound_search.specs.Making.{Draws}
 use Rattle.bound_search.specs.Names.{with_name}
-use Rattle.bound_search.specs.Rows.{Row, first_or}
-use Rattle.bound_search.specs.Sheets.{with_all, place_among, member_at, tuple_at, row_of, listing, sheet_for, by_row, by_choice, of_one, of_two, first_places}
+use Rattle.bound_search.specs.Rows.{Row, first_or, row_by_one, row_by_two}
+use Rattle.bound_search.specs.Sheets.{with_all, place_among, tuple_at, row_of, by_row, by_choice, of_one, of_two, first_places}
 use Rattle.bound_search.proofs.Making.{draws-plain, draws-followed}
 
 -- ---- the variables of two parts

@@ -1,5 +1,5 @@
 -- Gates made by code, one drawing after the other.
-use Rattle.std.proofs.Common.{◌≡◌, ℕ, zero, suc, ◌+◌, ◌-◌, ◌<◌, ◌≤◌, List, [], ◌∷◌, ◌++◌, length, get_or, take, drop, reverse, slice_get, Some, append_assoc, append-nil, refl, sym, ap, ◌∙◌, subst, arith, length-append, length-drop}
+use Rattle.std.proofs.Common.{◌≡◌, ℕ, zero, suc, ◌+◌, ◌-◌, ◌<◌, ◌≤◌, Bool, false, cond, List, [], ◌∷◌, ◌++◌, length, get_or, take, drop, reverse, slice_get, Some, append_assoc, append-nil, refl, sym, ap, ◌∙◌, subst, arith, length-append, length-drop}
 use Rattle.std.specs.Prelude.{ℤ, neg_ℤ, unsigned_abs}
 use Rattle.std.proofs.Math.Seq.{take-suc}
 use Rattle.std.proofs.lemmas.List.{reverse-append, get_or-drop}
@@ -15,7 +15,7 @@ use Rattle.bound_search.specs.declared.gates.Gates.{Gates}
 use Rattle.bound_search.specs.Names.{name_place}
 use Rattle.bound_search.specs.Queries.{places, letter_variable, letters_row}
 use Rattle.bound_search.specs.Drawings.{Gate, Drawing, plain, followed, both, either, alike, never, gate_clauses}
-use Rattle.bound_search.specs.Rows.{Row, Step, turned, next_row, first_or, back, steps, either_here, until_here, pairs, around, until_row, finally_row, release_row, globally_row, implies_row, weak_row}
+use Rattle.bound_search.specs.Rows.{Row, Step, turned, next_row, first_or, back, steps, either_here, until_here, pairs, around, until_row, finally_row, release_row, globally_row, weak_row}
 use Rattle.bound_search.specs.Making.{Draws}
 
 pub same_size : (l : ℤ) (n : ℕ) → unsigned_abs l < n → unsigned_abs (neg_ℤ l) < n
@@ -85,6 +85,13 @@ pub until-drawn : (l r later held x : ℤ) (old mid new : Gates) → Draws (both
     Draws (either r held) mid new x → Draws (until_here l r later) old new x
 until-drawn l r later held x old mid new p q =
     draws-followed (both l later) (λ held. either r held) old mid new held x p q
+
+-- one of two drawings
+pub second-drawn : {A : Type 0} (b : Bool) (first second : Drawing A) (old new : Gates) (x : A) →
+    b ≡ false → Draws second old new x → Draws (cond b first second) old new x
+second-drawn {A} b first second old new x e p =
+    let P : Bool → Type 0 = λ c. Draws (cond c first second) old new x in
+    subst P (sym e) p
 
 -- ---- rows, from the last place to the first
 

@@ -2,7 +2,7 @@
 use Rattle.std.proofs.Common.{◌≡◌, ℕ, zero, suc, ◌+◌, ◌<◌, ◌≤◌, Bool, true, false, cond, List, [], ◌∷◌, ◌++◌, take, length, get_or, refl, sym, ap, ap₂, ◌∙◌, subst, arith, length-append, append-nil}
 use Rattle.std.specs.FinSet.{contains, from_list, insert, from_list_push, nat_cmp-IsAntisymmetric}
 use Rattle.std.specs.Cmp.{nat_cmp_total}
-use Rattle.std.specs.List.{Contains, filter}
+use Rattle.std.specs.List.{filter}
 use Rattle.std.specs.Ordering.{nat_cmp}
 use Rattle.std.proofs.lemmas.List.Elements.{filter_more}
 use Rattle.hy_base.specs.Rows.{listed, row}
@@ -13,7 +13,6 @@ use Rattle.hy_lasso.specs.NormalForms.{IsNormal}
 use Rattle.hy_lasso.specs.Words.{no_lasso, letter_at}
 use Rattle.chain_check.specs.Values.{Assignment, AllMet}
 use Rattle.bound_search.specs.declared.bound.Bound.{Bound}
-use Rattle.bound_search.specs.Bounds.{IsShort}
 use Rattle.bound_search.specs.Names.{name_place}
 use Rattle.bound_search.specs.Queries.{cycle_variable, letter_variable, letters_of_member, member_clauses, member_start}
 use Rattle.bound_search.specs.Spelling.{letter_read, lasso_read, IsMemberRead}

@@ -1,9 +1,8 @@
 -- How many variables and literals a query has, and that these are not many.
-use Rattle.std.proofs.Common.{◌≡◌, ℕ, zero, suc, ◌+◌, ◌-◌, ◌*◌, ◌^◌, ◌<◌, ◌≤◌, true, List, [], ◌∷◌, ◌++◌, length, refl, sym, ap, ◌∙◌, subst, arith, length-append, min, inl, inr}
+use Rattle.std.proofs.Common.{◌≡◌, ℕ, zero, suc, ◌+◌, ◌-◌, ◌*◌, ◌^◌, ◌<◌, ◌≤◌, Bool, true, false, cond, List, [], ◌∷◌, ◌++◌, length, refl, sym, ap, ◌∙◌, subst, arith, length-append, min, inl, inr}
 use Rattle.std.specs.Prelude.{ℤ}
 use Rattle.std.proofs.Math.Nat.{mul-le-mul_left, mul-le-mul_right, mul-pos, pow-le-pow_right, pow-suc, pow-zero}
 use Rattle.std.proofs.lemmas.Bool.{cases_lt}
-use Rattle.hy_formula.specs.Trees as tree
 use Rattle.hy_formula.specs.Trees.{Tree, vars_below}
 use Rattle.hy_formula.specs.declared.prefix.Quant.{Quant}
 use Rattle.chain_check.specs.Clauses.{Clause}
@@ -11,13 +10,18 @@ use Rattle.hy_base.specs.declared.limit.Kind.{Kind}
 use Rattle.hy_base.specs.declared.limit.Kind.TheVariants.{CnfVariables, CnfLiterals}
 use Rattle.bound_search.specs.declared.bound_error.BoundError.{BoundError}
 use Rattle.bound_search.specs.declared.bound_error.BoundError.TheVariants.{Limit, Memory}
-use Rattle.bound_search.specs.Sizes.{sum_for, IsPastBy, nodes, query_gates, query_variables, member_literals, query_literals, most_gates, most_of_query, IsTaken, IsRefusalBy}
+use Rattle.bound_search.specs.Sizes.{sum_for, IsPastBy, query_gates, query_variables, member_literals, query_literals, most_gates, most_of_query, IsTaken, IsRefusalBy}
 use Rattle.chain_check.specs.FewClauses.{for_each, further, alone, literals_in}
 use Rattle.bound_search.specs.declared.bound.Bound.{Bound}
 use Rattle.bound_search.specs.Bounds.{IsBound}
 use Rattle.bound_search.specs.Names.{names_of}
 use Rattle.bound_search.specs.Drawings.{Gate, Drawn, gate_clauses}
-use Rattle.bound_search.specs.Sheets.{variables_in, more_gates, first_gates, sheet_gates}
+use Rattle.bound_search.specs.declared.connectives.Binary.{Binary}
+use Rattle.bound_search.specs.declared.connectives.Binary.TheVariants.{Iff, Until, Release, Weak}
+use Rattle.bound_search.specs.declared.connectives.Unary.{Unary}
+use Rattle.bound_search.specs.declared.connectives.Unary.TheVariants.{Finally, Globally}
+use Rattle.bound_search.specs.Shapes.{Shape, constant, atom, one, two, shape_of, nodes, is_temporal_one, is_temporal_two}
+use Rattle.bound_search.specs.Sheets.{variables_in, more_gates, gates_by_one, gates_by_two, first_gates, sheet_gates}
 use Rattle.bound_search.specs.Choices.{chosen_gates}
 use Rattle.bound_search.specs.Queries.{round, places, first_gate, repeat_clauses, cycle_clauses, some_cycle, member_clauses, formula_drawn, clauses_of, variables_of}
 use Rattle.bound_search.proofs.Atoms.{EachAtom, atoms-like}
@@ -113,99 +117,63 @@ more-few m w i j e a p few each =
     let two : m * e ≤ m * (5 * w) = mul-le-mul_left m each in
     omega (arith, p, one, two)
 
+one-few : (w c : ℕ) → c ≤ w → (op : Unary) → gates_by_one w c op ≤ 5 * w
+one-few w c le Finally = omega (arith, le)
+one-few w c le Globally = omega (arith, le)
+one-few w c le _ = omega arith
+
+two-few : (w c : ℕ) → c ≤ w → (op : Binary) → gates_by_two w c op ≤ 5 * w
+two-few w c le Iff = omega arith
+two-few w c le Until = omega (arith, le)
+two-few w c le Release = omega (arith, le)
+two-few w c le Weak = omega (arith, le)
+two-few w c le _ = omega arith
+
+either-few : (b : Bool) (i j most : ℕ) → i ≤ most → j ≤ most → cond b i j ≤ most
+either-few true i j most p q = p
+either-few false i j most p q = q
+
 module _ (t k w c : ℕ) (some : 0 < t) (le : c ≤ w) where
   -- as many gates for each choice of all quantifiers
-  abbrev FewGates : Tree → Type 0
-  FewGates f = sheet_gates t w c f ≤ t ^ k * (5 * (w * nodes f))
+  abbrev Few : ℕ → Shape → Type 0
+  Few gates f = gates ≤ t ^ k * (5 * (w * nodes f))
 
-  abbrev Below : Tree → Type 0
+  abbrev Below : Shape → Type 0
   Below f = EachAtom (λ name v. v < k) f
 
-  choices-few : (f : Tree) → Below f → t ^ length (variables_in f) ≤ t ^ k
+  choices-few : (f : Shape) → Below f → t ^ length (variables_in f) ≤ t ^ k
   choices-few f h = pow-le-pow_right some (few-variables k f h)
 
-  leaf : 0 ≤ t ^ k * (5 * (w * 1))
-  leaf = omega arith
+  by-one : (op : Unary) (f : Shape) (i e : ℕ) → Below f → e ≤ 5 * w → Few i f →
+      Few (more_gates t i (variables_in f) e) (one op f)
+  by-one op f i e h each p = more-few (t ^ k) w i _ e (nodes f) p (choices-few f h) each
 
-  none : (f : Tree) → FewGates f → sheet_gates t w c f ≤ t ^ k * (5 * (w * suc (nodes f)))
-  none f p =
-      let up : t ^ k * (5 * (w * nodes f)) ≤ t ^ k * (5 * (w * suc (nodes f))) =
-      mul-le-mul_left (t ^ k) (omega arith) in
-      omega (arith, p, up)
+  by-two : (op : Binary) (f g : Shape) (i j e : ℕ) → Below (two op f g) → e ≤ 5 * w → Few i f →
+      Few j g → Few (more_gates t (i + j) (variables_in (two op f g)) e) (two op f g)
+  by-two op f g i j e h each p q =
+      more-few (t ^ k) w (i + j) _ e (nodes f + nodes g) (omega (arith, p, q))
+      (choices-few (two op f g) h) each
 
-  one : (f : Tree) (e : ℕ) → Below f → e ≤ 5 * w → FewGates f →
-      more_gates t (sheet_gates t w c f) (variables_in f) e ≤ t ^ k * (5 * (w * suc (nodes f)))
-  one f e h each p = more-few (t ^ k) w _ _ e (nodes f) p (choices-few f h) each
+  gates-few : (f : Shape) → Below f → Few (sheet_gates t w c f) f
+  gates-few (constant value) h = omega arith
+  gates-few (atom name v) h = omega arith
+  gates-few (one op f) h = by-one op f _ _ h (one-few w c le op) (gates-few f h)
+  gates-few (two op f g) h =
+      by-two op f g _ _ _ h (two-few w c le op) (gates-few f h.0) (gates-few g h.1)
 
-  two : (f g whole : Tree) (e : ℕ) → Below whole → e ≤ 5 * w → FewGates f → FewGates g →
-      more_gates t (sheet_gates t w c f + sheet_gates t w c g) (variables_in whole) e
-      ≤ t ^ k * (5 * (w * suc (nodes f + nodes g)))
-  two f g whole e h each p q =
-      more-few (t ^ k) w _ _ e (nodes f + nodes g) (omega (arith, p, q)) (choices-few whole h) each
-
-  gates-few : (f : Tree) → Below f → FewGates f
-  gates-few tree.always h = leaf
-  gates-few tree.never h = leaf
-  gates-few (tree.atom name v) h = leaf
-  gates-few (tree.not f) h = none f (gates-few f h)
-  gates-few (tree.next f) h = none f (gates-few f h)
-  gates-few (tree.finally f) h = one f (c + w) h (omega (arith, le)) (gates-few f h)
-  gates-few (tree.globally f) h = one f (c + w) h (omega (arith, le)) (gates-few f h)
-  gates-few (tree.and f g) h =
-      two f g (tree.and f g) w h (omega arith) (gates-few f h.0) (gates-few g h.1)
-  gates-few (tree.or f g) h =
-      two f g (tree.or f g) w h (omega arith) (gates-few f h.0) (gates-few g h.1)
-  gates-few (tree.implies f g) h =
-      two f g (tree.implies f g) w h (omega arith) (gates-few f h.0) (gates-few g h.1)
-  gates-few (tree.iff f g) h =
-      two f g (tree.iff f g) (3 * w) h (omega arith) (gates-few f h.0) (gates-few g h.1)
-  gates-few (tree.until f g) h =
-      two f g (tree.until f g) (2 * (c + w)) h (omega (arith, le)) (gates-few f h.0)
-      (gates-few g h.1)
-  gates-few (tree.release f g) h =
-      two f g (tree.release f g) (2 * (c + w)) h (omega (arith, le)) (gates-few f h.0)
-      (gates-few g h.1)
-  gates-few (tree.weak f g) h =
-      two f g (tree.weak f g) (w + 2 * (c + w)) h (omega (arith, le)) (gates-few f h.0)
-      (gates-few g h.1)
-
-module _ (t k w c : ℕ) (some : 0 < t) (le : c ≤ w) (wide : 0 < w) where
   -- those of the first places
-  abbrev FewFirst : Tree → Type 0
-  FewFirst f = first_gates t w c f ≤ t ^ k * (5 * (w * nodes f))
-
-  first-two : (f g whole : Tree) (e : ℕ) → Below t k w c some le whole → e ≤ 5 * w →
-      FewFirst f → FewFirst g →
-      more_gates t (first_gates t w c f + first_gates t w c g) (variables_in whole) e
-      ≤ t ^ k * (5 * (w * suc (nodes f + nodes g)))
-  first-two f g whole e h each p q =
-      more-few (t ^ k) w _ _ e (nodes f + nodes g) (omega (arith, p, q))
-      (choices-few t k w c some le whole h) each
-
-  first-few : (f : Tree) → Below t k w c some le f → FewFirst f
-  first-few (tree.not f) h =
-      let p = first-few f h in
-      let up : t ^ k * (5 * (w * nodes f)) ≤ t ^ k * (5 * (w * suc (nodes f))) =
-      mul-le-mul_left (t ^ k) (omega arith) in
-      omega (arith, p, up)
-  first-few (tree.and f g) h =
-      first-two f g (tree.and f g) 1 h (omega (arith, wide)) (first-few f h.0) (first-few g h.1)
-  first-few (tree.or f g) h =
-      first-two f g (tree.or f g) 1 h (omega (arith, wide)) (first-few f h.0) (first-few g h.1)
-  first-few (tree.implies f g) h =
-      first-two f g (tree.implies f g) 1 h (omega (arith, wide)) (first-few f h.0)
-      (first-few g h.1)
-  first-few (tree.iff f g) h =
-      first-two f g (tree.iff f g) 3 h (omega (arith, wide)) (first-few f h.0) (first-few g h.1)
-  first-few tree.always h = gates-few t k w c some le tree.always h
-  first-few tree.never h = gates-few t k w c some le tree.never h
-  first-few (tree.atom name v) h = gates-few t k w c some le (tree.atom name v) h
-  first-few (tree.next f) h = gates-few t k w c some le (tree.next f) h
-  first-few (tree.finally f) h = gates-few t k w c some le (tree.finally f) h
-  first-few (tree.globally f) h = gates-few t k w c some le (tree.globally f) h
-  first-few (tree.until f g) h = gates-few t k w c some le (tree.until f g) h
-  first-few (tree.release f g) h = gates-few t k w c some le (tree.release f g) h
-  first-few (tree.weak f g) h = gates-few t k w c some le (tree.weak f g) h
+  first-few : 0 < w → (f : Shape) → Below f → Few (first_gates t w c f) f
+  first-few wide (constant value) h = omega arith
+  first-few wide (atom name v) h = omega arith
+  first-few wide (one op f) h =
+      let own = one-few 1 1 (omega arith) op in
+      either-few (is_temporal_one op) _ _ _ (gates-few (one op f) h)
+      (by-one op f _ _ h (omega (arith, own, wide)) (first-few wide f h))
+  first-few wide (two op f g) h =
+      let own = two-few 1 1 (omega arith) op in
+      either-few (is_temporal_two op) _ _ _ (gates-few (two op f g) h)
+      (by-two op f g _ _ _ h (omega (arith, own, wide)) (first-few wide f h.0)
+      (first-few wide g h.1))
 
 power-some : (t : ℕ) → 0 < t → (n : ℕ) → 0 < t ^ n
 power-some t some zero = omega (arith, pow-zero t)
@@ -262,13 +230,14 @@ module _ (bound : Bound) (ok : IsBound bound) (prefix : List Quant) (body : Tree
       let n : ℕ = length prefix in
       let m : ℕ = bound.traces ^ n in
       let gone = common-some bound.cycle ok.short_cycle in
-      let below : EachAtom (λ name v. v < n) body =
-      atoms-like (IsAtomOf (names_of body) n) _ (λ name v h. h.1) body (own-atoms n body known) in
-      let parts : first_gates bound.traces W c body ≤ m * (5 * (W * nodes body)) =
-      first-few bound.traces n W c ok.some_traces (omega arith) (omega (arith, gone)) body below in
+      let shape : Shape = shape_of body in
+      let below : EachAtom (λ name v. v < n) shape =
+      atoms-like (IsAtomOf (names_of body) n) _ (λ name v h. h.1) shape (own-atoms n body known) in
+      let parts : first_gates bound.traces W c shape ≤ m * (5 * (W * nodes shape)) =
+      first-few bound.traces n W c ok.some_traces (omega arith) (omega (arith, gone)) shape below in
       let choices : chosen_gates bound.traces 0 n ≤ m * (0 + n) =
       chosen-few bound.traces 0 ok.some_traces n in
-      summands bound.traces names (nodes body) W n bound.cycle m _ _ ok.some_traces
+      summands bound.traces names (nodes shape) W n bound.cycle m _ _ ok.some_traces
       ok.some_cycle ok.short_cycle (omega (arith, gone)) (omega (arith, parts, choices))
       (rounds-few names W c bound.cycle (omega arith))
 
@@ -327,7 +296,7 @@ module _ (bound : Bound) (ok : IsBound bound) (prefix : List Quant) (body : Tree
     (own parts choices gates member : ℕ) (named : names ≡ names_of body)
     (before : own ≡ first_gate names bound)
     (in_parts : parts
-    ≡ min (first_gates bound.traces (places bound) (round bound) body) most_gates)
+    ≡ min (first_gates bound.traces (places bound) (round bound) (shape_of body)) most_gates)
     (in_choices : choices ≡ min (chosen_gates bound.traces 0 (length prefix)) most_gates)
     (in_all : gates ≡ min (parts + choices) most_gates)
     (in_member : member ≡ member_literals (length names) bound) where

@@ -7,10 +7,9 @@ use Rattle.std.proofs.lemmas.Map.Keys.{IsDistinct-push}
 use Rattle.std.proofs.lemmas.Map.Steps.{length-le_from_distinct_below}
 use Rattle.hy_base.proofs.Members.{contains-here, contains-cases, contains-none, any-from}
 use Rattle.hy_formula.specs.Quantifiers.{Each}
-use Rattle.hy_formula.specs.Trees as tree
-use Rattle.hy_formula.specs.Trees.{Tree}
 use Rattle.hy_formula.proofs.Each.{each-append, each-at}
 use Rattle.bound_search.specs.Names.{with_name}
+use Rattle.bound_search.specs.Shapes.{Shape, constant, atom, one, two}
 use Rattle.bound_search.specs.Sheets.{with_all, variables_in}
 use Rattle.bound_search.proofs.Atoms.{EachAtom, atoms-like}
 use Rattle.bound_search.proofs.Naming.{with-itself, with-others}
@@ -59,74 +58,38 @@ all-distinct left (v ∷ right) l =
 abbrev IsOneOf : List ℕ → ℕ → ℕ → Type 0
 IsOneOf variables name v = Contains variables v
 
-own-two : (f g : Tree) → EachAtom (IsOneOf (variables_in f)) f →
-    EachAtom (IsOneOf (variables_in g)) g →
-    EachAtom (IsOneOf (with_all (variables_in f) (variables_in g))) f
-    × EachAtom (IsOneOf (with_all (variables_in f) (variables_in g))) g
-own-two f g p q = (
-  atoms-like _ _ (λ name v h. all-left (variables_in f) (variables_in g) v h) f p,
-  atoms-like _ _ (λ name v h. all-right (variables_in f) (variables_in g) v h) g q,
-)
-
-pub own-variables : (f : Tree) → EachAtom (λ name v. Contains (variables_in f) v) f
-own-variables tree.always = tt
-own-variables tree.never = tt
-own-variables (tree.atom name v) = contains-here v []
-own-variables (tree.not f) = own-variables f
-own-variables (tree.next f) = own-variables f
-own-variables (tree.finally f) = own-variables f
-own-variables (tree.globally f) = own-variables f
-own-variables (tree.and f g) = own-two f g (own-variables f) (own-variables g)
-own-variables (tree.or f g) = own-two f g (own-variables f) (own-variables g)
-own-variables (tree.implies f g) = own-two f g (own-variables f) (own-variables g)
-own-variables (tree.iff f g) = own-two f g (own-variables f) (own-variables g)
-own-variables (tree.until f g) = own-two f g (own-variables f) (own-variables g)
-own-variables (tree.release f g) = own-two f g (own-variables f) (own-variables g)
-own-variables (tree.weak f g) = own-two f g (own-variables f) (own-variables g)
+pub own-variables : (f : Shape) → EachAtom (IsOneOf (variables_in f)) f
+own-variables (constant value) = tt
+own-variables (atom name v) = contains-here v []
+own-variables (one op f) = own-variables f
+own-variables (two op f g) =
+    let left : List ℕ = variables_in f in
+    let right : List ℕ = variables_in g in (
+      atoms-like _ _ (λ name v h. all-left left right v h) f (own-variables f),
+      atoms-like _ _ (λ name v h. all-right left right v h) g (own-variables g),
+    )
 
 -- What is said of the variable of each atom is said of each variable.
-pub each-variable : (P : ℕ → Type 0) (f : Tree) → EachAtom (λ name v. P v) f →
+pub each-variable : (P : ℕ → Type 0) (f : Shape) → EachAtom (λ name v. P v) f →
     Each P (variables_in f)
-each-variable P tree.always h = tt
-each-variable P tree.never h = tt
-each-variable P (tree.atom name v) h = (h, tt)
-each-variable P (tree.not f) h = each-variable P f h
-each-variable P (tree.next f) h = each-variable P f h
-each-variable P (tree.finally f) h = each-variable P f h
-each-variable P (tree.globally f) h = each-variable P f h
-each-variable P (tree.and f g) h = all-each P _ _ (each-variable P f h.0) (each-variable P g h.1)
-each-variable P (tree.or f g) h = all-each P _ _ (each-variable P f h.0) (each-variable P g h.1)
-each-variable P (tree.implies f g) h =
+each-variable P (constant value) h = tt
+each-variable P (atom name v) h = (h, tt)
+each-variable P (one op f) h = each-variable P f h
+each-variable P (two op f g) h =
     all-each P _ _ (each-variable P f h.0) (each-variable P g h.1)
-each-variable P (tree.iff f g) h = all-each P _ _ (each-variable P f h.0) (each-variable P g h.1)
-each-variable P (tree.until f g) h = all-each P _ _ (each-variable P f h.0) (each-variable P g h.1)
-each-variable P (tree.release f g) h =
-    all-each P _ _ (each-variable P f h.0) (each-variable P g h.1)
-each-variable P (tree.weak f g) h = all-each P _ _ (each-variable P f h.0) (each-variable P g h.1)
 
 distinct-none : IsDistinct eqb []
 unfolding IsDistinct
 distinct-none = tt
 
-distinct-variables : (f : Tree) → IsDistinct eqb (variables_in f)
-distinct-variables tree.always = distinct-none
-distinct-variables tree.never = distinct-none
-distinct-variables (tree.atom name v) =
-    IsDistinct-push nat_eq_equiv [] v distinct-none refl
-distinct-variables (tree.not f) = distinct-variables f
-distinct-variables (tree.next f) = distinct-variables f
-distinct-variables (tree.finally f) = distinct-variables f
-distinct-variables (tree.globally f) = distinct-variables f
-distinct-variables (tree.and f g) = all-distinct _ (variables_in g) (distinct-variables f)
-distinct-variables (tree.or f g) = all-distinct _ (variables_in g) (distinct-variables f)
-distinct-variables (tree.implies f g) = all-distinct _ (variables_in g) (distinct-variables f)
-distinct-variables (tree.iff f g) = all-distinct _ (variables_in g) (distinct-variables f)
-distinct-variables (tree.until f g) = all-distinct _ (variables_in g) (distinct-variables f)
-distinct-variables (tree.release f g) = all-distinct _ (variables_in g) (distinct-variables f)
-distinct-variables (tree.weak f g) = all-distinct _ (variables_in g) (distinct-variables f)
+distinct-variables : (f : Shape) → IsDistinct eqb (variables_in f)
+distinct-variables (constant value) = distinct-none
+distinct-variables (atom name v) = IsDistinct-push nat_eq_equiv [] v distinct-none refl
+distinct-variables (one op f) = distinct-variables f
+distinct-variables (two op f g) = all-distinct _ (variables_in g) (distinct-variables f)
 
 -- Of variables below n there are at most n.
-pub few-variables : (n : ℕ) (f : Tree) → EachAtom (λ name v. v < n) f →
+pub few-variables : (n : ℕ) (f : Shape) → EachAtom (λ name v. v < n) f →
     length (variables_in f) ≤ n
 few-variables n f h =
     length-le_from_distinct_below (variables_in f) n (distinct-variables f) (λ q e.

@@ -22,6 +22,7 @@ use Rattle.bound_search.specs.declared.sheets.Sheet.{Sheet}
 use Rattle.bound_search.specs.Sheets.{row_of, first_sheet}
 use Rattle.bound_search.specs.Choices.{chosen}
 use Rattle.bound_search.specs.Names.{names_of, name_place}
+use Rattle.bound_search.specs.Shapes.{shape_of}
 
 -- ---- places
 
@@ -108,7 +109,7 @@ tuple_literal frame sheet tuple = plain (first_or never (row_of frame sheet tupl
 abbrev pub formula_literal : List ℕ → Bound → List Quant → Tree → Drawing ℤ
 formula_literal names bound prefix body =
     let frame = frame_of bound (length prefix) in
-    followed (first_sheet frame (letters_row names bound) body) (λ drawn.
+    followed (first_sheet frame (letters_row names bound) (shape_of body)) (λ drawn.
     chosen bound.traces (tuple_literal frame drawn) prefix)
 
 abbrev pub formula_drawn : List ℕ → Bound → List Quant → Tree → Drawn ℤ

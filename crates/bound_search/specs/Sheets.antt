@@ -1,14 +1,17 @@
 -- The sheet of a part of a body: its rows, one for each choice of members for its variables. A
 -- tuple has the number of a member for each quantifier.
-use Rattle.std.specs.Prelude.{ℕ, ℤ, zero, suc, ◌+◌, ◌*◌, ◌/◌, ◌%◌, ◌^◌, List, [], ◌∷◌, ◌++◌, cond, nat_eq, length, map, replicate, slice_index_or, take}
+use Rattle.std.specs.Prelude.{ℕ, zero, suc, ◌+◌, ◌*◌, ◌/◌, ◌%◌, ◌^◌, Bool, List, [], ◌∷◌, ◌++◌, cond, nat_eq, length, map, replicate, slice_index_or, take}
 use Rattle.hy_base.specs.Rows.{listed}
-use Rattle.hy_formula.specs.Trees as tree
-use Rattle.hy_formula.specs.Trees.{Tree}
+use Rattle.bound_search.specs.declared.connectives.Binary.{Binary}
+use Rattle.bound_search.specs.declared.connectives.Binary.TheVariants as binary
+use Rattle.bound_search.specs.declared.connectives.Unary.{Unary}
+use Rattle.bound_search.specs.declared.connectives.Unary.TheVariants as unary
 use Rattle.bound_search.specs.declared.frame.Frame.{Frame}
 use Rattle.bound_search.specs.declared.sheets.Sheet.{Sheet}
 use Rattle.bound_search.specs.Drawings.{Drawing, plain, followed, sure, never}
 use Rattle.bound_search.specs.Names.{with_name}
-use Rattle.bound_search.specs.Rows.{Row, turned, next_row, both_here, either_here, alike_here, pairs, until_row, finally_row, release_row, globally_row, implies_row, weak_row}
+use Rattle.bound_search.specs.Rows.{Row, row_by_one, row_by_two}
+use Rattle.bound_search.specs.Shapes.{Shape, constant, atom, one, two, is_temporal_one, is_temporal_two}
 
 -- ---- choices
 
@@ -18,21 +21,11 @@ with_all left [] = left
 with_all left (v ∷ right) = with_all (with_name v left) right
 
 -- the variables of a part, each once, in the order in which they are met
-abbrev pub variables_in : Tree → List ℕ
-variables_in tree.always = []
-variables_in tree.never = []
-variables_in (tree.atom name variable) = variable ∷ []
-variables_in (tree.not f) = variables_in f
-variables_in (tree.next f) = variables_in f
-variables_in (tree.finally f) = variables_in f
-variables_in (tree.globally f) = variables_in f
-variables_in (tree.and f g) = with_all (variables_in f) (variables_in g)
-variables_in (tree.or f g) = with_all (variables_in f) (variables_in g)
-variables_in (tree.implies f g) = with_all (variables_in f) (variables_in g)
-variables_in (tree.iff f g) = with_all (variables_in f) (variables_in g)
-variables_in (tree.until f g) = with_all (variables_in f) (variables_in g)
-variables_in (tree.release f g) = with_all (variables_in f) (variables_in g)
-variables_in (tree.weak f g) = with_all (variables_in f) (variables_in g)
+abbrev pub variables_in : Shape → List ℕ
+variables_in (constant value) = []
+variables_in (atom name variable) = variable ∷ []
+variables_in (one op f) = variables_in f
+variables_in (two op f g) = with_all (variables_in f) (variables_in g)
 
 -- the place of a tuple among the choices of n members for these variables, the first of which
 -- changes fastest
@@ -95,8 +88,9 @@ of_two frame first second draw =
     followed first (λ left. followed second (λ right. by_choice frame draw left right))
 
 -- the sheet of a body without variables
-abbrev pub constant : Frame → ℤ → Sheet
-constant frame l = record { variables = []; rows = replicate frame.places l ∷ [] }
+abbrev pub constant_sheet : Frame → Bool → Sheet
+constant_sheet frame value =
+    record { variables = []; rows = replicate frame.places (cond value sure never) ∷ [] }
 
 -- that of an atom, where `letters` gives the row of a member
 abbrev pub atom_sheet : Frame → (ℕ → Row) → ℕ → Sheet
@@ -104,50 +98,29 @@ atom_sheet frame letters variable =
     record { variables = variable ∷ []; rows = listed 0 frame.traces letters }
 
 -- The sheet of a body, where `letters` gives the row of a name and a member.
-abbrev pub sheet : Frame → (ℕ → ℕ → Row) → Tree → Drawing Sheet
-sheet frame letters tree.always = plain (constant frame sure)
-sheet frame letters tree.never = plain (constant frame never)
-sheet frame letters (tree.atom name variable) =
-    plain (atom_sheet frame (letters name) variable)
-sheet frame letters (tree.not f) =
-    of_one (sheet frame letters f) (λ row. plain (turned row))
-sheet frame letters (tree.next f) =
-    of_one (sheet frame letters f) (λ row. plain (next_row frame.stem row))
-sheet frame letters (tree.finally f) = of_one (sheet frame letters f) (finally_row frame.stem)
-sheet frame letters (tree.globally f) = of_one (sheet frame letters f) (globally_row frame.stem)
-sheet frame letters (tree.and f g) =
-    of_two frame (sheet frame letters f) (sheet frame letters g) (pairs both_here)
-sheet frame letters (tree.or f g) =
-    of_two frame (sheet frame letters f) (sheet frame letters g) (pairs either_here)
-sheet frame letters (tree.implies f g) =
-    of_two frame (sheet frame letters f) (sheet frame letters g) implies_row
-sheet frame letters (tree.iff f g) =
-    of_two frame (sheet frame letters f) (sheet frame letters g) (pairs alike_here)
-sheet frame letters (tree.until f g) =
-    of_two frame (sheet frame letters f) (sheet frame letters g) (until_row frame.stem)
-sheet frame letters (tree.release f g) =
-    of_two frame (sheet frame letters f) (sheet frame letters g) (release_row frame.stem)
-sheet frame letters (tree.weak f g) =
-    of_two frame (sheet frame letters f) (sheet frame letters g) (weak_row frame.stem)
+abbrev pub sheet : Frame → (ℕ → ℕ → Row) → Shape → Drawing Sheet
+sheet frame letters (constant value) = plain (constant_sheet frame value)
+sheet frame letters (atom name variable) = plain (atom_sheet frame (letters name) variable)
+sheet frame letters (one op f) = of_one (sheet frame letters f) (row_by_one op frame.stem)
+sheet frame letters (two op f g) =
+    of_two frame (sheet frame letters f) (sheet frame letters g) (row_by_two op frame.stem)
 
 -- the first places of the rows alone
 abbrev pub first_places : Sheet → Sheet
 first_places part = record { variables = part.variables; rows = map (take 1) part.rows }
 
+abbrev pub firsts_of : Drawing Sheet → Drawing Sheet
+firsts_of part = followed part (λ part. plain (first_places part))
+
 -- The first places of the sheet of a body. Above the temporal operators no other is needed.
-abbrev pub first_sheet : Frame → (ℕ → ℕ → Row) → Tree → Drawing Sheet
-first_sheet frame letters (tree.not f) =
-    of_one (first_sheet frame letters f) (λ row. plain (turned row))
-first_sheet frame letters (tree.and f g) =
-    of_two frame (first_sheet frame letters f) (first_sheet frame letters g) (pairs both_here)
-first_sheet frame letters (tree.or f g) =
-    of_two frame (first_sheet frame letters f) (first_sheet frame letters g) (pairs either_here)
-first_sheet frame letters (tree.implies f g) =
-    of_two frame (first_sheet frame letters f) (first_sheet frame letters g) implies_row
-first_sheet frame letters (tree.iff f g) =
-    of_two frame (first_sheet frame letters f) (first_sheet frame letters g) (pairs alike_here)
-first_sheet frame letters f =
-    followed (sheet frame letters f) (λ part. plain (first_places part))
+abbrev pub first_sheet : Frame → (ℕ → ℕ → Row) → Shape → Drawing Sheet
+first_sheet frame letters (one op f) =
+    cond (is_temporal_one op) (firsts_of (sheet frame letters (one op f)))
+    (of_one (first_sheet frame letters f) (row_by_one op 0))
+first_sheet frame letters (two op f g) =
+    cond (is_temporal_two op) (firsts_of (sheet frame letters (two op f g)))
+    (of_two frame (first_sheet frame letters f) (first_sheet frame letters g) (row_by_two op 0))
+first_sheet frame letters f = firsts_of (sheet frame letters f)
 
 -- ---- how many gates
 
@@ -155,42 +128,38 @@ first_sheet frame letters f =
 abbrev pub more_gates : ℕ → ℕ → List ℕ → ℕ → ℕ
 more_gates n parts variables each = parts + n ^ length variables * each
 
--- Where there are n members, and rows have w places, of which c are gone round.
+-- Where rows have w places, of which c are gone round.
+module _ (w c : ℕ) where
+  -- how many gates the row of an operator has
+  abbrev pub gates_by_one : Unary → ℕ
+  gates_by_one unary.Finally = c + w
+  gates_by_one unary.Globally = c + w
+  gates_by_one _ = 0
+
+  abbrev pub gates_by_two : Binary → ℕ
+  gates_by_two binary.Iff = 3 * w
+  gates_by_two binary.Until = 2 * (c + w)
+  gates_by_two binary.Release = 2 * (c + w)
+  gates_by_two binary.Weak = w + 2 * (c + w)
+  gates_by_two _ = w
+
+-- Where there are n members besides.
 module _ (n w c : ℕ) where
   -- how many gates the sheet of a body has
-  abbrev pub sheet_gates : Tree → ℕ
-  sheet_gates tree.always = 0
-  sheet_gates tree.never = 0
-  sheet_gates (tree.atom name variable) = 0
-  sheet_gates (tree.not f) = sheet_gates f
-  sheet_gates (tree.next f) = sheet_gates f
-  sheet_gates (tree.finally f) = more_gates n (sheet_gates f) (variables_in f) (c + w)
-  sheet_gates (tree.globally f) = more_gates n (sheet_gates f) (variables_in f) (c + w)
-  sheet_gates (tree.and f g) =
-      more_gates n (sheet_gates f + sheet_gates g) (variables_in (tree.and f g)) w
-  sheet_gates (tree.or f g) =
-      more_gates n (sheet_gates f + sheet_gates g) (variables_in (tree.or f g)) w
-  sheet_gates (tree.implies f g) =
-      more_gates n (sheet_gates f + sheet_gates g) (variables_in (tree.implies f g)) w
-  sheet_gates (tree.iff f g) =
-      more_gates n (sheet_gates f + sheet_gates g) (variables_in (tree.iff f g)) (3 * w)
-  sheet_gates (tree.until f g) =
-      more_gates n (sheet_gates f + sheet_gates g) (variables_in (tree.until f g)) (2 * (c + w))
-  sheet_gates (tree.release f g) =
-      more_gates n (sheet_gates f + sheet_gates g) (variables_in (tree.release f g)) (2 * (c + w))
-  sheet_gates (tree.weak f g) =
-      more_gates n (sheet_gates f + sheet_gates g) (variables_in (tree.weak f g))
-      (w + 2 * (c + w))
+  abbrev pub sheet_gates : Shape → ℕ
+  sheet_gates (one op f) = more_gates n (sheet_gates f) (variables_in f) (gates_by_one w c op)
+  sheet_gates (two op f g) =
+      more_gates n (sheet_gates f + sheet_gates g) (variables_in (two op f g))
+      (gates_by_two w c op)
+  sheet_gates _ = 0
 
   -- how many that of its first places has
-  abbrev pub first_gates : Tree → ℕ
-  first_gates (tree.not f) = first_gates f
-  first_gates (tree.and f g) =
-      more_gates n (first_gates f + first_gates g) (variables_in (tree.and f g)) 1
-  first_gates (tree.or f g) =
-      more_gates n (first_gates f + first_gates g) (variables_in (tree.or f g)) 1
-  first_gates (tree.implies f g) =
-      more_gates n (first_gates f + first_gates g) (variables_in (tree.implies f g)) 1
-  first_gates (tree.iff f g) =
-      more_gates n (first_gates f + first_gates g) (variables_in (tree.iff f g)) 3
-  first_gates f = sheet_gates f
+  abbrev pub first_gates : Shape → ℕ
+  first_gates (one op f) =
+      cond (is_temporal_one op) (sheet_gates (one op f))
+      (more_gates n (first_gates f) (variables_in f) (gates_by_one 1 1 op))
+  first_gates (two op f g) =
+      cond (is_temporal_two op) (sheet_gates (two op f g))
+      (more_gates n (first_gates f + first_gates g) (variables_in (two op f g))
+      (gates_by_two 1 1 op))
+  first_gates _ = 0

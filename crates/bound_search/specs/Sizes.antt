@@ -1,6 +1,6 @@
 -- How large a query is, by the sizes of the formula and of the bound.
 use Rattle.std.specs.Prelude.{◌≡◌, ◌<◌, ◌≤◌, ℕ, zero, suc, ◌+◌, ◌-◌, ◌*◌, ◌^◌, List, length, min}
-use Rattle.hy_formula.specs.Trees.{Tree, always, never, atom, not, next, finally, globally, and, or, implies, iff, until, release, weak}
+use Rattle.hy_formula.specs.Trees.{Tree}
 use Rattle.hy_formula.specs.declared.prefix.Quant.{Quant}
 use Rattle.hy_base.specs.declared.limit.Kind.{Kind}
 use Rattle.hy_base.specs.declared.limit.Kind.TheVariants.{CnfVariables, CnfLiterals}
@@ -12,31 +12,15 @@ use Rattle.bound_search.specs.declared.bound.Bound.{Bound}
 use Rattle.bound_search.specs.declared.counting.Counted.{Counted}
 use Rattle.bound_search.specs.declared.counting.Counter.{Counter}
 use Rattle.bound_search.specs.Names.{names_of}
-use Rattle.bound_search.specs.Sheets.{first_gates, sheet_gates}
+use Rattle.bound_search.specs.Shapes.{shape_of, nodes}
+use Rattle.bound_search.specs.Sheets.{first_gates}
 use Rattle.bound_search.specs.Choices.{chosen_gates}
 use Rattle.bound_search.specs.Queries.{round, places, first_gate, clauses_of, variables_of}
-
--- how many nodes a tree has
-abbrev pub nodes : Tree → ℕ
-nodes always = 1
-nodes never = 1
-nodes (atom name variable) = 1
-nodes (not f) = suc (nodes f)
-nodes (next f) = suc (nodes f)
-nodes (finally f) = suc (nodes f)
-nodes (globally f) = suc (nodes f)
-nodes (and f g) = suc (nodes f + nodes g)
-nodes (or f g) = suc (nodes f + nodes g)
-nodes (implies f g) = suc (nodes f + nodes g)
-nodes (iff f g) = suc (nodes f + nodes g)
-nodes (until f g) = suc (nodes f + nodes g)
-nodes (release f g) = suc (nodes f + nodes g)
-nodes (weak f g) = suc (nodes f + nodes g)
 
 -- how many gates there are
 abbrev pub query_gates : Bound → List Quant → Tree → ℕ
 query_gates bound prefix body =
-    first_gates bound.traces (places bound) (round bound) body
+    first_gates bound.traces (places bound) (round bound) (shape_of body)
     + chosen_gates bound.traces 0 (length prefix)
 
 abbrev pub query_variables : Bound → List Quant → Tree → ℕ
@@ -69,14 +53,6 @@ pub record IsCounter (counter : Counter) : Type 0 where
   pub few_places : counter.places ≤ 20
   pub short_round : counter.round ≤ 12
 
--- the gates of the sheet of a body
-abbrev pub counter_gates : Counter → Tree → ℕ
-counter_gates counter = sheet_gates counter.traces counter.places counter.round
-
--- those of the sheet of its first places
-abbrev pub counter_first_gates : Counter → Tree → ℕ
-counter_first_gates counter = first_gates counter.traces counter.places counter.round
-
 -- These are the variables, and there are so many gates, or more than are counted.
 pub record IsCounted (own : List ℕ) (all : ℕ) (counted : Counted) : Type 0 where
   pub variables : counted.variables ≡ own
@@ -86,7 +62,7 @@ pub record IsCounted (own : List ℕ) (all : ℕ) (counted : Counted) : Type 0 w
 abbrev pub most_of_query : Bound → List Quant → Tree → ℕ
 most_of_query bound prefix body =
     64 * (bound.traces ^ length prefix + bound.traces) * places bound
-    * (nodes body + length (names_of body) + length prefix + bound.cycle)
+    * (nodes (shape_of body) + length (names_of body) + length prefix + bound.cycle)
 
 -- Which of two counts is past its limit; variables come first.
 abbrev pub IsPastBy : ℕ → ℕ → Kind → Type 0

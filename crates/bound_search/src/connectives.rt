@@ -1,6 +1,7 @@
 //! The operators of bodies, and the rows that are drawn by them.
 
 ghost use Rattle.std.specs.Prelude.{◌≡◌, ◌<◌, length, IfOk};
+ghost use Rattle.bound_search.specs.Shapes.{is_temporal_one, is_temporal_two};
 
 use crate::gates::Gates;
 use crate::operator::Operator;
@@ -29,8 +30,27 @@ pub enum Binary {
     Weak,
 }
 
+impl Unary {
+    /// Whether it speaks of more than one position.
+    pub fn is_temporal(self) -> bool
+        ensures { result ≡ is_temporal_one self }
+    {
+        !matches!(self, Unary::Not)
+    }
+}
+
+impl Binary {
+    /// Whether it speaks of more than one position.
+    pub fn is_temporal(self) -> bool
+        ensures { result ≡ is_temporal_two self }
+    {
+        matches!(self, Binary::Until | Binary::Release | Binary::Weak)
+    }
+}
+
 impl Gates {
-    ghost use Rattle.bound_search.specs.Making.{Draws, row_by_one, row_by_two};
+    ghost use Rattle.bound_search.specs.Making.{Draws};
+    ghost use Rattle.bound_search.specs.Rows.{row_by_one, row_by_two};
 
     /// The row of an operator by that of its part, where behind the last place stands the one at
     /// `s`.

@@ -4,8 +4,10 @@ ghost use Rattle.std.specs.Prelude.{◌≡◌, ◌<◌, ◌≤◌, All, IfOk, On
 ghost use Rattle.std.specs.List.{list_any};
 ghost use Rattle.hy_formula.specs.Trees.{tree_of};
 ghost use Rattle.bound_search.specs.Names.{name_place, names_of, with_name, with_names};
+ghost use Rattle.bound_search.specs.Shapes.{body_shape};
 ghost use Rattle.bound_search.specs.Sheets.{with_all};
 
+use crate::parts::{Parts, parts_of};
 use hy_base::{List, M, NumList};
 use hy_formula::Body;
 use std::alloc::Global;
@@ -43,20 +45,14 @@ fn add_name(names: &mut NumList, name: u32) -> M<()>
 /// Adds the names of the body that are new.
 fn add_names(names: &mut NumList, body: &Body) -> M<()>
     requires { All (λ x. x < 64) names.old }
-    ensures names { OnOk result (names.new ≡ with_names (tree_of body.now) names.old) }
+    ensures names { OnOk result (names.new ≡ with_names (body_shape body.now) names.old) }
     ensures few { OnOk result (All (λ x. x < 64) names.new) }
 {
-    match body {
-        Body::True | Body::False => Ok(()),
-        Body::Atom(a) => add_name(names, a.name as u32),
-        Body::Not(f) | Body::Next(f) | Body::Finally(f) | Body::Globally(f) => add_names(names, f),
-        Body::And(f, g)
-        | Body::Or(f, g)
-        | Body::Implies(f, g)
-        | Body::Iff(f, g)
-        | Body::Until(f, g)
-        | Body::Release(f, g)
-        | Body::Weak(f, g) => {
+    match parts_of(body) {
+        Parts::Constant(_) => Ok(()),
+        Parts::Atom(a) => add_name(names, a.name as u32),
+        Parts::One(_, f) => add_names(names, f),
+        Parts::Two(_, f, g) => {
             add_names(names, f)?;
             add_names(names, g)
         }

@@ -1,9 +1,8 @@
 //! Sheets: the rows of a part of a body, one for each choice of members for its variables.
 
-ghost use Rattle.std.specs.Prelude.{◌≡◌, ◌<◌, ◌^◌, ◌++◌, ◌∷◌, [], All, cond, length, IfOk};
-ghost use Rattle.bound_search.specs.Drawings.{never, sure};
+ghost use Rattle.std.specs.Prelude.{◌≡◌, ◌<◌, ◌^◌, ◌++◌, ◌∷◌, [], All, length, IfOk};
 ghost use Rattle.bound_search.specs.Making.{IsFrame, IsSheet, first_place};
-ghost use Rattle.bound_search.specs.Sheets.{constant, first_places, row_of};
+ghost use Rattle.bound_search.specs.Sheets.{constant_sheet, first_places, row_of};
 
 use crate::connectives::{Binary, Unary};
 use crate::frame::Frame;
@@ -24,7 +23,7 @@ pub struct Sheet {
 impl Sheet {
     /// The sheet of a body without variables, which holds or not.
     pub fn constant(alloc: Global, frame: Frame, value: bool) -> M<Sheet>
-        ensures sheet { IfOk result (λ made. made ≡ constant frame (cond value sure never)) }
+        ensures sheet { IfOk result (λ made. made ≡ constant_sheet frame value) }
         ensures right { IfOk result (IsSheet frame) }
     {
         let mut rows = List::new(alloc);
@@ -65,7 +64,8 @@ impl Sheet {
 }
 
 impl Gates {
-    ghost use Rattle.bound_search.specs.Making.{Draws, row_by_one, row_by_two};
+    ghost use Rattle.bound_search.specs.Making.{Draws};
+    ghost use Rattle.bound_search.specs.Rows.{row_by_one, row_by_two};
     ghost use Rattle.bound_search.specs.Sheets.{by_choice, by_row};
 
     /// The sheet of an operator by that of its part.

@@ -1,4 +1,4 @@
-use Rattle.std.proofs.Common.{◌≡◌, ◌∙◌, ap, replicate}
+use Rattle.std.proofs.Common.{◌∙◌, ap, replicate}
 use Rattle.std.proofs.lemmas.Result.{IfOk-weaker}
 use Rattle.bound_search.proofs.MadeSheets.{first-of}
 use Rattle.bound_search.proofs.rows.first_place.Goals as goal

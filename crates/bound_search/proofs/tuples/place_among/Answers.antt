@@ -1,4 +1,4 @@
-use Rattle.std.proofs.Common.{◌+◌, ◌-◌, ◌*◌, ◌^◌, ◌<◌, ◌≤◌, ◌≡◌, length, refl, subst, sym, ap, arith, ℕ}
+use Rattle.std.proofs.Common.{◌+◌, ◌-◌, ◌*◌, ◌^◌, ◌<◌, ◌≤◌, ◌≡◌, subst, sym, arith, ℕ}
 use Rattle.bound_search.proofs.MadeSheets.{place-more, place-few, place-room, all-member}
 use Rattle.bound_search.proofs.tuples.place_among.Goals as goal
 

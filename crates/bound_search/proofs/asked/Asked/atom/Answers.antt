@@ -1,4 +1,4 @@
-use Rattle.std.proofs.Common.{◌≡◌, ◌^◌, ◌∙◌, length, replicate, ap, sym, arith}
+use Rattle.std.proofs.Common.{◌≡◌, ◌^◌, ◌∙◌, length, ap, arith}
 use Rattle.hy_base.proofs.Listed.{length-listed, listed_next}
 use Rattle.bound_search.proofs.MadeSheets.{long-more}
 use Rattle.bound_search.proofs.Picking.{pow-one}

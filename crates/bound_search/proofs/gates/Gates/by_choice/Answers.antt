@@ -1,5 +1,5 @@
-use Rattle.std.proofs.Common.{◌≡◌, ◌∙◌, length}
-use Rattle.bound_search.specs.Making.{row_by_two}
+use Rattle.std.proofs.Common.{◌∙◌}
+use Rattle.bound_search.specs.Rows.{row_by_two}
 use Rattle.bound_search.specs.Sheets.{row_of, tuple_at}
 use Rattle.bound_search.proofs.Listing.{listing-drawn}
 use Rattle.bound_search.proofs.MadeSheets.{long-more, many-more, choice-drawn}

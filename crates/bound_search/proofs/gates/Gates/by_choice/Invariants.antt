@@ -1,5 +1,6 @@
 use Rattle.std.proofs.Common.{◌≡◌, All, length}
-use Rattle.bound_search.specs.Making.{Draws, row_by_two}
+use Rattle.bound_search.specs.Making.{Draws}
+use Rattle.bound_search.specs.Rows.{row_by_two}
 use Rattle.bound_search.specs.Sheets.{listing, row_of, tuple_at}
 use Rattle.bound_search.proofs.gates.Gates.by_choice.Given as goal
 

@@ -1,5 +1,5 @@
-use Rattle.std.proofs.Common.{◌≡◌, ◌∙◌, [], get_or, length}
-use Rattle.bound_search.specs.Making.{row_by_one}
+use Rattle.std.proofs.Common.{◌∙◌, [], get_or}
+use Rattle.bound_search.specs.Rows.{row_by_one}
 use Rattle.bound_search.proofs.Listing.{listing-drawn}
 use Rattle.bound_search.proofs.MadeSheets.{long-more, many-more, row-long, row-drawn}
 use Rattle.bound_search.proofs.gates.Gates.by_row.Goals as goal

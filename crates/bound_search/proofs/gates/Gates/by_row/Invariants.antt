@@ -1,5 +1,6 @@
 use Rattle.std.proofs.Common.{◌≡◌, [], All, get_or, length}
-use Rattle.bound_search.specs.Making.{Draws, row_by_one}
+use Rattle.bound_search.specs.Making.{Draws}
+use Rattle.bound_search.specs.Rows.{row_by_one}
 use Rattle.bound_search.specs.Sheets.{listing}
 use Rattle.bound_search.proofs.gates.Gates.by_row.Given as goal
 

@@ -1,4 +1,3 @@
-use Rattle.std.proofs.Common.{◌≡◌, ◌∙◌, length, ap, subst, sym, arith}
 use Rattle.bound_search.proofs.MadeSheets.{long-more, firsts-more}
 use Rattle.bound_search.proofs.sheets.Sheet.first_places.Goals as goal
 
