@@ -61,12 +61,13 @@ module _ (seen : Seen) (none : seen.others ≡ []) where
       subst A next
       (none-left (single_facts j) some more (Zero j) (One j) fails (no-other (One j)) those e)
 
-  pub pair-left : (i j : ℕ) (old some more : List Fact) →
-      slice_index seen.classes i ≡ slice_index seen.classes j →
+  -- where the pair of latch i is settled whatever comes before
+  pair-next : (i j : ℕ) (old some more : List Fact) →
       AddsThose (Stands seen) (for_each (λ i. Same i j ∷ Differ i j ∷ []) i) old some →
-      more ≡ some ++ Same i j ∷ [] →
+      ((all : List Fact) → AreThose (Stands seen) all some →
+      AreThose (Stands seen) (all ++ Same i j ∷ Differ i j ∷ []) more) →
       AddsThose (Stands seen) (for_each (λ i. Same i j ∷ Differ i j ∷ []) (i + 1)) old more
-  pair-left i j old some more stands adds e =
+  pair-next i j old some more adds settled =
       let N : ℕ → Type 0 = λ n.
       AddsThose (Stands seen) (for_each (λ i. Same i j ∷ Differ i j ∷ []) n) old more in
       let next : suc i ≡ i + 1 = omega arith in
@@ -74,24 +75,23 @@ module _ (seen : Seen) (none : seen.others ≡ []) where
       let A : List Fact → Type 0 = λ all. AreThose (Stands seen) all more in
       subst A (append_assoc all (for_each (λ i. Same i j ∷ Differ i j ∷ []) i)
       (Same i j ∷ Differ i j ∷ []))
-      (first-left (all ++ for_each (λ i. Same i j ∷ Differ i j ∷ []) i) some more (Same i j)
-      (Differ i j) stands (no-other (Differ i j)) (adds all those) e))
+      (settled (all ++ for_each (λ i. Same i j ∷ Differ i j ∷ []) i) (adds all those)))
+
+  pub pair-left : (i j : ℕ) (old some more : List Fact) →
+      slice_index seen.classes i ≡ slice_index seen.classes j →
+      AddsThose (Stands seen) (for_each (λ i. Same i j ∷ Differ i j ∷ []) i) old some →
+      more ≡ some ++ Same i j ∷ [] →
+      AddsThose (Stands seen) (for_each (λ i. Same i j ∷ Differ i j ∷ []) (i + 1)) old more
+  pair-left i j old some more stands adds e = pair-next i j old some more adds (λ all those.
+      first-left all some more (Same i j) (Differ i j) stands (no-other (Differ i j)) those e)
 
   pub pair-gone : (i j : ℕ) (old some more : List Fact) →
       slice_index seen.classes i ≢ slice_index seen.classes j →
       AddsThose (Stands seen) (for_each (λ i. Same i j ∷ Differ i j ∷ []) i) old some →
       more ≡ some →
       AddsThose (Stands seen) (for_each (λ i. Same i j ∷ Differ i j ∷ []) (i + 1)) old more
-  pair-gone i j old some more fails adds e =
-      let N : ℕ → Type 0 = λ n.
-      AddsThose (Stands seen) (for_each (λ i. Same i j ∷ Differ i j ∷ []) n) old more in
-      let next : suc i ≡ i + 1 = omega arith in
-      subst N next (λ all those.
-      let A : List Fact → Type 0 = λ all. AreThose (Stands seen) all more in
-      subst A (append_assoc all (for_each (λ i. Same i j ∷ Differ i j ∷ []) i)
-      (Same i j ∷ Differ i j ∷ []))
-      (none-left (all ++ for_each (λ i. Same i j ∷ Differ i j ∷ []) i) some more (Same i j)
-      (Differ i j) fails (no-other (Differ i j)) (adds all those) e))
+  pair-gone i j old some more fails adds e = pair-next i j old some more adds (λ all those.
+      none-left all some more (Same i j) (Differ i j) fails (no-other (Differ i j)) those e)
 
 pub pairs-none : (P : Fact → Type 0) (facts : List Fact) → AddsThose P [] facts facts
 pairs-none P facts all those = let A : List Fact → Type 0 = λ all. AreThose P all facts in

@@ -8,6 +8,7 @@ use Rattle.std.proofs.lemmas.List.Elements.{Contains-append_left, Contains-get_o
 use Rattle.aig_net.specs.Nets.{latch_variable}
 use Rattle.hy_base.specs.Rows.{row}
 use Rattle.aig_net.specs.Executions.{Word}
+use Rattle.chain_check.specs.declared.clauses.Cnf.{Cnf}
 use Rattle.chain_check.specs.declared.logs.Learned.{Learned}
 use Rattle.chain_check.specs.Clauses.{Clause, SatisfiesAll}
 use Rattle.live_safe.specs.declared.safe_net.SafeNet.{SafeNet}
@@ -16,11 +17,10 @@ use Rattle.sat_core.specs.declared.solving.Outcome.TheVariants.{Satisfied, Spent
 use Rattle.sat_core.specs.Outcomes.{IsOutcome}
 use Rattle.cnf_frames.specs.declared.facts.Fact.{Fact}
 use Rattle.cnf_frames.specs.declared.queries.Asked.TheVariants.{Keep}
-use Rattle.cnf_frames.specs.declared.queries.Query.{Query}
 use Rattle.cnf_frames.specs.declared.queries.FrameError.{FrameError}
 use Rattle.cnf_frames.specs.declared.queries.FrameError.TheVariants.{Limit, Memory}
 use Rattle.cnf_frames.specs.Facts.{AllHold, IsSafe, fact_at}
-use Rattle.cnf_frames.specs.Queries.{IsQuery, IsRefusal, IsWithin, clauses_of, group_of, groups, variables_of}
+use Rattle.cnf_frames.specs.Queries.{IsRefusal, IsWithin, clauses_of, group_of, groups, variables_of}
 use Rattle.cnf_frames.specs.QueryPaths.{IsKeepPath, word_of}
 use Rattle.cnf_frames.specs.Proofs.{AreKeepsWithin, AreKept, IsRefuted, log_at}
 use Rattle.cnf_frames.proofs.Answering.{answered}
@@ -30,7 +30,7 @@ use Rattle.cnf_frames.proofs.Surviving.{survives}
 use Rattle.invar_find.specs.declared.kept.SpentGroup.{SpentGroup}
 use Rattle.invar_find.specs.Kepts.{AreStarting, IsKeptOf, IsSpentGroup, IsStoppedAt}
 use Rattle.invar_find.specs.Parts.{AreThose, IsOutside, IsSublist}
-use Rattle.invar_find.specs.Searches.{IsSearching}
+use Rattle.invar_find.specs.Searches.{IsKeepQuery, IsSearching}
 use Rattle.invar_find.specs.Standing.{AreLeft}
 use Rattle.invar_find.proofs.Sublists.{sublist-among, sublist-length, sublist-shorter, sublist-trans}
 use Rattle.invar_find.proofs.Starting.{holds-alike}
@@ -106,14 +106,14 @@ broken-left safe tried conflicts group facts left gone state word search path sa
 
 -- An assignment of a group's query is such a step.
 pub satisfied-left : (safe : SafeNet) (tried : List Fact) (conflicts group : ℕ) (facts left : List Fact)
-    (gone : List SpentGroup) (state values : List Bool) (query : Query) → IsSafe safe →
-    IsSearching safe tried conflicts facts gone → IsQuery safe (Keep facts group) query →
-    IsOutcome query.cnf.variables query.cnf.clauses conflicts (Satisfied values) →
+    (gone : List SpentGroup) (state values : List Bool) (cnf : Cnf) → IsSafe safe →
+    IsSearching safe tried conflicts facts gone → IsKeepQuery safe facts group cnf →
+    IsOutcome cnf.variables cnf.clauses conflicts (Satisfied values) →
     ((j : ℕ) → j < length safe.net.latches →
     row state j ≡ word_of safe values 1 (latch_variable safe.net j)) →
     AreLeft safe.net facts (row state) left →
     IsSearching safe tried conflicts left gone × (length left < length facts)
-satisfied-left safe tried conflicts group facts left gone state values query is search right outcome same
+satisfied-left safe tried conflicts group facts left gone state values cnf is search right outcome same
     those =
     let C : List Clause → Type 0 = SatisfiesAll values in
     broken-left safe tried conflicts group facts left gone state (word_of safe values) search
@@ -176,16 +176,16 @@ spent-left safe tried conflicts group facts left gone more log search within out
     }
 
 pub spent-pushed : (safe : SafeNet) (tried : List Fact) (conflicts group : ℕ) (facts asked left now : List Fact)
-    (gone more : List SpentGroup) (log : List Learned) (query : Query) →
+    (gone more : List SpentGroup) (log : List Learned) (cnf : Cnf) →
     IsSearching safe tried conflicts facts gone → group < groups facts →
-    IsQuery safe (Keep facts group) query →
-    IsOutcome query.cnf.variables query.cnf.clauses conflicts (SpentOutcome log) →
+    IsKeepQuery safe facts group cnf →
+    IsOutcome cnf.variables cnf.clauses conflicts (SpentOutcome log) →
     AreThose (IsOutside facts group) facts left → asked ≡ facts → now ≡ left →
     more ≡ gone ++ (record { facts = asked; group = group; log = log }) ∷ [] →
     IsSearching safe tried conflicts now more × (length now < length facts)
-spent-pushed safe tried conflicts group facts asked left now gone more log query search within right
+spent-pushed safe tried conflicts group facts asked left now gone more log cnf search within right
     outcome those same after e =
-    let V : ℕ → Type 0 = λ n. IsOutcome n query.cnf.clauses conflicts (SpentOutcome log) in
+    let V : ℕ → Type 0 = λ n. IsOutcome n cnf.clauses conflicts (SpentOutcome log) in
     let C : List Clause → Type 0 = λ clauses.
     IsOutcome (variables_of safe (Keep facts group)) clauses conflicts (SpentOutcome log) in
     let N : List Fact → Type 0 = λ now.

@@ -172,6 +172,13 @@ are-left net facts left state first met last inside all here spares those = reco
 
 -- ---- facts that are added before any state
 
+same-alive : (old new : Seen) → new.others ≡ old.others → new.alive ≡ old.alive → (f : Fact) →
+    IsAlive old f → IsAlive new f
+same-alive old new others alive f (k, less, e, is) =
+    let N : List Fact → Type 0 = λ xs. (k < length xs) × (fact_at xs k ≡ f) in
+    let (less', e') = subst N (sym others) (less, e) in
+    (k, less', e', ap (λ xs. row xs k) alive ∙ is)
+
 pub added-zero : (n j : ℕ) (old new : Seen) → IsOf n old → j < n →
     new.ones ≡ slice_set old.ones j false → new.classes ≡ old.classes →
     new.others ≡ old.others → new.alive ≡ old.alive → new.firsts ≡ old.firsts →
@@ -196,12 +203,6 @@ added-zero n j old new of lt ones classes others alive firsts = record {
         let many = of.ones in
         ap (λ xs. row xs j) ones ∙ get_or-set_same old.ones j false false (omega (arith, many, lt))
 
-    same-alive : (f : Fact) → IsAlive old f → IsAlive new f
-    same-alive f (k, less, e, is) =
-        let N : List Fact → Type 0 = λ xs. (k < length xs) × (fact_at xs k ≡ f) in
-        let (less', e') = subst N (sym others) (less, e) in
-        (k, less', e', ap (λ xs. row xs k) alive ∙ is)
-
     kept : (f : Fact) → IsIn n f → Stands old f → Stands new f
     kept (Zero i) inside h = elim (cases_eq i j) [
       | inl same ↦ ap (row new.ones) same ∙ here
@@ -210,9 +211,9 @@ added-zero n j old new of lt ones classes others alive firsts = record {
     ]
     kept (Same a b) inside h =
         ap (λ xs. slice_index xs a) classes ∙ h ∙ ap (λ xs. slice_index xs b) (sym classes)
-    kept (One i) inside h = same-alive (One i) h
-    kept (Differ a b) inside h = same-alive (Differ a b) h
-    kept (AnyOf ls) inside h = same-alive (AnyOf ls) h
+    kept (One i) inside h = same-alive old new others alive (One i) h
+    kept (Differ a b) inside h = same-alive old new others alive (Differ a b) h
+    kept (AnyOf ls) inside h = same-alive old new others alive (AnyOf ls) h
 
 pub added-same : (n i j : ℕ) (old new : Seen) → IsOf n old → AreJoined i j old.classes new.classes →
     new.ones ≡ old.ones → new.others ≡ old.others → new.alive ≡ old.alive →
@@ -232,20 +233,14 @@ added-same n i j old new of joined ones others alive firsts = record {
   kept = kept;
 }
   where
-    same-alive : (f : Fact) → IsAlive old f → IsAlive new f
-    same-alive f (k, less, e, is) =
-        let N : List Fact → Type 0 = λ xs. (k < length xs) × (fact_at xs k ≡ f) in
-        let (less', e') = subst N (sym others) (less, e) in
-        (k, less', e', ap (λ xs. row xs k) alive ∙ is)
-
     kept : (f : Fact) → IsIn n f → Stands old f → Stands new f
     kept (Zero a) inside h = ap (λ xs. row xs a) ones ∙ h
     kept (Same a b) (la, lb) h =
         let many = of.classes in
         joined.kept a b (omega (arith, many, la)) (omega (arith, many, lb)) h
-    kept (One a) inside h = same-alive (One a) h
-    kept (Differ a b) inside h = same-alive (Differ a b) h
-    kept (AnyOf ls) inside h = same-alive (AnyOf ls) h
+    kept (One a) inside h = same-alive old new others alive (One a) h
+    kept (Differ a b) inside h = same-alive old new others alive (Differ a b) h
+    kept (AnyOf ls) inside h = same-alive old new others alive (AnyOf ls) h
 
 -- the facts so far, and one more
 pub added-more : (n k : ℕ) (facts : List Fact) (f : Fact) (old new : Seen) → AllIn n facts →

@@ -1,29 +1,25 @@
 //! The search for the greatest inductive part of the candidates.
 
-ghost use Rattle.std.specs.Prelude.{◌≡◌, ◌<◌, ◌≤◌, ◌^◌, [], length, MatchOption, OnOk, IfOk, IfErr};
-ghost use Rattle.cnf_frames.specs.declared.queries.Asked.TheVariants.{Keep};
+ghost use Rattle.std.specs.Prelude.{◌≡◌, ◌<◌, ◌≤◌, ◌^◌, [], length, OnOk, IfOk, IfErr};
 ghost use Rattle.cnf_frames.specs.Facts.{AllIn, IsSafe};
-ghost use Rattle.cnf_frames.specs.Queries.{IsWithin, groups};
-ghost use Rattle.cnf_frames.specs.Proofs.{AreKeepsWithin, AreKept, IsRefuted};
+ghost use Rattle.cnf_frames.specs.Proofs.{AreKeepsWithin, AreKept};
 ghost use Rattle.invar_find.specs.Candidates.{candidates};
 ghost use Rattle.invar_find.specs.Standing.{AreLeft, start_values};
 ghost use Rattle.invar_find.specs.Kepts.{IsKept, IsKeptOf, IsStopped, IsStoppedAt};
 ghost use Rattle.invar_find.specs.Searches.{IsSearching};
 
 use crate::candidates::{PAIRED, candidates_in};
-use crate::kept::{Kept, SpentGroup, SpentList};
-use crate::leaving::{sifted, walked};
-use crate::left::{count_latches, inputs_of, outside, state_after};
+use crate::groups::{ask_group, front_of};
+use crate::kept::{Kept, SpentList};
+use crate::leaving::sifted;
+use crate::left::count_latches;
 use crate::seen::Seen;
 use crate::sifting::walk_first;
 use crate::trial::Trial;
-use chain_check::Log;
-use cnf_frames::{FrameError, Inv, LogList, keep_query};
+use cnf_frames::{FrameError, Inv, LogList};
 use hy_base::{List, M};
 use live_safe::SafeNet;
-use sat_core::{Outcome, solve};
 use std::alloc::Global;
-use std::mem;
 
 /// The candidates that are true at the start, but for those that steps are found to break.
 fn starting(alloc: Global, trial: &Trial<'_>) -> M<Inv>
@@ -45,52 +41,8 @@ fn starting(alloc: Global, trial: &Trial<'_>) -> M<Inv>
     )
 }
 
-/// Asks whether a step breaks a fact of the group: a refutation, or none where facts were left out,
-/// all that some step breaks, or the group, on whose query the conflicts were spent.
-fn ask_group(
-    alloc: Global,
-    trial: &Trial<'_>,
-    facts: &mut Inv,
-    spent: &mut SpentList,
-    group: u32,
-) -> Result<Option<Log>, FrameError>
-    requires safe { IsSafe trial.now.safe.now }
-    requires searching { IsSearching trial.now.safe.now trial.now.candidates.now
-        trial.now.conflicts facts.old spent.old }
-    requires group { group < groups facts.old }
-    requires conflicts { trial.now.conflicts < 2 ^ 31 }
-    ensures searching { OnOk result (IsSearching trial.now.safe.now trial.now.candidates.now
-        trial.now.conflicts facts.new spent.new) }
-    ensures reply { IfOk result (λ found. MatchOption found (length facts.new < length facts.old)
-        (λ log. (facts.new ≡ facts.old)
-        × IsRefuted trial.now.safe.now (Keep facts.old group) log
-        × IsWithin trial.now.safe.now (Keep facts.old group))) }
-    ensures refused { IfErr result (IsStoppedAt trial.now.safe.now trial.now.candidates.now) }
-{
-    let query = keep_query(alloc, trial.safe, facts, group)?;
-    match solve(alloc, &query.cnf, trial.conflicts)? {
-        Outcome::Refuted(log) => Ok(Some(log)),
-        Outcome::Satisfied(values) => {
-            let after = state_after(trial.safe, values.as_slice());
-            let inputs = inputs_of(trial.safe, values.as_slice());
-            *facts = walked(alloc, trial.safe, facts, after, inputs)?;
-            Ok(None)
-        }
-        Outcome::Spent(log) => {
-            let left = outside(alloc, facts, group)?;
-            let asked = mem::replace(facts, left);
-            spent.push(SpentGroup {
-                facts: asked,
-                group,
-                log,
-            })?;
-            Ok(None)
-        }
-    }
-}
-
 /// Asks for each group of the facts, and again where facts were left out: the refutations, where
-/// none were.
+/// none were. What the queries begin with is made anew only where facts were left out.
 fn ask_all(
     alloc: Global,
     trial: &Trial<'_>,
@@ -111,10 +63,16 @@ fn ask_all(
 {
     let mut logs = List::new(alloc);
     let mut group = 0;
+    let mut kept = None;
     'groups: while 64 * (group as usize) < facts.len() {
-        if let Some(log) = ask_group(alloc, trial, facts, spent, group)? {
-            logs.push(log)?;
-            group += 1;
+        let front = front_of(alloc, trial.safe, facts, kept)?;
+        match ask_group(alloc, trial, &front, facts, spent, group)? {
+            Some(log) => {
+                logs.push(log)?;
+                group += 1;
+                kept = Some(front);
+            }
+            None => kept = None,
         }
     }
     Ok(logs)

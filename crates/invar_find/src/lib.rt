@@ -5,6 +5,7 @@ mod asking;
 mod candidates;
 mod classes;
 mod finding;
+mod groups;
 mod kept;
 mod leaving;
 mod left;
