@@ -54,10 +54,7 @@ impl<'a, L: Ledger> Walk<'a, L> {
         if self.rejects(places, q) {
             return self.tuple_of(places);
         }
-        match self.only(places) {
-            Some(moved) => self.advance(&moved, q, steps),
-            None => self.choose(places, 0, q, steps),
-        }
+        self.choose(places, 0, q, steps)
     }
 
     /// As `search`, where what a step takes is chosen at the first `i` places; at least one step.
@@ -161,6 +158,10 @@ impl<'a, L: Ledger> Walk<'a, L> {
         // From a settled state on nothing is rejected, so no place need be opened.
         if self.monitor.is_settled(q) {
             return None;
+        }
+        // Where one trace alone is left at each place none need be opened either.
+        if self.are_alone(places) {
+            return self.follow(places, q, steps);
         }
         let mut next = places.opened();
         self.search(&mut next, q, steps)

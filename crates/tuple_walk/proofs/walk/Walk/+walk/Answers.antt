@@ -16,7 +16,6 @@ use Rattle.tuple_walk.proofs.Choosing.{no-steps, no-steps_by, steps-letters}
 use Rattle.tuple_walk.proofs.Ending.{settled-accepted}
 use Rattle.tuple_walk.proofs.Longest.{longest, longest-step}
 use Rattle.tuple_walk.proofs.Nexts.{where-none, next-longest, next-some, next-rejected, next-more, next-steps, next-gap, no-gap-accepted, tuple-search, chosen-search, no-letter, step-search, at-some, gap-search}
-use Rattle.tuple_walk.proofs.Onlys.{only-longest, only-some, only-search, only-steps}
 use Rattle.tuple_walk.proofs.Placing.{set-back, moved-more, open-less, at-letters, open-wholes, opened-left, opened-open}
 use Rattle.tuple_walk.proofs.Stepping.{left_at, some-left, step-steps, taken-code}
 use Rattle.tuple_walk.proofs.walk.Walk.+walk.Goals as goal
@@ -50,6 +49,39 @@ advance-returns-then-is_settled-clause-counted g t c =
     c.step-q.ensures.next
     (λ ts f. c.joint.ensures.code ∙ taken-code (machine_in w) _ ts (ap (map letter_or) f))
     0 c.requires.members (no-steps w.lengths (map left_at (take n ps))))
+
+pub advance-follow-requires-clause-members : goal.advance-follow-requires-clause-members
+advance-follow-requires-clause-members g t c =
+    let w = c.args.self.now in
+    let n = (machine_in w).variables in
+    some-left (take n (four c.args.places.now)) c.requires.members
+
+pub advance-returns-then-are_alone-clause-searched :
+    goal.advance-returns-then-are_alone-clause-searched
+advance-returns-then-are_alone-clause-searched g t c =
+    let w = c.args.self.now in
+    let n = (machine_in w).variables in
+    let ps = four c.args.places.now in
+    step-search (machine_in w) w.lengths c.args.q c.joint.result c.step-q.result (take n ps)
+    c.requires.moved c.requires.letter
+    c.step-q.ensures.next c.joint.ensures.code (map left_at (take n ps)) refl c.follow.result
+    c.follow.ensures.searched
+
+pub advance-returns-then-are_alone-clause-counted :
+    goal.advance-returns-then-are_alone-clause-counted
+advance-returns-then-are_alone-clause-counted g t c =
+    let w = c.args.self.now in
+    let n = (machine_in w).variables in
+    let ps = four c.args.places.now in
+    let behind = c.follow.new.steps - c.step-q.new.steps in
+    let Q : ℕ → Type 0 = AreSteps w.lengths (map whole_of (take n ps)) in
+    let sum : behind + 1 ≡ c.follow.new.steps - c.args.steps.now =
+    omega (arith, c.step-q.ensures.counted, c.follow.ensures.steps) in
+    subst Q sum (step-steps (machine_in w) w.lengths c.args.q c.joint.result c.step-q.result
+    (take n ps) c.requires.moved c.requires.letter
+    c.step-q.ensures.next
+    (λ ts f. c.joint.ensures.code ∙ taken-code (machine_in w) _ ts (ap (map letter_or) f))
+    behind c.requires.members c.follow.ensures.counted)
 
 pub advance-search-requires : goal.advance-search-requires
 advance-search-requires g t c κs within =
@@ -458,58 +490,17 @@ search-choose-requires g t c κs within =
       ),
     )
 
-pub search-returns-in-None-clause-searched : goal.search-returns-in-None-clause-searched
-search-returns-in-None-clause-searched g t c =
+pub search-returns-clause-searched : goal.search-returns-clause-searched
+search-returns-clause-searched g t c =
     let w = c.args.self.now in
     chosen-search (machine_in w) w.lengths c.args.q (rests_in w c.args.places.now)
     (wholes_in w c.args.places.now)
     (open-wholes (places_in w c.args.places.now) c.requires.open) c.choose.result
     (OnFalse_at c.if-rejects.false c.rejects.ensures.accepts) c.choose.ensures.searched
 
-pub search-returns-in-None-clause-counted : goal.search-returns-in-None-clause-counted
-search-returns-in-None-clause-counted g t c =
+pub search-returns-clause-counted : goal.search-returns-clause-counted
+search-returns-clause-counted g t c =
     let w = c.args.self.now in
     let P : List (List Numbered) → Type 0 = λ ls. AreSteps w.lengths ls
     (c.choose.new.steps - c.args.steps.now) in
     subst P (open-wholes (places_in w c.args.places.now) c.requires.open) c.choose.ensures.counted
-
-pub search-advance-requires : goal.search-advance-requires
-search-advance-requires g t c κs within =
-    let w = c.args.self.now in
-    let rests = rests_in w c.args.places.now in
-    let wholes = wholes_in w c.in-Some.moved in
-    let fewer = only-longest w.lengths rests wholes c.in-Some.ensures.only in (
-      omega (arith, c.decreases, fewer),
-      (
-        within,
-        (
-          c.requires.some,
-          (
-            c.requires.state,
-            (
-              c.in-Some.ensures.moved,
-              (
-                c.in-Some.ensures.letter,
-                only-some w.lengths rests wholes c.in-Some.ensures.only,
-              ),
-            ),
-          ),
-        ),
-      ),
-    )
-
-pub search-returns-in-Some-clause-searched : goal.search-returns-in-Some-clause-searched
-search-returns-in-Some-clause-searched g t c =
-    let w = c.args.self.now in
-    let rests = rests_in w c.args.places.now in
-    let wholes = wholes_in w c.in-Some.moved in
-    chosen-search (machine_in w) w.lengths c.args.q rests rests refl c.advance.result
-    (OnFalse_at c.if-rejects.false c.rejects.ensures.accepts)
-    (only-search (machine_in w) w.lengths c.args.q rests wholes c.in-Some.ensures.only
-    c.advance.result c.advance.ensures.searched)
-
-pub search-returns-in-Some-clause-counted : goal.search-returns-in-Some-clause-counted
-search-returns-in-Some-clause-counted g t c =
-    let w = c.args.self.now in
-    only-steps w.lengths (rests_in w c.args.places.now) (wholes_in w c.in-Some.moved)
-    c.in-Some.ensures.only (c.advance.new.steps - c.args.steps.now) c.advance.ensures.counted
