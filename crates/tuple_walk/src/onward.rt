@@ -1,7 +1,9 @@
-//! What a walk takes where it takes no letter, or whether it takes one.
+//! The way past the end of a trace, and whether a step takes a letter.
 
 ghost use Rattle.std.specs.Prelude.{◌≡◌, map, IfSome, IfNone, None};
+ghost use Rattle.std.specs.Bool.{OnTrue};
 ghost use Rattle.std.specs.List.{list_any};
+ghost use Rattle.hy_finite.specs.declared.lengths.Lengths.TheVariants.{Min};
 ghost use Rattle.tuple_walk.specs.Places.{whole_of, rests_of, taken_of, is_letter, HasNoGap, IsMoved, IsWay};
 ghost use Rattle.tuple_walk.specs.Walks.{places_in};
 
@@ -22,6 +24,16 @@ impl<'a, L: Ledger> Walk<'a, L> {
         match self.lengths {
             Lengths::Min => None,
             Lengths::Pad => spot.gap(),
+        }
+    }
+
+    /// Whether tuples are judged on the least of their lengths.
+    pub(crate) fn is_least(&self) -> bool
+        ensures { OnTrue result (self.now.lengths ≡ Min) }
+    {
+        match self.lengths {
+            Lengths::Min => true,
+            Lengths::Pad => false,
         }
     }
 

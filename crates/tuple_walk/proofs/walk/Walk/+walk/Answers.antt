@@ -4,11 +4,12 @@ use Rattle.std.proofs.lemmas.List.{set-set, take_all}
 use Rattle.hy_base.proofs.Members.{contains-none}
 use Rattle.hy_bits.specs.Letter.{Letter}
 use Rattle.hy_formula.specs.Quantifiers.{Each}
+use Rattle.hy_finite.specs.declared.lengths.Lengths.{Lengths}
 use Rattle.fin_monitor.specs.Machines.{settled_state}
 use Rattle.trace_trie.specs.Cursors.{AreLetters}
 use Rattle.trace_trie.specs.Numbered.{Numbered}
 use Rattle.tuple_walk.specs.Four.{four, first_places, letters_in}
-use Rattle.tuple_walk.specs.Places.{whole_of, letters_at, letter_or, IsOpen, IsMoved, AreSome}
+use Rattle.tuple_walk.specs.Places.{whole_of, letters_at, letter_or, IsOpen, IsMoved, HasNoGap, AreSome}
 use Rattle.tuple_walk.specs.Searches.{AreSteps, AreStepsBy, AreAcceptedBy}
 use Rattle.tuple_walk.specs.declared.place.Place.{Place}
 use Rattle.tuple_walk.specs.Walks.{machine_in, places_in, rests_in, wholes_in}
@@ -163,8 +164,8 @@ choose-returns-then-i-vars-clause-searched g t c =
     no-letter (machine_in w) w.lengths c.args.q (places_in w c.args.places.now)
     (subst P all c.requires.moved) (sym c.some_letter.ensures ∙ c.if-some_letter.false)
 
-pub choose-choose_letter-requires : goal.choose-choose_letter-requires
-choose-choose_letter-requires g t c κs within =
+pub choose-choose_at-requires : goal.choose-choose_at-requires
+choose-choose_at-requires g t c κs within =
     let w = c.args.self.now in
     let few : (machine_in w).variables ≤ 4 = w.monitor.monitor.now.right.few in (
       omega (arith, c.decreases, few),
@@ -174,17 +175,35 @@ choose-choose_letter-requires g t c κs within =
           c.requires.some,
           (
             c.requires.state,
-            (
-              omega (arith, c.vars.ensures.vars),
-              (c.requires.moved, (c.requires.open, c.requires.members)),
-            ),
+            record {
+              within = omega (arith, c.vars.ensures.vars);
+              moved = c.requires.moved;
+              opens = c.requires.open;
+              members = c.requires.members;
+            },
           ),
         ),
       ),
     )
 
-pub choose-choose-found-requires : goal.choose-choose-found-requires
-choose-choose-found-requires g t c κs within =
+-- ---- choose_at
+
+pub choose_at-choose_letter-requires : goal.choose_at-choose_letter-requires
+choose_at-choose_letter-requires g t c κs within =
+    let w = c.args.self.now in
+    let few : (machine_in w).variables ≤ 4 = w.monitor.monitor.now.right.few in (
+      omega (arith, c.decreases, few),
+      (
+        within,
+        (
+          c.requires.some,
+          (c.requires.state, c.requires.chosen),
+        ),
+      ),
+    )
+
+pub choose_at-choose-found-requires : goal.choose_at-choose-found-requires
+choose_at-choose-found-requires g t c κs within =
     let w = c.args.self.now in
     let n = (machine_in w).variables in
     let i = c.args.i in
@@ -196,9 +215,9 @@ choose-choose-found-requires g t c κs within =
     c.put.ensures ∙ ap (λ (qs : List Place). set qs i c.in-Some-gap.place) same in
     let next = four c.put.new.self in
     let few : n ≤ 4 = w.monitor.monitor.now.right.few in
-    let lt : i < n = omega (arith, c.vars.ensures.vars) in
+    let lt : i < n = c.requires.chosen.within in
     let fewer = next-longest n i ps next c.at-here.result c.in-Some-gap.place lt few at
-    c.requires.open is None c.in-Some-gap.ensures.way in (
+    c.requires.chosen.opens is None c.in-Some-gap.ensures.way in (
       omega (arith, c.decreases, few, fewer),
       (
         within,
@@ -210,12 +229,12 @@ choose-choose-found-requires g t c κs within =
               omega arith,
               (
                 moved-more (IsMoved w.lengths) i ps c.in-Some-gap.place next (omega arith)
-                    is c.requires.moved c.in-Some-gap.ensures.moved,
+                    is c.requires.chosen.moved c.in-Some-gap.ensures.moved,
                 (
-                  open-less IsOpen i n ps c.in-Some-gap.place next is c.requires.open,
+                  open-less IsOpen i n ps c.in-Some-gap.place next is c.requires.chosen.opens,
                   next-some n i ps next c.at-here.result c.in-Some-gap.place lt few at
-                      c.requires.open is None c.in-Some-gap.ensures.way
-                      c.requires.members,
+                      c.requires.chosen.opens is None c.in-Some-gap.ensures.way
+                      c.requires.chosen.members,
                 ),
               ),
             ),
@@ -224,8 +243,8 @@ choose-choose-found-requires g t c κs within =
       ),
     )
 
-pub choose-returns-in-Some-gap-clause-searched : goal.choose-returns-in-Some-gap-clause-searched
-choose-returns-in-Some-gap-clause-searched g t c =
+pub choose_at-returns-in-Some-gap-clause-searched : goal.choose_at-returns-in-Some-gap-clause-searched
+choose_at-returns-in-Some-gap-clause-searched g t c =
     let w = c.args.self.now in
     let n = (machine_in w).variables in
     let i = c.args.i in
@@ -236,16 +255,16 @@ choose-returns-in-Some-gap-clause-searched g t c =
     let is : four c.put.new.self ≡ set ps i c.in-Some-gap.place =
     c.put.ensures ∙ ap (λ (qs : List Place). set qs i c.in-Some-gap.place) same in
     let few : n ≤ 4 = w.monitor.monitor.now.right.few in
-    let lt : i < n = omega (arith, c.vars.ensures.vars) in
+    let lt : i < n = c.requires.chosen.within in
     let P : List Letter → Type 0 = λ l. AreLetters l (left_at c.at-here.result) in
     gap-search (machine_in w) w.lengths c.args.q n i ps (four c.put.new.self) c.at-here.result
-    c.in-Some-gap.place lt few at c.requires.open is
+    c.in-Some-gap.place lt few at c.requires.chosen.opens is
     c.in-Some-gap.ensures.way (letters_in i ps)
-    (subst P (sym (at-letters i ps c.at-here.result at)) c.letters_differ.ensures)
+    (subst P (sym (at-letters i ps c.at-here.result at)) (c.letters_differ.ensures c.at-here.result c.at-here.ensures))
     c.in-None.ensures.searched c.choose-found.result c.choose-found.ensures.searched
 
-pub choose-returns-in-Some-gap-clause-counted : goal.choose-returns-in-Some-gap-clause-counted
-choose-returns-in-Some-gap-clause-counted g t c =
+pub choose_at-returns-in-Some-gap-clause-counted : goal.choose_at-returns-in-Some-gap-clause-counted
+choose_at-returns-in-Some-gap-clause-counted g t c =
     let w = c.args.self.now in
     let n = (machine_in w).variables in
     let i = c.args.i in
@@ -256,17 +275,40 @@ choose-returns-in-Some-gap-clause-counted g t c =
     let is : four c.put.new.self ≡ set ps i c.in-Some-gap.place =
     c.put.ensures ∙ ap (λ (qs : List Place). set qs i c.in-Some-gap.place) same in
     let few : n ≤ 4 = w.monitor.monitor.now.right.few in
-    let lt : i < n = omega (arith, c.vars.ensures.vars) in
+    let lt : i < n = c.requires.chosen.within in
     next-gap n i ps (four c.put.new.self) c.at-here.result c.in-Some-gap.place lt few at
-    c.requires.open is None c.in-Some-gap.ensures.way w.lengths (letters_in i ps) refl
+    c.requires.chosen.opens is None c.in-Some-gap.ensures.way w.lengths (letters_in i ps) refl
     (c.choose_letter.new.steps - c.args.steps.now)
     (c.choose-found.new.steps - c.choose_letter.new.steps)
     (c.choose-found.new.steps - c.args.steps.now)
     (omega (arith, c.choose_letter.ensures.steps, c.choose-found.ensures.steps))
     c.choose_letter.ensures.counted c.choose-found.ensures.counted
 
-pub choose-returns-in-None-gap-clause-searched : goal.choose-returns-in-None-gap-clause-searched
-choose-returns-in-None-gap-clause-searched g t c =
+pub choose_at-returns-then-is_least-clause-searched :
+    goal.choose_at-returns-then-is_least-clause-searched
+choose_at-returns-then-is_least-clause-searched g t c =
+    let w = c.args.self.now in
+    let n = (machine_in w).variables in
+    let i = c.args.i in
+    let ps = four c.args.places.now in
+    let same : four c.choose_letter.new.places ≡ ps = c.in-None.ensures.same in
+    let few : n ≤ 4 = w.monitor.monitor.now.right.few in
+    let lt : i < n = c.requires.chosen.within in
+    let (p, at) = at-some ps i (omega arith) in
+    let At : List Place → Type 0 = λ qs. slice_get qs i ≡ Some p in
+    let P : List Letter → Type 0 = λ l. AreLetters l (left_at p) in
+    let Q : Lengths → Type 0 = λ l. HasNoGap l (left_at p) in
+    no-gap-accepted (machine_in w) w.lengths c.args.q n i ps p lt few at
+    c.requires.chosen.opens (letters_in i ps)
+    (subst P (sym (at-letters i ps p at)) (c.letters_differ.ensures p (subst At (sym same) at)))
+    (subst Q (sym (OnTrue_at c.if-is_least.true c.is_least.ensures)) tt) c.in-None.ensures.searched
+
+pub choose_at-returns-then-is_least-clause-same :
+    goal.choose_at-returns-then-is_least-clause-same
+choose_at-returns-then-is_least-clause-same g t c = c.in-None.ensures.same
+
+pub choose_at-returns-in-None-gap-clause-searched : goal.choose_at-returns-in-None-gap-clause-searched
+choose_at-returns-in-None-gap-clause-searched g t c =
     let w = c.args.self.now in
     let n = (machine_in w).variables in
     let i = c.args.i in
@@ -275,15 +317,15 @@ choose-returns-in-None-gap-clause-searched g t c =
     let At : List Place → Type 0 = λ qs. slice_get qs i ≡ Some c.at-here.result in
     let at = subst At same c.at-here.ensures in
     let few : n ≤ 4 = w.monitor.monitor.now.right.few in
-    let lt : i < n = omega (arith, c.vars.ensures.vars) in
+    let lt : i < n = c.requires.chosen.within in
     let P : List Letter → Type 0 = λ l. AreLetters l (left_at c.at-here.result) in
     no-gap-accepted (machine_in w) w.lengths c.args.q n i ps c.at-here.result lt few at
-    c.requires.open (letters_in i ps)
-    (subst P (sym (at-letters i ps c.at-here.result at)) c.letters_differ.ensures)
+    c.requires.chosen.opens (letters_in i ps)
+    (subst P (sym (at-letters i ps c.at-here.result at)) (c.letters_differ.ensures c.at-here.result c.at-here.ensures))
     c.in-None-gap.ensures.none c.in-None.ensures.searched
 
-pub choose-returns-in-Some-gap-clause-same : goal.choose-returns-in-Some-gap-clause-same
-choose-returns-in-Some-gap-clause-same g t c =
+pub choose_at-returns-in-Some-gap-clause-same : goal.choose_at-returns-in-Some-gap-clause-same
+choose_at-returns-in-Some-gap-clause-same g t c =
     let i = c.args.i in
     let ps = four c.args.places.now in
     let here = c.at-here.result in
@@ -298,8 +340,8 @@ choose-returns-in-Some-gap-clause-same g t c =
     ∙ set-set ps i c.in-Some-gap.place here
     ∙ set-back ps i here at) c.choose-found.ensures.same
 
-pub choose-returns-in-None-gap-clause-same : goal.choose-returns-in-None-gap-clause-same
-choose-returns-in-None-gap-clause-same g t c = c.in-None.ensures.same
+pub choose_at-returns-in-None-gap-clause-same : goal.choose_at-returns-in-None-gap-clause-same
+choose_at-returns-in-None-gap-clause-same g t c = c.in-None.ensures.same
 
 -- ---- choose_letter
 
@@ -326,9 +368,9 @@ choose_letter-choose-requires g t c κs within =
     let (a, there) = at-some (letters_at c.at-here.result.spot) c.loop-k.k
     (omega (arith, c.len-k-end.ensures, c.loop-k-test.true)) in
     let way = c.letter.ensures.way a there in
-    let fewer = next-longest n i ps next c.at-here.result c.letter.result c.requires.within few
-    c.at-here.ensures c.requires.open (c.put.ensures ∙ c.loop-k.invariant.kept c.letter.result) (Some a) way in (
-      omega (arith, c.decreases, few, fewer, c.requires.within),
+    let fewer = next-longest n i ps next c.at-here.result c.letter.result c.requires.chosen.within few
+    c.at-here.ensures c.requires.chosen.opens (c.put.ensures ∙ c.loop-k.invariant.kept c.letter.result) (Some a) way in (
+      omega (arith, c.decreases, few, fewer, c.requires.chosen.within),
       (
         within,
         (
@@ -336,17 +378,17 @@ choose_letter-choose-requires g t c κs within =
           (
             c.requires.state,
             (
-              omega (arith, c.requires.within),
+              omega (arith, c.requires.chosen.within),
               (
                 moved-more (IsMoved w.lengths) i ps c.letter.result next
-                    (omega (arith, c.requires.within)) (c.put.ensures ∙ c.loop-k.invariant.kept c.letter.result) c.requires.moved
+                    (omega (arith, c.requires.chosen.within)) (c.put.ensures ∙ c.loop-k.invariant.kept c.letter.result) c.requires.chosen.moved
                     (c.letter.ensures.moved w.lengths),
                 (
                   open-less IsOpen i n ps c.letter.result next (c.put.ensures ∙ c.loop-k.invariant.kept c.letter.result)
-                      c.requires.open,
-                  next-some n i ps next c.at-here.result c.letter.result c.requires.within few
-                      c.at-here.ensures c.requires.open (c.put.ensures ∙ c.loop-k.invariant.kept c.letter.result) (Some a) way
-                      c.requires.members,
+                      c.requires.chosen.opens,
+                  next-some n i ps next c.at-here.result c.letter.result c.requires.chosen.within few
+                      c.at-here.ensures c.requires.chosen.opens (c.put.ensures ∙ c.loop-k.invariant.kept c.letter.result) (Some a) way
+                      c.requires.chosen.members,
                 ),
               ),
             ),
@@ -363,8 +405,8 @@ choose_letter-returns-in-Some-clause-searched g t c =
     let (a, there) = at-some (letters_at c.at-here.result.spot) c.loop-k.k
     (omega (arith, c.len-k-end.ensures, c.loop-k-test.true)) in
     next-rejected (machine_in w).variables c.args.i (four c.args.places.now)
-    (four c.put.new.self) c.at-here.result c.letter.result c.requires.within few c.at-here.ensures
-    c.requires.open (c.put.ensures ∙ c.loop-k.invariant.kept c.letter.result) (Some a) (c.letter.ensures.way a there) (machine_in w)
+    (four c.put.new.self) c.at-here.result c.letter.result c.requires.chosen.within few c.at-here.ensures
+    c.requires.chosen.opens (c.put.ensures ∙ c.loop-k.invariant.kept c.letter.result) (Some a) (c.letter.ensures.way a there) (machine_in w)
     w.lengths c.args.q c.in-Some.tuple c.in-Some.ensures.searched
 
 pub choose_letter-returns-in-Some-clause-steps : goal.choose_letter-returns-in-Some-clause-steps
@@ -389,8 +431,8 @@ choose_letter-returns-in-Some-clause-counted g t c =
     steps-letters w.lengths (wholes_in w c.args.places.now) c.args.i letters (c.loop-k.k + 1)
     (c.choose.new.steps - c.args.steps.now)
     (next-steps (machine_in w).variables c.args.i ps
-    (four c.put.new.self) c.at-here.result c.letter.result c.requires.within few c.at-here.ensures
-    c.requires.open (c.put.ensures ∙ c.loop-k.invariant.kept c.letter.result) (Some a) (c.letter.ensures.way a there) w.lengths letters
+    (four c.put.new.self) c.at-here.result c.letter.result c.requires.chosen.within few c.at-here.ensures
+    c.requires.chosen.opens (c.put.ensures ∙ c.loop-k.invariant.kept c.letter.result) (Some a) (c.letter.ensures.way a there) w.lengths letters
     c.loop-k.k a refl are.distinct (subst Q (sym is) there)
     (c.loop-k.steps - c.args.steps.now) (c.choose.new.steps - c.loop-k.steps)
     (c.choose.new.steps - c.args.steps.now)
@@ -416,13 +458,13 @@ choose_letter-loop-k-preserved g t c =
           (c.in-None.ensures.same ∙ c.put.ensures ∙ c.loop-k.invariant.kept c.letter.result)
           ∙ set-set ps c.args.i c.letter.result x;
       accepted = next-more (machine_in w).variables c.args.i ps (four c.put.new.self)
-          c.at-here.result c.letter.result c.requires.within few c.at-here.ensures c.requires.open
+          c.at-here.result c.letter.result c.requires.chosen.within few c.at-here.ensures c.requires.chosen.opens
           (c.put.ensures ∙ c.loop-k.invariant.kept c.letter.result) (Some a) (c.letter.ensures.way a there) (machine_in w) w.lengths
           c.args.q letters c.loop-k.k a refl (subst Q (sym is) there) c.loop-k.invariant.accepted
           c.in-None.ensures.searched;
       steps = omega (arith, c.loop-k.invariant.steps, c.choose.ensures.steps);
       counted = next-steps (machine_in w).variables c.args.i ps (four c.put.new.self)
-          c.at-here.result c.letter.result c.requires.within few c.at-here.ensures c.requires.open
+          c.at-here.result c.letter.result c.requires.chosen.within few c.at-here.ensures c.requires.chosen.opens
           (c.put.ensures ∙ c.loop-k.invariant.kept c.letter.result) (Some a) (c.letter.ensures.way a there) w.lengths letters
           c.loop-k.k a refl are.distinct (subst Q (sym is) there)
           (c.loop-k.steps - c.args.steps.now) (c.choose.new.steps - c.loop-k.steps)
