@@ -4,7 +4,6 @@ pub mod Following
 pub mod Lists
 pub mod Longest
 pub mod Nexts
-pub mod Onlys
 pub mod Placing
 pub mod Scanning
 pub mod Starting

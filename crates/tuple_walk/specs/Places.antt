@@ -1,5 +1,5 @@
 -- What may still come at the places of the tuples on a walk.
-use Rattle.std.specs.Prelude.{◌≡◌, ◌⊎◌, ℕ, zero, suc, ◌<◌, Bool, true, false, List, [], ◌∷◌, length, replicate, Option, Some, None}
+use Rattle.std.specs.Prelude.{◌≡◌, ℕ, zero, suc, ◌<◌, Bool, true, false, List, [], ◌∷◌, length, replicate, Option, Some, None}
 use Rattle.std.specs.List.{Contains}
 use Rattle.std.specs.FinSet.{empty}
 use Rattle.hy_bits.specs.Letter.{Letter as NameSet}
@@ -72,19 +72,6 @@ pub record IsWay (rests : List Numbered) (e : Option NameSet) (way : List Number
   pub part : (p : Numbered) → Contains way p → Contains rests p
   pub first : (p : Numbered) → Contains way p → entry p.1 ≡ e
   pub whole : (t : Trace) → Contains (traces_of rests) t → entry t ≡ e → Contains (traces_of way) t
-
--- All of the rests but, under the least length, those that have ended.
-pub record IsOnly (lengths : Lengths) (rests way : List Numbered) : Type 0 where
-  pub some : 0 < length way
-  pub part : (p : Numbered) → Contains way p → Contains rests p
-  pub whole : (t : Trace) → Contains (traces_of rests) t
-      → Contains (traces_of way) t ⊎ ((lengths ≡ Min) × (t ≡ []))
-
-abbrev pub AreOnly : Lengths → List (List Numbered) → List (List Numbered) → Type 0
-AreOnly lengths [] [] = Unit {0}
-AreOnly lengths [] (w ∷ ways) = ⊥
-AreOnly lengths (rests ∷ wholes) [] = ⊥
-AreOnly lengths (rests ∷ wholes) (w ∷ ways) = IsOnly lengths rests w × AreOnly lengths wholes ways
 
 -- Under the greatest length none has ended.
 abbrev pub HasNoGap : Lengths → List Numbered → Type 0

@@ -1,5 +1,6 @@
 -- A walk as contracts see it.
-use Rattle.std.specs.Prelude.{List}
+use Rattle.std.specs.Prelude.{ℕ, ◌<◌, List, drop}
+use Rattle.hy_formula.specs.Quantifiers.{Each}
 use Rattle.fin_monitor.specs.Machines.{Machine}
 use Rattle.trace_trie.specs.Numbered.{Numbered}
 use Rattle.tuple_walk.specs.declared.place.Place.{Place}
@@ -7,6 +8,7 @@ use Rattle.tuple_walk.specs.declared.places.Places.{Places}
 use Rattle.tuple_walk.specs.declared.walk.Walk.{Walk}
 use Rattle.tuple_walk.specs.Counted.{machine_on}
 use Rattle.tuple_walk.specs.Four.{first_places, rests, wholes}
+use Rattle.tuple_walk.specs.Places.{IsOpen, IsMoved, AreSome}
 
 abbrev pub machine_in : {L : Type 0} → Walk L → Machine
 machine_in w = machine_on w.monitor
@@ -22,3 +24,10 @@ wholes_in w places = wholes (machine_in w).variables places
 -- the same without what is taken
 abbrev pub rests_in : {L : Type 0} → Walk L → Places → List (List Numbered)
 rests_in w places = rests (machine_in w).variables places
+
+-- At the first places so far is chosen what a step takes, and the next ones are open.
+pub record AreChosen {L : Type 0} (w : Walk L) (places : Places) (i : ℕ) : Type 0 where
+  pub within : i < (machine_in w).variables
+  pub moved : Each (IsMoved w.lengths) (first_places i places)
+  pub opens : Each IsOpen (drop i (places_in w places))
+  pub members : AreSome (wholes_in w places)

@@ -33,6 +33,7 @@ impl<'a, L: Ledger> Walk<'a, L> {
     }
 
     /// As `search`, where one trace alone is left at each place. The stack stays flat.
+    #[inline(never)]
     pub(crate) fn follow(&self, places: &Places<'a>, q: u32, steps: &mut Steps<L>) -> Option<Tuple>
         requires some { 1 ≤ (machine_in self.now).variables }
         requires state { q < states_of (machine_in self.now) }

@@ -29,7 +29,7 @@ use trace_trie::Version;
 ///
 /// Traces that begin alike are walked together: for each place of the given trace, each joint
 /// prefix of such tuples is stepped at most once, and none from a state on from which nothing is
-/// rejected. For `n` variables a letter takes at most 2n + 3 frames of the stack, as long as more
+/// rejected. For `n` variables a letter takes at most 3n + 3 frames of the stack, as long as more
 /// than one trace may still come at some place; from there on a tuple is walked in a loop, with a
 /// flat stack. For one variable `find_alone` does without a version.
 pub fn find<'a, L: Ledger>(

@@ -1,7 +1,9 @@
 //! Where a walk stands at all places of its tuples.
 
 ghost use Rattle.std.specs.Prelude.{◌≡◌, ◌<◌, [], ◌∷◌, map, replicate, set, slice_get, Some};
-ghost use Rattle.tuple_walk.specs.Places.{open_at, letter_taken, has_taken};
+ghost use Rattle.trace_trie.specs.Cursors.{AreLetters};
+ghost use Rattle.tuple_walk.specs.declared.place.Place.{Place as Seen};
+ghost use Rattle.tuple_walk.specs.Places.{open_at, letter_taken, has_taken, letters_at, rests_of};
 ghost use Rattle.tuple_walk.specs.Four.{four};
 
 use crate::place::Place;
@@ -57,6 +59,20 @@ impl<'a> Places<'a> {
             1 => self.second.copied(),
             2 => self.third.copied(),
             _ => self.fourth.copied(),
+        }
+    }
+
+    /// The letters that may come next at place `i` differ, and are the first letters of what goes on.
+    pub(crate) fn letters_differ(&self, i: usize)
+        requires { i < 4 }
+        ensures { (p : Seen) → slice_get (four self.now) i ≡ Some p
+            → AreLetters (letters_at p.spot) (rests_of p.spot) }
+    {
+        match i {
+            0 => self.first.spot.letters_differ(),
+            1 => self.second.spot.letters_differ(),
+            2 => self.third.spot.letters_differ(),
+            _ => self.fourth.spot.letters_differ(),
         }
     }
 

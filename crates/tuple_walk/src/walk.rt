@@ -8,7 +8,7 @@ ghost use Rattle.fin_monitor.specs.Machines.{codes, states_of};
 ghost use Rattle.tuple_walk.specs.Four.{four, first_places, letters_in};
 ghost use Rattle.tuple_walk.specs.Places.{taken_of, letter_or, is_letter, IsOpen, IsMoved, AreSome};
 ghost use Rattle.tuple_walk.specs.Searches.{IsSearch, IsSearchBy, AreSteps, AreStepsBy};
-ghost use Rattle.tuple_walk.specs.Walks.{machine_in, places_in, rests_in, wholes_in};
+ghost use Rattle.tuple_walk.specs.Walks.{AreChosen, machine_in, places_in, rests_in, wholes_in};
 
 use crate::counted_monitor::CountedMonitor;
 use crate::places::Places;
@@ -54,15 +54,13 @@ impl<'a, L: Ledger> Walk<'a, L> {
         if self.rejects(places, q) {
             return self.tuple_of(places);
         }
-        match self.only(places) {
-            Some(moved) => self.advance(&moved, q, steps),
-            None => self.choose(places, 0, q, steps),
-        }
+        self.choose(places, 0, q, steps)
     }
 
     /// As `search`, where what a step takes is chosen at the first `i` places; at least one step.
     /// Where nothing is found the places are as before.
     #[cycle(walk)]
+    #[inline(always)]
     fn choose(
         &self,
         places: &mut Places<'a>,
@@ -89,12 +87,38 @@ impl<'a, L: Ledger> Walk<'a, L> {
             }
             return None;
         }
+        self.choose_at(places, i, q, steps)
+    }
+
+    /// As `choose`, at a place. It is apart, so that behind the last place there is no call.
+    #[cycle(walk)]
+    fn choose_at(
+        &self,
+        places: &mut Places<'a>,
+        i: usize,
+        q: u32,
+        steps: &mut Steps<L>,
+    ) -> Option<Tuple>
+        requires some { 1 ≤ (machine_in self.now).variables }
+        requires state { q < states_of (machine_in self.now) }
+        requires chosen { AreChosen self.now places.old i }
+        ensures searched { IsSearch (machine_in self.now) self.now.lengths q 1
+            (wholes_in self.now places.old) result }
+        ensures same { IfNone result (four places.new ≡ four places.old) }
+        ensures steps { steps.old ≤ steps.new }
+        ensures counted { AreSteps self.now.lengths (wholes_in self.now places.old)
+            (steps.new - steps.old) }
+    {
         match self.choose_letter(places, i, q, steps) {
             Some(tuple) => return Some(tuple),
             None => {}
         }
+        places.letters_differ(i);
+        // Under the least length no place is copied to look for an end.
+        if self.is_least() {
+            return None;
+        }
         let here = places.at(i);
-        here.spot.letters_differ();
         match self.gap(&here.spot) {
             Some(place) => {
                 places.put(i, &place);
@@ -117,10 +141,7 @@ impl<'a, L: Ledger> Walk<'a, L> {
     ) -> Option<Tuple>
         requires some { 1 ≤ (machine_in self.now).variables }
         requires state { q < states_of (machine_in self.now) }
-        requires within { i < (machine_in self.now).variables }
-        requires moved { Each (IsMoved self.now.lengths) (first_places i places.old) }
-        requires open { Each IsOpen (drop i (places_in self.now places.old)) }
-        requires members { AreSome (wholes_in self.now places.old) }
+        requires chosen { AreChosen self.now places.old i }
         ensures searched { IsSearchBy (machine_in self.now) self.now.lengths q i
             (letters_in i (four places.old))
             (wholes_in self.now places.old) result }
@@ -161,6 +182,10 @@ impl<'a, L: Ledger> Walk<'a, L> {
         // From a settled state on nothing is rejected, so no place need be opened.
         if self.monitor.is_settled(q) {
             return None;
+        }
+        // Where one trace alone is left at each place none need be opened either.
+        if self.are_alone(places) {
+            return self.follow(places, q, steps);
         }
         let mut next = places.opened();
         self.search(&mut next, q, steps)

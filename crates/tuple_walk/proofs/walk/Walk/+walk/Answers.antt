@@ -4,11 +4,12 @@ use Rattle.std.proofs.lemmas.List.{set-set, take_all}
 use Rattle.hy_base.proofs.Members.{contains-none}
 use Rattle.hy_bits.specs.Letter.{Letter}
 use Rattle.hy_formula.specs.Quantifiers.{Each}
+use Rattle.hy_finite.specs.declared.lengths.Lengths.{Lengths}
 use Rattle.fin_monitor.specs.Machines.{settled_state}
 use Rattle.trace_trie.specs.Cursors.{AreLetters}
 use Rattle.trace_trie.specs.Numbered.{Numbered}
 use Rattle.tuple_walk.specs.Four.{four, first_places, letters_in}
-use Rattle.tuple_walk.specs.Places.{whole_of, letters_at, letter_or, IsOpen, IsMoved, AreSome}
+use Rattle.tuple_walk.specs.Places.{whole_of, letters_at, letter_or, IsOpen, IsMoved, HasNoGap, AreSome}
 use Rattle.tuple_walk.specs.Searches.{AreSteps, AreStepsBy, AreAcceptedBy}
 use Rattle.tuple_walk.specs.declared.place.Place.{Place}
 use Rattle.tuple_walk.specs.Walks.{machine_in, places_in, rests_in, wholes_in}
@@ -16,7 +17,6 @@ use Rattle.tuple_walk.proofs.Choosing.{no-steps, no-steps_by, steps-letters}
 use Rattle.tuple_walk.proofs.Ending.{settled-accepted}
 use Rattle.tuple_walk.proofs.Longest.{longest, longest-step}
 use Rattle.tuple_walk.proofs.Nexts.{where-none, next-longest, next-some, next-rejected, next-more, next-steps, next-gap, no-gap-accepted, tuple-search, chosen-search, no-letter, step-search, at-some, gap-search}
-use Rattle.tuple_walk.proofs.Onlys.{only-longest, only-some, only-search, only-steps}
 use Rattle.tuple_walk.proofs.Placing.{set-back, moved-more, open-less, at-letters, open-wholes, opened-left, opened-open}
 use Rattle.tuple_walk.proofs.Stepping.{left_at, some-left, step-steps, taken-code}
 use Rattle.tuple_walk.proofs.walk.Walk.+walk.Goals as goal
@@ -50,6 +50,39 @@ advance-returns-then-is_settled-clause-counted g t c =
     c.step-q.ensures.next
     (λ ts f. c.joint.ensures.code ∙ taken-code (machine_in w) _ ts (ap (map letter_or) f))
     0 c.requires.members (no-steps w.lengths (map left_at (take n ps))))
+
+pub advance-follow-requires-clause-members : goal.advance-follow-requires-clause-members
+advance-follow-requires-clause-members g t c =
+    let w = c.args.self.now in
+    let n = (machine_in w).variables in
+    some-left (take n (four c.args.places.now)) c.requires.members
+
+pub advance-returns-then-are_alone-clause-searched :
+    goal.advance-returns-then-are_alone-clause-searched
+advance-returns-then-are_alone-clause-searched g t c =
+    let w = c.args.self.now in
+    let n = (machine_in w).variables in
+    let ps = four c.args.places.now in
+    step-search (machine_in w) w.lengths c.args.q c.joint.result c.step-q.result (take n ps)
+    c.requires.moved c.requires.letter
+    c.step-q.ensures.next c.joint.ensures.code (map left_at (take n ps)) refl c.follow.result
+    c.follow.ensures.searched
+
+pub advance-returns-then-are_alone-clause-counted :
+    goal.advance-returns-then-are_alone-clause-counted
+advance-returns-then-are_alone-clause-counted g t c =
+    let w = c.args.self.now in
+    let n = (machine_in w).variables in
+    let ps = four c.args.places.now in
+    let behind = c.follow.new.steps - c.step-q.new.steps in
+    let Q : ℕ → Type 0 = AreSteps w.lengths (map whole_of (take n ps)) in
+    let sum : behind + 1 ≡ c.follow.new.steps - c.args.steps.now =
+    omega (arith, c.step-q.ensures.counted, c.follow.ensures.steps) in
+    subst Q sum (step-steps (machine_in w) w.lengths c.args.q c.joint.result c.step-q.result
+    (take n ps) c.requires.moved c.requires.letter
+    c.step-q.ensures.next
+    (λ ts f. c.joint.ensures.code ∙ taken-code (machine_in w) _ ts (ap (map letter_or) f))
+    behind c.requires.members c.follow.ensures.counted)
 
 pub advance-search-requires : goal.advance-search-requires
 advance-search-requires g t c κs within =
@@ -131,8 +164,8 @@ choose-returns-then-i-vars-clause-searched g t c =
     no-letter (machine_in w) w.lengths c.args.q (places_in w c.args.places.now)
     (subst P all c.requires.moved) (sym c.some_letter.ensures ∙ c.if-some_letter.false)
 
-pub choose-choose_letter-requires : goal.choose-choose_letter-requires
-choose-choose_letter-requires g t c κs within =
+pub choose-choose_at-requires : goal.choose-choose_at-requires
+choose-choose_at-requires g t c κs within =
     let w = c.args.self.now in
     let few : (machine_in w).variables ≤ 4 = w.monitor.monitor.now.right.few in (
       omega (arith, c.decreases, few),
@@ -142,17 +175,35 @@ choose-choose_letter-requires g t c κs within =
           c.requires.some,
           (
             c.requires.state,
-            (
-              omega (arith, c.vars.ensures.vars),
-              (c.requires.moved, (c.requires.open, c.requires.members)),
-            ),
+            record {
+              within = omega (arith, c.vars.ensures.vars);
+              moved = c.requires.moved;
+              opens = c.requires.open;
+              members = c.requires.members;
+            },
           ),
         ),
       ),
     )
 
-pub choose-choose-found-requires : goal.choose-choose-found-requires
-choose-choose-found-requires g t c κs within =
+-- ---- choose_at
+
+pub choose_at-choose_letter-requires : goal.choose_at-choose_letter-requires
+choose_at-choose_letter-requires g t c κs within =
+    let w = c.args.self.now in
+    let few : (machine_in w).variables ≤ 4 = w.monitor.monitor.now.right.few in (
+      omega (arith, c.decreases, few),
+      (
+        within,
+        (
+          c.requires.some,
+          (c.requires.state, c.requires.chosen),
+        ),
+      ),
+    )
+
+pub choose_at-choose-found-requires : goal.choose_at-choose-found-requires
+choose_at-choose-found-requires g t c κs within =
     let w = c.args.self.now in
     let n = (machine_in w).variables in
     let i = c.args.i in
@@ -164,9 +215,9 @@ choose-choose-found-requires g t c κs within =
     c.put.ensures ∙ ap (λ (qs : List Place). set qs i c.in-Some-gap.place) same in
     let next = four c.put.new.self in
     let few : n ≤ 4 = w.monitor.monitor.now.right.few in
-    let lt : i < n = omega (arith, c.vars.ensures.vars) in
+    let lt : i < n = c.requires.chosen.within in
     let fewer = next-longest n i ps next c.at-here.result c.in-Some-gap.place lt few at
-    c.requires.open is None c.in-Some-gap.ensures.way in (
+    c.requires.chosen.opens is None c.in-Some-gap.ensures.way in (
       omega (arith, c.decreases, few, fewer),
       (
         within,
@@ -178,12 +229,12 @@ choose-choose-found-requires g t c κs within =
               omega arith,
               (
                 moved-more (IsMoved w.lengths) i ps c.in-Some-gap.place next (omega arith)
-                    is c.requires.moved c.in-Some-gap.ensures.moved,
+                    is c.requires.chosen.moved c.in-Some-gap.ensures.moved,
                 (
-                  open-less IsOpen i n ps c.in-Some-gap.place next is c.requires.open,
+                  open-less IsOpen i n ps c.in-Some-gap.place next is c.requires.chosen.opens,
                   next-some n i ps next c.at-here.result c.in-Some-gap.place lt few at
-                      c.requires.open is None c.in-Some-gap.ensures.way
-                      c.requires.members,
+                      c.requires.chosen.opens is None c.in-Some-gap.ensures.way
+                      c.requires.chosen.members,
                 ),
               ),
             ),
@@ -192,8 +243,8 @@ choose-choose-found-requires g t c κs within =
       ),
     )
 
-pub choose-returns-in-Some-gap-clause-searched : goal.choose-returns-in-Some-gap-clause-searched
-choose-returns-in-Some-gap-clause-searched g t c =
+pub choose_at-returns-in-Some-gap-clause-searched : goal.choose_at-returns-in-Some-gap-clause-searched
+choose_at-returns-in-Some-gap-clause-searched g t c =
     let w = c.args.self.now in
     let n = (machine_in w).variables in
     let i = c.args.i in
@@ -204,16 +255,16 @@ choose-returns-in-Some-gap-clause-searched g t c =
     let is : four c.put.new.self ≡ set ps i c.in-Some-gap.place =
     c.put.ensures ∙ ap (λ (qs : List Place). set qs i c.in-Some-gap.place) same in
     let few : n ≤ 4 = w.monitor.monitor.now.right.few in
-    let lt : i < n = omega (arith, c.vars.ensures.vars) in
+    let lt : i < n = c.requires.chosen.within in
     let P : List Letter → Type 0 = λ l. AreLetters l (left_at c.at-here.result) in
     gap-search (machine_in w) w.lengths c.args.q n i ps (four c.put.new.self) c.at-here.result
-    c.in-Some-gap.place lt few at c.requires.open is
+    c.in-Some-gap.place lt few at c.requires.chosen.opens is
     c.in-Some-gap.ensures.way (letters_in i ps)
-    (subst P (sym (at-letters i ps c.at-here.result at)) c.letters_differ.ensures)
+    (subst P (sym (at-letters i ps c.at-here.result at)) (c.letters_differ.ensures c.at-here.result c.at-here.ensures))
     c.in-None.ensures.searched c.choose-found.result c.choose-found.ensures.searched
 
-pub choose-returns-in-Some-gap-clause-counted : goal.choose-returns-in-Some-gap-clause-counted
-choose-returns-in-Some-gap-clause-counted g t c =
+pub choose_at-returns-in-Some-gap-clause-counted : goal.choose_at-returns-in-Some-gap-clause-counted
+choose_at-returns-in-Some-gap-clause-counted g t c =
     let w = c.args.self.now in
     let n = (machine_in w).variables in
     let i = c.args.i in
@@ -224,17 +275,40 @@ choose-returns-in-Some-gap-clause-counted g t c =
     let is : four c.put.new.self ≡ set ps i c.in-Some-gap.place =
     c.put.ensures ∙ ap (λ (qs : List Place). set qs i c.in-Some-gap.place) same in
     let few : n ≤ 4 = w.monitor.monitor.now.right.few in
-    let lt : i < n = omega (arith, c.vars.ensures.vars) in
+    let lt : i < n = c.requires.chosen.within in
     next-gap n i ps (four c.put.new.self) c.at-here.result c.in-Some-gap.place lt few at
-    c.requires.open is None c.in-Some-gap.ensures.way w.lengths (letters_in i ps) refl
+    c.requires.chosen.opens is None c.in-Some-gap.ensures.way w.lengths (letters_in i ps) refl
     (c.choose_letter.new.steps - c.args.steps.now)
     (c.choose-found.new.steps - c.choose_letter.new.steps)
     (c.choose-found.new.steps - c.args.steps.now)
     (omega (arith, c.choose_letter.ensures.steps, c.choose-found.ensures.steps))
     c.choose_letter.ensures.counted c.choose-found.ensures.counted
 
-pub choose-returns-in-None-gap-clause-searched : goal.choose-returns-in-None-gap-clause-searched
-choose-returns-in-None-gap-clause-searched g t c =
+pub choose_at-returns-then-is_least-clause-searched :
+    goal.choose_at-returns-then-is_least-clause-searched
+choose_at-returns-then-is_least-clause-searched g t c =
+    let w = c.args.self.now in
+    let n = (machine_in w).variables in
+    let i = c.args.i in
+    let ps = four c.args.places.now in
+    let same : four c.choose_letter.new.places ≡ ps = c.in-None.ensures.same in
+    let few : n ≤ 4 = w.monitor.monitor.now.right.few in
+    let lt : i < n = c.requires.chosen.within in
+    let (p, at) = at-some ps i (omega arith) in
+    let At : List Place → Type 0 = λ qs. slice_get qs i ≡ Some p in
+    let P : List Letter → Type 0 = λ l. AreLetters l (left_at p) in
+    let Q : Lengths → Type 0 = λ l. HasNoGap l (left_at p) in
+    no-gap-accepted (machine_in w) w.lengths c.args.q n i ps p lt few at
+    c.requires.chosen.opens (letters_in i ps)
+    (subst P (sym (at-letters i ps p at)) (c.letters_differ.ensures p (subst At (sym same) at)))
+    (subst Q (sym (OnTrue_at c.if-is_least.true c.is_least.ensures)) tt) c.in-None.ensures.searched
+
+pub choose_at-returns-then-is_least-clause-same :
+    goal.choose_at-returns-then-is_least-clause-same
+choose_at-returns-then-is_least-clause-same g t c = c.in-None.ensures.same
+
+pub choose_at-returns-in-None-gap-clause-searched : goal.choose_at-returns-in-None-gap-clause-searched
+choose_at-returns-in-None-gap-clause-searched g t c =
     let w = c.args.self.now in
     let n = (machine_in w).variables in
     let i = c.args.i in
@@ -243,15 +317,15 @@ choose-returns-in-None-gap-clause-searched g t c =
     let At : List Place → Type 0 = λ qs. slice_get qs i ≡ Some c.at-here.result in
     let at = subst At same c.at-here.ensures in
     let few : n ≤ 4 = w.monitor.monitor.now.right.few in
-    let lt : i < n = omega (arith, c.vars.ensures.vars) in
+    let lt : i < n = c.requires.chosen.within in
     let P : List Letter → Type 0 = λ l. AreLetters l (left_at c.at-here.result) in
     no-gap-accepted (machine_in w) w.lengths c.args.q n i ps c.at-here.result lt few at
-    c.requires.open (letters_in i ps)
-    (subst P (sym (at-letters i ps c.at-here.result at)) c.letters_differ.ensures)
+    c.requires.chosen.opens (letters_in i ps)
+    (subst P (sym (at-letters i ps c.at-here.result at)) (c.letters_differ.ensures c.at-here.result c.at-here.ensures))
     c.in-None-gap.ensures.none c.in-None.ensures.searched
 
-pub choose-returns-in-Some-gap-clause-same : goal.choose-returns-in-Some-gap-clause-same
-choose-returns-in-Some-gap-clause-same g t c =
+pub choose_at-returns-in-Some-gap-clause-same : goal.choose_at-returns-in-Some-gap-clause-same
+choose_at-returns-in-Some-gap-clause-same g t c =
     let i = c.args.i in
     let ps = four c.args.places.now in
     let here = c.at-here.result in
@@ -266,8 +340,8 @@ choose-returns-in-Some-gap-clause-same g t c =
     ∙ set-set ps i c.in-Some-gap.place here
     ∙ set-back ps i here at) c.choose-found.ensures.same
 
-pub choose-returns-in-None-gap-clause-same : goal.choose-returns-in-None-gap-clause-same
-choose-returns-in-None-gap-clause-same g t c = c.in-None.ensures.same
+pub choose_at-returns-in-None-gap-clause-same : goal.choose_at-returns-in-None-gap-clause-same
+choose_at-returns-in-None-gap-clause-same g t c = c.in-None.ensures.same
 
 -- ---- choose_letter
 
@@ -294,9 +368,9 @@ choose_letter-choose-requires g t c κs within =
     let (a, there) = at-some (letters_at c.at-here.result.spot) c.loop-k.k
     (omega (arith, c.len-k-end.ensures, c.loop-k-test.true)) in
     let way = c.letter.ensures.way a there in
-    let fewer = next-longest n i ps next c.at-here.result c.letter.result c.requires.within few
-    c.at-here.ensures c.requires.open (c.put.ensures ∙ c.loop-k.invariant.kept c.letter.result) (Some a) way in (
-      omega (arith, c.decreases, few, fewer, c.requires.within),
+    let fewer = next-longest n i ps next c.at-here.result c.letter.result c.requires.chosen.within few
+    c.at-here.ensures c.requires.chosen.opens (c.put.ensures ∙ c.loop-k.invariant.kept c.letter.result) (Some a) way in (
+      omega (arith, c.decreases, few, fewer, c.requires.chosen.within),
       (
         within,
         (
@@ -304,17 +378,17 @@ choose_letter-choose-requires g t c κs within =
           (
             c.requires.state,
             (
-              omega (arith, c.requires.within),
+              omega (arith, c.requires.chosen.within),
               (
                 moved-more (IsMoved w.lengths) i ps c.letter.result next
-                    (omega (arith, c.requires.within)) (c.put.ensures ∙ c.loop-k.invariant.kept c.letter.result) c.requires.moved
+                    (omega (arith, c.requires.chosen.within)) (c.put.ensures ∙ c.loop-k.invariant.kept c.letter.result) c.requires.chosen.moved
                     (c.letter.ensures.moved w.lengths),
                 (
                   open-less IsOpen i n ps c.letter.result next (c.put.ensures ∙ c.loop-k.invariant.kept c.letter.result)
-                      c.requires.open,
-                  next-some n i ps next c.at-here.result c.letter.result c.requires.within few
-                      c.at-here.ensures c.requires.open (c.put.ensures ∙ c.loop-k.invariant.kept c.letter.result) (Some a) way
-                      c.requires.members,
+                      c.requires.chosen.opens,
+                  next-some n i ps next c.at-here.result c.letter.result c.requires.chosen.within few
+                      c.at-here.ensures c.requires.chosen.opens (c.put.ensures ∙ c.loop-k.invariant.kept c.letter.result) (Some a) way
+                      c.requires.chosen.members,
                 ),
               ),
             ),
@@ -331,8 +405,8 @@ choose_letter-returns-in-Some-clause-searched g t c =
     let (a, there) = at-some (letters_at c.at-here.result.spot) c.loop-k.k
     (omega (arith, c.len-k-end.ensures, c.loop-k-test.true)) in
     next-rejected (machine_in w).variables c.args.i (four c.args.places.now)
-    (four c.put.new.self) c.at-here.result c.letter.result c.requires.within few c.at-here.ensures
-    c.requires.open (c.put.ensures ∙ c.loop-k.invariant.kept c.letter.result) (Some a) (c.letter.ensures.way a there) (machine_in w)
+    (four c.put.new.self) c.at-here.result c.letter.result c.requires.chosen.within few c.at-here.ensures
+    c.requires.chosen.opens (c.put.ensures ∙ c.loop-k.invariant.kept c.letter.result) (Some a) (c.letter.ensures.way a there) (machine_in w)
     w.lengths c.args.q c.in-Some.tuple c.in-Some.ensures.searched
 
 pub choose_letter-returns-in-Some-clause-steps : goal.choose_letter-returns-in-Some-clause-steps
@@ -357,8 +431,8 @@ choose_letter-returns-in-Some-clause-counted g t c =
     steps-letters w.lengths (wholes_in w c.args.places.now) c.args.i letters (c.loop-k.k + 1)
     (c.choose.new.steps - c.args.steps.now)
     (next-steps (machine_in w).variables c.args.i ps
-    (four c.put.new.self) c.at-here.result c.letter.result c.requires.within few c.at-here.ensures
-    c.requires.open (c.put.ensures ∙ c.loop-k.invariant.kept c.letter.result) (Some a) (c.letter.ensures.way a there) w.lengths letters
+    (four c.put.new.self) c.at-here.result c.letter.result c.requires.chosen.within few c.at-here.ensures
+    c.requires.chosen.opens (c.put.ensures ∙ c.loop-k.invariant.kept c.letter.result) (Some a) (c.letter.ensures.way a there) w.lengths letters
     c.loop-k.k a refl are.distinct (subst Q (sym is) there)
     (c.loop-k.steps - c.args.steps.now) (c.choose.new.steps - c.loop-k.steps)
     (c.choose.new.steps - c.args.steps.now)
@@ -384,13 +458,13 @@ choose_letter-loop-k-preserved g t c =
           (c.in-None.ensures.same ∙ c.put.ensures ∙ c.loop-k.invariant.kept c.letter.result)
           ∙ set-set ps c.args.i c.letter.result x;
       accepted = next-more (machine_in w).variables c.args.i ps (four c.put.new.self)
-          c.at-here.result c.letter.result c.requires.within few c.at-here.ensures c.requires.open
+          c.at-here.result c.letter.result c.requires.chosen.within few c.at-here.ensures c.requires.chosen.opens
           (c.put.ensures ∙ c.loop-k.invariant.kept c.letter.result) (Some a) (c.letter.ensures.way a there) (machine_in w) w.lengths
           c.args.q letters c.loop-k.k a refl (subst Q (sym is) there) c.loop-k.invariant.accepted
           c.in-None.ensures.searched;
       steps = omega (arith, c.loop-k.invariant.steps, c.choose.ensures.steps);
       counted = next-steps (machine_in w).variables c.args.i ps (four c.put.new.self)
-          c.at-here.result c.letter.result c.requires.within few c.at-here.ensures c.requires.open
+          c.at-here.result c.letter.result c.requires.chosen.within few c.at-here.ensures c.requires.chosen.opens
           (c.put.ensures ∙ c.loop-k.invariant.kept c.letter.result) (Some a) (c.letter.ensures.way a there) w.lengths letters
           c.loop-k.k a refl are.distinct (subst Q (sym is) there)
           (c.loop-k.steps - c.args.steps.now) (c.choose.new.steps - c.loop-k.steps)
@@ -458,58 +532,17 @@ search-choose-requires g t c κs within =
       ),
     )
 
-pub search-returns-in-None-clause-searched : goal.search-returns-in-None-clause-searched
-search-returns-in-None-clause-searched g t c =
+pub search-returns-clause-searched : goal.search-returns-clause-searched
+search-returns-clause-searched g t c =
     let w = c.args.self.now in
     chosen-search (machine_in w) w.lengths c.args.q (rests_in w c.args.places.now)
     (wholes_in w c.args.places.now)
     (open-wholes (places_in w c.args.places.now) c.requires.open) c.choose.result
     (OnFalse_at c.if-rejects.false c.rejects.ensures.accepts) c.choose.ensures.searched
 
-pub search-returns-in-None-clause-counted : goal.search-returns-in-None-clause-counted
-search-returns-in-None-clause-counted g t c =
+pub search-returns-clause-counted : goal.search-returns-clause-counted
+search-returns-clause-counted g t c =
     let w = c.args.self.now in
     let P : List (List Numbered) → Type 0 = λ ls. AreSteps w.lengths ls
     (c.choose.new.steps - c.args.steps.now) in
     subst P (open-wholes (places_in w c.args.places.now) c.requires.open) c.choose.ensures.counted
-
-pub search-advance-requires : goal.search-advance-requires
-search-advance-requires g t c κs within =
-    let w = c.args.self.now in
-    let rests = rests_in w c.args.places.now in
-    let wholes = wholes_in w c.in-Some.moved in
-    let fewer = only-longest w.lengths rests wholes c.in-Some.ensures.only in (
-      omega (arith, c.decreases, fewer),
-      (
-        within,
-        (
-          c.requires.some,
-          (
-            c.requires.state,
-            (
-              c.in-Some.ensures.moved,
-              (
-                c.in-Some.ensures.letter,
-                only-some w.lengths rests wholes c.in-Some.ensures.only,
-              ),
-            ),
-          ),
-        ),
-      ),
-    )
-
-pub search-returns-in-Some-clause-searched : goal.search-returns-in-Some-clause-searched
-search-returns-in-Some-clause-searched g t c =
-    let w = c.args.self.now in
-    let rests = rests_in w c.args.places.now in
-    let wholes = wholes_in w c.in-Some.moved in
-    chosen-search (machine_in w) w.lengths c.args.q rests rests refl c.advance.result
-    (OnFalse_at c.if-rejects.false c.rejects.ensures.accepts)
-    (only-search (machine_in w) w.lengths c.args.q rests wholes c.in-Some.ensures.only
-    c.advance.result c.advance.ensures.searched)
-
-pub search-returns-in-Some-clause-counted : goal.search-returns-in-Some-clause-counted
-search-returns-in-Some-clause-counted g t c =
-    let w = c.args.self.now in
-    only-steps w.lengths (rests_in w c.args.places.now) (wholes_in w c.in-Some.moved)
-    c.in-Some.ensures.only (c.advance.new.steps - c.args.steps.now) c.advance.ensures.counted

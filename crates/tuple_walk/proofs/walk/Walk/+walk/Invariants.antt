@@ -7,16 +7,19 @@ use Rattle.tuple_walk.proofs.Longest.{longest}
 use Rattle.tuple_walk.proofs.walk.Walk.+walk.Given as goal
 
 abbrev pub decreases-advance : goal.decreases-advance
-decreases-advance g l = 11 * longest (wholes_in l.self.now l.places.now)
+decreases-advance g l = 20 * longest (wholes_in l.self.now l.places.now)
 
 abbrev pub decreases-choose : goal.decreases-choose
-decreases-choose g l = 11 * longest (wholes_in l.self.now l.places.now) + (9 - 2 * l.i)
+decreases-choose g l = 20 * longest (wholes_in l.self.now l.places.now) + (18 - 4 * l.i)
+
+abbrev pub decreases-choose_at : goal.decreases-choose_at
+decreases-choose_at g l = 20 * longest (wholes_in l.self.now l.places.now) + (17 - 4 * l.i)
 
 abbrev pub decreases-choose_letter : goal.decreases-choose_letter
-decreases-choose_letter g l = 11 * longest (wholes_in l.self.now l.places.now) + (8 - 2 * l.i)
+decreases-choose_letter g l = 20 * longest (wholes_in l.self.now l.places.now) + (16 - 4 * l.i)
 
 abbrev pub decreases-search : goal.decreases-search
-decreases-search g l = 11 * longest (rests_in l.self.now l.places.now) + 10
+decreases-search g l = 20 * longest (rests_in l.self.now l.places.now) + 19
 
 abbrev pub invariant-choose_letter-loop-k : goal.invariant-choose_letter-loop-k
 invariant-choose_letter-loop-k g l =
