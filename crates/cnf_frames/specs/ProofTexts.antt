@@ -32,8 +32,12 @@ AreSimple facts = list_any is_clause facts ≡ false
 abbrev pub kind_text : List Fact → List ℕ
 kind_text facts = cond (list_any is_clause facts) (codes "clauses") (codes "induction")
 
-abbrev pub proof_text : InductionProof → List ℕ
-proof_text proof =
-    codes "proof " ++ kind_text proof.inv ++ codes " " ++ decimal proof.depth ++ codes " "
+-- a proof with this word
+abbrev pub worded_text : List ℕ → InductionProof → List ℕ
+worded_text word proof =
+    codes "proof " ++ word ++ codes " " ++ decimal proof.depth ++ codes " "
     ++ decimal (length proof.inv) ++ codes "\n" ++ flat_map fact_text proof.inv ++ flat_map log_text proof.keep
     ++ flat_map log_text proof.base ++ log_text proof.step
+
+abbrev pub proof_text : InductionProof → List ℕ
+proof_text proof = worded_text (kind_text proof.inv) proof

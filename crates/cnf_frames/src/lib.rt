@@ -22,7 +22,7 @@ pub use laws::{
     clauses_are_few, facts_survive, induction, induction_proof, inductive_facts, queries_are_paths,
     refuted_queries, step_paths_are_short,
 };
-pub use printing::print_proof;
+pub use printing::{print_proof, print_worded};
 pub use queries::{Asked, FrameError, Query, base_query, keep_query, step_fits, step_query};
 pub use stating::add_facts;
 pub use writing::{latch_number, number_of, opposite};

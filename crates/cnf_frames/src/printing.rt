@@ -3,7 +3,7 @@
 ghost use Rattle.std.specs.Prelude.{◌≡◌, ◌++◌, ◌∷◌, codes, decimal, IfOk, OnOk};
 ghost use Rattle.std.specs.List.{flat_map, list_any};
 ghost use Rattle.chain_check.specs.LogTexts.{log_text};
-ghost use Rattle.cnf_frames.specs.ProofTexts.{fact_text, is_clause, kind_text, proof_text};
+ghost use Rattle.cnf_frames.specs.ProofTexts.{fact_text, is_clause, kind_text, proof_text, worded_text};
 
 use crate::facts::Fact;
 use crate::inductions::{InductionProof, LogList};
@@ -12,15 +12,22 @@ use hy_base::{M, Text};
 use itoa::Buffer;
 use std::alloc::Global;
 
-/// The text of a proof by induction: its depth and the number of its facts, a line for each fact,
-/// and the logs of the groups of facts, of the base queries and of the step query. In time and
-/// memory linear in the proof.
+/// The text of a proof by induction about a circuit, with the word of its facts.
 pub fn print_proof(alloc: Global, proof: &InductionProof) -> M<Text>
     ensures { IfOk result (λ text. text ≡ proof_text proof.now) }
 {
+    print_worded(alloc, kind(proof.inv.as_slice()), proof)
+}
+
+/// The text of a proof by induction, which begins with this word: its depth and the number of its facts, a line for each fact,
+/// and the logs of the groups of facts, of the base queries and of the step query. In time and
+/// memory linear in the proof.
+pub fn print_worded(alloc: Global, word: &[u8], proof: &InductionProof) -> M<Text>
+    ensures { IfOk result (λ text. text ≡ worded_text word.now proof.now) }
+{
     let mut text = Text::new(alloc);
     text.extend(b"proof ")?;
-    text.extend(kind(proof.inv.as_slice()))?;
+    text.extend(word)?;
     text.extend(b" ")?;
     push_number(&mut text, proof.depth)?;
     text.extend(b" ")?;

@@ -1,7 +1,7 @@
 use Rattle.std.proofs.Common.{◌≡◌, ◌++◌, take}
 use Rattle.std.specs.List.{flat_map}
 use Rattle.cnf_frames.specs.ProofTexts.{fact_text}
-use Rattle.cnf_frames.proofs.printing.print_proof.Given as goal
+use Rattle.cnf_frames.proofs.printing.print_worded.Given as goal
 
 abbrev pub invariant-loop-fact : goal.invariant-loop-fact
 invariant-loop-fact l =
