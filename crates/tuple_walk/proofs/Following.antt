@@ -250,3 +250,21 @@ two-code m i t u =
     ∙ code-more letters 0 (get_or t i empty) m.atoms refl)
     ∙ code-more letters 1 (get_or u i empty) m.atoms refl
     ∙ position-code m i (t ∷ u ∷ [])
+
+-- the parts of three letters
+pub three-code : (m : Machine) (i : ℕ) (t u v : Trace)
+    → bit_or (bit_or (part_of m.atoms 0 (get_or t i empty)) (part_of m.atoms 1 (get_or u i empty)))
+    (part_of m.atoms 2 (get_or v i empty))
+    ≡ code_at m (trace_words (t ∷ u ∷ v ∷ [])) i
+three-code m i t u v =
+    let letters = letters_at_position i (t ∷ u ∷ v ∷ []) in
+    let first = part_of m.atoms 0 (get_or t i empty) in
+    let second = part_of m.atoms 1 (get_or u i empty) in
+    let third = part_of m.atoms 2 (get_or v i empty) in
+    ap (λ k. bit_or (bit_or k second) third)
+    (sym (or_zero_l first)
+    ∙ ap (λ k. bit_or k first) (sym (code-none m.atoms))
+    ∙ code-more letters 0 (get_or t i empty) m.atoms refl)
+    ∙ ap (λ k. bit_or k third) (code-more letters 1 (get_or u i empty) m.atoms refl)
+    ∙ code-more letters 2 (get_or v i empty) m.atoms refl
+    ∙ position-code m i (t ∷ u ∷ v ∷ [])

@@ -124,6 +124,9 @@ impl<'a, L: Ledger> Walk<'a, L> {
         if rests.len() == 2 {
             return self.joint_of_two(rests[0], rests[1], i);
         }
+        if rests.len() == 3 {
+            return self.joint_of_three(rests[0], rests[1], rests[2], i);
+        }
         let mut code = 0;
         for var in 0..self.monitor.vars() {
             code |= self.monitor.part(var, letter_at(rests[var as usize], i));
@@ -139,6 +142,24 @@ impl<'a, L: Ledger> Walk<'a, L> {
         ensures within { result < codes (machine_in self.now) }
     {
         self.monitor.part(0, letter_at(first, i)) | self.monitor.part(1, letter_at(second, i))
+    }
+
+    /// As `joint_at`, for three rests.
+    #[inline(always)]
+    fn joint_of_three(
+        &self,
+        first: &[LetterMask],
+        second: &[LetterMask],
+        third: &[LetterMask],
+        i: usize,
+    ) -> u32
+        ensures code { result ≡ code_at (machine_in self.now)
+            (trace_words (first.now ∷ second.now ∷ third.now ∷ [])) i }
+        ensures within { result < codes (machine_in self.now) }
+    {
+        let two = self.monitor.part(0, letter_at(first, i))
+            | self.monitor.part(1, letter_at(second, i));
+        two | self.monitor.part(2, letter_at(third, i))
     }
 }
 
