@@ -9,6 +9,7 @@ mod entering;
 mod learning;
 mod lists;
 mod marks;
+mod minimizing;
 mod order;
 mod session;
 mod solver;
