@@ -1,19 +1,18 @@
 -- Reasons in the place of what they imply.
 use Rattle.std.proofs.Common.{◌≡◌, ◌≢◌, ℕ, zero, suc, ◌-◌, ◌<◌, ◌≤◌, Bool, true, false, List, [], ◌∷◌, ◌++◌, length, get_or, take, drop, reverse, inl, inr, refl, sym, ap, ◌∙◌, subst, arith}
-use Rattle.std.specs.Prelude.{ℤ, pos, neg_ℤ, unsigned_abs}
+use Rattle.std.specs.Prelude.{ℤ, pos, neg_ℤ}
 use Rattle.std.specs.List.{Contains}
 use Rattle.std.proofs.lemmas.Bool.{cases_lt}
-use Rattle.std.proofs.lemmas.List.{length-take-le, take_all, take-append-drop}
+use Rattle.std.proofs.lemmas.List.{length-take-le, take-append-drop}
 use Rattle.std.proofs.lemmas.List.Elements.{Contains-append_left}
 use Rattle.std.proofs.lemmas.Option.{slice_get_within, get_or_from_slice_get}
 use Rattle.sat_core.specs.declared.solver.Solver.{Solver}
 use Rattle.chain_check.specs.Clauses.{Clause}
-use Rattle.chain_check.specs.Chains.{IsFalseIn, IsUnit, IsNumbered, Refutes}
+use Rattle.chain_check.specs.Chains.{IsUnit, IsNumbered, Refutes}
 use Rattle.sat_core.specs.Trails.{AreSettled}
 use Rattle.sat_core.specs.Solvers.{IsReady, IsConflict}
 use Rattle.sat_core.specs.Marks.{AreNone}
 use Rattle.sat_core.specs.Analyses.{seen_count, IsAnalysis, IsRefuting, AreMarked, AreMore}
-use Rattle.chain_check.proofs.Literals.{same-or-not}
 use Rattle.sat_core.proofs.Trailing.{IsConsistent, consistent, settled-unrefuted, at-front}
 use Rattle.sat_core.proofs.Analysing.{refuting-starts, refuting-goes, count-empty, count-unseen, counted-seen, pass-unseen, refuting-skips}
 

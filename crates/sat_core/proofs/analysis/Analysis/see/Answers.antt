@@ -1,4 +1,4 @@
-use Rattle.std.proofs.Common.{Bool, ◌≡◌, ◌+◌, ℕ, List, [], ◌∷◌, ◌++◌, length, set, get_or, sym, subst, ◌∙◌, true, false}
+use Rattle.std.proofs.Common.{Bool, ◌≡◌, ℕ, List, length, set, get_or, sym, subst, ◌∙◌, true, false}
 use Rattle.std.specs.Prelude.{ℤ}
 use Rattle.std.proofs.lemmas.List.{length_push}
 use Rattle.sat_core.specs.declared.analysis.Analysis.{Analysis}

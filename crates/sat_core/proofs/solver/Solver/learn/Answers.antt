@@ -1,5 +1,4 @@
-use Rattle.std.proofs.Common.{◌≡◌, List, ℕ, map, refl, reverse, ap, ◌∙◌, sym, subst}
-use Rattle.std.specs.Prelude.{neg_ℤ}
+use Rattle.std.proofs.Common.{List, ℕ, refl, reverse, ap, ◌∙◌, sym, subst}
 use Rattle.chain_check.specs.Clauses.{Clause, IsNew}
 use Rattle.chain_check.specs.Chains.{Follows}
 use Rattle.sat_core.proofs.Pointing.{learned-follows, learned-is-new}

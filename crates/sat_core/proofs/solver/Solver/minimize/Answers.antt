@@ -1,4 +1,4 @@
-use Rattle.std.proofs.Common.{◌≡◌, ◌<◌, ◌-◌, suc, ℕ, [], ◌∷◌, length, get_or, true, ◌∙◌, sym, ap, subst, arith}
+use Rattle.std.proofs.Common.{◌≡◌, ◌<◌, ◌-◌, suc, ℕ, [], ◌∷◌, length, ◌∙◌, sym, ap, subst, arith}
 use Rattle.sat_core.specs.Analyses.{IsAnalysis}
 use Rattle.sat_core.specs.Minimizing.{IsMinimizing}
 use Rattle.sat_core.proofs.Shortening.{minimizing-starts, minimizing-goes, minimizing-skips, minimized}

@@ -1,8 +1,5 @@
-use Rattle.std.proofs.Common.{◌-◌, [], ◌∷◌, ◌++◌, refl, ◌∙◌, sym, ap, arith}
-use Rattle.std.specs.Prelude.{neg_ℤ}
+use Rattle.std.proofs.Common.{◌-◌, [], ◌∷◌, ◌++◌, refl, ◌∙◌, ap, arith}
 use Rattle.sat_core.proofs.Propagating.{no-more-than}
-use Rattle.sat_core.proofs.Resolving.{its-clause}
-use Rattle.sat_core.proofs.Analysing.{counted-seen}
 use Rattle.sat_core.proofs.Shortening.{minimizing-resolves, minimizing-keeps}
 use Rattle.sat_core.proofs.solver.Solver.settle.Goals as goal
 
