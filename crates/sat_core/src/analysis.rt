@@ -4,6 +4,7 @@ ghost use Rattle.std.specs.Prelude.{◌≡◌, ◌<◌, ◌≤◌, ◌^◌, ◌�
 ghost use Rattle.sat_core.specs.Analyses.{IsAnalysis, AreMore};
 ghost use Rattle.sat_core.specs.Marks.{AreNone};
 
+use crate::implying::Implied;
 use crate::marks::Marks;
 use chain_check::{Clause, Learned, Literal};
 use hy_base::{List, M, NumList};
@@ -16,6 +17,8 @@ pub struct Analysis {
     pub seen: Marks,
     /// For each place below the level that is seen a literal of its variable.
     pub lower: Vec<Literal>,
+    /// What is known of what it implies.
+    pub implied: Implied,
     /// How many places of the level are seen and not yet resolved.
     pub unsettled: usize,
     /// The numbers of the clauses, the last one first.
@@ -28,6 +31,7 @@ impl Analysis {
         Analysis {
             seen: Marks::new(alloc),
             lower: Vec::new(alloc),
+            implied: Implied::new(alloc),
             unsettled: 0,
             chain: Vec::new(alloc),
         }
@@ -42,6 +46,7 @@ impl Analysis {
         ensures chain { OnOk result (self.new.chain.items ≡ number ∷ []) }
     {
         self.seen.clear(count)?;
+        self.implied.clear(count)?;
         self.lower.clear();
         self.unsettled = 0;
         self.chain.clear();

@@ -6,6 +6,7 @@ mod analyzing;
 mod asking;
 mod cores;
 mod entering;
+mod implying;
 mod learning;
 mod lists;
 mod marks;

@@ -8,6 +8,7 @@ ghost use Rattle.sat_core.specs.Minimizing.{IsMinimizing};
 ghost use Rattle.sat_core.specs.Solvers.{IsReady};
 
 use crate::analysis::Analysis;
+use crate::implying::Implied;
 use crate::marks::Marks;
 use crate::solver::Solver;
 use chain_check::{Clause, Literal};
@@ -82,7 +83,8 @@ impl Solver {
             self.now.partial.literals start p (suc q) analysis.old asserting.old → IsMinimizing
             self.now.clauses self.now.partial.literals start p q analysis.new asserting.new) }
     {
-        if self.is_removable(&analysis.seen, q) {
+        let removable = self.is_removable(&mut analysis.implied, &analysis.seen, q)?;
+        if removable {
             self.resolve(analysis, 0, q)?;
             return Ok(());
         }
@@ -92,37 +94,17 @@ impl Solver {
     }
 
     /// Whether the literal at `p` has a reason, and what is seen below `p` implies it.
-    fn is_removable(&self, seen: &Marks, p: usize) -> bool
+    fn is_removable(&self, implied: &mut Implied, seen: &Marks, p: usize) -> M<bool>
         requires ready { IsReady self.now }
         requires inside { p < length self.now.partial.literals }
         requires long { length self.now.partial.literals ≤ length seen.now }
-        ensures { IsTrue result → 0 < slice_index self.now.reasons.items p }
+        ensures { IfOk result (λ removable. IsTrue removable →
+            0 < slice_index self.now.reasons.items p) }
     {
-        let number = self.reasons[p];
-        if number == 0 {
-            return false;
+        if self.reasons[p] == 0 {
+            return Ok(false);
         }
-        self.is_implied(seen, number, p)
-    }
-
-    /// Whether what is seen below `p`, and what is true without decisions, makes all literals of the
-    /// clause with this number false but the one at `p`.
-    fn is_implied(&self, seen: &Marks, number: u32, p: usize) -> bool
-        requires ready { IsReady self.now }
-        requires counted { 0 < number }
-        requires within { number ≤ length self.now.clauses }
-        requires long { p ≤ length seen.now }
-    {
-        let first = self.first_limit();
-        if p < first {
-            return true;
-        }
-        for l in self.clauses.clause(number as usize - 1) {
-            let place = self.places[l.variable()];
-            if first <= place && place < p && !seen.is_marked(place) {
-                return false;
-            }
-        }
-        true
+        let answer = self.is_implied(implied, seen, p)?;
+        Ok(answer)
     }
 }
