@@ -1,9 +1,11 @@
 -- From the one place of the level down to the clause that is learned.
-use Rattle.std.proofs.Common.{◌≡◌, ℕ, suc, ◌+◌, ◌-◌, ◌<◌, ◌≤◌, Bool, true, false, max, List, [], ◌∷◌, ◌++◌, length, get_or, map, reverse, inl, inr, sym, ap, ◌∙◌, subst, arith}
+use Rattle.std.proofs.Common.{◌≡◌, ℕ, suc, ◌+◌, ◌-◌, ◌<◌, ◌≤◌, Bool, true, false, max, List, [], ◌∷◌, ◌++◌, length, get_or, map, reverse, take, drop, inl, inr, sym, ap, ◌∙◌, subst, arith}
 use Rattle.std.specs.Prelude.{ℤ, pos, neg_ℤ}
 use Rattle.std.specs.List.{Contains}
 use Rattle.std.proofs.lemmas.Bool.{cases_lt}
-use Rattle.std.proofs.lemmas.List.Elements.{Contains-append_left, Contains-push, Contains-push_cases, Contains-get_or}
+use Rattle.std.proofs.lemmas.List.Sorted.{Contains-permutation, IsPermutation-reverse, IsPermutation-sym}
+use Rattle.std.proofs.lemmas.List.{take-append-drop}
+use Rattle.std.proofs.lemmas.List.Elements.{Contains-append_left, Contains-append_right, Contains-append_cases, Contains-push, Contains-push_cases, Contains-get_or}
 use Rattle.sat_core.specs.declared.analysis.Analysis.{Analysis}
 use Rattle.sat_core.specs.declared.minimizing.Asserting.{Asserting}
 use Rattle.chain_check.specs.Clauses.{Clause}
@@ -155,27 +157,59 @@ minimizing-keeps clauses trail start p q a b it next marked seen lower unsettled
           (refuting-keeps clauses trail q it.clause a.seen a.chain.items is.refuting)));
     }
 
--- nothing is seen further down
+swapped : (c d : Clause) (m : ℤ) → Contains (c ++ d) m → Contains (d ++ c) m
+swapped c d m there = elim (Contains-append_cases c d m there) [
+  | inl first ↦ Contains-append_right d c m first
+  | inr second ↦ Contains-append_left d c m second
+]
+
+-- nothing is seen further down: the clause in another order is the one that is learned
 pub minimized : (clauses : List Clause) (trail : List ℤ) (start p q : ℕ) (a : Analysis)
-    (it : Asserting) → a.unsettled ≡ 0 → IsMinimizing clauses trail start p q a it →
-    IsAsserting clauses trail start p it.clause it.highest a.chain.items
-minimized clauses trail start p q a it none is = record { topped = is.topped; refuted = refuted }
+    (it : Asserting) (r c : Clause) (k : ℕ) → r ≡ reverse it.clause → c ≡ drop k r ++ take k r →
+    a.unsettled ≡ 0 → IsMinimizing clauses trail start p q a it →
+    IsAsserting clauses trail start p c it.highest a.chain.items
+minimized clauses trail start p q a it r c k reversed rotated none is = record {
+  topped = record {
+    level = is.topped.level;
+    inside = is.topped.inside;
+    top = turned _ is.topped.top;
+    others = λ m there. is.topped.others m (back m there);
+    reached = λ some. let (i, at, low, there) = is.topped.reached some in
+        (i, at, low, turned _ there);
+  };
+  refuted = refuted;
+}
   where
+    turned : (m : ℤ) → Contains it.clause m → Contains c m
+    turned m there =
+        let P : Clause → Type 0 = λ d. Contains d m in
+        subst P (sym rotated) (swapped (take k r) (drop k r) m (subst P
+        (sym (take-append-drop k r ∙ reversed)) (Contains-permutation it.clause
+        (reverse it.clause) m (IsPermutation-reverse it.clause) there)))
+
+    back : (m : ℤ) → Contains c m → Contains it.clause m
+    back m there =
+        let P : Clause → Type 0 = λ d. Contains d m in
+        Contains-permutation (reverse it.clause) it.clause m
+        (IsPermutation-sym it.clause (reverse it.clause) (IsPermutation-reverse it.clause))
+        (subst P (take-append-drop k r ∙ reversed) (swapped (drop k r) (take k r) m
+        (subst P rotated there)))
+
     on-trail : (m : ℤ) → Contains it.clause m → Contains trail (neg_ℤ m)
     on-trail m there =
         let P : ℤ → Type 0 = Contains trail in
         elim (is.topped.others m there) [
-          | inl same ↦ subst P (sym (twice (get_or trail p (pos 0))) ∙ ap neg_ℤ (sym same))
+          | inl same' ↦ subst P (sym (twice (get_or trail p (pos 0))) ∙ ap neg_ℤ (sym same'))
               (Contains-get_or trail p (pos 0) is.topped.inside)
-          | inr (i, a, b, e) ↦ subst P e (Contains-get_or trail i (pos 0)
-              (omega (arith, a, is.topped.level, is.topped.inside)))
+          | inr (i, a', b, e) ↦ subst P e (Contains-get_or trail i (pos 0)
+              (omega (arith, a', is.topped.level, is.topped.inside)))
         ]
 
     unseen : (i : ℕ) → i < q → get_or a.seen i false ≡ false
     unseen i lt = count-none a.seen 0 q (sym is.is.counted ∙ none) i (omega arith) lt
 
-    refuted : Refutes clauses (map neg_ℤ it.clause) (reverse a.chain.items)
-    refuted = is.refuting (map neg_ℤ it.clause) (λ m there. opposite-there it.clause m there)
+    refuted : Refutes clauses (map neg_ℤ c) (reverse a.chain.items)
+    refuted = is.refuting (map neg_ℤ c) (λ m there. opposite-there c m (turned m there))
         (λ i lt e. let clash : false ≡ true = sym (unseen i lt) ∙ e in absurd (cc))
         (λ l there. let P : ℤ → Type 0 = Contains trail in
-        subst P (twice l) (on-trail (neg_ℤ l) (opposites it.clause l there)))
+        subst P (twice l) (on-trail (neg_ℤ l) (back _ (opposites c l there))))

@@ -47,7 +47,9 @@ impl Asserting {
 }
 
 impl Solver {
-    /// The clause that is learned at place `p`, through which all of the conflict goes.
+    /// The clause that is learned at place `p`, through which all of the conflict goes. Behind its first
+    /// literal stand those first that have been false for longest: what changes least is found first to
+    /// be watched.
     pub(crate) fn minimize(
         &self,
         alloc: Global,
@@ -69,6 +71,8 @@ impl Solver {
                 self.settle(analysis, &mut asserting, q)?;
             }
         }
+        asserting.clause.reverse();
+        asserting.clause.rotate_right(1);
         Ok(asserting)
     }
 

@@ -1,4 +1,5 @@
 use Rattle.std.proofs.Common.{◌≡◌, ◌<◌, ◌-◌, suc, ℕ, [], ◌∷◌, length, ◌∙◌, sym, ap, subst, arith}
+use Rattle.std.proofs.lemmas.List.{length-reverse}
 use Rattle.sat_core.specs.Analyses.{IsAnalysis}
 use Rattle.sat_core.specs.Minimizing.{IsMinimizing}
 use Rattle.sat_core.proofs.Shortening.{minimizing-starts, minimizing-goes, minimizing-skips, minimized}
@@ -62,11 +63,17 @@ places-preserved c =
     c.places.q c.places.analysis c.places.asserting some
     (sym c.is_marked.ensures ∙ c.if-is_marked.false) c.places.invariant
 
+pub rotate_right-requires : goal.rotate_right-requires
+rotate_right-requires c =
+    let (k, lt, e) = c.places.invariant.topped.top in
+    omega (arith, lt, ap length c.reverse.ensures, length-reverse c.places.asserting.clause)
+
 pub returns : goal.returns
 returns c =
     minimized c.args.self.now.clauses c.args.self.now.partial.literals c.args.start c.args.p
-    c.places.q c.places.analysis c.places.asserting (omega (arith, c.places-test.false))
-    c.places.invariant
+    c.places.q c.places.analysis c.places.asserting c.reverse.new.self c.rotate_right.new.self
+    (length c.reverse.new.self - 1) c.reverse.ensures c.rotate_right.ensures
+    (omega (arith, c.places-test.false)) c.places.invariant
 
 pub places-smaller : goal.places-smaller
 places-smaller c =
