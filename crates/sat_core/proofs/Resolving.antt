@@ -174,3 +174,11 @@ further-down clauses trail start p kept seen lower unsettled chain some unseen i
       pass-unseen trail start (p - 1) seen lower unsettled (subst P same is) unseen,
       refuting-skips clauses trail (p - 1) kept seen chain unseen (subst Q same refuting),
     )
+
+-- what is refuted up to p is so up to the place behind the one before it
+pub refuting-next : (clauses : List Clause) (trail : List ℤ) (p : ℕ) (kept : Clause)
+    (seen : List Bool) (chain : List ℕ) → 0 < p → IsRefuting clauses trail p kept seen chain →
+    IsRefuting clauses trail (suc (p - 1)) kept seen chain
+refuting-next clauses trail p kept seen chain some refuting =
+    let Q : ℕ → Type 0 = λ q. IsRefuting clauses trail q kept seen chain in
+    let same : p ≡ suc (p - 1) = omega arith in subst Q same refuting

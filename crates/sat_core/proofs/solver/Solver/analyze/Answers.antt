@@ -1,6 +1,6 @@
 use Rattle.std.proofs.Common.{◌≡◌, ◌-◌, suc, [], length, true, false, ℕ, get_or, ◌∙◌, sym, subst, arith}
-use Rattle.sat_core.specs.Analyses.{IsAnalysis, IsRefuting}
-use Rattle.sat_core.proofs.Resolving.{implied-place, unrefuted-below, further-down}
+use Rattle.sat_core.specs.Analyses.{IsAnalysis}
+use Rattle.sat_core.proofs.Resolving.{implied-place, unrefuted-below, further-down, refuting-next}
 use Rattle.sat_core.proofs.solver.Solver.analyze.Goals as goal
 
 pub resolve-requires-clause-implied : goal.resolve-requires-clause-implied
@@ -31,10 +31,9 @@ loop-p-preserved c =
     c.loop-p.invariant.1
 
 pub loop-p-preserved-in-Continue-branch-2 : goal.loop-p-preserved-in-Continue-branch-2
-loop-p-preserved-in-Continue-branch-2 c =
-    let same : c.loop-p.p ≡ suc (c.loop-p.p - 1) = omega (arith, c.loop-p-test.true) in
-    let P : ℕ → Type 0 = λ q. IsRefuting c.args.self.now.clauses c.args.self.now.partial.literals q
-    [] c.loop-p.analysis.seen c.loop-p.analysis.chain.items in (
-      c.in_ok-resolve.ensures.is,
-      c.in_ok-resolve.ensures.refuting [] (subst P same c.loop-p.invariant.1),
-    )
+loop-p-preserved-in-Continue-branch-2 c = (
+  c.in_ok-resolve.ensures.is,
+  c.in_ok-resolve.ensures.refuting [] (refuting-next c.args.self.now.clauses
+      c.args.self.now.partial.literals c.loop-p.p [] c.loop-p.analysis.seen
+      c.loop-p.analysis.chain.items (omega (arith, c.loop-p-test.true)) c.loop-p.invariant.1),
+)

@@ -1,6 +1,5 @@
-use Rattle.std.proofs.Common.{◌≡◌, ◌-◌, ℕ, suc, [], length, sym, ◌∙◌, subst, arith}
-use Rattle.sat_core.specs.Analyses.{IsRefuting}
-use Rattle.sat_core.proofs.Resolving.{further-down}
+use Rattle.std.proofs.Common.{[], length, sym, ◌∙◌}
+use Rattle.sat_core.proofs.Resolving.{further-down, refuting-next}
 use Rattle.sat_core.proofs.solver.Solver.refute.Goals as goal
 
 pub loop-p-preserved : goal.loop-p-preserved
@@ -12,10 +11,9 @@ loop-p-preserved c =
     c.loop-p.invariant.1
 
 pub loop-p-preserved-in-Continue-branch-2 : goal.loop-p-preserved-in-Continue-branch-2
-loop-p-preserved-in-Continue-branch-2 c =
-    let same : c.loop-p.p ≡ suc (c.loop-p.p - 1) = omega (arith, c.loop-p-test.true) in
-    let P : ℕ → Type 0 = λ q. IsRefuting c.args.self.now.clauses c.args.self.now.partial.literals q
-    [] c.loop-p.analysis.seen c.loop-p.analysis.chain.items in (
-      c.in_ok-resolve.ensures.is,
-      c.in_ok-resolve.ensures.refuting [] (subst P same c.loop-p.invariant.1),
-    )
+loop-p-preserved-in-Continue-branch-2 c = (
+  c.in_ok-resolve.ensures.is,
+  c.in_ok-resolve.ensures.refuting [] (refuting-next c.args.self.now.clauses
+      c.args.self.now.partial.literals c.loop-p.p [] c.loop-p.analysis.seen
+      c.loop-p.analysis.chain.items c.loop-p-test.true c.loop-p.invariant.1),
+)
