@@ -1,5 +1,5 @@
 -- One place more is seen.
-use Rattle.std.proofs.Common.{◌≡◌, ◌≢◌, ℕ, zero, suc, ◌+◌, ◌-◌, ◌<◌, ◌≤◌, Bool, true, false, cond, ◌&&◌, max, List, [], ◌∷◌, ◌++◌, length, get_or, set, take, inl, inr, refl, sym, ap, ◌∙◌, subst, arith, get_or-set_same, get_or-set_other}
+use Rattle.std.proofs.Common.{◌≡◌, ◌≢◌, ℕ, zero, suc, ◌+◌, ◌-◌, ◌<◌, ◌≤◌, Bool, true, false, cond, ◌&&◌, List, [], ◌∷◌, ◌++◌, length, get_or, set, take, inl, inr, refl, sym, ap, ◌∙◌, subst, arith, get_or-set_same, get_or-set_other}
 use Rattle.std.specs.Prelude.{ℤ, pos, neg_ℤ, unsigned_abs, nat_le}
 use Rattle.std.specs.List.{Contains}
 use Rattle.std.proofs.lemmas.Bool.{cases_eq, cases_lt, cases_Bool, le-leb, lt-leb}
@@ -9,7 +9,7 @@ use Rattle.sat_core.specs.declared.analysis.Analysis.{Analysis}
 use Rattle.chain_check.specs.Clauses.{Clause}
 use Rattle.sat_core.specs.Trails.{ArePlaced}
 use Rattle.chain_check.specs.Chains.{IsFalseIn, AllFalseIn, IsUnit, IsNumbered, Refutes, ends, goes}
-use Rattle.sat_core.specs.Analyses.{seen_count, IsAnalysis, IsRefuting, AreMarkable, AreMarked, AreMore}
+use Rattle.sat_core.specs.Analyses.{seen_count, IsAnalysis, IsRefuting, AreMarked, AreMore}
 use Rattle.chain_check.proofs.Literals.{twice, same-variable}
 use Rattle.sat_core.proofs.Trailing.{IsConsistent}
 
@@ -111,113 +111,55 @@ count-empty seen start zero le = refl
 count-empty seen start (suc p) le = count-before seen start p (omega arith) ∙
     count-empty seen start p (omega arith)
 
-module _ (trail : List ℤ) (start p : ℕ) (seen : List Bool) (lower : List ℤ) (highest unsettled : ℕ)
-    (is : IsAnalysis trail start p seen lower highest unsettled) (q : ℕ) (m : ℤ)
-    (at : get_or trail q (pos 0) ≡ neg_ℤ m) (below : q < p)
+module _ (trail : List ℤ) (start p : ℕ) (seen : List Bool) (lower unsettled : ℕ)
+    (is : IsAnalysis trail start p seen lower unsettled) (q : ℕ) (under : q < p)
     (none : get_or seen q false ≡ false) where
   inside : q < length seen
-  inside = omega (arith, is.long, is.below_end, below)
+  inside = omega (arith, is.long, is.below_end, under)
 
   -- a place below the level
-  pub see-lower : q < start → IsAnalysis trail start p (set seen q true) (lower ++ m ∷ [])
-      (max highest (q + 1)) unsettled
+  pub see-lower : q < start → IsAnalysis trail start p (set seen q true) (lower + 1) unsettled
   see-lower lt = record {
     long = omega (arith, is.long, length-set seen q true);
     below_end = is.below_end;
     counted = is.counted ∙ sym (count-lower seen start q p lt);
-    lowers = lowers;
-    lower_from = from;
-    reached = reached;
+    below = omega (arith, is.below, count-more seen 0 q start (omega arith) lt inside none);
   }
-    where
-      its : m ≡ neg_ℤ (get_or trail q (pos 0))
-      its = sym (twice m) ∙ ap neg_ℤ (sym at)
-
-      lowers : (i : ℕ) → i < start → get_or (set seen q true) i false ≡ true →
-          Contains (lower ++ m ∷ []) (neg_ℤ (get_or trail i (pos 0)))
-      lowers i small e =
-          elim (cases_eq i q) [
-            | inl same ↦ let P : ℤ → Type 0 = Contains (lower ++ m ∷ []) in
-                subst P (its ∙ ap (λ k. neg_ℤ (get_or trail k (pos 0))) (sym same))
-                (Contains-push lower m)
-            | inr apart ↦ Contains-append_left lower (m ∷ []) _
-                (is.lowers i small (sym (get_or-set_other seen q i true false apart) ∙ e))
-          ]
-
-      from : (n : ℤ) → Contains (lower ++ m ∷ []) n → (i : ℕ) × (i < start) ×
-          (i < max highest (q + 1)) × (i < length trail) × (get_or trail i (pos 0) ≡ neg_ℤ n)
-      from n there =
-          elim (Contains-push_cases lower m n there) [
-            | inl old ↦ let (i, a, b, d, e) = is.lower_from n old in (i, a, omega (arith, b), d, e)
-            | inr same ↦ (
-              q,
-              lt,
-              omega arith,
-              omega (arith, below, is.below_end),
-              at ∙
-                  ap neg_ℤ same,
-            )
-          ]
-
-      reached : 0 < max highest (q + 1) → (i : ℕ) × (suc i ≡ max highest (q + 1)) × (i < start) ×
-          (i < length trail) × Contains (lower ++ m ∷ []) (neg_ℤ (get_or trail i (pos 0)))
-      reached some =
-          elim (cases_lt q highest) [
-            | inl less ↦ let (i, a, b, d, e) = is.reached (omega arith) in
-                (i, omega (arith, a), b, d, Contains-append_left lower (m ∷ []) _ e)
-            | inr more ↦ let P : ℤ → Type 0 = Contains (lower ++ m ∷ []) in (
-              q,
-              omega arith,
-              lt,
-              omega (arith, below, is.below_end),
-              subst P its (Contains-push lower m),
-            )
-          ]
 
   -- a place of the level
-  pub see-level : start ≤ q → IsAnalysis trail start p (set seen q true) lower highest
-      (unsettled + 1)
+  pub see-level : start ≤ q → IsAnalysis trail start p (set seen q true) lower (unsettled + 1)
   see-level le = record {
     long = omega (arith, is.long, length-set seen q true);
     below_end = is.below_end;
-    counted = omega (arith, is.counted, count-more seen start q p le below inside none);
-    lowers = λ i small e. is.lowers i small (sym
-        (get_or-set_other seen q i true false (omega (arith, small))) ∙ e);
-    lower_from = is.lower_from;
-    reached = is.reached;
+    counted = omega (arith, is.counted, count-more seen start q p le under inside none);
+    below = is.below ∙ sym (count-apart seen 0 q start le);
   }
 
 -- the place is left behind
-pub pass-unseen : (trail : List ℤ) (start p : ℕ) (seen : List Bool) (lower : List ℤ)
-    (highest unsettled : ℕ) → IsAnalysis trail start (suc p) seen lower highest unsettled →
-    get_or seen p false ≡ false → IsAnalysis trail start p seen lower highest unsettled
-pass-unseen trail start p seen lower highest unsettled is e = record {
+pub pass-unseen : (trail : List ℤ) (start p : ℕ) (seen : List Bool) (lower unsettled : ℕ) →
+    IsAnalysis trail start (suc p) seen lower unsettled → get_or seen p false ≡ false →
+    IsAnalysis trail start p seen lower unsettled
+pass-unseen trail start p seen lower unsettled is e = record {
   long = is.long;
   below_end = omega (arith, is.below_end);
   counted = is.counted ∙ count-unseen seen start p e;
-  lowers = is.lowers;
-  lower_from = is.lower_from;
-  reached = is.reached;
+  below = is.below;
 }
 
-pub pass-seen : (trail : List ℤ) (start p : ℕ) (seen : List Bool) (lower : List ℤ)
-    (highest unsettled : ℕ) → IsAnalysis trail start (suc p) seen lower highest unsettled →
-    start ≤ p → get_or seen p false ≡ true → IsAnalysis trail start p seen lower highest
-    (unsettled - 1)
-pass-seen trail start p seen lower highest unsettled is le e = record {
+pub pass-seen : (trail : List ℤ) (start p : ℕ) (seen : List Bool) (lower unsettled : ℕ) →
+    IsAnalysis trail start (suc p) seen lower unsettled → start ≤ p →
+    get_or seen p false ≡ true → IsAnalysis trail start p seen lower (unsettled - 1)
+pass-seen trail start p seen lower unsettled is le e = record {
   long = is.long;
   below_end = omega (arith, is.below_end);
   counted = omega (arith, is.counted, count-one seen start p le e);
-  lowers = is.lowers;
-  lower_from = is.lower_from;
-  reached = is.reached;
+  below = is.below;
 }
 
-pub counted-seen : (trail : List ℤ) (start p : ℕ) (seen : List Bool) (lower : List ℤ)
-    (highest unsettled : ℕ) → IsAnalysis trail start (suc p) seen lower highest unsettled →
-    start ≤ p → get_or seen p false ≡ true → unsettled ≡ suc (seen_count seen start p)
-counted-seen trail start p seen lower highest unsettled is le e = is.counted ∙
-    count-one seen start p le e
+pub counted-seen : (trail : List ℤ) (start p : ℕ) (seen : List Bool) (lower unsettled : ℕ) →
+    IsAnalysis trail start (suc p) seen lower unsettled → start ≤ p →
+    get_or seen p false ≡ true → unsettled ≡ suc (seen_count seen start p)
+counted-seen trail start p seen lower unsettled is le e = is.counted ∙ count-one seen start p le e
 
 pub false-at : (trail : List ℤ) (p : ℕ) (m : ℤ) → p ≤ length trail → IsFalseIn (take p trail) m →
     (i : ℕ) × (i < p) × (get_or trail i (pos 0) ≡ neg_ℤ m)
@@ -232,21 +174,22 @@ false-at trail p m le (k, lt, e) =
 -- the conflict's clause alone
 pub refuting-starts : (clauses : List Clause) (trail : List ℤ) (seen : List Bool) (k : ℕ)
     (c : Clause) → IsNumbered clauses k c → AllFalseIn trail c →
-    AreMarked trail (length trail) seen c → IsRefuting clauses trail (length trail) seen (k ∷ [])
-refuting-starts clauses trail seen k c at all marked trues has within =
+    AreMarked trail (length trail) seen c → IsRefuting clauses trail (length trail) [] seen
+    (k ∷ [])
+refuting-starts clauses trail seen k c at all marked trues falses has within =
     ends c at (λ m there. let (i, lt, e) = all m there in
     let here : get_or trail i (pos 0) ≡ neg_ℤ m = get_or_default trail i (pos 0) (neg_ℤ m) lt ∙ e in
     let P : ℤ → Type 0 = Contains trues in
     subst P here (has i lt (marked m there i lt here)))
 
 -- a reason before
-pub refuting-goes : (clauses : List Clause) (trail : List ℤ) (p : ℕ) (old new : List Bool)
-    (chain : List ℕ) (k : ℕ) (c : Clause) → IsConsistent trail → p < length trail →
+pub refuting-goes : (clauses : List Clause) (trail : List ℤ) (p : ℕ) (kept : Clause)
+    (old new : List Bool) (chain : List ℕ) (k : ℕ) (c : Clause) → IsConsistent trail → p < length trail →
     IsNumbered clauses k c → IsUnit (take p trail) c (get_or trail p (pos 0)) → AreMore old new →
-    AreMarked trail p new c → IsRefuting clauses trail (suc p) old chain →
-    IsRefuting clauses trail p new (chain ++ k ∷ [])
-refuting-goes clauses trail p old new chain k c consistent lt at unit more marked before trues has
-    within =
+    AreMarked trail p new c → IsRefuting clauses trail (suc p) kept old chain →
+    IsRefuting clauses trail p kept new (chain ++ k ∷ [])
+refuting-goes clauses trail p kept old new chain k c consistent lt at unit more marked before trues
+    falses has within =
     let l : ℤ = get_or trail p (pos 0) in
     let there : Contains trail l = Contains-get_or trail p (pos 0) lt in
     let R : List ℕ → Type 0 = Refutes clauses trues in
@@ -257,7 +200,8 @@ refuting-goes clauses trail p old new chain k c consistent lt at unit more marke
       others =
           others;
     })
-    (before (trues ++ l ∷ []) has' (λ m h. elim
+    (before (trues ++ l ∷ []) (λ m h. Contains-append_left trues (l ∷ []) (neg_ℤ m) (falses m h))
+    has' (λ m h. elim
     (Contains-push_cases trues l m h) [
       | inl o ↦ within m o
       | inr e ↦ let P : ℤ → Type 0 =
@@ -281,14 +225,42 @@ refuting-goes clauses trail p old new chain k c consistent lt at unit more marke
               (has i (omega arith) (more i e))
         ]
 
-pub refuting-skips : (clauses : List Clause) (trail : List ℤ) (p : ℕ) (seen : List Bool)
-    (chain : List ℕ) → get_or seen p false ≡ false → IsRefuting clauses trail (suc p) seen chain →
-    IsRefuting clauses trail p seen chain
-refuting-skips clauses trail p seen chain none before trues has within =
-    before trues (λ i less e. elim (cases_eq i p) [
+pub refuting-skips : (clauses : List Clause) (trail : List ℤ) (p : ℕ) (kept : Clause)
+    (seen : List Bool) (chain : List ℕ) → get_or seen p false ≡ false →
+    IsRefuting clauses trail (suc p) kept seen chain → IsRefuting clauses trail p kept seen chain
+refuting-skips clauses trail p kept seen chain none before trues falses has within =
+    before trues falses (λ i less e. elim (cases_eq i p) [
       | inl same ↦ let clash : true ≡ false = sym e ∙ ap (λ k. get_or seen k false) same ∙ none in
           absurd (cc)
       | inr apart ↦ has i (omega arith) e
+    ]) within
+
+-- the literal's opposite is kept
+pub refuting-keeps : (clauses : List Clause) (trail : List ℤ) (p : ℕ) (kept : Clause)
+    (seen : List Bool) (chain : List ℕ) → IsRefuting clauses trail (suc p) kept seen chain →
+    IsRefuting clauses trail p (kept ++ neg_ℤ (get_or trail p (pos 0)) ∷ []) seen chain
+refuting-keeps clauses trail p kept seen chain before trues falses has within =
+    let l : ℤ = get_or trail p (pos 0) in
+    let P : ℤ → Type 0 = Contains trues in
+    let there : Contains trues l =
+    subst P (twice l) (falses (neg_ℤ l) (Contains-push kept (neg_ℤ l))) in
+    before trues (λ m h. falses m (Contains-append_left kept (neg_ℤ l ∷ []) m h))
+    (λ i less e. elim (cases_eq i p) [
+      | inl same ↦ let Q : ℕ → Type 0 = λ k. Contains trues (get_or trail k (pos 0)) in
+          subst Q (sym same) there
+      | inr apart ↦ has i (omega arith) e
+    ]) within
+
+-- nothing is seen from `start` on
+pub refuting-sinks : (clauses : List Clause) (trail : List ℤ) (start p : ℕ) (kept : Clause)
+    (seen : List Bool) (chain : List ℕ) → seen_count seen start p ≡ 0 →
+    IsRefuting clauses trail p kept seen chain → IsRefuting clauses trail start kept seen chain
+refuting-sinks clauses trail start p kept seen chain none before trues falses has within =
+    before trues falses (λ i less e. elim (cases_lt i start) [
+      | inl low ↦ has i low e
+      | inr level ↦
+          let clash : false ≡ true = sym (count-none seen start p none i level less) ∙ e in
+          absurd (cc)
     ]) within
 
 pub count-few : (seen : List Bool) (start p : ℕ) → seen_count seen start p ≤ p
@@ -310,13 +282,13 @@ placed-at trail places i m placed lt e =
 -- how far the marking of a clause has come
 pub record IsMarking (trail : List ℤ) (start p : ℕ) (old : Analysis) (front : Clause)
     (new : Analysis) : Type 0 where
-  pub is : IsAnalysis trail start p new.seen new.lower.items new.highest new.unsettled
+  pub is : IsAnalysis trail start p new.seen (length new.lower.items) new.unsettled
   pub more : AreMore old.seen new.seen
   pub marked : AreMarked trail p new.seen front
   pub same_chain : new.chain.items ≡ old.chain.items
 
 pub marking-starts : (trail : List ℤ) (start p : ℕ) (a : Analysis) →
-    IsAnalysis trail start p a.seen a.lower.items a.highest a.unsettled →
+    IsAnalysis trail start p a.seen (length a.lower.items) a.unsettled →
     IsMarking trail start p a [] a
 marking-starts trail start p a is = record {
   is = is;
@@ -347,7 +319,7 @@ marking-skips trail places start p old new front l placed past is =
 
 pub marking-sees : (trail : List ℤ) (places : List ℕ) (start p : ℕ) (old new next : Analysis)
     (front : Clause) (l : ℤ) → ArePlaced trail places → IsMarking trail start p old front new →
-    IsAnalysis trail start p next.seen next.lower.items next.highest next.unsettled →
+    IsAnalysis trail start p next.seen (length next.lower.items) next.unsettled →
     AreMore new.seen next.seen → get_or next.seen
     (get_or places (unsigned_abs l) 0) false ≡ true → next.chain.items ≡ new.chain.items →
     IsMarking trail start p old (front ++ l ∷ []) next
@@ -369,17 +341,3 @@ marking-sees trail places start p old new next front l placed is now more seen c
               subst P (placed-at trail places i l placed (omega (arith, lt, is.is.below_end))
               (e ∙ ap neg_ℤ (sym same))) seen
         ]
-
--- where a literal to be marked stands
-pub markable-at : (trail : List ℤ) (places : List ℕ) (p : ℕ) (c : Clause) (l : ℤ) →
-    ArePlaced trail places → p ≤ length trail → AreMarkable trail places p c → Contains c l →
-    get_or places (unsigned_abs l) 0 < p → get_or trail (get_or places (unsigned_abs l) 0)
-    (pos 0) ≡ neg_ℤ l
-markable-at trail places p c l placed le markable there below =
-    elim (markable l there) [
-      | inl false' ↦
-          let (i, lt, e) = false-at trail p l le false' in
-          let P : ℕ → Type 0 = λ k. get_or trail k (pos 0) ≡ neg_ℤ l in
-          subst P (sym (placed-at trail places i l placed (omega (arith, lt, le)) e)) e
-      | inr at ↦ absurd (omega arith)
-    ]

@@ -1,14 +1,15 @@
 -- Watched literals stay right as the trail grows and shrinks, and give complete propagation.
-use Rattle.std.proofs.Common.{◌≡◌, ℕ, suc, ◌<◌, ◌≤◌, ◌⊎◌, List, [], ◌∷◌, ◌++◌, length, get_or, take, inl, inr, sym, ◌∙◌, subst, arith}
-use Rattle.std.specs.Prelude.{ℤ, pos, neg_ℤ}
+use Rattle.std.proofs.Common.{◌≡◌, ℕ, suc, ◌<◌, ◌≤◌, ◌⊎◌, List, [], ◌∷◌, ◌++◌, length, get_or, take, drop, Some, inl, inr, sym, ◌∙◌, subst, arith}
+use Rattle.std.specs.Prelude.{ℤ, pos, neg_ℤ, Option, None, MatchOption}
 use Rattle.std.specs.List.{Contains}
 use Rattle.std.proofs.lemmas.Bool.{cases_eq, cases_lt}
-use Rattle.std.proofs.lemmas.List.{length_push, length-append, length-take-le, get_or_append_left, get_or_push, get_or-take, get_or_default}
-use Rattle.std.proofs.lemmas.List.Elements.{Contains-push_cases}
+use Rattle.std.proofs.lemmas.List.{length_push, take-append-drop, length-append, length-take-le, get_or_append_left, get_or_push, get_or-take, get_or_default}
+use Rattle.std.proofs.lemmas.List.Elements.{Contains-push_cases, Contains-append_left, Contains-append_cases}
+use Rattle.sat_core.specs.declared.watches.Found.{Found}
 use Rattle.chain_check.specs.Clauses.{Clause}
 use Rattle.chain_check.specs.Chains.{IsFalseIn, AllFalseIn, IsUnit}
 use Rattle.sat_core.specs.Trails.{IsSettled}
-use Rattle.sat_core.specs.Watches.{StandsAt, IsNotAbove, IsBelow, IsCovered, IsFixed, IsWatched, AllFalseBut}
+use Rattle.sat_core.specs.Watches.{StandsAt, IsNotAbove, IsBelow, IsCovered, IsFixed, IsWatched, AllFalseBut, IsReplacement}
 use Rattle.chain_check.proofs.Literals.{same-or-not}
 use Rattle.chain_check.proofs.ThreeWays.{there-or-not}
 
@@ -262,3 +263,25 @@ front-more trues front l other all here m there apart =
         | inr false' ↦ let P : ℤ → Type 0 = IsFalseIn trues in subst P same false'
       ]
     ]
+
+-- what is found in the front of a clause behind which nothing is
+pub found-in-front : (trues : List ℤ) (c : Clause) (k : ℕ) (other : ℤ) (found : Option Found) →
+    AllFalseBut trues (drop k c) other →
+    MatchOption found (AllFalseBut trues (take k c) other)
+    (λ it. IsReplacement trues (take k c) other it.literal) →
+    MatchOption found (AllFalseBut trues c other) (λ it. IsReplacement trues c other it.literal)
+found-in-front trues c k other None behind front = λ m there apart.
+    let P : Clause → Type 0 = λ d. Contains d m in
+    elim (Contains-append_cases (take k c) (drop k c) m
+    (subst P (sym (take-append-drop k c)) there)) [
+      | inl first ↦ front m first apart
+      | inr last ↦ behind m last apart
+    ]
+found-in-front trues c k other (Some it) behind front =
+    let P : Clause → Type 0 = λ d. Contains d it.literal in
+    record {
+      there = subst P (take-append-drop k c)
+          (Contains-append_left (take k c) (drop k c) it.literal front.there);
+      differ = front.differ;
+      open_yet = front.open_yet;
+    }

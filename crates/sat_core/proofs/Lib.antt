@@ -3,6 +3,7 @@ pub mod Readying
 pub mod Propagating
 pub mod Analysing
 pub mod Resolving
+pub mod Shortening
 pub mod Pointing
 pub mod Backing
 pub mod Taught

@@ -1,22 +1,19 @@
 -- What is learned at the one place of the level through which a conflict goes.
-use Rattle.std.proofs.Common.{◌≡◌, ◌≢◌, ℕ, suc, ◌-◌, ◌<◌, ◌≤◌, true, false, List, [], ◌∷◌, ◌++◌, length, get_or, map, take, reverse, inl, inr, sym, ap, ◌∙◌, subst, arith}
+use Rattle.std.proofs.Common.{◌≡◌, ◌≢◌, ℕ, ◌-◌, ◌<◌, ◌≤◌, List, length, get_or, map, take, inl, inr, sym, ap, ◌∙◌, subst, arith}
 use Rattle.std.specs.Prelude.{ℤ, pos, neg_ℤ, unsigned_abs}
 use Rattle.std.specs.List.{Contains}
-use Rattle.std.proofs.lemmas.Bool.{cases_eq, cases_lt}
+use Rattle.std.proofs.lemmas.Bool.{cases_lt}
 use Rattle.std.proofs.lemmas.List.{length-take-le, get_or_default, get_or-take}
-use Rattle.std.proofs.lemmas.List.Elements.{Contains-append_left, Contains-push, Contains-push_cases, Contains-get_or}
+use Rattle.std.proofs.lemmas.List.Elements.{Contains-get_or}
 use Rattle.hy_base.proofs.Members.{from-take}
 use Rattle.sat_core.specs.declared.solver.Solver.{Solver}
-use Rattle.sat_core.specs.declared.analysis.Analysis.{Analysis}
 use Rattle.chain_check.specs.Clauses.{Clause, IsLiteral, AreLiterals, IsApart, IsNew}
 use Rattle.chain_check.specs.Chains.{IsFalseIn, IsUnit, Refutes, Follows}
 use Rattle.sat_core.specs.Trails.{IsOpenIn, IsSettled, AreSettled}
 use Rattle.sat_core.specs.Solvers.{IsReady}
-use Rattle.sat_core.specs.Analyses.{seen_count}
-use Rattle.sat_core.specs.Points.{IsPoint}
-use Rattle.chain_check.proofs.Literals.{twice, opposites, opposite-there, opposite-literal}
+use Rattle.sat_core.specs.Points.{IsTopped}
+use Rattle.chain_check.proofs.Literals.{twice, opposite-literal}
 use Rattle.sat_core.proofs.Trailing.{learned-new, apart-places, at-front}
-use Rattle.sat_core.proofs.Analysing.{count-none, counted-seen}
 use Rattle.sat_core.proofs.Resolving.{consistent-trail}
 
 front-place : (trail : List ℤ) (q : ℕ) (z : ℤ) → q ≤ length trail → Contains (take q trail) z →
@@ -29,158 +26,120 @@ front-place trail q z le (k, lt, e) =
           get_or_default (take q trail) k (pos 0) z lt ∙ e,
     )
 
-module _ (s : Solver) (start p : ℕ) (a : Analysis) (ready : IsReady s)
+module _ (s : Solver) (start p : ℕ) (learned : Clause) (highest : ℕ) (ready : IsReady s)
     (some : 0 < length s.limits.items) (last : start ≡ get_or s.limits.items
-    (length s.limits.items - 1) 0) (point : IsPoint s.clauses s.partial.literals start p a) where
-  abbrev pub top : ℤ
-  top = get_or s.partial.literals p (pos 0)
+    (length s.limits.items - 1) 0) (topped : IsTopped s.partial.literals start p learned highest)
+  where
+    abbrev pub top : ℤ
+    top = get_or s.partial.literals p (pos 0)
 
-  -- the learned clause
-  abbrev pub learned : Clause
-  learned = a.lower.items ++ neg_ℤ (get_or s.partial.literals p (pos 0)) ∷ []
+    not-before : (q i : ℕ) → q ≤ i → i < length s.partial.literals →
+        ¬ Contains (take q s.partial.literals) (get_or s.partial.literals i (pos 0))
+    not-before q i le lt there =
+        let (k, less, e) = front-place s.partial.literals q _ (omega arith) there in
+        apart-places s.partial.variables s.clauses s.partial.literals s.reasons.items s.limits.items
+        ready.trail k i (omega arith) lt (ap unsigned_abs e)
 
-  not-before : (q i : ℕ) → q ≤ i → i < length s.partial.literals →
-      ¬ Contains (take q s.partial.literals) (get_or s.partial.literals i (pos 0))
-  not-before q i le lt there =
-      let (k, less, e) = front-place s.partial.literals q _ (omega arith) there in
-      apart-places s.partial.variables s.clauses s.partial.literals s.reasons.items s.limits.items
-      ready.trail k i (omega arith) lt (ap unsigned_abs e)
+    member : (m : ℤ) → Contains learned m → (i : ℕ) × (i < length s.partial.literals) ×
+        (get_or s.partial.literals i (pos 0) ≡ neg_ℤ m)
+    member m there =
+        elim (topped.others m there) [
+          | inr (i, b, c, e) ↦ (i, omega (arith, b, topped.level, topped.inside), e)
+          | inl same ↦ (p, topped.inside, sym (twice top) ∙ ap neg_ℤ (sym same))
+        ]
 
-  member : (m : ℤ) → Contains learned m → (i : ℕ) × (i < length s.partial.literals) ×
-      (get_or s.partial.literals i (pos 0) ≡ neg_ℤ m)
-  member m there =
-      elim (Contains-push_cases a.lower.items (neg_ℤ top) m there) [
-        | inl low ↦ let (i, b, c, lt, e) = point.is.lower_from m low in (i, lt, e)
-        | inr same ↦ (p, point.inside, sym (twice top) ∙ ap neg_ℤ same)
-      ]
+    on-trail : (m : ℤ) → Contains learned m → Contains s.partial.literals (neg_ℤ m)
+    on-trail m there = let (i, lt, e) = member m there in let P : ℤ → Type 0 =
+        Contains s.partial.literals in subst P e (Contains-get_or s.partial.literals i (pos 0) lt)
 
-  on-trail : (m : ℤ) → Contains learned m → Contains s.partial.literals (neg_ℤ m)
-  on-trail m there = let (i, lt, e) = member m there in let P : ℤ → Type 0 =
-      Contains s.partial.literals in subst P e (Contains-get_or s.partial.literals i (pos 0) lt)
+    pub literals : AreLiterals s.partial.variables learned
+    literals m there =
+        let (i, lt, e) = member m there in
+        let P : ℤ → Type 0 = IsLiteral s.partial.variables in
+        subst P (twice m) (opposite-literal s.partial.variables (neg_ℤ m)
+        (subst P e (ready.trail.steps i lt).right))
 
-  pub literals : AreLiterals s.partial.variables learned
-  literals m there =
-      let (i, lt, e) = member m there in
-      let P : ℤ → Type 0 = IsLiteral s.partial.variables in
-      subst P (twice m) (opposite-literal s.partial.variables (neg_ℤ m)
-      (subst P e (ready.trail.steps i lt).right))
+    apart : IsApart learned
+    apart m there there' = consistent-trail s ready (neg_ℤ m) (on-trail m there)
+        (on-trail (neg_ℤ m) there')
 
-  apart : IsApart learned
-  apart m there there' = consistent-trail s ready (neg_ℤ m) (on-trail m there)
-      (on-trail (neg_ℤ m) there')
+    pub learned-follows : (chain : List ℕ) → Refutes s.clauses (map neg_ℤ learned) chain →
+        Follows s.partial.variables s.clauses learned chain
+    learned-follows chain refuted = record { literals = literals; apart = apart; refuted = refuted }
 
-  one-left : seen_count a.seen start p ≡ 0
-  one-left = omega (
-    arith,
-    point.only,
-    counted-seen s.partial.literals start p a.seen
-        a.lower.items a.highest a.unsettled point.is point.level point.seen,
-  )
+    -- The highest place of the others is below the level.
+    pub highest-below : highest ≤ start
+    highest-below = elim (cases_lt 0 highest) [
+      | inl more ↦ let (i, e, lt, c) = topped.reached more in omega (arith, e, lt)
+      | inr none ↦
+          omega arith
+    ]
 
-  refuted : Refutes s.clauses (map neg_ℤ learned) (reverse a.chain.items)
-  refuted = point.refuting (map neg_ℤ learned) has within
-    where
-      back : (i : ℕ) → Contains learned (neg_ℤ (get_or s.partial.literals i (pos 0))) →
-          Contains (map neg_ℤ learned) (get_or s.partial.literals i (pos 0))
-      back i there = let P : ℤ → Type 0 = Contains (map neg_ℤ learned) in
-          subst P (twice (get_or s.partial.literals i (pos 0)))
-          (opposite-there learned (neg_ℤ (get_or s.partial.literals i (pos 0))) there)
+    -- Back where the others are still false, the top's opposite is all that is left.
+    pub learned-unit : (q : ℕ) → highest ≤ q → q ≤ p →
+        IsUnit (take q s.partial.literals) learned (neg_ℤ top)
+    learned-unit q above le = record {
+      there = topped.top;
+      open_yet =
+          open';
+      others = others;
+    }
+      where
+        open' : ¬ IsFalseIn (take q s.partial.literals) (neg_ℤ top)
+        open' there = let P : ℤ → Type 0 = Contains (take q s.partial.literals) in
+            not-before q p le topped.inside (subst P (twice top) there)
 
-      has : (i : ℕ) → i < suc p → get_or a.seen i false ≡ true →
-          Contains (map neg_ℤ learned) (get_or s.partial.literals i (pos 0))
-      has i lt e =
-          elim (cases_lt i start) [
-            | inl low ↦ back i (Contains-append_left a.lower.items (neg_ℤ top ∷ []) _
-                (point.is.lowers i low e))
-            | inr level ↦ elim (cases_eq i p) [
-              | inl same ↦ let P : ℕ → Type 0 =
-                  λ k. Contains (map neg_ℤ learned) (get_or s.partial.literals k (pos 0)) in
-                  subst P (sym same) (back p (Contains-push a.lower.items (neg_ℤ top)))
-              | inr other ↦ let clash : false ≡ true =
-                  sym (count-none a.seen start p one-left i level (omega arith)) ∙ e in
-                  absurd (cc)
+        others : (m : ℤ) → Contains learned m → m ≢ neg_ℤ top →
+            IsFalseIn (take q s.partial.literals) m
+        others m there apart' =
+            elim (topped.others m there) [
+              | inr (i, b, c, e) ↦
+                  let P : ℤ → Type 0 = Contains (take q s.partial.literals) in
+                  subst P e (at-front s.partial.literals i q (pos 0) (omega (arith, c))
+                  (omega (arith, topped.inside)))
+              | inl same ↦ absurd (apart' same)
             ]
-          ]
 
-      within : (l : ℤ) → Contains (map neg_ℤ learned) l → Contains s.partial.literals l
-      within l there = let P : ℤ → Type 0 = Contains s.partial.literals in
-          subst P (twice l) (on-trail (neg_ℤ l) (opposites learned l there))
+    pub top-open : (q : ℕ) → q ≤ p → IsOpenIn (take q s.partial.literals) (neg_ℤ top)
+    top-open q le =
+        let P : ℤ → Type 0 = Contains (take q s.partial.literals) in (
+          λ h. consistent-trail s ready top (Contains-get_or s.partial.literals p
+              (pos 0) topped.inside)
+              (from-take s.partial.literals q (neg_ℤ top) h),
+          λ h. not-before q p le topped.inside (subst P (twice top) h),
+        )
 
-  pub learned-follows : Follows s.partial.variables s.clauses learned (reverse a.chain.items)
-  learned-follows = record { literals = literals; apart = apart; refuted = refuted }
+    pub learned-is-new : IsNew s.clauses learned
+    learned-is-new =
+        learned-new s.clauses (take start s.partial.literals) learned (neg_ℤ top) settled
+        (λ l h k. consistent-trail s ready l (from-take s.partial.literals start l h)
+        (from-take s.partial.literals start (neg_ℤ l) k))
+        (learned-unit start highest-below topped.level) (top-open start topped.level).0
+      where
+        settled : AreSettled s.clauses (take start s.partial.literals)
+        settled = let P : ℕ → Type 0 = λ q. AreSettled s.clauses (take q s.partial.literals) in
+            subst P (sym last) (ready.trail.complete (length s.limits.items - 1) (omega arith))
 
-  -- The highest place of the others is below the level.
-  pub highest-below : a.highest ≤ start
-  highest-below = elim (cases_lt 0 a.highest) [
-    | inl more ↦ let (i, e, lt, c, d) = point.is.reached more in omega (arith, e, lt)
-    | inr none ↦
-        omega arith
-  ]
-
-  -- Back where the others are still false, the top's opposite is all that is left.
-  pub learned-unit : (q : ℕ) → a.highest ≤ q → q ≤ p →
-      IsUnit (take q s.partial.literals) learned (neg_ℤ top)
-  learned-unit q above le = record {
-    there = Contains-push a.lower.items (neg_ℤ top);
-    open_yet =
-        open';
-    others = others;
-  }
-    where
-      open' : ¬ IsFalseIn (take q s.partial.literals) (neg_ℤ top)
-      open' there = let P : ℤ → Type 0 = Contains (take q s.partial.literals) in
-          not-before q p le point.inside (subst P (twice top) there)
-
-      others : (m : ℤ) → Contains learned m → m ≢ neg_ℤ top →
-          IsFalseIn (take q s.partial.literals) m
-      others m there apart' =
-          elim (Contains-push_cases a.lower.items (neg_ℤ top) m there) [
-            | inl low ↦
-                let (i, b, c, lt, e) = point.is.lower_from m low in
-                let P : ℤ → Type 0 = Contains (take q s.partial.literals) in
-                subst P e (at-front s.partial.literals i q (pos 0) (omega (arith, c))
-                (omega (arith, point.inside)))
-            | inr same ↦ absurd (apart' (sym same))
-          ]
-
-  pub top-open : (q : ℕ) → q ≤ p → IsOpenIn (take q s.partial.literals) (neg_ℤ top)
-  top-open q le =
-      let P : ℤ → Type 0 = Contains (take q s.partial.literals) in (
-        λ h. consistent-trail s ready top (Contains-get_or s.partial.literals p
-            (pos 0) point.inside)
-            (from-take s.partial.literals q (neg_ℤ top) h),
-        λ h. not-before q p le point.inside (subst P (twice top) h),
-      )
-
-  pub learned-is-new : IsNew s.clauses learned
-  learned-is-new =
-      learned-new s.clauses (take start s.partial.literals) learned (neg_ℤ top) settled
-      (λ l h k. consistent-trail s ready l (from-take s.partial.literals start l h)
-      (from-take s.partial.literals start (neg_ℤ l) k))
-      (learned-unit start highest-below point.level) (top-open start point.level).0
-    where
-      settled : AreSettled s.clauses (take start s.partial.literals)
-      settled = let P : ℕ → Type 0 = λ q. AreSettled s.clauses (take q s.partial.literals) in
-          subst P (sym last) (ready.trail.complete (length s.limits.items - 1) (omega arith))
-
-  -- Before an earlier decision it has two literals that are open.
-  pub learned-settled : (q : ℕ) → q < a.highest → IsSettled (take q s.partial.literals) learned
-  learned-settled q below =
-      let (i, e, lt, inside, low) = point.is.reached (omega arith) in
-      let l : ℤ = get_or s.partial.literals i (pos 0) in
-      let P : ℤ → Type 0 = Contains (take q s.partial.literals) in
-      inr (
-        neg_ℤ l,
-        neg_ℤ top,
-        record {
-          first = Contains-append_left a.lower.items (neg_ℤ top ∷ []) (neg_ℤ l) low;
-          second = Contains-push a.lower.items (neg_ℤ top);
-          differ = λ same. let clash : l ≡ top = sym (twice l) ∙ ap neg_ℤ same ∙ twice top in
-              apart-places s.partial.variables s.clauses s.partial.literals s.reasons.items
-              s.limits.items ready.trail i p (omega (arith, lt, point.level)) point.inside
-              (ap unsigned_abs clash);
-          open_first = λ h. not-before q i (omega (arith, e)) inside (subst P (twice l) h);
-          open_second = λ h. not-before q p (omega (arith, e, lt, point.level)) point.inside
-              (subst P (twice top) h);
-        },
-      )
+    -- Before an earlier decision it has two literals that are open.
+    pub learned-settled : (q : ℕ) → q < highest → IsSettled (take q s.partial.literals) learned
+    learned-settled q below =
+        let (i, e, lt, low) = topped.reached (omega arith) in
+        let inside : i < length s.partial.literals = omega
+        (arith, lt, topped.level, topped.inside) in
+        let l : ℤ = get_or s.partial.literals i (pos 0) in
+        let P : ℤ → Type 0 = Contains (take q s.partial.literals) in
+        inr (
+          neg_ℤ l,
+          neg_ℤ top,
+          record {
+            first = low;
+            second = topped.top;
+            differ = λ same. let clash : l ≡ top = sym (twice l) ∙ ap neg_ℤ same ∙ twice top in
+                apart-places s.partial.variables s.clauses s.partial.literals s.reasons.items
+                s.limits.items ready.trail i p (omega (arith, lt, topped.level)) topped.inside
+                (ap unsigned_abs clash);
+            open_first = λ h. not-before q i (omega (arith, e)) inside (subst P (twice l) h);
+            open_second = λ h. not-before q p (omega (arith, e, lt, topped.level)) topped.inside
+                (subst P (twice top) h);
+          },
+        )

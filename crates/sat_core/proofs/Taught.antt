@@ -2,22 +2,20 @@
 use Rattle.std.proofs.Common.{◌≡◌, ℕ, suc, ◌+◌, ◌-◌, ◌^◌, ◌<◌, ◌≤◌, List, [], ◌∷◌, ◌++◌, Some, length, get_or, take, inl, inr, refl, sym, ap, ◌∙◌, subst, arith}
 use Rattle.std.specs.Prelude.{ℤ, pos, neg_ℤ, unsigned_abs, slice_get, Option, None, MatchOption}
 use Rattle.std.specs.List.{Contains}
-use Rattle.std.proofs.lemmas.List.Elements.{Contains-append_left, Contains-push}
 use Rattle.std.proofs.lemmas.List.{length-take-le, length_push, get_or-take, take-take, get_or_push, get_or_append_left}
 use Rattle.std.proofs.lemmas.Bool.{cases_eq, cases_lt, cases_order}
 use Rattle.std.proofs.lemmas.Option.{slice_get-get_or}
 use Rattle.sat_core.specs.declared.solver.Solver.{Solver}
-use Rattle.sat_core.specs.declared.analysis.Analysis.{Analysis}
 use Rattle.chain_check.specs.Clauses.{Clause, IsLiteral, AreLiterals}
 use Rattle.chain_check.specs.Chains.{IsUnit, IsNumbered}
 use Rattle.sat_core.specs.Trails.{IsOpenIn, IsSettled, IsStep}
 use Rattle.sat_core.specs.Solvers.{IsReady}
-use Rattle.sat_core.specs.Points.{IsPoint}
+use Rattle.sat_core.specs.Points.{IsTopped}
 use Rattle.sat_core.specs.Backs.{IsBack}
 use Rattle.sat_core.specs.Lessons.{IsLate, IsSecond, IsTaught}
 use Rattle.chain_check.proofs.Literals.{opposite-literal, twice}
 use Rattle.sat_core.proofs.Trailing.{apart-places}
-use Rattle.sat_core.proofs.Pointing.{learned, literals, learned-unit, top-open, learned-settled}
+use Rattle.sat_core.proofs.Pointing.{literals, learned-unit, top-open, learned-settled}
 use Rattle.sat_core.proofs.Backing.{ready-learned}
 
 pub last-numbered : (clauses : List Clause) (c : Clause) →
@@ -33,13 +31,10 @@ last-numbered clauses c =
           ap Some (get_or_push clauses c c (length clauses) refl));
     }
 
-module _ (s : Solver) (start p : ℕ) (a : Analysis) (ready : IsReady s)
+module _ (s : Solver) (start p : ℕ) (its : Clause) (highest : ℕ) (ready : IsReady s)
     (some : 0 < length s.limits.items) (last : start ≡ get_or s.limits.items
-    (length s.limits.items - 1) 0) (point : IsPoint s.clauses s.partial.literals start p a)
-    (mid : Solver) (ready' : IsReady mid) (level : ℕ) (back : IsBack s mid a.highest level) where
-  abbrev its : Clause
-  its = learned s start p a ready some last point
-
+    (length s.limits.items - 1) 0) (topped : IsTopped s.partial.literals start p its highest)
+    (mid : Solver) (ready' : IsReady mid) (level : ℕ) (back : IsBack s mid highest level) where
   abbrev up : ℤ
   up = neg_ℤ (get_or s.partial.literals p (pos 0))
 
@@ -68,7 +63,7 @@ module _ (s : Solver) (start p : ℕ) (a : Analysis) (ready : IsReady s)
     limit-at (length s.limits.items - 1) (omega arith)
         (omega (arith, back.inside)),
     last,
-    point.level,
+    topped.level,
   )
 
   settled : (j : ℕ) → j < length mid.limits.items →
@@ -77,7 +72,7 @@ module _ (s : Solver) (start p : ℕ) (a : Analysis) (ready : IsReady s)
       let few : length (take level s.limits.items) ≡ level =
       length-take-le level s.limits.items (omega (arith, back.inside)) in
       let less : j < level = omega (arith, lt, ap length back.limits, few) in
-      let low : get_or s.limits.items j 0 < a.highest = back.lower j less in
+      let low : get_or s.limits.items j 0 < highest = back.lower j less in
       let limit : get_or mid.limits.items j 0 ≡ get_or s.limits.items j 0 =
       ap (λ xs. get_or xs j 0) back.limits ∙ get_or-take level s.limits.items j 0 less in
       let front : take (get_or mid.limits.items j 0) mid.partial.literals ≡ take
@@ -86,7 +81,7 @@ module _ (s : Solver) (start p : ℕ) (a : Analysis) (ready : IsReady s)
       take-take (get_or s.limits.items j 0) to s.partial.literals
       (omega (arith, low, back.above)) in
       let P : List ℤ → Type 0 = λ xs. IsSettled xs its in
-      subst P (sym front) (learned-settled s start p a ready some last point
+      subst P (sym front) (learned-settled s start p its highest ready some last topped
       (get_or s.limits.items j 0) low)
 
   pub taught-ready : (next : Solver) (c : Clause) → length s.clauses + 1 < 2 ^ 32 - 1 → c ≡ its →
@@ -96,7 +91,7 @@ module _ (s : Solver) (start p : ℕ) (a : Analysis) (ready : IsReady s)
   taught-ready next c room e clauses partial reasons places limits =
       let P : ℕ → Type 0 = λ n. AreLiterals n its in
       ready-learned mid next its ready' (omega (arith, room, ap length back.clauses))
-      (subst P (sym variables-are) (literals s start p a ready some last point)) settled
+      (subst P (sym variables-are) (literals s start p its highest ready some last topped)) settled
       (clauses ∙ ap (λ d. mid.clauses ++ d ∷ []) e) partial reasons places limits
 
   pub taught-step : (clauses : List Clause) (c : Clause) (l : ℤ) (k : ℕ) → c ≡ its → l ≡ up →
@@ -110,7 +105,7 @@ module _ (s : Solver) (start p : ℕ) (a : Analysis) (ready : IsReady s)
       subst L (sym f) (record {
         right = right;
         fresh = let P : List ℤ → Type 0 = λ xs. IsOpenIn xs up in
-            subst P (sym trail-is) (top-open s start p a ready some last point to to-low);
+            subst P (sym trail-is) (top-open s start p its highest ready some last topped to to-low);
         caused = λ more.
             let N : List Clause → Type 0 = λ cs. IsNumbered cs k its in
             let M : ℕ → Type 0 = λ q. IsNumbered (mid.clauses ++ its ∷ []) q its in
@@ -118,7 +113,7 @@ module _ (s : Solver) (start p : ℕ) (a : Analysis) (ready : IsReady s)
               its,
               subst N (sym (g ∙ ap (λ d. mid.clauses ++ d ∷ []) e))
                   (subst M (sym (h ∙ size)) (last-numbered mid.clauses its)),
-              subst U (sym trail-is) (learned-unit s start p a ready some last point to back.above
+              subst U (sym trail-is) (learned-unit s start p its highest ready some last topped to back.above
                   to-low),
             );
         decided = λ none. absurd (omega (arith, h, size, none));
@@ -127,34 +122,35 @@ module _ (s : Solver) (start p : ℕ) (a : Analysis) (ready : IsReady s)
       right : IsLiteral mid.partial.variables (neg_ℤ (get_or s.partial.literals p (pos 0)))
       right = let P : ℕ → Type 0 = λ n. IsLiteral n up in
           subst P (sym variables-are) (opposite-literal s.partial.variables
-          (get_or s.partial.literals p (pos 0)) (ready.trail.steps p point.inside).right)
+          (get_or s.partial.literals p (pos 0)) (ready.trail.steps p topped.inside).right)
 
   -- the literal that became false last of the others
-  pub the-second : (t : Solver) (c : Clause) (top m : ℤ) → c ≡ its → top ≡ up → 0 < a.highest →
-      m ≡ neg_ℤ (get_or s.partial.literals (a.highest - 1) (pos 0)) →
+  pub the-second : (t : Solver) (c : Clause) (top m : ℤ) → c ≡ its → top ≡ up → 0 < highest →
+      m ≡ neg_ℤ (get_or s.partial.literals (highest - 1) (pos 0)) →
       t.limits.items ≡ mid.limits.items →
       t.partial.literals ≡ mid.partial.literals ++ top ∷ [] → IsSecond t c top m
   the-second t c top m e f some is limits trail =
-      let (i, at, low, inside, there) = point.is.reached some in
+      let (i, at, low, there) = topped.reached some in
+      let inside : i < length s.partial.literals = omega
+      (arith, low, topped.level, topped.inside) in
       let l : ℤ = get_or s.partial.literals i (pos 0) in
-      let its-place : a.highest - 1 ≡ i = omega (arith, at) in
+      let its-place : highest - 1 ≡ i = omega (arith, at) in
       let m-is : m ≡ neg_ℤ l = is ∙ ap (λ k. neg_ℤ (get_or s.partial.literals k (pos 0))) its-place
       in
       let C : Clause → Type 0 = λ d. Contains d m in
       let D : ℤ → Type 0 = Contains its in
       record {
-        there = subst C (sym e) (subst D (sym m-is)
-            (Contains-append_left a.lower.items (up ∷ []) (neg_ℤ l) there));
+        there = subst C (sym e) (subst D (sym m-is) there);
         differ = λ same.
             let clash : l ≡ get_or s.partial.literals p (pos 0) = sym (twice l) ∙
             ap neg_ℤ (sym m-is ∙ sym same ∙ f) ∙ twice (get_or s.partial.literals p (pos 0)) in
             apart-places s.partial.variables s.clauses s.partial.literals s.reasons.items
-            s.limits.items ready.trail i p (omega (arith, low, point.level)) point.inside
+            s.limits.items ready.trail i p (omega (arith, low, topped.level)) topped.inside
             (ap unsigned_abs clash);
         late = late i at inside m-is;
       }
     where
-      late : (i : ℕ) → suc i ≡ a.highest → i < length s.partial.literals →
+      late : (i : ℕ) → suc i ≡ highest → i < length s.partial.literals →
           m ≡ neg_ℤ (get_or s.partial.literals i (pos 0)) →
           IsLate t.partial.literals t.limits.items m
       late i at inside m-is k stands q less =
@@ -164,7 +160,7 @@ module _ (s : Solver) (start p : ℕ) (a : Analysis) (ready : IsReady s)
           let limit : get_or t.limits.items q 0 ≡ get_or s.limits.items q 0 =
           ap (λ xs. get_or xs q 0) (limits ∙ back.limits) ∙
           get_or-take level s.limits.items q 0 within in
-          let low : get_or s.limits.items q 0 < a.highest = back.lower q within in
+          let low : get_or s.limits.items q 0 < highest = back.lower q within in
           elim (cases_lt k to) [
             | inr past ↦ omega (arith, limit, low, back.above, past)
             | inl early ↦
@@ -175,7 +171,7 @@ module _ (s : Solver) (start p : ℕ) (a : Analysis) (ready : IsReady s)
                 (omega (
                   arith,
                   length-take-le to s.partial.literals
-                      (omega (arith, to-low, point.inside)),
+                      (omega (arith, to-low, topped.inside)),
                   early,
                 ))) ∙
                 sym (ap (λ xs. get_or xs k (pos 0))
@@ -188,13 +184,13 @@ module _ (s : Solver) (start p : ℕ) (a : Analysis) (ready : IsReady s)
                       inside (ap unsigned_abs same))
                   | inr (inr more) ↦ absurd (apart-places s.partial.variables s.clauses
                       s.partial.literals s.reasons.items s.limits.items ready.trail i k more
-                      (omega (arith, early, to-low, point.inside)) (ap unsigned_abs (sym same)))
+                      (omega (arith, early, to-low, topped.inside)) (ap unsigned_abs (sym same)))
                 ]
           ]
 
   pub taught-lesson : (t : Solver) (c : Clause) (top : ℤ) (second : Option ℤ) → c ≡ its → top ≡ up →
-      MatchOption second (a.highest ≡ 0)
-      (λ l. (0 < a.highest) × (l ≡ neg_ℤ (get_or s.partial.literals (a.highest - 1) (pos 0)))) →
+      MatchOption second (highest ≡ 0)
+      (λ l. (0 < highest) × (l ≡ neg_ℤ (get_or s.partial.literals (highest - 1) (pos 0)))) →
       t.limits.items ≡ mid.limits.items →
       t.partial.literals ≡ mid.partial.literals ++ top ∷ [] → IsTaught s t c top second level
   taught-lesson t c top second e f found limits trail = record {
@@ -203,12 +199,12 @@ module _ (s : Solver) (start p : ℕ) (a : Analysis) (ready : IsReady s)
     trail = trail ∙ ap (λ xs. xs ++ top ∷ []) trail-is;
     has_top = let C : Clause → Type 0 = λ d. Contains d top in
         let D : ℤ → Type 0 = Contains its in
-        subst C (sym e) (subst D (sym f) (Contains-push a.lower.items up));
+        subst C (sym e) (subst D (sym f) topped.top);
     has_second = seconds second found;
   }
     where
-      seconds : (o : Option ℤ) → MatchOption o (a.highest ≡ 0)
-          (λ l. (0 < a.highest) × (l ≡ neg_ℤ (get_or s.partial.literals (a.highest - 1) (pos 0)))) →
+      seconds : (o : Option ℤ) → MatchOption o (highest ≡ 0)
+          (λ l. (0 < highest) × (l ≡ neg_ℤ (get_or s.partial.literals (highest - 1) (pos 0)))) →
           MatchOption o (t.limits.items ≡ []) (IsSecond t c top)
       seconds None none =
           elim (cases_lt 0 level) [

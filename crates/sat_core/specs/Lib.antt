@@ -2,6 +2,7 @@ pub mod Trails
 pub mod Solvers
 pub mod Analyses
 pub mod Points
+pub mod Minimizing
 pub mod Backs
 pub mod Outcomes
 pub mod Watches

@@ -1,15 +1,15 @@
 //! From a conflict back to what it rests on, reason by reason.
 
-ghost use Rattle.std.specs.Prelude.{◌≡◌, ◌<◌, ◌≤◌, ◌-◌, length, true, false, suc, [], slice_index, slice_index_or, OnOk, IfOk};
+ghost use Rattle.std.specs.Prelude.{◌≡◌, ◌<◌, ◌≤◌, ◌-◌, ◌∷◌, length, true, false, suc, [], ℤ, List, slice_index, slice_index_or, OnOk, IfOk};
 ghost use Rattle.chain_check.specs.Chains.{Refutes};
 ghost use Rattle.sat_core.specs.Points.{IsPoint};
 ghost use Rattle.sat_core.specs.Solvers.{IsReady, IsConflict};
-ghost use Rattle.sat_core.specs.Analyses.{IsAnalysis, IsRefuting, AreMarkable, AreMarked, AreMore};
+ghost use Rattle.sat_core.specs.Analyses.{IsAnalysis, IsRefuting, AreMarked, AreMore};
 
 use crate::analysis::Analysis;
 use crate::solver::Solver;
 use chain_check::Learned;
-use hy_base::M;
+use hy_base::{List, M};
 use std::alloc::Global;
 
 impl Solver {
@@ -18,13 +18,10 @@ impl Solver {
         requires ready { IsReady self.now }
         requires counted { 0 < number }
         requires within { number ≤ length self.now.clauses }
-        requires markable { AreMarkable self.now.partial.literals self.now.places.items p
-            (slice_index_or self.now.clauses (number - 1) []) }
         requires is { IsAnalysis self.now.partial.literals start p analysis.old.seen
-            analysis.old.lower.items analysis.old.highest analysis.old.unsettled }
+            (length analysis.old.lower.items) analysis.old.unsettled }
         ensures kept { OnOk result (IsAnalysis self.now.partial.literals start p
-            analysis.new.seen analysis.new.lower.items analysis.new.highest
-            analysis.new.unsettled) }
+            analysis.new.seen (length analysis.new.lower.items) analysis.new.unsettled) }
         ensures more { OnOk result (AreMore analysis.old.seen analysis.new.seen) }
         ensures marked { OnOk result (AreMarked self.now.partial.literals p analysis.new.seen
             (slice_index_or self.now.clauses (number - 1) [])) }
@@ -44,10 +41,10 @@ impl Solver {
         requires ready { IsReady self.now }
         requires conflict { IsConflict self.now number }
         ensures is { OnOk result (IsAnalysis self.now.partial.literals start
-            (length self.now.partial.literals) analysis.new.seen analysis.new.lower.items
-            analysis.new.highest analysis.new.unsettled) }
+            (length self.now.partial.literals) analysis.new.seen
+            (length analysis.new.lower.items) analysis.new.unsettled) }
         ensures refuting { OnOk result (IsRefuting self.now.clauses self.now.partial.literals
-            (length self.now.partial.literals) analysis.new.seen analysis.new.chain.items) }
+            (length self.now.partial.literals) [] analysis.new.seen analysis.new.chain.items) }
     {
         let len = self.partial.len();
         analysis.begin(len, number)?;
@@ -61,15 +58,13 @@ impl Solver {
         requires level { start ≤ p }
         requires seen { slice_index_or analysis.old.seen p false ≡ true }
         requires implied { 0 < slice_index self.now.reasons.items p }
-        requires is { IsAnalysis self.now.partial.literals start
-            (suc p) analysis.old.seen analysis.old.lower.items analysis.old.highest
-            analysis.old.unsettled }
-        requires refuting { IsRefuting self.now.clauses self.now.partial.literals
-            (suc p) analysis.old.seen analysis.old.chain.items }
+        requires is { IsAnalysis self.now.partial.literals start (suc p) analysis.old.seen
+            (length analysis.old.lower.items) analysis.old.unsettled }
         ensures is { OnOk result (IsAnalysis self.now.partial.literals start p
-            analysis.new.seen analysis.new.lower.items analysis.new.highest
-            analysis.new.unsettled) }
-        ensures refuting { OnOk result (IsRefuting self.now.clauses self.now.partial.literals p
+            analysis.new.seen (length analysis.new.lower.items) analysis.new.unsettled) }
+        ensures refuting { OnOk result ((kept : List ℤ) → IsRefuting self.now.clauses
+            self.now.partial.literals (suc p) kept analysis.old.seen analysis.old.chain.items →
+            IsRefuting self.now.clauses self.now.partial.literals p kept
             analysis.new.seen analysis.new.chain.items) }
     {
         analysis.unsettled -= 1;
@@ -95,7 +90,7 @@ impl Solver {
                 self.resolve(analysis, 0, p)?;
             }
         }
-        analysis.empty_entry(alloc)
+        analysis.entry(alloc, List::new(alloc))
     }
 
     /// Goes back from a conflict to the one place of the level through which all of it goes.

@@ -67,7 +67,7 @@ impl Solver {
     }
 
     /// The place of the first decision, or the end of the trail where there is none.
-    fn first_limit(&self) -> usize
+    pub(crate) fn first_limit(&self) -> usize
         requires { IsReady self.now }
         ensures { (i q : ℕ) → i < result → q < length self.now.limits.items →
             i < slice_index self.now.limits.items q }

@@ -62,7 +62,7 @@ impl Solver {
         order.end_conflict();
     }
 
-    /// Learns from a conflict: goes back, adds the clause and makes its last literal true.
+    /// Learns from a conflict: goes back, adds the clause and makes its first literal true.
     pub(crate) fn learn(
         &mut self,
         alloc: Global,
@@ -87,10 +87,12 @@ impl Solver {
         let start = self.last_limit();
         let place = self.analyze(analysis, number, start)?;
         self.reward(analysis, order, place);
+        let asserting = self.minimize(alloc, analysis, start, place)?;
+        let highest = asserting.highest;
         let top = self.opposite_at(place);
-        let second = self.false_at(analysis.highest);
-        let entry = analysis.entry(alloc, top)?;
-        self.back(order, analysis.highest);
+        let second = self.false_at(highest);
+        let entry = analysis.entry(alloc, asserting.clause)?;
+        self.back(order, highest);
         self.clauses.add(entry.clause.as_slice())?;
         let added = self.clauses.len() as u32;
         self.imply(top, added)?;
@@ -106,7 +108,7 @@ impl Solver {
     }
 
     /// The opposite of the literal at a place.
-    fn opposite_at(&self, place: usize) -> Literal
+    pub(crate) fn opposite_at(&self, place: usize) -> Literal
         requires ready { IsReady self.now }
         requires inside { place < length self.now.partial.literals }
         ensures { result ≡ neg_ℤ (slice_index_or self.now.partial.literals place (pos 0)) }

@@ -30,6 +30,14 @@ impl Pair {
     }
 }
 
+/// A literal that can be watched.
+#[derive(Clone, Copy)]
+pub struct Found {
+    pub literal: Literal,
+    /// How many literals of its clause stand before it.
+    pub before: u32,
+}
+
 /// For each clause its pair, and for each literal the clauses that watch it.
 #[derive(Drop)]
 pub struct Watches {
@@ -37,6 +45,9 @@ pub struct Watches {
     pub pairs: Vec<Pair>,
     /// By literal: the places of the clauses whose pair has it, and maybe others.
     pub lists: Lists,
+    /// By place of a clause: how many of its literals stood before the one that was found last. No
+    /// proof rests on it.
+    starts: Vec<u32>,
     /// How many literals of the trail the pairs are right for.
     pub done: usize,
 }
@@ -52,6 +63,7 @@ impl Watches {
         Ok(Watches {
             pairs: Vec::new(alloc),
             lists: Lists::new(alloc, variables)?,
+            starts: Vec::new(alloc),
             done: 0,
         })
     }
@@ -71,6 +83,7 @@ impl Watches {
     {
         let place = self.pairs.len() as u32;
         self.pairs.push(Pair { first, second })?;
+        self.starts.push(0)?;
         self.lists.push(first, place)?;
         self.lists.push(second, place)
     }
@@ -86,6 +99,7 @@ impl Watches {
             first: l,
             second: l,
         })?;
+        self.starts.push(0)?;
         Ok(())
     }
 
@@ -97,22 +111,50 @@ impl Watches {
         self.pairs[place as usize].other(l)
     }
 
-    /// Watches `other` and `m` for the clause at `place`, which some list lets go.
-    pub fn replace(&mut self, place: u32, other: Literal, m: Literal) -> M<()>
+    /// Watches `other` and what was found for the clause at `place`, which some list lets go.
+    pub fn replace(&mut self, place: u32, other: Literal, found: Found) -> M<()>
         requires place { place < length self.old.pairs.items }
-        requires few { unsigned_abs m < 2 ^ 31 }
-        requires inside { place_of m < length self.old.lists }
+        requires few { unsigned_abs found.literal < 2 ^ 31 }
+        requires inside { place_of found.literal < length self.old.lists }
         ensures pairs { OnOk result (self.new.pairs.items ≡ slice_set self.old.pairs.items place
-            (record { first = other; second = m })) }
-        ensures lists { OnOk result (self.new.lists ≡ slice_set self.old.lists (place_of m)
-            (slice_index_or self.old.lists (place_of m) [] ++ place ∷ [])) }
+            (record { first = other; second = found.literal })) }
+        ensures lists { OnOk result (self.new.lists ≡ slice_set self.old.lists
+            (place_of found.literal)
+            (slice_index_or self.old.lists (place_of found.literal) [] ++ place ∷ [])) }
         ensures done { OnOk result (self.new.done ≡ self.old.done) }
     {
         self.pairs[place as usize] = Pair {
             first: other,
-            second: m,
+            second: found.literal,
         };
-        self.lists.push(m, place)
+        if let Some(start) = self.starts.get_mut(place as usize) {
+            *start = found.before;
+        }
+        self.lists.push(found.literal, place)
+    }
+
+    /// As `replacement`, of the clause at `place`: it is looked for from where the last one was found,
+    /// so that false literals are passed once and not at each visit.
+    pub fn find(
+        &self,
+        partial: &Partial,
+        clause: &[Literal],
+        place: u32,
+        other: Literal,
+    ) -> Option<Found>
+        requires { AreLiterals partial.now.variables clause.now }
+        ensures { MatchOption result (AllFalseBut partial.now.literals clause.now other)
+            (λ found. IsReplacement partial.now.literals clause.now other found.literal) }
+    {
+        let start = match self.starts.get(place as usize) {
+            Some(start) => *start,
+            None => 0,
+        };
+        let from = (start as usize).min(clause.len());
+        if let Some(found) = search(partial, &clause[from..], other, start) {
+            return Some(found);
+        }
+        search(partial, &clause[..from], other, 0)
     }
 }
 
@@ -122,10 +164,25 @@ pub fn replacement(partial: &Partial, clause: &[Literal], other: Literal) -> Opt
     ensures { MatchOption result (AllFalseBut partial.now.literals clause.now other)
         (λ m. IsReplacement partial.now.literals clause.now other m) }
 {
-    for l in clause {
+    let found = search(partial, clause, other, 0)?;
+    Some(found.literal)
+}
+
+/// As `replacement`, of a part of a clause behind its first `before` literals.
+fn search(partial: &Partial, part: &[Literal], other: Literal, before: u32) -> Option<Found>
+    requires { AreLiterals partial.now.variables part.now }
+    ensures { MatchOption result (AllFalseBut partial.now.literals part.now other)
+        (λ found. IsReplacement partial.now.literals part.now other found.literal) }
+{
+    let mut before = before;
+    for l in part {
         if !l.is(other) && !partial.is_false(*l) {
-            return Some(*l);
+            return Some(Found {
+                literal: *l,
+                before,
+            });
         }
+        before = before.saturating_add(1);
     }
     None
 }

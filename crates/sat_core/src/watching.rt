@@ -106,9 +106,10 @@ impl Solver {
         if self.partial.is_true(other) {
             return Ok(Visit::Kept);
         }
-        match replacement(&self.partial, self.clauses.clause(place as usize), other) {
-            Some(m) => {
-                watches.replace(place, other, m)?;
+        let clause = self.clauses.clause(place as usize);
+        match watches.find(&self.partial, clause, place, other) {
+            Some(found) => {
+                watches.replace(place, other, found)?;
                 Ok(Visit::Moved)
             }
             None => {

@@ -1,18 +1,13 @@
-use Rattle.sat_core.proofs.Resolving.{analysis-none, conflict-markable, conflict-refutes}
-use Rattle.std.proofs.Common.{◌∙◌}
+use Rattle.sat_core.proofs.Resolving.{analysis-none, conflict-refutes}
+use Rattle.std.proofs.Common.{length, ap, ◌∙◌}
 use Rattle.sat_core.proofs.solver.Solver.conflict.Goals as goal
-
-pub mark-requires-clause-markable : goal.mark-requires-clause-markable
-mark-requires-clause-markable c = conflict-markable c.args.self.now c.args.number c.len-len.result
-    c.len-len.ensures c.requires.conflict
 
 pub mark-requires-clause-is : goal.mark-requires-clause-is
 mark-requires-clause-is c =
     analysis-none c.args.self.now.partial.literals c.args.start c.len-len.result
-    c.begin.new.self.seen c.begin.new.self.lower.items c.begin.new.self.highest
-    c.begin.new.self.unsettled c.len-len.ensures c.in_ok-begin.ensures.room
-    c.in_ok-begin.ensures.none c.in_ok-begin.ensures.lower c.in_ok-begin.ensures.highest
-    c.in_ok-begin.ensures.unsettled
+    c.begin.new.self.seen (length c.begin.new.self.lower.items) c.begin.new.self.unsettled
+    c.len-len.ensures c.in_ok-begin.ensures.room c.in_ok-begin.ensures.none
+    (ap length c.in_ok-begin.ensures.lower) c.in_ok-begin.ensures.unsettled
 
 pub returns-clause-refuting : goal.returns-clause-refuting
 returns-clause-refuting c =

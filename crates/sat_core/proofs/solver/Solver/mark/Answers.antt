@@ -1,13 +1,13 @@
 use Rattle.std.proofs.Common.{◌≡◌, ◌<◌, ◌+◌, ◌-◌, ℕ, List, [], ◌∷◌, ◌++◌, take, length, get_or, arith, sym, subst, ap, ◌∙◌, true, false}
-use Rattle.std.specs.Prelude.{ℤ, pos, neg_ℤ, unsigned_abs}
+use Rattle.std.specs.Prelude.{ℤ, unsigned_abs}
 use Rattle.std.specs.List.{Contains}
 use Rattle.std.proofs.lemmas.List.{take_more, take_all, get_or_default}
 use Rattle.std.proofs.lemmas.List.Elements.{Contains-get_or}
 use Rattle.std.proofs.lemmas.Option.{get_or_from_slice_get}
 use Rattle.chain_check.specs.Clauses.{Clause, IsLiteral}
-use Rattle.sat_core.specs.Analyses.{AreMarkable, AreMarked}
+use Rattle.sat_core.specs.Analyses.{AreMarked}
 use Rattle.sat_core.proofs.Propagating.{no-more-than}
-use Rattle.sat_core.proofs.Analysing.{IsMarking, marking-skips, marking-sees, markable-at, count-few}
+use Rattle.sat_core.proofs.Analysing.{IsMarking, marking-skips, marking-sees, count-few}
 use Rattle.sat_core.specs.declared.analysis.Analysis.{Analysis}
 use Rattle.sat_core.proofs.solver.Solver.mark.Goals as goal
 use Rattle.sat_core.proofs.solver.Solver.mark.Goals.{then-place-p+in_ok-see, else-place-p}
@@ -44,7 +44,6 @@ loop-l-preserved c =
     let its : get_or c.args.self.now.clauses (c.args.number - 1) [] ≡ c.clause-l-items.result.now =
     get_or_from_slice_get c.args.self.now.clauses
     (c.args.number - 1) c.clause-l-items.result.now [] c.clause-l-items.ensures in
-    let A : Clause → Type 0 = AreMarkable trail places c.args.p in
     let B : Clause → Type 0 = Contains c.args.self.now.clauses in
     let here : Contains clause c.l-item.result =
     (c.loop-l.l-index, c.loop-l-test.true, sym c.l-item.is) in
@@ -69,17 +68,13 @@ loop-l-preserved c =
     subst P (sym more)
     (elim c.if-place-p.branch [
       | then-place-p+in_ok-see w ↦
-          let R : ℕ → Type 0 = λ k. get_or trail k (pos 0) ≡ neg_ℤ c.l-item.result in
           let S : ℕ → Type 0 = λ k. get_or w.see.new.self.seen k false ≡ true in
-          let at = markable-at trail places c.args.p clause c.l-item.result c.requires.ready.placed
-          c.loop-l.invariant.is.below_end (subst A its c.requires.markable) here
-          (omega (arith, w.if-place-p.true, place)) in
           subst Q (sym w.analysis-is) (marking-sees trail places c.args.start c.args.p
           c.args.analysis.now c.loop-l.analysis w.see.new.self
           (take c.loop-l.l-index clause) c.l-item.result c.requires.ready.placed
           c.loop-l.invariant
-          (w.in_ok-see.ensures.kept trail c.args.p c.loop-l.invariant.is
-          (subst R (sym place) at) w.if-place-p.true) w.in_ok-see.ensures.more
+          (w.in_ok-see.ensures.kept trail c.args.p c.loop-l.invariant.is w.if-place-p.true)
+          w.in_ok-see.ensures.more
           (subst S place w.in_ok-see.ensures.seen) w.in_ok-see.ensures.chain)
       | else-place-p w ↦
           subst Q (sym w.analysis-is) (marking-skips trail places c.args.start c.args.p

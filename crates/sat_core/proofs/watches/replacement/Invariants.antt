@@ -1,6 +1,0 @@
-use Rattle.std.proofs.Common.{take}
-use Rattle.sat_core.specs.Watches.{AllFalseBut}
-use Rattle.sat_core.proofs.watches.replacement.Given as goal
-
-abbrev pub invariant-loop-l : goal.invariant-loop-l
-invariant-loop-l l = AllFalseBut l.partial.literals (take l.l-index l.clause) l.other
