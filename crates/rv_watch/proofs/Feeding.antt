@@ -60,7 +60,7 @@ no-bytes (x ∷ xs) e = absurd (omega (arith, e))
 pub taken-few : (lengths : Lengths) (specs : List Spec) (table : List (List ℕ)) (every : Option ℕ) (c next : Course) (line : List ℕ)
     → Takes lengths specs table every c line next → c.lines < most_lines
 taken-few lengths specs table every c _ line (silent within nothing) = within.1
-taken-few lengths specs table every c _ line (quiet told h within says fits room steps still) = within.1
+taken-few lengths specs table every c _ line (quiet told h within says fits steps still) = within.1
 taken-few lengths specs table every c _ line (arrived told h within says fits room steps loud clean) = within.1
 
 -- ---- pieces

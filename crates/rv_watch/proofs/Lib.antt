@@ -1,4 +1,5 @@
 mod Asking
+mod ByEvents
 mod Commands
 mod Feeding
 mod Inputs

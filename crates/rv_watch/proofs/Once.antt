@@ -1,5 +1,5 @@
 -- A line leads to one course or stops a watch, and the lines of an input come to one answer.
-use Rattle.std.proofs.Common.{◌≡◌, ℕ, suc, ◌≤◌, ◌<◌, true, false, true≢false, List, [], ◌∷◌, ◌++◌, length, Option, Ok, Err, refl, sym, ap, subst, ◌∙◌, arith}
+use Rattle.std.proofs.Common.{◌≡◌, ℕ, suc, ◌≤◌, true, false, true≢false, List, [], ◌∷◌, ◌++◌, length, Option, Ok, Err, refl, sym, ap, subst, ◌∙◌, arith}
 use Rattle.hy_text.specs.Bytes.{past_blanks}
 use Rattle.hy_finite.specs.EventFiles.{event_of}
 use Rattle.hy_finite.specs.EventLines.{Said, word, Says, IsShort, IsTooLong}
@@ -13,7 +13,7 @@ use Rattle.rv_core.specs.Replies.{IsFound, error_of}
 use Rattle.rv_core.proofs.Ending.{first-one}
 use Rattle.rv_tool.specs.declared.verdict.RvVerdict.TheVariants.{Violation}
 use Rattle.rv_watch.specs.Agreeing.{Agree, same, other_tuple}
-use Rattle.rv_watch.specs.Courses.{Course, EventStops, Leads, Stops, Takes, WatchAnswer, arrived, behind, counted, crowded, event_refusal, faulty, large, long, quiet, refuses, says_event, silent, uncounted, violates}
+use Rattle.rv_watch.specs.Courses.{Course, EventStops, HasRoom, Leads, Stops, Takes, WatchAnswer, arrived, behind, counted, crowded, event_refusal, faulty, large, long, quiet, refuses, says_event, silent, uncounted, violates}
 
 agree : {a b : WatchAnswer} → a ≡ b → Agree a b
 agree {a} e = subst (Agree a) e (same a)
@@ -49,30 +49,31 @@ module _ (lengths : Lengths) (specs : List Spec) (table : List (List ℕ)) where
   pub takes-once : (every : Option ℕ) (c a b : Course) (line : List ℕ) → Takes lengths specs table every c line a
       → Takes lengths specs table every c line b → a ≡ b
   takes-once every c _ _ line (silent in_one nothing) (silent in_two also) = refl
-  takes-once every c _ _ line (silent in_one nothing) (quiet told h in_two says fits room steps still) =
+  takes-once every c _ _ line (silent in_one nothing) (quiet told h in_two says fits steps still) =
       absurd (nothing-said line told nothing says)
   takes-once every c _ _ line (silent in_one nothing) (arrived told h in_two says fits room steps loud clean) =
       absurd (nothing-said line told nothing says)
-  takes-once every c _ _ line (quiet told h in_one says fits room steps still) (silent in_two nothing) =
+  takes-once every c _ _ line (quiet told h in_one says fits steps still) (silent in_two nothing) =
       absurd (nothing-said line told nothing says)
-  takes-once every c _ _ line (quiet told h in_one says fits room steps still) (quiet other k in_two more few also leads stays) =
+  takes-once every c _ _ line (quiet told h in_one says fits steps still) (quiet other k in_two more few leads stays) =
       ap (behind c) (steps-same c.history h k _ _ (event-same line told other says more) steps leads)
-  takes-once every c _ _ line (quiet told h in_one says fits room steps still) (arrived other k in_two more few also leads loud clean) =
+  takes-once every c _ _ line (quiet told h in_one says fits steps still) (arrived other k in_two more few also leads loud clean) =
       absurd (loud-silent _ _ (event-same line other told more says) loud still)
   takes-once every c _ _ line (arrived told h in_one says fits room steps loud clean) (silent in_two nothing) =
       absurd (nothing-said line told nothing says)
-  takes-once every c _ _ line (arrived told h in_one says fits room steps loud clean) (quiet other k in_two more few also leads stays) =
+  takes-once every c _ _ line (arrived told h in_one says fits room steps loud clean) (quiet other k in_two more few leads stays) =
       absurd (loud-silent _ _ (event-same line told other says more) loud stays)
   takes-once every c _ _ line (arrived told h in_one says fits room steps loud clean) (arrived other k in_two more few also leads shout tidy) =
       ap (counted every c) (steps-same c.history h k _ _ (event-same line told other says more) steps leads)
 
   -- ---- a line that is taken does not stop a watch
 
-  goes-stops : (c : Course) (h : History) (e d : Event) (a : WatchAnswer) → length c.history.present.arrived < 2147483648
+  goes-stops : (c : Course) (h : History) (e d : Event) (a : WatchAnswer) → (arrives e ≡ true → HasRoom c)
       → step c.history e ≡ goes h → (arrives e ≡ true → IsClean lengths specs h.present.arrived) → e ≡ d
       → ¬ EventStops lengths specs table c d a
-  goes-stops c h e d _ room steps clean is (crowded many) = omega (arith, room, many)
-  goes-stops c h e d _ room steps clean is (refuses r also refused_is) = refused-goes c.history h r d e (sym is) refused_is steps
+  goes-stops c h e d _ room steps clean is (crowded ((loud, next), many)) =
+      let few = room (ap arrives is ∙ loud) in omega (arith, few, many)
+  goes-stops c h e d _ room steps clean is (refuses r refused_is) = refused-goes c.history h r d e (sym is) refused_is steps
   goes-stops c h e d _ room steps clean is (violates k s trace tuple also leads loud found) =
       let alike = steps-same c.history k h d e (sym is) leads steps in
       let P : History → Type 0 = λ x. FirstViolated lengths specs x.present.arrived s in
@@ -92,18 +93,19 @@ module _ (lengths : Lengths) (specs : List Spec) (table : List (List ℕ)) where
   taken-stops every c _ line _ (silent within nothing) (faulty again fault) = fault.speaks nothing
   taken-stops every c _ line _ (silent within nothing) (long again too) = nothing-said line (word too.sets) nothing too.says
   taken-stops every c _ line _ (silent within nothing) (says_event told a again says fits stops) = nothing-said line told nothing says
-  taken-stops every c _ line _ (quiet told h within says fits room steps still) (large grown) = let small = within.0 in omega (arith, small, grown)
-  taken-stops every c _ line _ (quiet told h within says fits room steps still) (uncounted small many) = let few = within.1 in omega (arith, few, many)
-  taken-stops every c _ line _ (quiet told h within says fits room steps still) (faulty again fault) = fault.none told says
-  taken-stops every c _ line _ (quiet told h within says fits room steps still) (long again too) = not-short line told says fits too
-  taken-stops every c _ line _ (quiet told h within says fits room steps still) (says_event other a again more few stops) =
-      goes-stops c h _ _ a room steps (λ loud. absurd (true≢false (sym loud ∙ still))) (event-same line told other says more) stops
+  taken-stops every c _ line _ (quiet told h within says fits steps still) (large grown) = let small = within.0 in omega (arith, small, grown)
+  taken-stops every c _ line _ (quiet told h within says fits steps still) (uncounted small many) = let few = within.1 in omega (arith, few, many)
+  taken-stops every c _ line _ (quiet told h within says fits steps still) (faulty again fault) = fault.none told says
+  taken-stops every c _ line _ (quiet told h within says fits steps still) (long again too) = not-short line told says fits too
+  taken-stops every c _ line _ (quiet told h within says fits steps still) (says_event other a again more few stops) =
+      let never : ¬ (arrives (event_of table told) ≡ true) = λ loud. true≢false (sym loud ∙ still) in
+      goes-stops c h _ _ a (λ loud. absurd (never loud)) steps (λ loud. absurd (never loud)) (event-same line told other says more) stops
   taken-stops every c _ line _ (arrived told h within says fits room steps loud clean) (large grown) = let small = within.0 in omega (arith, small, grown)
   taken-stops every c _ line _ (arrived told h within says fits room steps loud clean) (uncounted small many) = let few = within.1 in omega (arith, few, many)
   taken-stops every c _ line _ (arrived told h within says fits room steps loud clean) (faulty again fault) = fault.none told says
   taken-stops every c _ line _ (arrived told h within says fits room steps loud clean) (long again too) = not-short line told says fits too
   taken-stops every c _ line _ (arrived told h within says fits room steps loud clean) (says_event other a again more few stops) =
-      goes-stops c h _ _ a room steps (λ also. clean) (event-same line told other says more) stops
+      goes-stops c h _ _ a (λ also. room) steps (λ also. clean) (event-same line told other says more) stops
 
   -- ---- a line stops a watch in one way
 
@@ -122,15 +124,17 @@ module _ (lengths : Lengths) (specs : List Spec) (table : List (List ℕ)) where
   event-once : (c : Course) (d e : Event) (a b : WatchAnswer) → d ≡ e → EventStops lengths specs table c d a
       → EventStops lengths specs table c e b → Agree a b
   event-once c d e _ _ is (crowded many) (crowded also) = same _
-  event-once c d e _ _ is (crowded many) (refuses r room steps) = absurd (omega (arith, many, room))
-  event-once c d e _ _ is (crowded many) (violates h s trace tuple room steps loud found) = absurd (omega (arith, many, room))
-  event-once c d e _ _ is (refuses r room steps) (crowded many) = absurd (omega (arith, many, room))
-  event-once c d e _ _ is (refuses r room steps) (refuses s also leads) =
+  event-once c d e _ _ is (crowded ((loud, (next, goes_on)), many)) (refuses r steps) =
+      absurd (refused-goes c.history next r e d (sym is) steps goes_on)
+  event-once c d e _ _ is (crowded (came, many)) (violates h s trace tuple room steps loud found) = absurd (omega (arith, many, room))
+  event-once c d e _ _ is (refuses r steps) (crowded ((loud, (next, goes_on)), many)) =
+      absurd (refused-goes c.history next r d e is steps goes_on)
+  event-once c d e _ _ is (refuses r steps) (refuses s leads) =
       agree (ap (λ x. Err (event_refusal (suc c.lines) (error_of x))) (refusals-same c.history r s d e is steps leads))
-  event-once c d e _ _ is (refuses r room steps) (violates h s trace tuple also leads loud found) =
+  event-once c d e _ _ is (refuses r steps) (violates h s trace tuple also leads loud found) =
       absurd (refused-goes c.history h r d e is steps leads)
-  event-once c d e _ _ is (violates h s trace tuple room steps loud found) (crowded many) = absurd (omega (arith, many, room))
-  event-once c d e _ _ is (violates h s trace tuple room steps loud found) (refuses r also leads) =
+  event-once c d e _ _ is (violates h s trace tuple room steps loud found) (crowded (came, many)) = absurd (omega (arith, many, room))
+  event-once c d e _ _ is (violates h s trace tuple room steps loud found) (refuses r leads) =
       absurd (refused-goes c.history h r e d (sym is) leads steps)
   event-once c d e _ _ is (violates h s trace tuple room steps loud found) (violates k t other others also leads shout finds) =
       found-agree h k s t trace other tuple others (steps-same c.history h k d e is steps leads) found finds

@@ -2,6 +2,7 @@
 use Rattle.std.proofs.Common.{◌≡◌, ◌+◌, ℕ, suc, ◌≤◌, ◌<◌, Bool, true, false, nat_lt, List, length, Option, Some, None, Ok, Err, inl, inr, refl, sym, ap, subst, ◌∙◌, arith}
 use Rattle.hy_base.specs.declared.reading.TheConstants.{BYTES_LIMIT}
 use Rattle.hy_base.specs.declared.sink.Sink.{Ghosts}
+use Rattle.std.proofs.lemmas.Bool.{cases_lt}
 use Rattle.std.proofs.lemmas.Bool.Decides.{nat_tests}
 use Rattle.hy_files.specs.ErrorLines.{Received}
 use Rattle.hy_text.specs.declared.line_error.LineError.{LineError}
@@ -11,7 +12,7 @@ use Rattle.hy_finite.specs.EventLines.{SaysNothing}
 use Rattle.hy_finite.specs.declared.event.Event.{Event}
 use Rattle.rv_core.specs.Endings.{Spec, IsClean}
 use Rattle.rv_core.specs.Held.{StandsFor, specs_of}
-use Rattle.rv_core.specs.Histories.{History}
+use Rattle.rv_core.specs.Histories.{History, goes, step, arrives}
 use Rattle.rv_core.specs.Replies.{Answers, IsFound}
 use Rattle.rv_core.specs.Seen.{held}
 use Rattle.rv_core.specs.declared.rv.Rv.{Rv}
@@ -20,7 +21,7 @@ use Rattle.rv_core.specs.declared.rv_error.RvError.{RvError}
 use Rattle.hy_run.specs.declared.refusal.Refusal.TheVariants.{Own}
 use Rattle.rv_tool.specs.declared.verdict.RvVerdict.TheVariants as verdicts
 use Rattle.rv_watch.specs.At.{IsAt, IsTaken, line_refusal}
-use Rattle.rv_watch.specs.Courses.{Course, IsWithin, WatchAnswer, arrived, behind, counted, counted_if, crowded, event_refusal, faulty, long, most_lines, most_traces, quiet, refuses, says_event, silent, uncounted, violates}
+use Rattle.rv_watch.specs.Courses.{Course, HasRoom, IsCrowded, IsWithin, WatchAnswer, arrived, behind, counted, counted_if, crowded, event_refusal, faulty, long, most_lines, most_traces, quiet, refuses, says_event, silent, uncounted, violates}
 use Rattle.rv_watch.specs.Runs.{ReceivesAll}
 use Rattle.rv_watch.specs.Texts.{count_line, counts_text}
 use Rattle.rv_watch.proofs.Leading.{receives-more}
@@ -40,11 +41,11 @@ module _ (c : Course) (h : History) where
   either-lines true = refl
   either-lines false = refl
 
-  counted-history : (every : Option ℕ) → (counted every c h).history ≡ h
+  pub counted-history : (every : Option ℕ) → (counted every c h).history ≡ h
   counted-history None = refl
   counted-history (Some n) = either-history (nat_lt (suc c.since) n)
 
-  counted-lines : (every : Option ℕ) → (counted every c h).lines ≡ suc c.lines
+  pub counted-lines : (every : Option ℕ) → (counted every c h).lines ≡ suc c.lines
   counted-lines None = refl
   counted-lines (Some n) = either-lines (nat_lt (suc c.since) n)
 
@@ -105,15 +106,18 @@ module _ (terms : Terms) (specs : List Spec) {E : Type 0} (g : Ghosts E) (from e
     -- ---- lines that say an event
 
     module _ (event : Event) (is : IsLineAnswer terms.names.now line (Ok (Some event))) where
-      pub stopped-crowded : (w' : Watcher) → most_traces ≤ (held w.rv).arrived
+      pub stopped-crowded : (w' : Watcher) → IsCrowded c event
           → IsTaken terms specs g from err w' line c (Some (Err (Own Traces)))
       stopped-crowded w' many =
           let (said, says, fits, same) = is in
-          (at.heard, inr (says_event said _ within says fits (crowded (omega (arith, many, at.stands.count)))))
+          (at.heard, inr (says_event said _ within says fits (crowded (rw (← same) many))))
 
-      module _ (room : (held w.rv).arrived < most_traces) (w' : Watcher) where
-        has-room : length c.history.present.arrived < most_traces
-        has-room = omega (arith, room, at.stands.count)
+      module _ (room : ¬ IsCrowded c event) (w' : Watcher) where
+        -- Where a trace comes there is room for it.
+        has-room : (next : History) → step c.history event ≡ goes next → arrives event ≡ true → HasRoom c
+        has-room next steps loud =
+            elim (cases_lt (length c.history.present.arrived) most_traces)
+            [ inl few ↦ few | inr many ↦ absurd (room ((loud, (next, steps)), many)) ]
 
         module _ (drops : (held w'.rv).drop ≡ (held w.rv).drop) (lines : w'.lines ≡ n) where
           pub took-quiet : w'.since ≡ w.since → Answers (held w.rv) (held w'.rv) event (Ok Quiet)
@@ -122,7 +126,7 @@ module _ (terms : Terms) (specs : List Spec) {E : Type 0} (g : Ghosts E) (from e
               let goes = answered-quiet (held w.rv) (held w'.rv) event c.history (Ok Quiet) refl (said.right c.history at.stands) in
               let (told, says, fits, same) = is in (
                 behind c goes.next,
-                quiet told goes.next within says fits has-room (rw (← same) goes.steps) (rw (← same) goes.silent),
+                quiet told goes.next within says fits (rw (← same) goes.steps) (rw (← same) goes.silent),
                 record {
                   rule = said.rule ∙ at.rule;
                   dropping = drops ∙ at.dropping;
@@ -148,7 +152,7 @@ module _ (terms : Terms) (specs : List Spec) {E : Type 0} (g : Ghosts E) (from e
               let R : Rv → Type 0 = λ r. StandsFor (held r) goes.next in
               let clean : IsClean terms.question.lengths specs goes.next.present.arrived = rw (← rule, ← specs_are) goes.stands.quiet.now in (
                 counted every c goes.next,
-                arrived told goes.next within says fits has-room (rw (← same) goes.steps) (rw (← same) goes.loud) clean,
+                arrived told goes.next within says fits (has-room goes.next goes.steps goes.loud) (rw (← same) goes.steps) (rw (← same) goes.loud) clean,
                 record {
                   rule = ap (λ (r : Rv). (held r).rule) is_rv ∙ rule;
                   dropping = drops ∙ at.dropping;
@@ -168,7 +172,7 @@ module _ (terms : Terms) (specs : List Spec) {E : Type 0} (g : Ghosts E) (from e
             let (told, says, fits, same) = is in
             let found : IsFound terms.question.lengths specs v.next.present.arrived s trace tuple = rw (← at.rule, ← at.specs_are) v.found in (
               at.heard,
-              inr (says_event told _ within says fits (violates v.next s trace tuple has-room (rw (← same) v.steps) (rw (← same) v.loud) found)),
+              inr (says_event told _ within says fits (violates v.next s trace tuple (has-room v.next v.steps v.loud) (rw (← same) v.steps) (rw (← same) v.loud) found)),
             )
 
         pub stopped-error : (error : RvError) (answer : WatchAnswer) → Answers (held w.rv) (held w'.rv) event (Err error)
@@ -181,5 +185,5 @@ module _ (terms : Terms) (specs : List Spec) {E : Type 0} (g : Ghosts E) (from e
                   let P : WatchAnswer → Type 0 = λ a. IsTaken terms specs g from err w' line c (Some a) in
                   subst P
                   (sym (e ∙ ap (λ k. Err (event_refusal k error)) number-is ∙ ap (λ x. Err (event_refusal (suc c.lines) x)) r.is))
-                  (at.heard, inr (says_event told _ within says fits (refuses r.cause has-room (rw (← same) r.steps))))
+                  (at.heard, inr (says_event told _ within says fits (refuses r.cause (rw (← same) r.steps))))
             ]

@@ -8,7 +8,7 @@ use Rattle.hy_finite.specs.EventLines.{Said, SaysNothing, Says, IsShort, IsFault
 use Rattle.hy_finite.specs.declared.event.Event.{Event}
 use Rattle.hy_finite.specs.declared.lengths.Lengths.{Lengths}
 use Rattle.rv_core.specs.Endings.{Spec, IsClean}
-use Rattle.rv_core.specs.Histories.{History, Refusal, empty_history, refused, goes, step, arrives}
+use Rattle.rv_core.specs.Histories.{BringsTrace, History, Refusal, empty_history, refused, goes, step, arrives}
 use Rattle.rv_core.specs.Replies.{IsFound, error_of}
 use Rattle.rv_core.specs.declared.rv_error.RvError.{RvError}
 use Rattle.rv_core.specs.declared.rv_error.RvError.TheVariants as errors
@@ -28,7 +28,7 @@ WatchAnswer = Answer RvVerdict WatchFault
 abbrev pub most_lines : ℕ
 most_lines = 18446744073709551615
 
--- most traces that are present when an event comes
+-- most traces that are present when one more comes
 abbrev pub most_traces : ℕ
 most_traces = 2147483648
 
@@ -65,9 +65,13 @@ counted (Some n) c h = counted_if (nat_lt (suc c.since) n) c h
 abbrev pub IsWithin : Course → List ℕ → Type 0
 IsWithin c line = (length line ≤ BYTES_LIMIT) × (c.lines < most_lines)
 
--- An event can come: the traces that are present are not too many.
+-- A trace can come: those that are present are not too many.
 abbrev pub HasRoom : Course → Type 0
 HasRoom c = length c.history.present.arrived < most_traces
+
+-- A trace comes by the event, but there are too many.
+abbrev pub IsCrowded : Course → Event → Type 0
+IsCrowded c e = BringsTrace c.history e × (most_traces ≤ length c.history.present.arrived)
 
 -- why a line is refused whose event is answered by this error
 abbrev pub event_refusal : ℕ → RvError → refusals.Refusal WatchFault
@@ -82,7 +86,7 @@ module _ (lengths : Lengths) (specs : List Spec) (table : List (List ℕ)) where
   -- A line leads from one course to another.
   pub data Takes (every : Option ℕ) (c : Course) (line : List ℕ) : Course → Type 0 where
     silent : IsWithin c line → SaysNothing line → Takes every c line (behind c c.history)
-    quiet : (said : Said) (h : History) → IsWithin c line → Says line said → IsShort said → HasRoom c
+    quiet : (said : Said) (h : History) → IsWithin c line → Says line said → IsShort said
         → step c.history (event_of table said) ≡ goes h → arrives (event_of table said) ≡ false
         → Takes every c line (behind c h)
     arrived : (said : Said) (h : History) → IsWithin c line → Says line said → IsShort said → HasRoom c
@@ -94,11 +98,11 @@ module _ (lengths : Lengths) (specs : List Spec) (table : List (List ℕ)) where
   Leads every c [] end = end ≡ c
   Leads every c (line ∷ lines) end = (next : Course) × Takes every c line next × Leads every next lines end
 
-  -- An event stops the watch, and so is answered: it comes behind too many traces, is refused, or brings a trace after
+  -- An event stops the watch, and so is answered: it brings a trace behind too many, is refused, or brings a trace after
   -- which the traces that arrived violate a formula.
   pub data EventStops (c : Course) (e : Event) : WatchAnswer → Type 0 where
-    crowded : most_traces ≤ length c.history.present.arrived → EventStops c e (Err (Own Traces))
-    refuses : (r : Refusal) → HasRoom c → step c.history e ≡ refused r
+    crowded : IsCrowded c e → EventStops c e (Err (Own Traces))
+    refuses : (r : Refusal) → step c.history e ≡ refused r
         → EventStops c e (Err (event_refusal (suc c.lines) (error_of r)))
     violates : (h : History) (s trace : ℕ) (tuple : List ℕ) → HasRoom c → step c.history e ≡ goes h → arrives e ≡ true
         → IsFound lengths specs h.present.arrived s trace tuple → EventStops c e (Ok (Violation s trace tuple))

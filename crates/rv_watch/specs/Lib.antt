@@ -1,5 +1,6 @@
 pub mod Agreeing
 pub mod At
+pub mod ByEvents
 pub mod Courses
 pub mod Input
 pub mod Runs

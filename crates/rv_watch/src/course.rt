@@ -1,20 +1,22 @@
 //! Lines that are taken one after another.
 
-ghost use Rattle.std.specs.Prelude.{◌≡◌, ◌+◌, ◌≤◌, List, IfNone, length};
+ghost use Rattle.std.specs.Prelude.{◌≡◌, ◌↔◌, ◌+◌, ◌<◌, ◌≤◌, ◌^◌, List, IfNone, IsFalse, IsTrue, length};
 ghost use Rattle.hy_base.specs.Sink.{KeepsSink};
 ghost use Rattle.hy_base.specs.declared.reading.TheConstants.{BYTES_LIMIT};
+ghost use Rattle.hy_finite.specs.Traces.{Trace};
 ghost use Rattle.rv_core.specs.Endings.{Spec};
 ghost use Rattle.rv_core.specs.Held.{StandsFor};
 ghost use Rattle.rv_core.specs.Histories.{History};
 ghost use Rattle.rv_core.specs.Seen.{held};
+ghost use Rattle.rv_core.specs.StepBounds.{Brings};
 ghost use Rattle.rv_watch.specs.At.{IsAt, IsTaken, line_refusal};
-ghost use Rattle.rv_watch.specs.Courses.{Course, counted, event_refusal};
+ghost use Rattle.rv_watch.specs.Courses.{Course, IsCrowded, counted, event_refusal};
 ghost use Rattle.rv_watch.specs.Runs.{ReceivesAll};
 
 use crate::texts::write_counts;
 use crate::verdict::{Question, WatchAnswer, WatchFault};
 use hy_base::{Kind, Sink, Steps};
-use hy_finite::{LineError, read_event};
+use hy_finite::{Event, LineError, read_event};
 use hy_formula::NameTable;
 use hy_run::Refusal;
 use rv_core::{Reply, Rv, RvError};
@@ -22,7 +24,7 @@ use rv_tool::RvVerdict;
 use std::alloc::Global;
 use std::sync::ledger::Ledger;
 
-/// How many traces may be present when an event comes.
+/// How many traces may be present when one more comes.
 const MOST_TRACES: u32 = 2_147_483_648;
 
 /// What is asked, and by which names lines are read.
@@ -83,7 +85,7 @@ impl Watcher {
             }
             Err(fault) => return Some(Err(line_refusal(fault, number))),
         };
-        if self.rv.traces() >= MOST_TRACES {
+        if is_crowded(&self.rv, &event) {
             return Some(Err(Refusal::Own(WatchFault::Traces)));
         }
         match self.rv.event(alloc, &event, steps) {
@@ -123,6 +125,16 @@ impl Watcher {
         self.since = 0;
         write_counts(err, self.rv.traces(), self.rv.live());
     }
+}
+
+/// Whether a trace comes by an event behind the most traces that can be present.
+fn is_crowded(rv: &Rv, event: &Event) -> bool
+    ensures crowded { (c : Course) → StandsFor (held rv.now) c.history
+        → IsTrue result ↔ IsCrowded c event.now }
+    ensures room { IsFalse result → (t : Trace) → Brings (held rv.now) event.now t
+        → (held rv.now).arrived < 2 ^ 31 }
+{
+    rv.traces() >= MOST_TRACES && rv.brings_trace(event)
 }
 
 /// Why a line with this number is refused that is read so.

@@ -3,6 +3,7 @@
 ghost use Rattle.std.specs.Prelude.{◌≡◌, ◌⊎◌, ℕ, List, Some, Err};
 ghost use Rattle.rv_core.specs.Endings.{Spec};
 ghost use Rattle.rv_watch.specs.Agreeing.{Agree};
+ghost use Rattle.rv_watch.specs.ByEvents.{IsByEvents, IsByReads};
 ghost use Rattle.rv_watch.specs.Courses.{WatchAnswer as Due};
 ghost use Rattle.rv_watch.specs.Input.{InputComes, Watches, input_name};
 ghost use Rattle.rv_watch.specs.declared.verdict.Question.{Question as Asked};
@@ -26,4 +27,16 @@ pub fn complete<S: Shelf>()
         (said : List (List ℕ)) (answer : Due) → S.tells old → S.is_sound old
         → S.file old input_name ≡ Some bytes → Watches S.Shelf old q specs table new said answer
         → InputComes q specs table bytes said answer }
+{}
+
+/// The first event that is refused or brings a violation decides what a watch answers, whatever lines
+/// stand behind its own, or where there is none all events do: it is what `rvhyper` answers by how
+/// the events end, but for want of memory and for limits that no file of `rvhyper` is past.
+pub fn endings<S: Shelf>()
+    ensures reads { (q : Asked) (specs : List Spec) (table : List (List ℕ)) (old new : S)
+        (said : List (List ℕ)) (answer : Due) → Watches S.Shelf old q specs table new said answer
+        → IsByReads S.Shelf old q specs table new answer }
+    ensures bytes { (q : Asked) (specs : List Spec) (table : List (List ℕ)) (bytes : List ℕ)
+        (said : List (List ℕ)) (answer : Due) → InputComes q specs table bytes said answer
+        → IsByEvents q specs table bytes answer }
 {}

@@ -20,7 +20,7 @@ pub enum WatchFault {
     Line { line: u64 },
     /// The event of a line is refused: it ends a session that is not open, or goes back without a save.
     Session { line: u64 },
-    /// An event comes where 2^31 traces are present.
+    /// A trace comes where 2^31 are present.
     Traces,
     /// A line comes behind 2^64 - 1 lines.
     Lines,

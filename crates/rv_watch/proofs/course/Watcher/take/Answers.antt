@@ -6,7 +6,7 @@ use Rattle.rv_core.specs.Seen.{held}
 use Rattle.rv_core.specs.declared.rv.Rv.{Rv}
 use Rattle.rv_core.specs.declared.reply.Reply.{Reply}
 use Rattle.rv_core.specs.declared.rv_error.RvError.{RvError}
-use Rattle.rv_watch.specs.Courses.{most_lines, most_traces}
+use Rattle.rv_watch.specs.Courses.{IsCrowded, most_lines}
 use Rattle.rv_watch.specs.declared.course.Watcher.{Watcher}
 use Rattle.rv_watch.proofs.Taking.{stopped-uncounted, stopped-unread, stopped-crowded, stopped-violated, stopped-error, took-silent, took-quiet, took-arrival}
 use Rattle.rv_watch.proofs.course.Watcher.take.Goals as goal
@@ -30,10 +30,10 @@ returns-in-Err-clause-taken g c specs from course at =
     stopped-unread c.args.terms.now specs g.E.Sink from c.args.err.now c.args.self.now c.args.line.now course at c.requires.small
     c.in-Some.number c.in-Some.ensures.1 few c.args.self.now c.in-Err.fault _ c.in-Err.ensures (ap Err c.line_refusal.ensures)
 
-pub returns-then-traces-ge-MOST_TRACES-clause-taken : goal.returns-then-traces-ge-MOST_TRACES-clause-taken
-returns-then-traces-ge-MOST_TRACES-clause-taken g c specs from course at =
+pub returns-then-is_crowded-clause-taken : goal.returns-then-is_crowded-clause-taken
+returns-then-is_crowded-clause-taken g c specs from course at =
     let few : c.args.self.now.lines < most_lines = omega (arith, c.in-Some.ensures.0, c.in-Some.ensures.1) in
-    let many : most_traces ≤ (held c.args.self.now.rv).arrived = omega (arith, c.if-traces-ge-MOST_TRACES.true, c.traces.ensures) in
+    let many = (c.is_crowded.ensures.crowded course at.stands).0 c.if-is_crowded.true in
     let P : Option Event → Type 0 = λ o. IsLineAnswer c.args.terms.now.names.now c.args.line.now (Ok o) in
     stopped-crowded c.args.terms.now specs g.E.Sink from c.args.err.now c.args.self.now c.args.line.now course at c.requires.small
     c.in-Some.number c.in-Some.ensures.1 few c.in-Ok-Some.event (subst P c.in-Ok-Some.field-0-is c.in-Ok-Some.ensures) c.args.self.now many
@@ -41,7 +41,8 @@ returns-then-traces-ge-MOST_TRACES-clause-taken g c specs from course at =
 pub returns-in-Ok-Quiet-clause-taken : goal.returns-in-Ok-Quiet-clause-taken
 returns-in-Ok-Quiet-clause-taken g c specs from course at =
     let few : c.args.self.now.lines < most_lines = omega (arith, c.in-Some.ensures.0, c.in-Some.ensures.1) in
-    let room : (held c.args.self.now.rv).arrived < most_traces = omega (arith, c.if-traces-ge-MOST_TRACES.false, c.traces.ensures) in
+    let room : ¬ IsCrowded course c.in-Ok-Some.event =
+    λ many. let yes = (c.is_crowded.ensures.crowded course at.stands).1 many in let no = c.if-is_crowded.false in absurd (cc (yes, no)) in
     let P : Option Event → Type 0 = λ o. IsLineAnswer c.args.terms.now.names.now c.args.line.now (Ok o) in
     let A : Result Reply RvError → Type 0 = Answers (held c.args.self.now.rv) (held c.event.new.self) c.in-Ok-Some.event in
     took-quiet c.args.terms.now specs g.E.Sink from c.args.err.now c.args.self.now c.args.line.now course at c.requires.small c.in-Some.number
@@ -51,7 +52,8 @@ returns-in-Ok-Quiet-clause-taken g c specs from course at =
 pub returns-in-Ok-Arrived-clause-taken : goal.returns-in-Ok-Arrived-clause-taken
 returns-in-Ok-Arrived-clause-taken g c specs from course at =
     let few : c.args.self.now.lines < most_lines = omega (arith, c.in-Some.ensures.0, c.in-Some.ensures.1) in
-    let room : (held c.args.self.now.rv).arrived < most_traces = omega (arith, c.if-traces-ge-MOST_TRACES.false, c.traces.ensures) in
+    let room : ¬ IsCrowded course c.in-Ok-Some.event =
+    λ many. let yes = (c.is_crowded.ensures.crowded course at.stands).1 many in let no = c.if-is_crowded.false in absurd (cc (yes, no)) in
     let P : Option Event → Type 0 = λ o. IsLineAnswer c.args.terms.now.names.now c.args.line.now (Ok o) in
     let A : Result Reply RvError → Type 0 = Answers (held c.args.self.now.rv) (held c.event.new.self) c.in-Ok-Some.event in
     took-arrival c.args.terms.now specs g.E.Sink from c.args.err.now c.args.self.now c.args.line.now course at c.requires.small c.in-Some.number
@@ -63,7 +65,8 @@ returns-in-Ok-Arrived-clause-taken g c specs from course at =
 pub returns-in-Ok-Violation-clause-taken : goal.returns-in-Ok-Violation-clause-taken
 returns-in-Ok-Violation-clause-taken g c specs from course at =
     let few : c.args.self.now.lines < most_lines = omega (arith, c.in-Some.ensures.0, c.in-Some.ensures.1) in
-    let room : (held c.args.self.now.rv).arrived < most_traces = omega (arith, c.if-traces-ge-MOST_TRACES.false, c.traces.ensures) in
+    let room : ¬ IsCrowded course c.in-Ok-Some.event =
+    λ many. let yes = (c.is_crowded.ensures.crowded course at.stands).1 many in let no = c.if-is_crowded.false in absurd (cc (yes, no)) in
     let P : Option Event → Type 0 = λ o. IsLineAnswer c.args.terms.now.names.now c.args.line.now (Ok o) in
     let A : Result Reply RvError → Type 0 = Answers (held c.args.self.now.rv) (held c.event.new.self) c.in-Ok-Some.event in
     let w : Watcher = record { rv = c.event.new.self; lines = c.args.self.now.lines; since = c.args.self.now.since } in
@@ -74,7 +77,8 @@ returns-in-Ok-Violation-clause-taken g c specs from course at =
 pub returns-clause-taken : goal.returns-clause-taken
 returns-clause-taken g c specs from course at =
     let few : c.args.self.now.lines < most_lines = omega (arith, c.in-Some.ensures.0, c.in-Some.ensures.1) in
-    let room : (held c.args.self.now.rv).arrived < most_traces = omega (arith, c.if-traces-ge-MOST_TRACES.false, c.traces.ensures) in
+    let room : ¬ IsCrowded course c.in-Ok-Some.event =
+    λ many. let yes = (c.is_crowded.ensures.crowded course at.stands).1 many in let no = c.if-is_crowded.false in absurd (cc (yes, no)) in
     let P : Option Event → Type 0 = λ o. IsLineAnswer c.args.terms.now.names.now c.args.line.now (Ok o) in
     let A : Result Reply RvError → Type 0 = Answers (held c.args.self.now.rv) (held c.event.new.self) c.in-Ok-Some.event in
     let w : Watcher = record { rv = c.event.new.self; lines = c.args.self.now.lines; since = c.args.self.now.since } in
