@@ -1,5 +1,5 @@
 -- The answer to each event is right for each history that the monitor stands for.
-use Rattle.std.proofs.Common.{◌≡◌, ℕ, ◌+◌, ◌<◌, ◌≤◌, true, false, List, [], ◌∷◌, ◌++◌, length, reverse, Option, Some, None, Ok, Err, nat_eq, refl, sym, ap, ◌∙◌, subst, arith}
+use Rattle.std.proofs.Common.{◌≡◌, ◌↔◌, ℕ, ◌+◌, ◌<◌, ◌≤◌, true, false, List, [], ◌∷◌, ◌++◌, length, reverse, Option, Some, None, is_some, IsTrue, Ok, Err, nat_eq, refl, sym, ap, ◌∙◌, subst, arith}
 use Rattle.std.proofs.lemmas.Bool.{eqb-true}
 use Rattle.std.proofs.lemmas.List.{reverse-append}
 use Rattle.hy_base.specs.declared.limit.Kind.TheVariants as kind
@@ -16,7 +16,7 @@ use Rattle.rv_core.specs.declared.rv_error.RvError.TheVariants as error
 use Rattle.rv_core.specs.declared.saved.Saved.{Saved}
 use Rattle.rv_core.specs.declared.arrival.Arrival.{Arrival}
 use Rattle.rv_core.specs.declared.arrival.Arrival.TheVariants as arrival
-use Rattle.rv_core.specs.Histories.{Session, History, too_long, too_many_sessions, too_many_saves, no_session, no_save, extended, closed, with_trace, goes, step, arrives, back_step}
+use Rattle.rv_core.specs.Histories.{BringsTrace, Session, History, too_long, too_many_sessions, too_many_saves, no_session, no_save, extended, closed, with_trace, refused, goes, step, arrives, back_step}
 use Rattle.rv_core.specs.Opened.{Open, letters_in, Extends, longer, opened, IsNotTaken, Closes}
 use Rattle.rv_core.specs.Held.{Held, specs_of, AreSessions, StandsFor}
 use Rattle.rv_core.specs.Arrivals.{AreNext, FirstFound, IsArrival, after_arrival}
@@ -152,6 +152,33 @@ no-end m n none = record {
 pub none-known : (word : Option Trace) → ((t : Trace) → ¬ (word ≡ Some t)) → word ≡ None
 none-known None none = refl
 none-known (Some t) none = absurd (none t refl)
+
+-- ---- whether a trace comes
+
+pub whole-comes : (h : History) (t : Trace) → BringsTrace h (event.Whole t)
+whole-comes h t = (refl, (with_trace h t h.present.sessions, refl))
+
+-- By the end of a session one comes where letters of it are known.
+pub end-comes : (m : Held) (n : ℕ) (word : Option Trace) → word ≡ letters_in n m.sessions
+    → IsTrue (is_some word) ↔ ((t : Trace) × (letters_in n m.sessions ≡ Some t))
+end-comes m n None e =
+    (λ no. absurd (cc), λ (t, known). absurd (let clash : None ≡ Some t = e ∙ known in cc))
+end-comes m n (Some t) e = (λ yes. (t, sym e), λ came. refl)
+
+pub end-leads : (m : Held) (n : ℕ) (word : Option Trace) → word ≡ letters_in n m.sessions
+    → (h : History) → StandsFor m h → IsTrue (is_some word) ↔ BringsTrace h (event.End n)
+end-leads m n None e h s = (
+  λ no. absurd (cc),
+  λ (loud, (next, on)).
+      let not_open = refused-end h n (sym (s.sessions.letters n) ∙ sym e) in
+      absurd (let clash : refused no_session ≡ goes next = sym not_open ∙ on in cc),
+)
+end-leads m n (Some t) e h s = (
+  λ yes.
+      let on = goes-end h n t (sym (s.sessions.letters n) ∙ sym e) in
+      (refl, (with_trace h t (closed n h.present.sessions), on)),
+  λ came. refl,
+)
 
 -- ---- a save and a back
 

@@ -1,5 +1,5 @@
 -- What events make of the traces that arrived, of the open sessions and of the saves.
-use Rattle.std.specs.Prelude.{ℕ, Bool, true, false, nat_eq, nat_lt, if◌then◌else◌, List, [], ◌∷◌, ◌++◌, length, Option, Some, None}
+use Rattle.std.specs.Prelude.{◌≡◌, ℕ, Bool, true, false, nat_eq, nat_lt, if◌then◌else◌, List, [], ◌∷◌, ◌++◌, length, Option, Some, None}
 use Rattle.hy_bits.specs.Letter.{Letter}
 use Rattle.hy_finite.specs.Traces.{Trace, most_letters}
 use Rattle.hy_finite.specs.declared.event.Event.{Event}
@@ -107,3 +107,7 @@ abbrev pub arrives : Event → Bool
 arrives (event.Whole t) = true
 arrives (event.End n) = true
 arrives _ = false
+
+-- A trace arrives by the event, which is not refused.
+abbrev pub BringsTrace : History → Event → Type 0
+BringsTrace h e = (arrives e ≡ true) × ((next : History) × (step h e ≡ goes next))

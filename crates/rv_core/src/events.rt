@@ -1,8 +1,10 @@
 //! What a monitor does at an event.
 
-ghost use Rattle.std.specs.Prelude.{◌≡◌, ◌+◌, ◌<◌, ◌≤◌, ◌^◌, ℕ, List, Some, None, sum, OnErr, IsTrue, length};
+ghost use Rattle.std.specs.Prelude.{◌≡◌, ◌↔◌, ◌+◌, ◌<◌, ◌≤◌, ◌^◌, ℕ, List, Some, None, sum, OnErr, IsTrue, length};
 ghost use Rattle.hy_finite.specs.declared.event.Event.TheVariants as occurs;
 ghost use Rattle.hy_finite.specs.Traces.{Trace as Letters};
+ghost use Rattle.rv_core.specs.Held.{StandsFor};
+ghost use Rattle.rv_core.specs.Histories.{History, BringsTrace};
 ghost use Rattle.rv_core.specs.Opened.{letters_in};
 ghost use Rattle.rv_core.specs.StepBounds.{AreBounds, Brings};
 
@@ -19,9 +21,26 @@ use std::sync::ledger::Ledger;
 /// The most saves.
 const MOST_SAVES: usize = 64;
 
+/// How many traces may have arrived where one more does.
+const MOST_TRACES: u32 = 2_147_483_648;
+
 impl Rv {
     ghost use Rattle.rv_core.specs.Replies.{Answers};
     ghost use Rattle.rv_core.specs.Seen.{held};
+
+    /// Whether a trace arrives by an event: a whole one, or that of a session which is open. Then it
+    /// is not refused but for want of memory. In constant time.
+    pub fn brings_trace(&self, event: &Event) -> bool
+        ensures brings { IsTrue result ↔ ((t : Letters) × Brings (held self.now) event.now t) }
+        ensures leads { (h : History) → StandsFor (held self.now) h
+            → IsTrue result ↔ BringsTrace h event.now }
+    {
+        match event {
+            Event::Whole(_) => true,
+            Event::End { session } => self.sessions.letters(*session).is_some(),
+            Event::Letter { .. } | Event::Save | Event::Back => false,
+        }
+    }
 
     /// Takes the next event of a run.
     ///
@@ -36,7 +55,8 @@ impl Rv {
     /// `NoLetter` where the session that ends is not open, `NoSave` where there is nothing put
     /// aside; `Limit` where a session has 1,024 letters already, 1,024 sessions are open, or 64
     /// saves are put aside. Where it is refused, for memory too, all is as before, what is kept too.
-    /// A back takes no memory. After a violation the monitor takes no more events.
+    /// A back takes no memory. After a violation the monitor takes no more events, and where 2^31
+    /// traces have arrived none that brings another one.
     ///
     /// Where it brings a trace the steps grow at most by a bound for each spec, and by none for a
     /// spec that keeps an equal one; else they do not grow, also where the event is refused. The
@@ -54,7 +74,8 @@ impl Rv {
         steps: &mut Steps<L>,
     ) -> Result<Reply, RvError>
         requires clean { IsTrue (held self.old).clean }
-        requires few { (held self.old).arrived < 2 ^ 31 }
+        requires few { (t : Letters) → Brings (held self.old) event.now t
+            → (held self.old).arrived < 2 ^ 31 }
         ensures answers { Answers (held self.old) (held self.new) event.now result }
         ensures dropping { (held self.new).drop ≡ (held self.old).drop }
         ensures refused { OnErr result (held self.new ≡ held self.old) }
@@ -123,7 +144,8 @@ impl Rv {
         steps: &mut Steps<L>,
     ) -> Result<Reply, RvError>
         requires clean { IsTrue (held self.old).clean }
-        requires few { (held self.old).arrived < 2 ^ 31 }
+        requires few { (t : Letters) → letters_in session (held self.old).sessions ≡ Some t
+            → (held self.old).arrived < 2 ^ 31 }
         ensures answers { Answers (held self.old) (held self.new) (occurs.End session) result }
         ensures dropping { (held self.new).drop ≡ (held self.old).drop }
         ensures refused { OnErr result (held self.new ≡ held self.old) }
@@ -137,6 +159,7 @@ impl Rv {
         let Some(letters) = self.sessions.letters(session) else {
             return Err(RvError::NoLetter);
         };
+        prove!(self.traces < MOST_TRACES);
         let trace = Trace::new(letters.copy(alloc)?).unwrap();
         if self.all_hold(trace.as_slice()) {
             self.sessions.close(session)?;

@@ -5,6 +5,16 @@ use Rattle.rv_core.specs.StepBounds.{Brings}
 use Rattle.rv_core.proofs.Answering.{none-known}
 use Rattle.rv_core.proofs.rv.Rv.event.Goals as goal
 
+pub take_whole-requires-clause-few : goal.take_whole-requires-clause-few
+take_whole-requires-clause-few g c =
+    let P : Event → Type 0 = λ e. Brings (held c.args.self.now) e c.in-Whole.trace in
+    c.requires.few c.in-Whole.trace (subst P (sym c.in-Whole.is) refl)
+
+pub take_end-requires-clause-few : goal.take_end-requires-clause-few
+take_end-requires-clause-few g c t known =
+    let P : Event → Type 0 = λ e. Brings (held c.args.self.now) e t in
+    c.requires.few t (subst P (sym c.in-End.is) known)
+
 pub returns-in-Whole-clause-none : goal.returns-in-Whole-clause-none
 returns-in-Whole-clause-none g c none =
     let P : Event → Type 0 = λ e. Brings (held c.args.self.now) e c.in-Whole.trace in
