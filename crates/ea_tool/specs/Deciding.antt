@@ -25,6 +25,8 @@ use Rattle.hy_run.specs.declared.refusal.Refusal.{Refusal}
 use Rattle.hy_run.specs.declared.refusal.Refusal.TheVariants.{Prefix, Limit, Own, Memory}
 use Rattle.ea_tool.specs.declared.verdict.EaFault.{EaFault}
 use Rattle.ea_tool.specs.declared.verdict.EaFault.TheVariants.{States}
+use Rattle.ea_tool.specs.declared.verdict.Engine.{Engine}
+use Rattle.ea_tool.specs.declared.verdict.Engine.TheVariants.{Branches, Circuit}
 use Rattle.ea_tool.specs.declared.verdict.EaVerdict.{EaVerdict}
 use Rattle.ea_tool.specs.declared.verdict.EaVerdict.TheVariants.{Sat, Unsat, Implied, NotImplied, Equivalent, NotEquivalent}
 use Rattle.ea_tool.specs.declared.verdict.Relation.{Relation}
@@ -85,32 +87,29 @@ pub data Outcome (takes : Class → Bool) (formulas : List Plain) (plans : List 
       → Outcome takes formulas plans decides answer
   spent : Outcome takes formulas plans decides (Err Memory)
 
--- By at most n branches the decision of a formula comes to this answer.
-abbrev pub IsDecision : Plain → ℕ → Answer EaVerdict EaFault → Type 0
-IsDecision f n answer = Outcome is_decided (f ∷ []) (plan_of f ∷ []) (DecidesOne f n) answer
+-- What a formula comes to by an engine where its plan is counted.
+abbrev pub DecidesBy : Plain → Engine → Answer EaVerdict EaFault → Type 0
+DecidesBy f (Branches n) answer = DecidesOne f n answer
+DecidesBy f (Circuit calls depth conflicts) answer = ⊥
+
+-- By an engine the decision of a formula comes to this answer.
+abbrev pub IsDecision : Plain → Engine → Answer EaVerdict EaFault → Type 0
+IsDecision f engine answer = Outcome is_decided (f ∷ []) (plan_of f ∷ []) (DecidesBy f engine) answer
 
 -- the plans by which a relation of two formulas is decided: one for each direction
 abbrev pub plans_between : Relation → Plain → Plain → List PlainPlan
 plans_between Implication f g = plan_against f g ∷ []
 plans_between Equivalence f g = plan_against f g ∷ plan_against g f ∷ []
 
--- The formulas stand in the relation or not, or a plan reaches more than n branches.
-abbrev pub Relates : Relation → Plain → Plain → ℕ → Answer EaVerdict EaFault → Type 0
-Relates Implication f g n answer = DecidesTwo f g n answer
-Relates Equivalence f g n answer = ComparesTwo f g n answer
-
--- By so many, whether the first formula implies the second.
-abbrev pub IsImplication : Plain → Plain → ℕ → Answer EaVerdict EaFault → Type 0
-IsImplication f g n answer = Outcome is_of_one_kind (f ∷ g ∷ []) (plans_between Implication f g) (DecidesTwo f g n) answer
-
--- By so many for each direction, whether the formulas are equivalent.
-abbrev pub IsComparison : Plain → Plain → ℕ → Answer EaVerdict EaFault → Type 0
-IsComparison f g n answer = Outcome is_of_one_kind (f ∷ g ∷ []) (plans_between Equivalence f g) (ComparesTwo f g n) answer
+-- The formulas stand in the relation or not, by an engine, where their plans are counted.
+abbrev pub Relates : Relation → Plain → Plain → Engine → Answer EaVerdict EaFault → Type 0
+Relates Implication f g (Branches n) answer = DecidesTwo f g n answer
+Relates Equivalence f g (Branches n) answer = ComparesTwo f g n answer
+Relates relation f g (Circuit calls depth conflicts) answer = ⊥
 
 -- Whether the formulas stand in the relation.
-abbrev pub IsRelated : Relation → Plain → Plain → ℕ → Answer EaVerdict EaFault → Type 0
-IsRelated Implication f g n answer = IsImplication f g n answer
-IsRelated Equivalence f g n answer = IsComparison f g n answer
+abbrev pub IsRelated : Relation → Plain → Plain → Engine → Answer EaVerdict EaFault → Type 0
+IsRelated relation f g engine answer = Outcome is_of_one_kind (f ∷ g ∷ []) (plans_between relation f g) (Relates relation f g engine) answer
 
 -- how an error of a decision is answered
 abbrev pub decision_refusal : ℕ → EaError → Refusal EaFault

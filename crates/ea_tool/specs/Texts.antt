@@ -13,8 +13,8 @@ use Rattle.ea_tool.specs.declared.verdict.Question.TheVariants.{Judge, Decide, R
 -- whether a proof is shown beside the verdict
 abbrev pub shows_proof : Question → Bool
 shows_proof Judge = false
-shows_proof (Decide states proof) = proof
-shows_proof (Relate relation states proof) = proof
+shows_proof (Decide engine proof) = proof
+shows_proof (Relate relation engine proof) = proof
 shows_proof (Find bound conflicts) = false
 
 -- a proof, where proofs are shown

@@ -3,6 +3,7 @@
 
 mod bounds;
 mod deciding;
+mod engines;
 mod finding;
 mod judging;
 mod lassos;
@@ -14,4 +15,4 @@ mod verdict;
 mod words;
 
 pub use tool::EaHyper;
-pub use verdict::{EaFault, EaVerdict, Question, Relation};
+pub use verdict::{EaFault, EaVerdict, Engine, Question, Relation};

@@ -14,21 +14,32 @@ pub enum Relation {
     Equivalence,
 }
 
-/// What is asked of the files of a command. `states` is the most states that a decision may visit,
-/// from 1 to 4,194,304, and `proof` asks for a proof beside the verdict.
+/// By what a question about formulas is decided.
+#[derive(Clone, Copy)]
+pub enum Engine {
+    /// By the branches of a tableau, at most `states` of them, from 1 to 4,194,304.
+    Branches { states: u32 },
+    /// By the paths of a free circuit: of at most `depth` steps, up to 100,000, by queries of at most
+    /// `conflicts` conflicts, up to 1,000,000,000, and by searches for clauses of at most `calls` calls
+    /// of the solver, from 1 to 1,000,000.
+    Circuit {
+        calls: u32,
+        depth: u32,
+        conflicts: u32,
+    },
+}
+
+/// What is asked of the files of a command. `proof` asks for a proof beside the verdict.
 #[derive(Clone, Copy)]
 pub enum Question {
     /// Whether the lassos of the second file satisfy the formula of the first.
     Judge,
     /// Whether the formula is satisfiable.
-    Decide {
-        states: u32,
-        proof: bool,
-    },
+    Decide { engine: Engine, proof: bool },
     /// Whether the formulas of the two files stand in a relation.
     Relate {
         relation: Relation,
-        states: u32,
+        engine: Engine,
         proof: bool,
     },
     /// Which list of lassos within a bound satisfies the formula, by a query of at most `conflicts`
