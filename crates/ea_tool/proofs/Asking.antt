@@ -106,18 +106,21 @@ module _ (items others : List Item) (same : GiveSame ea_syntax items others) (qu
   one_engine (Branches n) (Branches m) (one, none) (two, nothing) =
       let P : List Text → Type 0 = λ vs. IsNumberOr 100000 vs 1 4194304 n in
       ap Branches (same-number-or 100000 (given_in (codes "states") others) 1 4194304 n m (omega arith) (subst P same.options.1.1.1.0 one) two)
-  one_engine (Branches n) (Circuit c k l) (one, (none, rest)) (calls, deep, budget, missing) =
-      absurd (calls-given (given_in (codes "ic3") others) c calls (sym same.options.1.1.1.1.1.1.0 ∙ none))
-  one_engine (Circuit c k l) (Branches n) (calls, deep, budget, missing) (two, (none, rest)) =
-      absurd (calls-given (given_in (codes "ic3") items) c calls (same.options.1.1.1.1.1.1.0 ∙ none))
-  one_engine (Circuit c k l) (Circuit d j m) (calls, deep, budget, none) (also, far, most, nothing) =
-      let C : List Text → Type 0 = λ vs. AreCalls vs c in
-      let K : List Text → Type 0 = λ vs. IsNumberOr 10 vs 0 100000 k in
-      let L : List Text → Type 0 = λ vs. IsNumberOr 100000 vs 0 1000000000 l in
-      let cs = same-calls (given_in (codes "ic3") others) c d (subst C same.options.1.1.1.1.1.1.0 calls) also in
-      let ks = same-number-or 10 (given_in (codes "depth") others) 0 100000 k j (omega arith) (subst K same.options.1.1.1.1.1.1.1.0 deep) far in
-      let ls = same-number-or 100000 (given_in (codes "conflicts") others) 0 1000000000 l m (omega arith) (subst L same.options.1.1.1.1.1.0 budget) most in
-      λ t. Circuit (cs t) (ks t) (ls t)
+  one_engine (Branches n) (Circuit ask) (one, (none, rest)) (calls, deep, budget, bare, missing) =
+      absurd (calls-given (given_in (codes "ic3") others) ask.calls calls (sym same.options.1.1.1.1.1.1.0 ∙ none))
+  one_engine (Circuit ask) (Branches n) (calls, deep, budget, bare, missing) (two, (none, rest)) =
+      absurd (calls-given (given_in (codes "ic3") items) ask.calls calls (same.options.1.1.1.1.1.1.0 ∙ none))
+  one_engine (Circuit ask) (Circuit asked) (calls, deep, budget, bare, none) (also, far, most, plain, nothing) =
+      let C : List Text → Type 0 = λ vs. AreCalls vs ask.calls in
+      let K : List Text → Type 0 = λ vs. IsNumberOr 10 vs 0 100000 ask.depth in
+      let L : List Text → Type 0 = λ vs. IsNumberOr 100000 vs 0 1000000000 ask.conflicts in
+      let cs = same-calls (given_in (codes "ic3") others) ask.calls asked.calls (subst C same.options.1.1.1.1.1.1.0 calls) also in
+      let ks = same-number-or 10 (given_in (codes "depth") others) 0 100000 ask.depth asked.depth (omega arith) (subst K same.options.1.1.1.1.1.1.1.0 deep) far in
+      let ls =
+      same-number-or 100000 (given_in (codes "conflicts") others) 0 1000000000 ask.conflicts asked.conflicts (omega arith)
+      (subst L same.options.1.1.1.1.1.0 budget) most in
+      let ps = bare ∙ sym plain in
+      λ t. Circuit (record { calls = cs t; depth = ks t; conflicts = ls t; plain = ps t })
 
   one_question : IsQuestion items question files → IsQuestion others other names → (question ≡ other) × (files ≡ names)
   one_question x y =
@@ -257,10 +260,6 @@ module _ (items : List Item) (found : Found) (tells : Tells ea_syntax items foun
 
 -- ---- what is asked is within its ranges
 
-calls-few : (given : List Text) (n : ℕ) → AreCalls given n → (0 < n) × (n ≤ 1000000)
-calls-few [] n none = absurd none
-calls-few (v ∷ vs) n (e, from, to) = (omega (arith, from), to)
-
 depth-low : (given : List Text) (n : ℕ) → IsNumberOr 10 given 0 100000 n → n ≤ 100000
 depth-low [] n e = omega (arith, e)
 depth-low (v ∷ vs) n (e, from, to) = to
@@ -275,11 +274,9 @@ conflicts-few (v ∷ vs) n (e, from, to) = omega (arith, to)
 
 engine-in : (items : List Item) (engine : Engine) → IsEngine items engine → IsInRange engine
 engine-in items (Branches n) (budget, none) = states-few (given_in (codes "states") items) n budget
-engine-in items (Circuit c k l) (calls, deep, budget, none) = (
-  (calls-few (given_in (codes "ic3") items) c calls).0,
-  (calls-few (given_in (codes "ic3") items) c calls).1,
-  depth-low (given_in (codes "depth") items) k deep,
-  conflicts-few (given_in (codes "conflicts") items) l budget,
+engine-in items (Circuit ask) (calls, deep, budget, bare, none) = (
+  depth-low (given_in (codes "depth") items) ask.depth deep,
+  conflicts-few (given_in (codes "conflicts") items) ask.conflicts budget,
 )
 
 judges-at : (words files : List Text) (first second : Text) → AsksFor words Judge files → first ≡ name_of_file files 0

@@ -1,5 +1,5 @@
 -- Which words ask which question. A question is asked of files of these names, in the order in which they are read.
-use Rattle.std.specs.Prelude.{◌≡◌, ◌<◌, ◌≤◌, ◌^◌, ◌-◌, ℕ, Bool, List, [], ◌∷◌, ◌++◌, codes, decimal}
+use Rattle.std.specs.Prelude.{◌≡◌, ◌<◌, ◌≤◌, ◌^◌, ◌-◌, ℕ, Bool, false, List, [], ◌∷◌, ◌++◌, codes, decimal}
 use Rattle.bound_search.specs.declared.bound.Bound.{Bound}
 use Rattle.bound_search.specs.Bounds.{IsBound}
 use Rattle.hy_words.specs.Found.{Tells}
@@ -37,14 +37,15 @@ IsDepth given n = IsNumberOr 10 given 0 100000 n
 abbrev pub IsEngine : List Item → Engine → Type 0
 IsEngine items (Branches states) =
     AreStates (given_in (codes "states") items) states × AreMissing (codes "ic3" ∷ codes "depth" ∷ codes "conflicts" ∷ []) items
-IsEngine items (Circuit calls depth conflicts) =
-    AreCalls (given_in (codes "ic3") items) calls × IsDepth (given_in (codes "depth") items) depth
-    × AreConflicts (given_in (codes "conflicts") items) conflicts × AreMissing (codes "states" ∷ []) items
+IsEngine items (Circuit ask) =
+    AreCalls (given_in (codes "ic3") items) ask.calls × IsDepth (given_in (codes "depth") items) ask.depth
+    × AreConflicts (given_in (codes "conflicts") items) ask.conflicts × (ask.plain ≡ false)
+    × AreMissing (codes "states" ∷ []) items
 
 -- the numbers that an engine is asked with
 abbrev pub IsInRange : Engine → Type 0
 IsInRange (Branches states) = states < 2 ^ 32 - 1
-IsInRange (Circuit calls depth conflicts) = (0 < calls) × (calls ≤ 1000000) × (depth ≤ 100000) × (conflicts < 2 ^ 31)
+IsInRange (Circuit ask) = (ask.depth ≤ 100000) × (ask.conflicts < 2 ^ 31)
 
 -- a bound as it is given: the most lassos, letters of a stem and letters of a cycle, joined by commas
 abbrev pub bound_text : Bound → Text

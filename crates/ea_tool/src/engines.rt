@@ -7,6 +7,7 @@ ghost use Rattle.ea_tool.specs.Words.{IsEngine, ea_syntax};
 
 use crate::verdict::Engine;
 use hy_words::{Found, number_in, number_or};
+use mc_core::Ask;
 
 /// The engine that the words ask for, if what was found says one.
 pub fn engine_in(found: &Found<'_>) -> Option<Engine>
@@ -24,9 +25,12 @@ pub fn engine_in(found: &Found<'_>) -> Option<Engine>
             states: number_or(100_000, states, 1, 4_194_304)?,
         }),
         (Some(calls), None, _, _) => Some(Engine::Circuit {
-            calls: number_in(calls, 1, 1_000_000)?,
-            depth: number_or(10, depth, 0, 100_000)?,
-            conflicts: number_or(100_000, conflicts, 0, 1_000_000_000)?,
+            ask: Ask {
+                calls: number_in(calls, 1, 1_000_000)?,
+                depth: number_or(10, depth, 0, 100_000)?,
+                conflicts: number_or(100_000, conflicts, 0, 1_000_000_000)?,
+                plain: false,
+            },
         }),
         _ => None,
     }
