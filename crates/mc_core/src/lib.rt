@@ -15,5 +15,7 @@ mod searching;
 pub use ask::Ask;
 pub use checked::Checked;
 pub use checking::check;
+pub use deciding::decide;
+pub use decision::Decision;
 pub use laws::one_evidence;
 pub use mc_error::McError;
