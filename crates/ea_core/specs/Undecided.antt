@@ -45,11 +45,15 @@ pub record IsWithin (plan : PlainPlan) (n : ℕ) : Type 0 where
   pub counted : IsCounted plan
   pub branches : HasFewBranches plan n
 
+-- The plan is past a limit: first of maps, then of members.
+abbrev pub RefusesCounts : PlainPlan → Past → Type 0
+RefusesCounts plan limit =
+    ((limit ≡ instances_limit) × HasManyMaps plan) ⊎ ((limit ≡ closure_limit) × HasFewMaps plan × HasManyMembers plan)
+
 -- Why nothing is decided on a plan.
 abbrev pub RefusesPlan : PlainPlan → ℕ → EaError → Type 0
 RefusesPlan plan states (Prefix second found) = ⊥
-RefusesPlan plan states (Limit limit) =
-    ((limit ≡ instances_limit) × HasManyMaps plan) ⊎ ((limit ≡ closure_limit) × HasFewMaps plan × HasManyMembers plan)
+RefusesPlan plan states (Limit limit) = RefusesCounts plan limit
 RefusesPlan plan states States = IsCounted plan × HasManyBranches plan states
 RefusesPlan plan states Memory = Unit {0}
 

@@ -28,7 +28,9 @@ use Rattle.mc_core.specs.declared.ask.Ask.{Ask}
 use Rattle.free_net.specs.FreeNets.{plan_safe}
 use Rattle.ea_circuit.specs.declared.circuit_error.CircuitError.{CircuitError}
 use Rattle.ea_circuit.specs.declared.circuit_error.CircuitError.TheVariants as stops
+use Rattle.ea_circuit.specs.declared.found.Found.{Found}
 use Rattle.ea_circuit.specs.declared.found.Found.TheVariants as found
+use Rattle.ea_circuit.specs.declared.found.FoundBoth.{FoundBoth}
 use Rattle.ea_circuit.specs.declared.found.FoundBoth.TheVariants as founds
 use Rattle.ea_circuit.specs.declared.found.Unknown.{Unknown}
 use Rattle.ea_circuit.specs.declared.found.Unknown.TheVariants as unknown
@@ -193,3 +195,20 @@ circuit_refusal stops.Memory = Memory
 abbrev pub open_verdict : Ask → Unknown → EaVerdict
 open_verdict ask (unknown.Depth kept path) = ByCircuit (UnknownDepth ask.depth)
 open_verdict ask (unknown.Spent k step kept log) = ByCircuit (UnknownConflicts ask.conflicts)
+
+-- what is answered with what a free circuit finds of a formula, of an implication and of an equivalence
+abbrev pub settled_verdict : Ask → Found → EaVerdict
+settled_verdict ask (found.Sat list) = Sat list
+settled_verdict ask (found.Unsat proof) = ByCircuit (circuit.Unsat proof)
+settled_verdict ask (found.Unknown open) = open_verdict ask open
+
+abbrev pub implied_verdict : Ask → Found → EaVerdict
+implied_verdict ask (found.Sat list) = NotImplied list
+implied_verdict ask (found.Unsat proof) = ByCircuit (circuit.Implied proof)
+implied_verdict ask (found.Unknown open) = open_verdict ask open
+
+abbrev pub compared_verdict : Ask → FoundBoth → EaVerdict
+compared_verdict ask (founds.Same first second) = ByCircuit (circuit.Equivalent first second)
+compared_verdict ask (founds.First list) = NotEquivalent 0 list
+compared_verdict ask (founds.Second list) = NotEquivalent 1 list
+compared_verdict ask (founds.Unknown open) = open_verdict ask open

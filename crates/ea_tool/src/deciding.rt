@@ -8,6 +8,7 @@ ghost use Rattle.ea_tool.specs.Deciding.{IsDecision, decision_refusal};
 ghost use Rattle.ea_tool.specs.Rules.{ea_rules};
 ghost use Rattle.ea_tool.specs.Words.{IsInRange};
 
+use crate::circuits::decide_by_circuit;
 use crate::verdict::{EaFault, EaVerdict, Engine, Question};
 use ea_core::{Decision, EaError};
 use hy_base::Shelf;
@@ -50,7 +51,7 @@ fn decide_formula(
 {
     match engine {
         Engine::Branches { states } => decide_by_branches(alloc, formula, states),
-        Engine::Circuit {..} => Err(Refusal::Memory),
+        Engine::Circuit { ask } => decide_by_circuit(alloc, formula, &ask),
     }
 }
 

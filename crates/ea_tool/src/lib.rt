@@ -2,6 +2,7 @@
 #![tactic(auto)]
 
 mod bounds;
+mod circuits;
 mod deciding;
 mod engines;
 mod finding;
@@ -15,4 +16,4 @@ mod verdict;
 mod words;
 
 pub use tool::EaHyper;
-pub use verdict::{EaFault, EaVerdict, Engine, Question, Relation};
+pub use verdict::{CircuitVerdict, EaFault, EaVerdict, Engine, Question, Relation};

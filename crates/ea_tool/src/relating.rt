@@ -8,6 +8,7 @@ ghost use Rattle.ea_tool.specs.Deciding.{IsRelated};
 ghost use Rattle.ea_tool.specs.Rules.{ea_rules};
 ghost use Rattle.ea_tool.specs.Words.{IsInRange};
 
+use crate::circuits::{compare_by_circuit, imply_by_circuit};
 use crate::deciding::{MOST_QUANTIFIERS, decision_refusal};
 use crate::verdict::{EaFault, EaVerdict, Engine, Question, Relation};
 use ea_core::{Both, Decision, equivalent, implies};
@@ -58,7 +59,12 @@ fn related(
     match (relation, engine) {
         (Relation::Implication, Engine::Branches { states }) => imply(alloc, first, second, states),
         (Relation::Equivalence, Engine::Branches { states }) => compare(alloc, first, second, states),
-        (_, Engine::Circuit {..}) => Err(Refusal::Memory),
+        (Relation::Implication, Engine::Circuit { ask }) => {
+            imply_by_circuit(alloc, first, second, &ask)
+        }
+        (Relation::Equivalence, Engine::Circuit { ask }) => {
+            compare_by_circuit(alloc, first, second, &ask)
+        }
     }
 }
 

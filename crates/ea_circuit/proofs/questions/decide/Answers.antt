@@ -1,0 +1,18 @@
+use Rattle.std.proofs.Common.{IsTrue, length, rules, subst}
+use Rattle.hy_formula.specs.Trees.{tree_of, vars_below}
+use Rattle.ea_circuit.proofs.Answering.{formula-answer}
+use Rattle.ea_circuit.proofs.Refusing.{counted, formula-refused}
+use Rattle.ea_circuit.proofs.questions.decide.Goals as goal
+
+pub returns-clause-decision : goal.returns-clause-decision
+returns-clause-decision c =
+    let bound : IsTrue (vars_below (length c.args.f.now.prefix) (tree_of c.args.f.now.body)) = search rules in
+    formula-answer c.args.f.now.prefix (tree_of c.args.f.now.body) bound c.in_ok-plan.ensures.taken
+    c.args.ask.now _ c.in_ok-plan.ensures.plan c.decide_plan.result c.decide_plan.ensures.found
+
+pub returns-clause-refused : goal.returns-clause-refused
+returns-clause-refused c =
+    formula-refused c.args.f.now.prefix (tree_of c.args.f.now.body) c.args.ask.now _
+    c.in_ok-plan.ensures.plan c.in_ok-plan.ensures.taken
+    (counted _ _ c.in_ok-plan.ensures.plan c.in_ok-plan.ensures.few c.in_ok-closure.ensures.few)
+    c.decide_plan.result c.decide_plan.ensures.refused
