@@ -30,7 +30,7 @@ use Rattle.ea_tool.specs.Agreeing.{Agree, same, other_model, other_proof, other_
 use Rattle.ea_tool.specs.Agreeing.{IsOfCircuit, HasList, IsRefuted, IsSide, DenyByCircuit}
 use Rattle.ea_tool.specs.Deciding.{plan_of, plan_against, DecidesOne, DecidesTwo, ComparesTwo, sat, unsat, implied, not_implied, beyond, equivalent, first_alone, second_alone, many_branches}
 use Rattle.ea_tool.specs.Deciding as deciding
-use Rattle.ea_tool.specs.Deciding.{SettlesOne, SettlesTwo, SettlesBoth, IsOpen, deep, tired, past, open_back, DecidesBy}
+use Rattle.ea_tool.specs.Deciding.{SettlesOne, SettlesTwo, SettlesBoth, IsOpen, deep, tired, past, unsettled_back, DecidesBy}
 use Rattle.ea_tool.specs.Deciding.{Outcome, IsDecision, IsRelated, Relates, plans_between, untaken, many_instances, large_closure, done, spent}
 use Rattle.ea_tool.specs.Judging.{IsJudgement, satisfies, violates, too_joint}
 use Rattle.ea_tool.specs.Judging as judging
@@ -217,12 +217,12 @@ undenied p q one two = other_circuit _ _ tt tt (only-proofs p q)
 of_one : (f : Plain) (ask : Ask) (a : Said) → SettlesOne f ask a → IsOfCircuit a
 of_one f ask _ (deciding.sat list is) = tt
 of_one f ask _ (deciding.unsat proof is) = tt
-of_one f ask a (deciding.open _ is) = of_open (plan_of f) ask a is
+of_one f ask a (deciding.unsettled _ is) = of_open (plan_of f) ask a is
 
 settled_agree : (f : Plain) (ask : Ask) (a b : Said) → SettlesOne f ask a → SettlesOne f ask b → Agree a b
-settled_agree f ask a b (deciding.open _ is) two =
+settled_agree f ask a b (deciding.unsettled _ is) two =
     left_open a b (of_open (plan_of f) ask a is) (of_one f ask b two) (plan_of f) ask is
-settled_agree f ask a b one (deciding.open _ is) =
+settled_agree f ask a b one (deciding.unsettled _ is) =
     right_open a b (of_one f ask a one) (of_open (plan_of f) ask b is) (plan_of f) ask is
 settled_agree f ask _ _ (deciding.sat list one) (deciding.sat other two) = other_model list other
 settled_agree f ask _ _ (deciding.sat list one) (deciding.unsat proof two) =
@@ -234,12 +234,12 @@ settled_agree f ask _ _ (deciding.unsat proof one) (deciding.unsat other two) = 
 of_two : (f g : Plain) (ask : Ask) (a : Said) → SettlesTwo f g ask a → IsOfCircuit a
 of_two f g ask _ (deciding.implied proof is) = tt
 of_two f g ask _ (deciding.not_implied list is) = tt
-of_two f g ask a (deciding.open _ is) = of_open (plan_against f g) ask a is
+of_two f g ask a (deciding.unsettled _ is) = of_open (plan_against f g) ask a is
 
 implied_agree : (f g : Plain) (ask : Ask) (a b : Said) → SettlesTwo f g ask a → SettlesTwo f g ask b → Agree a b
-implied_agree f g ask a b (deciding.open _ is) two =
+implied_agree f g ask a b (deciding.unsettled _ is) two =
     left_open a b (of_open (plan_against f g) ask a is) (of_two f g ask b two) (plan_against f g) ask is
-implied_agree f g ask a b one (deciding.open _ is) =
+implied_agree f g ask a b one (deciding.unsettled _ is) =
     right_open a b (of_two f g ask a one) (of_open (plan_against f g) ask b is) (plan_against f g) ask is
 implied_agree f g ask _ _ (deciding.implied proof one) (deciding.implied other two) = undenied (circuit.Implied proof) (circuit.Implied other) tt tt
 implied_agree f g ask _ _ (deciding.implied proof one) (deciding.not_implied list two) = absurd (apart_or_implies f g list two one.0)
@@ -250,17 +250,17 @@ of_both : (f g : Plain) (ask : Ask) (a : Said) → SettlesBoth f g ask a → IsO
 of_both f g ask _ (deciding.equivalent first second is) = tt
 of_both f g ask _ (deciding.first_alone list is) = tt
 of_both f g ask _ (deciding.second_alone list is) = tt
-of_both f g ask a (deciding.open _ is) = of_open (plan_against f g) ask a is
-of_both f g ask a (open_back _ implies is) = of_open (plan_against g f) ask a is
+of_both f g ask a (deciding.unsettled _ is) = of_open (plan_against f g) ask a is
+of_both f g ask a (unsettled_back _ implies is) = of_open (plan_against g f) ask a is
 
 compared_agree : (f g : Plain) (ask : Ask) (a b : Said) → SettlesBoth f g ask a → SettlesBoth f g ask b → Agree a b
-compared_agree f g ask a b (deciding.open _ is) two =
+compared_agree f g ask a b (deciding.unsettled _ is) two =
     left_open a b (of_open (plan_against f g) ask a is) (of_both f g ask b two) (plan_against f g) ask is
-compared_agree f g ask a b (open_back _ implies is) two =
+compared_agree f g ask a b (unsettled_back _ implies is) two =
     left_open a b (of_open (plan_against g f) ask a is) (of_both f g ask b two) (plan_against g f) ask is
-compared_agree f g ask a b one (deciding.open _ is) =
+compared_agree f g ask a b one (deciding.unsettled _ is) =
     right_open a b (of_both f g ask a one) (of_open (plan_against f g) ask b is) (plan_against f g) ask is
-compared_agree f g ask a b one (open_back _ implies is) =
+compared_agree f g ask a b one (unsettled_back _ implies is) =
     right_open a b (of_both f g ask a one) (of_open (plan_against g f) ask b is) (plan_against g f) ask is
 compared_agree f g ask _ _ (deciding.equivalent p q one) (deciding.equivalent r s two) =
     undenied (circuit.Equivalent p q) (circuit.Equivalent r s) tt tt

@@ -42,7 +42,7 @@ use Rattle.hy_run.specs.declared.refusal.Refusal.TheVariants.{Prefix, Limit}
 use Rattle.hy_run.proofs.Steps.{finish, pass, stop}
 use Rattle.ea_tool.specs.Deciding as deciding
 use Rattle.ea_tool.specs.Deciding.{plan_of, plan_against, DecidesOne, DecidesTwo, ComparesTwo, sat, unsat, implied, not_implied, beyond, equivalent, first_alone, second_alone, many_branches}
-use Rattle.ea_tool.specs.Deciding.{SettlesOne, SettlesTwo, SettlesBoth, IsOpen, deep, tired, past, open_back, open_verdict, settled_verdict, implied_verdict, compared_verdict, circuit_refusal}
+use Rattle.ea_tool.specs.Deciding.{SettlesOne, SettlesTwo, SettlesBoth, IsOpen, deep, tired, past, unsettled_back, open_verdict, settled_verdict, implied_verdict, compared_verdict, circuit_refusal}
 use Rattle.ea_tool.specs.Deciding.{Outcome, IsDecision, IsRelated, untaken, many_instances, large_closure, done, spent, decision_refusal}
 use Rattle.ea_tool.specs.Rules.{ea_rules}
 use Rattle.ea_tool.specs.declared.verdict.EaFault.{EaFault}
@@ -100,7 +100,7 @@ module _ (takes : Class → Bool) (formulas : List Plain) (decides : Answer EaVe
 
 -- ---- plans that are left open
 
-open-of : (plan : PlainPlan) (ask : Ask) (open : Unknown) → IsUnknown (plan_safe plan) ask open → IsOpen plan ask (Ok (open_verdict ask open))
+open-of : (plan : PlainPlan) (ask : Ask) (rest : Unknown) → IsUnknown (plan_safe plan) ask rest → IsOpen plan ask (Ok (open_verdict ask rest))
 open-of plan ask (unknown.Depth kept path) is = deep kept path is
 open-of plan ask (unknown.Spent k step kept log) is = tired k step kept log is
 
@@ -138,15 +138,15 @@ module _ (f : Plain) where
         → Settles f.prefix f.body ask it → IsDecision f (Circuit ask) (Ok (settled_verdict ask it))
     settle-found (found.Sat list) known counted is = done _ (decide-taken known) (counted, tt) (deciding.sat list is)
     settle-found (found.Unsat proof) known counted is = done _ (decide-taken known) (counted, tt) (deciding.unsat proof is)
-    settle-found (found.Unknown open) known counted is =
-        done _ (decide-taken known) (counted, tt) (deciding.open _ (open-of (plan_of f) ask open is))
+    settle-found (found.Unknown rest) known counted is =
+        done _ (decide-taken known) (counted, tt) (deciding.unsettled _ (open-of (plan_of f) ask rest is))
 
     pub settle-refused : (error : CircuitError) → Unsettled f.prefix f.body ask error → IsDecision f (Circuit ask) (Err (circuit_refusal error))
     settle-refused (stops.Prefix second found) is = decide-class (Circuit ask) second found is
     settle-refused (stops.Limit limit) (known, is) =
         counts-refused is_decided (f ∷ []) (SettlesOne f ask) (decide-taken known) (plan_of f) limit is
-    settle-refused (stops.Query limit kept) (known, (counted, is)) =
-        done _ (decide-taken known) (counted, tt) (deciding.open _ (past limit kept is))
+    settle-refused (stops.Query limit kept) (known, counted, is) =
+        done _ (decide-taken known) (counted, tt) (deciding.unsettled _ (past limit kept is))
     settle-refused stops.Memory is = spent
 
   -- The run follows what is decided of the formula.
@@ -228,16 +228,16 @@ module _ (f g : Plain) (ask : Ask) where
       → SettlesImplication f.prefix f.body g.prefix g.body ask it → IsImplied (Ok (implied_verdict ask it))
   settle-implied (found.Sat list) one two counted is = done _ (both-taken f g one two) (counted, tt) (deciding.not_implied list is)
   settle-implied (found.Unsat proof) one two counted is = done _ (both-taken f g one two) (counted, tt) (deciding.implied proof is)
-  settle-implied (found.Unknown open) one two counted is =
-      done _ (both-taken f g one two) (counted, tt) (deciding.open _ (open-of (plan_against f g) ask open is))
+  settle-implied (found.Unknown rest) one two counted is =
+      done _ (both-taken f g one two) (counted, tt) (deciding.unsettled _ (open-of (plan_against f g) ask rest is))
 
   pub settle-unimplied : (error : CircuitError) → UnsettledImplication f.prefix f.body g.prefix g.body ask error
       → IsImplied (Err (circuit_refusal error))
   settle-unimplied (stops.Prefix second found) is = untaken (cond second 1 0) found (unlike f g second found is)
   settle-unimplied (stops.Limit limit) (one, two, is) =
       counts-refused is_of_one_kind (f ∷ g ∷ []) (SettlesTwo f g ask) (both-taken f g one two) (plan_against f g) limit is
-  settle-unimplied (stops.Query limit kept) (one, two, (counted, is)) =
-      done _ (both-taken f g one two) (counted, tt) (deciding.open _ (past limit kept is))
+  settle-unimplied (stops.Query limit kept) (one, two, counted, is) =
+      done _ (both-taken f g one two) (counted, tt) (deciding.unsettled _ (past limit kept is))
   settle-unimplied stops.Memory is = spent
 
   pub settle-compared : (it : FoundBoth) → IsOfOneKind f.prefix → IsOfOneKind g.prefix → IsCounted (plan_against f g) → IsCounted (plan_against g f)
@@ -248,10 +248,10 @@ module _ (f g : Plain) (ask : Ask) where
       done _ (both-taken f g one two) (counted, (back, tt)) (deciding.first_alone list is)
   settle-compared (founds.Second list) one two counted back is =
       done _ (both-taken f g one two) (counted, (back, tt)) (deciding.second_alone list is)
-  settle-compared (founds.Unknown open) one two counted back (inl is) =
-      done _ (both-taken f g one two) (counted, (back, tt)) (deciding.open _ (open-of (plan_against f g) ask open is))
-  settle-compared (founds.Unknown open) one two counted back (inr (implies, is)) =
-      done _ (both-taken f g one two) (counted, (back, tt)) (open_back _ implies (open-of (plan_against g f) ask open is))
+  settle-compared (founds.Unknown rest) one two counted back (inl is) =
+      done _ (both-taken f g one two) (counted, (back, tt)) (deciding.unsettled _ (open-of (plan_against f g) ask rest is))
+  settle-compared (founds.Unknown rest) one two counted back (inr (implies, is)) =
+      done _ (both-taken f g one two) (counted, (back, tt)) (unsettled_back _ implies (open-of (plan_against g f) ask rest is))
 
   pub settle-uncompared : (error : CircuitError) → UnsettledEquivalence f.prefix f.body g.prefix g.body ask error
       → IsCompared (Err (circuit_refusal error))
@@ -259,9 +259,9 @@ module _ (f g : Plain) (ask : Ask) where
   settle-uncompared (stops.Limit limit) (one, two, is) =
       plans-refused is_of_one_kind (f ∷ g ∷ []) (SettlesBoth f g ask) (both-taken f g one two) (plan_against f g) (plan_against g f) limit is
   settle-uncompared (stops.Query limit kept) (one, two, counted, back, inl is) =
-      done _ (both-taken f g one two) (counted, (back, tt)) (deciding.open _ (past limit kept is))
+      done _ (both-taken f g one two) (counted, (back, tt)) (deciding.unsettled _ (past limit kept is))
   settle-uncompared (stops.Query limit kept) (one, two, counted, back, inr (implies, is)) =
-      done _ (both-taken f g one two) (counted, (back, tt)) (open_back _ implies (past limit kept is))
+      done _ (both-taken f g one two) (counted, (back, tt)) (unsettled_back _ implies (past limit kept is))
   settle-uncompared stops.Memory is = spent
 
 -- ---- the run

@@ -110,7 +110,7 @@ pub data SettlesOne (f : Plain) (ask : Ask) : Answer EaVerdict EaFault → Type 
   sat : (list : List (Lasso Letter)) → circuits.Decides f.prefix f.body ask (found.Sat list) → SettlesOne f ask (Ok (Sat list))
   unsat : (proof : InductionProof) → circuits.Decides f.prefix f.body ask (found.Unsat proof)
       → SettlesOne f ask (Ok (ByCircuit (circuit.Unsat proof)))
-  open : (answer : Answer EaVerdict EaFault) → IsOpen (plan_of f) ask answer → SettlesOne f ask answer
+  unsettled : (answer : Answer EaVerdict EaFault) → IsOpen (plan_of f) ask answer → SettlesOne f ask answer
 
 -- A formula implies another or not, or the plan of that is left open.
 pub data SettlesTwo (f g : Plain) (ask : Ask) : Answer EaVerdict EaFault → Type 0 where
@@ -118,7 +118,7 @@ pub data SettlesTwo (f g : Plain) (ask : Ask) : Answer EaVerdict EaFault → Typ
       → SettlesTwo f g ask (Ok (ByCircuit (circuit.Implied proof)))
   not_implied : (list : List (Lasso Letter)) → circuits.DecidesImplication f.prefix f.body g.prefix g.body ask (found.Sat list)
       → SettlesTwo f g ask (Ok (NotImplied list))
-  open : (answer : Answer EaVerdict EaFault) → IsOpen (plan_against f g) ask answer → SettlesTwo f g ask answer
+  unsettled : (answer : Answer EaVerdict EaFault) → IsOpen (plan_against f g) ask answer → SettlesTwo f g ask answer
 
 -- Two formulas are equivalent, or one alone is satisfied by a list, the first before the second; or a plan is left open,
 -- that of the second direction where the first formula implies the second.
@@ -130,8 +130,8 @@ pub data SettlesBoth (f g : Plain) (ask : Ask) : Answer EaVerdict EaFault → Ty
       → SettlesBoth f g ask (Ok (NotEquivalent 0 list))
   second_alone : (list : List (Lasso Letter)) → circuits.DecidesEquivalence f.prefix f.body g.prefix g.body ask (founds.Second list)
       → SettlesBoth f g ask (Ok (NotEquivalent 1 list))
-  open : (answer : Answer EaVerdict EaFault) → IsOpen (plan_against f g) ask answer → SettlesBoth f g ask answer
-  open_back : (answer : Answer EaVerdict EaFault) → Implies f.prefix f.body g.prefix g.body → IsOpen (plan_against g f) ask answer
+  unsettled : (answer : Answer EaVerdict EaFault) → IsOpen (plan_against f g) ask answer → SettlesBoth f g ask answer
+  unsettled_back : (answer : Answer EaVerdict EaFault) → Implies f.prefix f.body g.prefix g.body → IsOpen (plan_against g f) ask answer
       → SettlesBoth f g ask answer
 
 -- ---- questions
@@ -200,15 +200,15 @@ open_verdict ask (unknown.Spent k step kept log) = ByCircuit (UnknownConflicts a
 abbrev pub settled_verdict : Ask → Found → EaVerdict
 settled_verdict ask (found.Sat list) = Sat list
 settled_verdict ask (found.Unsat proof) = ByCircuit (circuit.Unsat proof)
-settled_verdict ask (found.Unknown open) = open_verdict ask open
+settled_verdict ask (found.Unknown rest) = open_verdict ask rest
 
 abbrev pub implied_verdict : Ask → Found → EaVerdict
 implied_verdict ask (found.Sat list) = NotImplied list
 implied_verdict ask (found.Unsat proof) = ByCircuit (circuit.Implied proof)
-implied_verdict ask (found.Unknown open) = open_verdict ask open
+implied_verdict ask (found.Unknown rest) = open_verdict ask rest
 
 abbrev pub compared_verdict : Ask → FoundBoth → EaVerdict
 compared_verdict ask (founds.Same first second) = ByCircuit (circuit.Equivalent first second)
 compared_verdict ask (founds.First list) = NotEquivalent 0 list
 compared_verdict ask (founds.Second list) = NotEquivalent 1 list
-compared_verdict ask (founds.Unknown open) = open_verdict ask open
+compared_verdict ask (founds.Unknown rest) = open_verdict ask rest
