@@ -1,5 +1,5 @@
 -- A question about files of these bytes comes to one answer, and to what is decided where nothing stands before that.
-use Rattle.std.proofs.Common.{◌≡◌, ◌⊎◌, ℕ, ◌≤◌, length, Bool, List, [], ◌∷◌, Ok, Err, inl, inr, refl, subst, arith}
+use Rattle.std.proofs.Common.{◌≡◌, ◌⊎◌, ℕ, ◌≤◌, length, Bool, List, [], ◌∷◌, Some, None, Ok, Err, inl, inr, refl, subst, arith}
 use Rattle.std.specs.List.{Contains}
 use Rattle.std.proofs.lemmas.List.Elements.{All-contains}
 use Rattle.hy_bits.specs.Letter.{Letter}
@@ -23,8 +23,14 @@ use Rattle.hy_run.specs.Laws.{AgreeOrShort}
 use Rattle.hy_run.specs.Runs.{Answer}
 use Rattle.hy_run.specs.declared.refusal.Refusal.TheVariants.{Own, Prefix, Memory}
 use Rattle.hy_run.proofs.Classes.{untaken_once, untaken_or_taken}
-use Rattle.ea_tool.specs.Agreeing.{Agree, same, other_model, other_proof, other_implied, other_proofs, other_witness, other_side}
+use Rattle.mc_core.specs.declared.ask.Ask.{Ask}
+use Rattle.mc_core.proofs.QueryLimits.{stopped_facts, stopped_paths}
+use Rattle.free_net.specs.FreeNets.{plan_safe}
+use Rattle.ea_tool.specs.Agreeing.{Agree, same, other_model, other_proof, other_implied, other_proofs, other_witness, other_side, other_circuit}
+use Rattle.ea_tool.specs.Agreeing.{IsOfCircuit, HasList, IsRefuted, IsSide, DenyByCircuit}
 use Rattle.ea_tool.specs.Deciding.{plan_of, plan_against, DecidesOne, DecidesTwo, ComparesTwo, sat, unsat, implied, not_implied, beyond, equivalent, first_alone, second_alone, many_branches}
+use Rattle.ea_tool.specs.Deciding as deciding
+use Rattle.ea_tool.specs.Deciding.{SettlesOne, SettlesTwo, SettlesBoth, IsOpen, deep, tired, past, unsettled_back, DecidesBy}
 use Rattle.ea_tool.specs.Deciding.{Outcome, IsDecision, IsRelated, Relates, plans_between, untaken, many_instances, large_closure, done, spent}
 use Rattle.ea_tool.specs.Judging.{IsJudgement, satisfies, violates, too_joint}
 use Rattle.ea_tool.specs.Judging as judging
@@ -32,9 +38,16 @@ use Rattle.ea_tool.specs.Rules.{ea_rules}
 use Rattle.ea_tool.specs.declared.verdict.EaFault.{EaFault}
 use Rattle.ea_tool.specs.declared.verdict.EaFault.TheVariants.{States}
 use Rattle.ea_tool.specs.declared.verdict.EaVerdict.{EaVerdict}
-use Rattle.ea_tool.specs.declared.verdict.EaVerdict.TheVariants.{OnTrue, OnFalse}
+use Rattle.ea_tool.specs.declared.verdict.EaVerdict.TheVariants.{ByCircuit, OnTrue, OnFalse}
+use Rattle.ea_tool.specs.declared.verdict.CircuitVerdict.{CircuitVerdict}
+use Rattle.ea_tool.specs.declared.verdict.CircuitVerdict.TheVariants as circuit
+use Rattle.ea_tool.specs.declared.verdict.Engine.{Engine}
+use Rattle.ea_tool.specs.declared.verdict.Engine.TheVariants.{Branches, Circuit}
 use Rattle.ea_tool.specs.declared.verdict.Relation.{Relation}
 use Rattle.ea_tool.specs.declared.verdict.Relation.TheVariants.{Implication, Equivalence}
+
+abbrev Said : Type 0
+Said = Answer EaVerdict EaFault
 
 -- ---- two decisions
 
@@ -156,23 +169,130 @@ module _ (takes : Class → Bool) (formulas : List Plain) (plans : List PlainPla
     outcomes_agree a _ (done _ taken counted is) (large_closure again few plan there many) = absurd (not-large counted plan there many)
     outcomes_agree a b (done _ taken counted one) (done _ again also two) = inr (inr (decided a b one two))
 
-pub decisions_once : (f : Plain) (n : ℕ) (a b : Answer EaVerdict EaFault) → IsDecision f n a → IsDecision f n b → AgreeOrShort ea_rules a b
-decisions_once f n = outcomes_agree is_decided (f ∷ []) (plan_of f ∷ []) (DecidesOne f n) (decisions_agree f n)
+-- ---- by a free circuit
 
-pub relations_once : (relation : Relation) (f g : Plain) (n : ℕ) (a b : Answer EaVerdict EaFault) → IsRelated relation f g n a
-    → IsRelated relation f g n b → AgreeOrShort ea_rules a b
-relations_once Implication f g n =
-    outcomes_agree is_of_one_kind (f ∷ g ∷ []) (plans_between Implication f g) (DecidesTwo f g n) (implications_agree f g n)
-relations_once Equivalence f g n =
-    outcomes_agree is_of_one_kind (f ∷ g ∷ []) (plans_between Equivalence f g) (ComparesTwo f g n) (comparisons_agree f g n)
+of_open : (plan : PlainPlan) (ask : Ask) (a : Said) → IsOpen plan ask a → IsOfCircuit a
+of_open plan ask _ (deep kept path is) = tt
+of_open plan ask _ (tired k step kept log is) = tt
+of_open plan ask _ (past limit None (facts, stopped)) = stopped_facts (plan_safe plan) limit stopped
+of_open plan ask _ (past limit (Some kept) (keeps, stopped)) =
+    stopped_paths (plan_safe plan) kept.inv ask.depth limit.kind limit.limit stopped
 
-pub related_where_ready : (relation : Relation) (f g : Plain) (n : ℕ) → AreTaken (by_class is_of_one_kind) (f ∷ g ∷ [])
-    → Each IsCounted (plans_between relation f g) → (a : Answer EaVerdict EaFault) → IsRelated relation f g n a
-    → (a ≡ Err Memory) ⊎ Relates relation f g n a
-related_where_ready Implication f g n =
-    decided_where_ready is_of_one_kind (f ∷ g ∷ []) (plans_between Implication f g) (DecidesTwo f g n)
-related_where_ready Equivalence f g n =
-    decided_where_ready is_of_one_kind (f ∷ g ∷ []) (plans_between Equivalence f g) (ComparesTwo f g n)
+-- It says nothing that another may deny.
+record IsMute (a : Said) : Type 0 where
+  list : ¬ HasList a
+  proof : ¬ IsRefuted a
+  side : (side : ℕ) → ¬ IsSide a side
+
+mute_open : (plan : PlainPlan) (ask : Ask) (a : Said) → IsOpen plan ask a → IsMute a
+mute_open plan ask _ (deep kept path is) = record { list = λ x. x; proof = λ x. x; side = λ s x. x }
+mute_open plan ask _ (tired k step kept log is) = record { list = λ x. x; proof = λ x. x; side = λ s x. x }
+mute_open plan ask _ (past limit kept is) = record { list = λ x. x; proof = λ x. x; side = λ s x. x }
+
+module _ (a b : Said) (one : IsOfCircuit a) (two : IsOfCircuit b) where
+  mute-denies : IsMute a → ¬ DenyByCircuit a b
+  mute-denies mute (inl (list, proof)) = mute.list list
+  mute-denies mute (inr (inl (proof, list))) = mute.proof proof
+  mute-denies mute (inr (inr (side, other, is, also, apart))) = mute.side side is
+
+  denies-mute : IsMute b → ¬ DenyByCircuit a b
+  denies-mute mute (inl (list, proof)) = mute.proof proof
+  denies-mute mute (inr (inl (proof, list))) = mute.list list
+  denies-mute mute (inr (inr (side, other, is, also, apart))) = mute.side other also
+
+  left_open : (plan : PlainPlan) (ask : Ask) → IsOpen plan ask a → Agree a b
+  left_open plan ask is = other_circuit a b one two (mute-denies (mute_open plan ask a is))
+
+  right_open : (plan : PlainPlan) (ask : Ask) → IsOpen plan ask b → Agree a b
+  right_open plan ask is = other_circuit a b one two (denies-mute (mute_open plan ask b is))
+
+undenied : (p q : CircuitVerdict) → IsRefuted (Ok (ByCircuit p)) → IsRefuted (Ok (ByCircuit q)) → Agree (Ok (ByCircuit p)) (Ok (ByCircuit q))
+undenied p q one two = other_circuit _ _ tt tt (only-proofs p q)
+  where
+    only-proofs : (p q : CircuitVerdict) → ¬ DenyByCircuit (Ok (ByCircuit p)) (Ok (ByCircuit q))
+    only-proofs p q (inl (list, proof)) = list
+    only-proofs p q (inr (inl (proof, list))) = list
+    only-proofs p q (inr (inr (side, other, is, also, apart))) = is
+
+of_one : (f : Plain) (ask : Ask) (a : Said) → SettlesOne f ask a → IsOfCircuit a
+of_one f ask _ (deciding.sat list is) = tt
+of_one f ask _ (deciding.unsat proof is) = tt
+of_one f ask a (deciding.unsettled _ is) = of_open (plan_of f) ask a is
+
+settled_agree : (f : Plain) (ask : Ask) (a b : Said) → SettlesOne f ask a → SettlesOne f ask b → Agree a b
+settled_agree f ask a b (deciding.unsettled _ is) two =
+    left_open a b (of_open (plan_of f) ask a is) (of_one f ask b two) (plan_of f) ask is
+settled_agree f ask a b one (deciding.unsettled _ is) =
+    right_open a b (of_one f ask a one) (of_open (plan_of f) ask b is) (plan_of f) ask is
+settled_agree f ask _ _ (deciding.sat list one) (deciding.sat other two) = other_model list other
+settled_agree f ask _ _ (deciding.sat list one) (deciding.unsat proof two) =
+    absurd (two.0 (list, one.0.some, one.0.lassos, one.0.satisfies))
+settled_agree f ask _ _ (deciding.unsat proof one) (deciding.sat list two) =
+    absurd (one.0 (list, two.0.some, two.0.lassos, two.0.satisfies))
+settled_agree f ask _ _ (deciding.unsat proof one) (deciding.unsat other two) = undenied (circuit.Unsat proof) (circuit.Unsat other) tt tt
+
+of_two : (f g : Plain) (ask : Ask) (a : Said) → SettlesTwo f g ask a → IsOfCircuit a
+of_two f g ask _ (deciding.implied proof is) = tt
+of_two f g ask _ (deciding.not_implied list is) = tt
+of_two f g ask a (deciding.unsettled _ is) = of_open (plan_against f g) ask a is
+
+implied_agree : (f g : Plain) (ask : Ask) (a b : Said) → SettlesTwo f g ask a → SettlesTwo f g ask b → Agree a b
+implied_agree f g ask a b (deciding.unsettled _ is) two =
+    left_open a b (of_open (plan_against f g) ask a is) (of_two f g ask b two) (plan_against f g) ask is
+implied_agree f g ask a b one (deciding.unsettled _ is) =
+    right_open a b (of_two f g ask a one) (of_open (plan_against f g) ask b is) (plan_against f g) ask is
+implied_agree f g ask _ _ (deciding.implied proof one) (deciding.implied other two) = undenied (circuit.Implied proof) (circuit.Implied other) tt tt
+implied_agree f g ask _ _ (deciding.implied proof one) (deciding.not_implied list two) = absurd (apart_or_implies f g list two one.0)
+implied_agree f g ask _ _ (deciding.not_implied list one) (deciding.implied proof two) = absurd (apart_or_implies f g list one two.0)
+implied_agree f g ask _ _ (deciding.not_implied list one) (deciding.not_implied other two) = other_witness list other
+
+of_both : (f g : Plain) (ask : Ask) (a : Said) → SettlesBoth f g ask a → IsOfCircuit a
+of_both f g ask _ (deciding.equivalent first second is) = tt
+of_both f g ask _ (deciding.first_alone list is) = tt
+of_both f g ask _ (deciding.second_alone list is) = tt
+of_both f g ask a (deciding.unsettled _ is) = of_open (plan_against f g) ask a is
+of_both f g ask a (unsettled_back _ implies is) = of_open (plan_against g f) ask a is
+
+compared_agree : (f g : Plain) (ask : Ask) (a b : Said) → SettlesBoth f g ask a → SettlesBoth f g ask b → Agree a b
+compared_agree f g ask a b (deciding.unsettled _ is) two =
+    left_open a b (of_open (plan_against f g) ask a is) (of_both f g ask b two) (plan_against f g) ask is
+compared_agree f g ask a b (unsettled_back _ implies is) two =
+    left_open a b (of_open (plan_against g f) ask a is) (of_both f g ask b two) (plan_against g f) ask is
+compared_agree f g ask a b one (deciding.unsettled _ is) =
+    right_open a b (of_both f g ask a one) (of_open (plan_against f g) ask b is) (plan_against f g) ask is
+compared_agree f g ask a b one (unsettled_back _ implies is) =
+    right_open a b (of_both f g ask a one) (of_open (plan_against g f) ask b is) (plan_against g f) ask is
+compared_agree f g ask _ _ (deciding.equivalent p q one) (deciding.equivalent r s two) =
+    undenied (circuit.Equivalent p q) (circuit.Equivalent r s) tt tt
+compared_agree f g ask _ _ (deciding.equivalent p q one) (deciding.first_alone list two) = absurd (apart_or_implies f g list two one.0.0)
+compared_agree f g ask _ _ (deciding.equivalent p q one) (deciding.second_alone list two) = absurd (apart_or_implies g f list two.1 one.1.0)
+compared_agree f g ask _ _ (deciding.first_alone list one) (deciding.equivalent p q two) = absurd (apart_or_implies f g list one two.0.0)
+compared_agree f g ask _ _ (deciding.first_alone list one) (deciding.first_alone other two) = other_side 0 list other
+compared_agree f g ask _ _ (deciding.first_alone list one) (deciding.second_alone other two) = absurd (apart_or_implies f g list one two.0)
+compared_agree f g ask _ _ (deciding.second_alone list one) (deciding.equivalent p q two) = absurd (apart_or_implies g f list one.1 two.1.0)
+compared_agree f g ask _ _ (deciding.second_alone list one) (deciding.first_alone other two) = absurd (apart_or_implies f g other two one.0)
+compared_agree f g ask _ _ (deciding.second_alone list one) (deciding.second_alone other two) = other_side 1 list other
+
+-- ---- by either
+
+decides_agree : (f : Plain) (engine : Engine) (a b : Said) → DecidesBy f engine a → DecidesBy f engine b → Agree a b
+decides_agree f (Branches n) = decisions_agree f n
+decides_agree f (Circuit ask) = settled_agree f ask
+
+relates_agree : (relation : Relation) (f g : Plain) (engine : Engine) (a b : Said) → Relates relation f g engine a → Relates relation f g engine b
+    → Agree a b
+relates_agree Implication f g (Branches n) = implications_agree f g n
+relates_agree Equivalence f g (Branches n) = comparisons_agree f g n
+relates_agree Implication f g (Circuit ask) = implied_agree f g ask
+relates_agree Equivalence f g (Circuit ask) = compared_agree f g ask
+
+pub decisions_once : (f : Plain) (engine : Engine) (a b : Said) → IsDecision f engine a → IsDecision f engine b → AgreeOrShort ea_rules a b
+decisions_once f engine = outcomes_agree is_decided (f ∷ []) (plan_of f ∷ []) (DecidesBy f engine) (decides_agree f engine)
+
+pub relations_once : (relation : Relation) (f g : Plain) (engine : Engine) (a b : Said) → IsRelated relation f g engine a
+    → IsRelated relation f g engine b → AgreeOrShort ea_rules a b
+relations_once relation f g engine =
+    outcomes_agree is_of_one_kind (f ∷ g ∷ []) (plans_between relation f g) (Relates relation f g engine) (relates_agree relation f g engine)
 
 -- ---- judgements
 

@@ -1,5 +1,5 @@
 -- What was found in words asks one question: the given options make it, and it is the only one.
-use Rattle.std.proofs.Common.{◌≡◌, ◌⊎◌, inl, inr, ℕ, ◌<◌, ◌^◌, ◌-◌, Bool, false, true≢false, not, List, [], ◌∷◌, ◌++◌, length, codes, Option, Some, None, IfSome, IfNone, Bor, refl, sym, ap, subst, ◌∙◌, arith, ne_eqb}
+use Rattle.std.proofs.Common.{◌≡◌, ◌⊎◌, inl, inr, ℕ, ◌<◌, ◌≤◌, ◌^◌, ◌-◌, Bool, false, true≢false, not, List, [], ◌∷◌, ◌++◌, length, codes, Option, Some, None, IfSome, IfNone, Bor, refl, sym, ap, subst, ◌∙◌, arith, ne_eqb}
 use Rattle.std.specs.Bool.{IsTrue}
 use Rattle.bound_search.specs.declared.bound.Bound.{Bound}
 use Rattle.bound_search.specs.Bounds.{IsBound}
@@ -14,7 +14,9 @@ use Rattle.hy_run.specs.Names.{names_in}
 use Rattle.hy_run.specs.Runs.{HasNoCommand}
 use Rattle.hy_run.specs.declared.order.Order.{Order}
 use Rattle.ea_tool.specs.Rules.{ea_rules}
-use Rattle.ea_tool.specs.Words.{Asks, AsksFor, Finds, Orders, TellsNothing, TellsOrder, bound_text, ea_syntax}
+use Rattle.ea_tool.specs.Words.{AreCalls, Asks, AsksFor, Finds, IsEngine, IsInRange, Orders, TellsNothing, TellsOrder, bound_text, ea_syntax}
+use Rattle.ea_tool.specs.declared.verdict.Engine.{Engine}
+use Rattle.ea_tool.specs.declared.verdict.Engine.TheVariants.{Branches, Circuit}
 use Rattle.ea_tool.specs.declared.verdict.Question.{Question}
 use Rattle.ea_tool.specs.declared.verdict.Question.TheVariants.{Judge, Decide, Relate, Find}
 use Rattle.ea_tool.specs.declared.verdict.Relation.{Relation}
@@ -24,11 +26,11 @@ use Rattle.ea_tool.proofs.BoundTexts.{same-bound}
 -- ---- the two kinds of questions
 
 -- the question that these values of options ask
-abbrev asked : List Text → List Text → List Text → ℕ → Bool → Question
-asked (lassos ∷ _) _ _ states proof = Judge
-asked [] (second ∷ _) _ states proof = Relate Implication states proof
-asked [] [] (second ∷ _) states proof = Relate Equivalence states proof
-asked [] [] [] states proof = Decide states proof
+abbrev asked : List Text → List Text → List Text → Engine → Bool → Question
+asked (lassos ∷ _) _ _ engine proof = Judge
+asked [] (second ∷ _) _ engine proof = Relate Implication engine proof
+asked [] [] (second ∷ _) engine proof = Relate Equivalence engine proof
+asked [] [] [] engine proof = Decide engine proof
 
 -- A question is asked about a formula, and about another file where one is given.
 record IsQuestion (items : List Item) (question : Question) (files : List Text) : Type 0 where
@@ -36,10 +38,10 @@ record IsQuestion (items : List Item) (question : Question) (files : List Text) 
   on : List Text
   implied : List Text
   equal : List Text
-  states : ℕ
+  engine : Engine
   proof : Bool
-  asks : Asks items formula on implied equal states proof
-  question_is : question ≡ asked on implied equal states proof
+  asks : Asks items formula on implied equal engine proof
+  question_is : question ≡ asked on implied equal engine proof
   files_are : files ≡ formula ∷ on ++ implied ++ equal
 
 -- A list within a bound is searched for.
@@ -54,13 +56,13 @@ record IsFinding (items : List Item) (question : Question) (files : List Text) :
 kind_of : (items : List Item) (question : Question) (files : List Text) → Orders items question files
     → IsQuestion items question files ⊎ IsFinding items question files
 kind_of items Judge (f ∷ l ∷ []) (n, b, asks) =
-    inl (record { formula = f; on = l ∷ []; implied = []; equal = []; states = n; proof = b; asks = asks; question_is = refl; files_are = refl })
+    inl (record { formula = f; on = l ∷ []; implied = []; equal = []; engine = Branches n; proof = b; asks = asks; question_is = refl; files_are = refl })
 kind_of items (Decide n b) (f ∷ []) asks =
-    inl (record { formula = f; on = []; implied = []; equal = []; states = n; proof = b; asks = asks; question_is = refl; files_are = refl })
+    inl (record { formula = f; on = []; implied = []; equal = []; engine = n; proof = b; asks = asks; question_is = refl; files_are = refl })
 kind_of items (Relate Implication n b) (f ∷ g ∷ []) asks =
-    inl (record { formula = f; on = []; implied = g ∷ []; equal = []; states = n; proof = b; asks = asks; question_is = refl; files_are = refl })
+    inl (record { formula = f; on = []; implied = g ∷ []; equal = []; engine = n; proof = b; asks = asks; question_is = refl; files_are = refl })
 kind_of items (Relate Equivalence n b) (f ∷ g ∷ []) asks =
-    inl (record { formula = f; on = []; implied = []; equal = g ∷ []; states = n; proof = b; asks = asks; question_is = refl; files_are = refl })
+    inl (record { formula = f; on = []; implied = []; equal = g ∷ []; engine = n; proof = b; asks = asks; question_is = refl; files_are = refl })
 kind_of items (Find b n) (f ∷ []) finds =
     inr (record { formula = f; bound = b; conflicts = n; finds = finds; question_is = refl; files_are = refl })
 kind_of items Judge [] none = absurd none
@@ -90,20 +92,47 @@ one_formula items question files orders = elim (kind_of items question files ord
 some-nothing : {A : Type 0} {x : A} {xs : List A} → x ∷ xs ≡ [] → ⊥
 some-nothing e = cc
 
+same-calls : (given : List Text) (n m : ℕ) → AreCalls given n → AreCalls given m → n ≡ m
+same-calls [] n m one two = absurd one
+same-calls (v ∷ vs) n m one two = same-number-or 0 (v ∷ vs) 1 1000000 n m (omega arith) one two
+
+calls-given : (given : List Text) (n : ℕ) → AreCalls given n → given ≡ [] → ⊥
+calls-given [] n calls e = calls
+calls-given (v ∷ vs) n calls e = some-nothing e
+
 module _ (items others : List Item) (same : GiveSame ea_syntax items others) (question other : Question) (files names : List Text) where
+  -- What the items give in behalf of an engine.
+  one_engine : (x y : Engine) → IsEngine items x → IsEngine others y → x ≡ y
+  one_engine (Branches n) (Branches m) (one, none) (two, nothing) =
+      let P : List Text → Type 0 = λ vs. IsNumberOr 100000 vs 1 4194304 n in
+      ap Branches (same-number-or 100000 (given_in (codes "states") others) 1 4194304 n m (omega arith) (subst P same.options.1.1.1.0 one) two)
+  one_engine (Branches n) (Circuit ask) (one, (none, rest)) (calls, deep, budget, bare, missing) =
+      absurd (calls-given (given_in (codes "ic3") others) ask.calls calls (sym same.options.1.1.1.1.1.1.0 ∙ none))
+  one_engine (Circuit ask) (Branches n) (calls, deep, budget, bare, missing) (two, (none, rest)) =
+      absurd (calls-given (given_in (codes "ic3") items) ask.calls calls (same.options.1.1.1.1.1.1.0 ∙ none))
+  one_engine (Circuit ask) (Circuit asked) (calls, deep, budget, bare, none) (also, far, most, plain, nothing) =
+      let C : List Text → Type 0 = λ vs. AreCalls vs ask.calls in
+      let K : List Text → Type 0 = λ vs. IsNumberOr 10 vs 0 100000 ask.depth in
+      let L : List Text → Type 0 = λ vs. IsNumberOr 100000 vs 0 1000000000 ask.conflicts in
+      let cs = same-calls (given_in (codes "ic3") others) ask.calls asked.calls (subst C same.options.1.1.1.1.1.1.0 calls) also in
+      let ks = same-number-or 10 (given_in (codes "depth") others) 0 100000 ask.depth asked.depth (omega arith) (subst K same.options.1.1.1.1.1.1.1.0 deep) far in
+      let ls =
+      same-number-or 100000 (given_in (codes "conflicts") others) 0 1000000000 ask.conflicts asked.conflicts (omega arith)
+      (subst L same.options.1.1.1.1.1.0 budget) most in
+      let ps = bare ∙ sym plain in
+      λ t. Circuit (record { calls = cs t; depth = ks t; conflicts = ls t; plain = ps t })
+
   one_question : IsQuestion items question files → IsQuestion others other names → (question ≡ other) × (files ≡ names)
   one_question x y =
-      let (on, (implies, (equivalent, (states, nil)))) = same.options in
+      let (on, (implies, (equivalent, others_are))) = same.options in
       let formulas : x.formula ∷ [] ≡ y.formula ∷ [] = sym x.asks.files ∙ same.files ∙ y.asks.files in
       let formula : x.formula ≡ y.formula = cc in
       let ons : x.on ≡ y.on = sym x.asks.on ∙ on ∙ y.asks.on in
       let implied : x.implied ≡ y.implied = sym x.asks.implies ∙ implies ∙ y.asks.implies in
       let equals : x.equal ≡ y.equal = sym x.asks.equivalent ∙ equivalent ∙ y.asks.equivalent in
-      let P : List Text → Type 0 = λ vs. IsNumberOr 100000 vs 1 4194304 x.states in
-      let budgets : x.states ≡ y.states =
-      same-number-or 100000 (given_in (codes "states") others) 1 4194304 x.states y.states (omega arith) (subst P states x.asks.budget) y.asks.budget in
+      let engines : x.engine ≡ y.engine = one_engine x.engine y.engine x.asks.by y.asks.by in
       let proofs : x.proof ≡ y.proof = x.asks.proves ∙ same.flags.0 ∙ sym y.asks.proves in (
-        x.question_is ∙ (λ t. asked (ons t) (implied t) (equals t) (budgets t) (proofs t)) ∙ sym y.question_is,
+        x.question_is ∙ (λ t. asked (ons t) (implied t) (equals t) (engines t) (proofs t)) ∙ sym y.question_is,
         x.files_are ∙ (λ t. formula t ∷ ons t ++ implied t ++ equals t) ∙ sym y.files_are,
       )
 
@@ -159,27 +188,35 @@ module _ (words : List Text) (f : Found) (told : (items : List Item) → AreItem
 pub unworded : (words : List Text) → HasNoItems ea_syntax words → (question : Question) (files : List Text) → ¬ AsksFor words question files
 unworded words none question files (items, are, orders) = none items are
 
+-- Where what was found asks for no engine, nor gives a bound, it asks nothing.
+module _ (items : List Item) (found : Found) (tells : Tells ea_syntax items found) (unbounded : found_value found (codes "bound") ≡ [])
+    (none : (others : List Item) (engine : Engine) → Tells ea_syntax others found → ¬ IsEngine others engine) where
+  no-kind : (question : Question) (files : List Text) → IsQuestion items question files ⊎ IsFinding items question files → ⊥
+  no-kind question files (inl x) = none items x.engine tells x.asks.by
+  no-kind question files (inr x) = some-nothing (sym x.finds.bounded ∙ tells.options.1.1.1.1.0 ∙ unbounded)
+
+  pub no_engine : (question : Question) (files : List Text) → ¬ Orders items question files
+  no_engine question files orders = no-kind question files (kind_of items question files orders)
+
 pub named : (items : List Item) (question : Question) (files names : List Text) → files ≡ names → Orders items question names → Orders items question files
 named items question files names e is = let P : List Text → Type 0 = λ fs. Orders items question fs in subst P (sym e) is
 
 module _ (items : List Item) (found : Found) (tells : Tells ea_syntax items found) (formula : Text) (file : found_files found ≡ formula ∷ []) where
-  pub asks_of : (on implies equivalent states conflicts : Option (Bor Text)) → listed_slice on ≡ found_value found (codes "on")
+  pub asks_of : (on implies equivalent : Option (Bor Text)) → listed_slice on ≡ found_value found (codes "on")
       → listed_slice implies ≡ found_value found (codes "implies") → listed_slice equivalent ≡ found_value found (codes "equivalent")
-      → listed_slice states ≡ found_value found (codes "states") → (n : ℕ) → IsNumberOr 100000 (listed_slice states) 1 4194304 n
-      → (proof : Bool) → proof ≡ found_flag found (codes "proof") → found_value found (codes "bound") ≡ []
-      → listed_slice conflicts ≡ found_value found (codes "conflicts") → conflicts ≡ None
-      → (a b c : List Text) → listed_slice on ≡ a → listed_slice implies ≡ b → listed_slice equivalent ≡ c → Asks items formula a b c n proof
-  asks_of on implies equivalent states conflicts one two three four n number proof proves unbounded six none a b c is_a is_b is_c =
-      let (at_on, (at_implies, (at_equivalent, (at_states, (at_bound, (at_conflicts, nil)))))) = tells.options in
-      let P : List Text → Type 0 = λ vs. IsNumberOr 100000 vs 1 4194304 n in
+      → (engine : Engine) → IsEngine items engine → (proof : Bool) → proof ≡ found_flag found (codes "proof")
+      → found_value found (codes "bound") ≡ [] → (a b c : List Text) → listed_slice on ≡ a → listed_slice implies ≡ b → listed_slice equivalent ≡ c
+      → Asks items formula a b c engine proof
+  asks_of on implies equivalent one two three engine by proof proves unbounded a b c is_a is_b is_c =
+      let (at_on, (at_implies, (at_equivalent, (at_states, (at_bound, rest))))) = tells.options in
       record {
         files = tells.files ∙ file;
         on = at_on ∙ sym one ∙ is_a;
         implies = at_implies ∙ sym two ∙ is_b;
         equivalent = at_equivalent ∙ sym three ∙ is_c;
-        budget = subst P (four ∙ sym at_states) number;
+        by = by;
         proves = proves ∙ sym tells.flags.0;
-        unbounded = (at_bound ∙ unbounded, (at_conflicts ∙ sym six ∙ ap listed_slice none, tt));
+        unbounded = (at_bound ∙ unbounded, tt);
       }
 
   not-given : (given : List Text) → is_given given ≡ false → given ≡ []
@@ -187,14 +224,16 @@ module _ (items : List Item) (found : Found) (tells : Tells ea_syntax items foun
   not-given (v ∷ vs) e = absurd (true≢false (sym (ap not (ne_eqb (length (v ∷ vs)) 0 (λ z. omega (arith, z)))) ∙ e))
 
   pub finds_of : (bound : Bound) → found_value found (codes "bound") ≡ bound_text bound ∷ [] → IsBound bound
-      → (on implies equivalent states conflicts : Option (Bor Text)) → listed_slice on ≡ found_value found (codes "on") → on ≡ None
+      → (on implies equivalent states ic3 depth conflicts : Option (Bor Text)) → listed_slice on ≡ found_value found (codes "on") → on ≡ None
       → listed_slice implies ≡ found_value found (codes "implies") → implies ≡ None
       → listed_slice equivalent ≡ found_value found (codes "equivalent") → equivalent ≡ None
       → listed_slice states ≡ found_value found (codes "states") → states ≡ None
+      → listed_slice ic3 ≡ found_value found (codes "ic3") → ic3 ≡ None → listed_slice depth ≡ found_value found (codes "depth") → depth ≡ None
       → listed_slice conflicts ≡ found_value found (codes "conflicts") → (n : ℕ) → IsNumberOr 100000 (listed_slice conflicts) 0 1000000000 n
       → false ≡ found_flag found (codes "proof") → Finds items formula bound n
-  finds_of bound bounded range on implies equivalent states conflicts one no_on two no_implies three no_equivalent four no_states six n number no_proof =
-      let (at_on, (at_implies, (at_equivalent, (at_states, (at_bound, (at_conflicts, nil)))))) = tells.options in
+  finds_of bound bounded range on implies equivalent states ic3 depth conflicts one no_on two no_implies three no_equivalent four no_states
+      five no_ic3 seven no_depth six n number no_proof =
+      let (at_on, (at_implies, (at_equivalent, (at_states, (at_bound, (at_conflicts, (at_ic3, (at_depth, nil)))))))) = tells.options in
       let P : List Text → Type 0 = λ vs. IsNumberOr 100000 vs 0 1000000000 n in
       record {
         files = tells.files ∙ file;
@@ -209,7 +248,10 @@ module _ (items : List Item) (found : Found) (tells : Tells ea_syntax items foun
               at_equivalent ∙ sym three ∙ ap listed_slice no_equivalent,
               (
                 at_states ∙ sym four ∙ ap listed_slice no_states,
-                (not-given (given_in (codes "proof") items) (tells.flags.0 ∙ sym no_proof), tt),
+                (
+                  not-given (given_in (codes "proof") items) (tells.flags.0 ∙ sym no_proof),
+                  (at_ic3 ∙ sym five ∙ ap listed_slice no_ic3, (at_depth ∙ sym seven ∙ ap listed_slice no_depth, tt)),
+                ),
               ),
             ),
           ),
@@ -217,6 +259,10 @@ module _ (items : List Item) (found : Found) (tells : Tells ea_syntax items foun
       }
 
 -- ---- what is asked is within its ranges
+
+depth-low : (given : List Text) (n : ℕ) → IsNumberOr 10 given 0 100000 n → n ≤ 100000
+depth-low [] n e = omega (arith, e)
+depth-low (v ∷ vs) n (e, from, to) = to
 
 states-few : (given : List Text) (n : ℕ) → IsNumberOr 100000 given 1 4194304 n → n < 2 ^ 32 - 1
 states-few [] n e = omega (arith, e)
@@ -226,6 +272,13 @@ conflicts-few : (given : List Text) (n : ℕ) → IsNumberOr 100000 given 0 1000
 conflicts-few [] n e = omega (arith, e)
 conflicts-few (v ∷ vs) n (e, from, to) = omega (arith, to)
 
+engine-in : (items : List Item) (engine : Engine) → IsEngine items engine → IsInRange engine
+engine-in items (Branches n) (budget, none) = states-few (given_in (codes "states") items) n budget
+engine-in items (Circuit ask) (calls, deep, budget, bare, none) = (
+  depth-low (given_in (codes "depth") items) ask.depth deep,
+  conflicts-few (given_in (codes "conflicts") items) ask.conflicts budget,
+)
+
 judges-at : (words files : List Text) (first second : Text) → AsksFor words Judge files → first ≡ name_of_file files 0
     → second ≡ name_of_file files 1 → files ≡ first ∷ second ∷ []
 judges-at words [] first second (items, are, none) d e = absurd none
@@ -233,23 +286,23 @@ judges-at words (f ∷ []) first second (items, are, none) d e = absurd none
 judges-at words (f ∷ g ∷ []) first second asks d e = λ i. sym d i ∷ sym e i ∷ []
 judges-at words (f ∷ g ∷ h ∷ rest) first second (items, are, none) d e = absurd none
 
-decides-at : (words files : List Text) (n : ℕ) (b : Bool) (first : Text) → AsksFor words (Decide n b) files → first ≡ name_of_file files 0
-    → (files ≡ first ∷ []) × (n < 2 ^ 32 - 1)
+decides-at : (words files : List Text) (n : Engine) (b : Bool) (first : Text) → AsksFor words (Decide n b) files → first ≡ name_of_file files 0
+    → (files ≡ first ∷ []) × IsInRange n
 decides-at words [] n b first (items, are, none) d = absurd none
-decides-at words (f ∷ []) n b first (items, are, asks) d = (λ i. sym d i ∷ [], states-few (given_in (codes "states") items) n asks.budget)
+decides-at words (f ∷ []) n b first (items, are, asks) d = (λ i. sym d i ∷ [], engine-in items n asks.by)
 decides-at words (f ∷ g ∷ rest) n b first (items, are, none) d = absurd none
 
-relates-at : (words files : List Text) (relation : Relation) (n : ℕ) (b : Bool) (first second : Text) → AsksFor words (Relate relation n b) files
-    → first ≡ name_of_file files 0 → second ≡ name_of_file files 1 → (files ≡ first ∷ second ∷ []) × (n < 2 ^ 32 - 1)
+relates-at : (words files : List Text) (relation : Relation) (n : Engine) (b : Bool) (first second : Text) → AsksFor words (Relate relation n b) files
+    → first ≡ name_of_file files 0 → second ≡ name_of_file files 1 → (files ≡ first ∷ second ∷ []) × IsInRange n
 relates-at words [] Implication n b first second (items, are, none) d e = absurd none
 relates-at words (f ∷ []) Implication n b first second (items, are, none) d e = absurd none
 relates-at words (f ∷ g ∷ []) Implication n b first second (items, are, asks) d e =
-    (λ i. sym d i ∷ sym e i ∷ [], states-few (given_in (codes "states") items) n asks.budget)
+    (λ i. sym d i ∷ sym e i ∷ [], engine-in items n asks.by)
 relates-at words (f ∷ g ∷ h ∷ rest) Implication n b first second (items, are, none) d e = absurd none
 relates-at words [] Equivalence n b first second (items, are, none) d e = absurd none
 relates-at words (f ∷ []) Equivalence n b first second (items, are, none) d e = absurd none
 relates-at words (f ∷ g ∷ []) Equivalence n b first second (items, are, asks) d e =
-    (λ i. sym d i ∷ sym e i ∷ [], states-few (given_in (codes "states") items) n asks.budget)
+    (λ i. sym d i ∷ sym e i ∷ [], engine-in items n asks.by)
 relates-at words (f ∷ g ∷ h ∷ rest) Equivalence n b first second (items, are, none) d e = absurd none
 
 finds-at : (words files : List Text) (bound : Bound) (n : ℕ) (first : Text) → AsksFor words (Find bound n) files → first ≡ name_of_file files 0
@@ -268,12 +321,12 @@ module _ (words files : List Text) (question : Question) (asks : AsksFor words q
       → files ≡ first ∷ second ∷ []
   judges is first second d e = judges-at words files first second (asks_this Judge is) d e
 
-  pub decides : (n : ℕ) (b : Bool) → question ≡ Decide n b → (first : Text) → first ≡ name_of_file files 0
-      → (files ≡ first ∷ []) × (n < 2 ^ 32 - 1)
+  pub decides : (n : Engine) (b : Bool) → question ≡ Decide n b → (first : Text) → first ≡ name_of_file files 0
+      → (files ≡ first ∷ []) × IsInRange n
   decides n b is first d = decides-at words files n b first (asks_this (Decide n b) is) d
 
-  pub relates : (relation : Relation) (n : ℕ) (b : Bool) → question ≡ Relate relation n b → (first second : Text)
-      → first ≡ name_of_file files 0 → second ≡ name_of_file files 1 → (files ≡ first ∷ second ∷ []) × (n < 2 ^ 32 - 1)
+  pub relates : (relation : Relation) (n : Engine) (b : Bool) → question ≡ Relate relation n b → (first second : Text)
+      → first ≡ name_of_file files 0 → second ≡ name_of_file files 1 → (files ≡ first ∷ second ∷ []) × IsInRange n
   relates relation n b is first second d e = relates-at words files relation n b first second (asks_this (Relate relation n b) is) d e
 
   pub finds : (bound : Bound) (n : ℕ) → question ≡ Find bound n → (first : Text) → first ≡ name_of_file files 0

@@ -21,6 +21,7 @@ use Rattle.ea_tool.specs.Finding.{IsSearch}
 use Rattle.ea_tool.specs.Judging.{IsJudgement}
 use Rattle.ea_tool.specs.Rules.{ComesTo, IsTextIn, IsRefusedIn, ea_rules, has_lassos}
 use Rattle.ea_tool.specs.declared.verdict.EaFault.{EaFault}
+use Rattle.ea_tool.specs.declared.verdict.Engine.{Engine}
 use Rattle.ea_tool.specs.declared.verdict.EaVerdict.{EaVerdict}
 use Rattle.ea_tool.specs.declared.verdict.Question.{Question}
 use Rattle.ea_tool.specs.declared.verdict.Question.TheVariants.{Judge, Decide, Relate, Find}
@@ -76,22 +77,22 @@ module _ (reading : (syntax : Syntax) → IsTrue (is_syntax syntax) → (words :
       let R : List (Lasso Letter) → Type 0 = λ l. IsJudgement g.prefix g.body l a in
       judged_once g.prefix g.body other a b (subst R lassos (subst P formula is)) was
 
-  decides_once : (states : ℕ) (proof : Bool) (one : List ℕ) (names : List Text) (a b : Answer EaVerdict EaFault)
-      → ComesTo (Decide states proof) (one ∷ []) names a → ComesTo (Decide states proof) (one ∷ []) names b → AgreeOrShort ea_rules a b
-  decides_once states proof one names a b (f, first, is) (g, also, was) =
-      let P : Plain → Type 0 = λ h. IsDecision h states a in
-      decisions_once g states a b (subst P (formula_once [] one f g names names first also).0 is) was
+  decides_once : (engine : Engine) (proof : Bool) (one : List ℕ) (names : List Text) (a b : Answer EaVerdict EaFault)
+      → ComesTo (Decide engine proof) (one ∷ []) names a → ComesTo (Decide engine proof) (one ∷ []) names b → AgreeOrShort ea_rules a b
+  decides_once engine proof one names a b (f, first, is) (g, also, was) =
+      let P : Plain → Type 0 = λ h. IsDecision h engine a in
+      decisions_once g engine a b (subst P (formula_once [] one f g names names first also).0 is) was
 
-  relates_once : (relation : Relation) (states : ℕ) (proof : Bool) (one two : List ℕ) (names : List Text) (a b : Answer EaVerdict EaFault)
-      → ComesTo (Relate relation states proof) (one ∷ two ∷ []) names a → ComesTo (Relate relation states proof) (one ∷ two ∷ []) names b
+  relates_once : (relation : Relation) (engine : Engine) (proof : Bool) (one two : List ℕ) (names : List Text) (a b : Answer EaVerdict EaFault)
+      → ComesTo (Relate relation engine proof) (one ∷ two ∷ []) names a → ComesTo (Relate relation engine proof) (one ∷ two ∷ []) names b
       → AgreeOrShort ea_rules a b
-  relates_once relation states proof one two names a b (f, g, known, first, second, is) (h, k, table, also, then, was) =
+  relates_once relation engine proof one two names a b (f, g, known, first, second, is) (h, k, table, also, then, was) =
       let (formula, tables) = formula_once [] one f h known table first also in
       let N : List Text → Type 0 = λ t. IsFormula 8 t two g names in
       let other = (formula_once table two g k names names (subst N tables second) then).0 in
-      let P : Plain → Type 0 = λ x. IsRelated relation x g states a in
-      let R : Plain → Type 0 = λ x. IsRelated relation h x states a in
-      relations_once relation h k states a b (subst R other (subst P formula is)) was
+      let P : Plain → Type 0 = λ x. IsRelated relation x g engine a in
+      let R : Plain → Type 0 = λ x. IsRelated relation h x engine a in
+      relations_once relation h k engine a b (subst R other (subst P formula is)) was
 
   finds_once : (bound : Bound) (conflicts : ℕ) (one : List ℕ) (names : List Text) (a b : Answer EaVerdict EaFault)
       → ComesTo (Find bound conflicts) (one ∷ []) names a → ComesTo (Find bound conflicts) (one ∷ []) names b → AgreeOrShort ea_rules a b

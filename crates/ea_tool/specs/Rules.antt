@@ -40,11 +40,11 @@ abbrev pub ComesTo : Question → List (List ℕ) → List Text → Answer EaVer
 ComesTo Judge (one ∷ two ∷ []) names answer =
     (f : Plain) × (list : List (Lasso Letter)) × IsFormula 8 [] one f names × AreLassos names two list
     × IsJudgement f.prefix f.body list answer
-ComesTo (Decide states proof) (one ∷ []) names answer =
-    (f : Plain) × IsFormula 8 [] one f names × IsDecision f states answer
-ComesTo (Relate relation states proof) (one ∷ two ∷ []) names answer =
+ComesTo (Decide engine proof) (one ∷ []) names answer =
+    (f : Plain) × IsFormula 8 [] one f names × IsDecision f engine answer
+ComesTo (Relate relation engine proof) (one ∷ two ∷ []) names answer =
     (f : Plain) × (g : Plain) × (known : List Text) × IsFormula 8 [] one f known × IsFormula 8 known two g names
-    × IsRelated relation f g states answer
+    × IsRelated relation f g engine answer
 ComesTo (Find bound conflicts) (one ∷ []) names answer =
     (f : Plain) × IsFormula 8 [] one f names × IsSearch bound conflicts f answer
 ComesTo _ _ names answer = ⊥

@@ -6,8 +6,10 @@ ghost use Rattle.hy_formula.specs.Formulas.{plain_formula};
 ghost use Rattle.hy_run.specs.Runs.{Follows};
 ghost use Rattle.ea_tool.specs.Deciding.{IsDecision, decision_refusal};
 ghost use Rattle.ea_tool.specs.Rules.{ea_rules};
+ghost use Rattle.ea_tool.specs.Words.{IsInRange};
 
-use crate::verdict::{EaFault, EaVerdict, Question};
+use crate::circuits::decide_by_circuit;
+use crate::verdict::{EaFault, EaVerdict, Engine, Question};
 use ea_core::{Decision, EaError};
 use hy_base::Shelf;
 use hy_files::formula_in;
@@ -18,23 +20,22 @@ use std::alloc::Global;
 /// Most quantifiers of a formula.
 pub const MOST_QUANTIFIERS: u8 = 8;
 
-/// Whether a formula is satisfiable, by at most `states` branches. Its names are added to the empty
-/// table.
+/// Whether a formula is satisfiable, by an engine. Its names are added to the empty table.
 pub fn decide<S: Shelf>(
     alloc: Global,
     shelf: &mut S,
     formula: &str,
-    states: u32,
+    engine: Engine,
     names: &mut NameTable,
 ) -> Result<EaVerdict, Refusal<EaFault>>
     requires empty { names.old ≡ [] }
-    requires states { states < 2 ^ 32 - 1 }
+    requires range { IsInRange engine }
     ensures keeps { KeepsShelf S.Shelf shelf.old shelf.new }
     ensures follows { (proof : Bool) → Follows ea_rules S.Shelf shelf.old shelf.new
-        (Question.Decide states proof) (formula.now ∷ []) names.new result }
+        (Question.Decide engine proof) (formula.now ∷ []) names.new result }
 {
     match formula_in(alloc, shelf, formula, MOST_QUANTIFIERS, names) {
-        Ok(formula) => decide_formula(alloc, &formula, states),
+        Ok(formula) => decide_formula(alloc, &formula, engine),
         Err(fault) => Err(file_refusal(0, fault)),
     }
 }
@@ -43,10 +44,25 @@ pub fn decide<S: Shelf>(
 fn decide_formula(
     alloc: Global,
     formula: &Formula,
+    engine: Engine,
+) -> Result<EaVerdict, Refusal<EaFault>>
+    requires { IsInRange engine }
+    ensures { IsDecision (plain_formula formula.now) engine result }
+{
+    match engine {
+        Engine::Branches { states } => decide_by_branches(alloc, formula, states),
+        Engine::Circuit { ask } => decide_by_circuit(alloc, formula, &ask),
+    }
+}
+
+/// Whether the formula is satisfiable, by at most `states` branches.
+fn decide_by_branches(
+    alloc: Global,
+    formula: &Formula,
     states: u32,
 ) -> Result<EaVerdict, Refusal<EaFault>>
     requires { states < 2 ^ 32 - 1 }
-    ensures { IsDecision (plain_formula formula.now) states result }
+    ensures { IsDecision (plain_formula formula.now) (Engine.Branches states) result }
 {
     match ea_core::decide(alloc, formula, states) {
         Ok(Decision::Sat(list)) => Ok(EaVerdict::Sat { list }),

@@ -18,13 +18,13 @@ ghost use Rattle.hy_run.specs.Names.{Text};
 ghost use Rattle.hy_run.specs.Reads.{GaveOnly, HaveBytes};
 ghost use Rattle.hy_run.specs.Runs.{Answer, Comes, Decides, Follows, out_text};
 ghost use Rattle.hy_run.specs.declared.refusal.Refusal.TheVariants.{Memory};
-ghost use Rattle.ea_tool.specs.Deciding.{DecidesOne, IsDecision, IsRelated, Relates, plan_of, plans_between};
+ghost use Rattle.ea_tool.specs.Deciding.{DecidesBy, IsDecision, IsRelated, Relates, plan_of, plans_between};
 ghost use Rattle.ea_tool.specs.Judging.{IsJudgement};
 ghost use Rattle.ea_tool.specs.Rules.{ComesTo, ea_rules};
 ghost use Rattle.ea_tool.specs.Words.{AsksFor};
 
 use crate::tool::EaHyper;
-use crate::verdict::{EaFault, EaVerdict, Question, Relation};
+use crate::verdict::{EaFault, EaVerdict, Engine, Question, Relation};
 use hy_base::Shelf;
 use hy_files::laws::one_text;
 use hy_words::laws::one_reading;
@@ -58,13 +58,13 @@ pub fn complete()
         → AreTexts ea_rules question contents names
         → Decides ea_rules question files given others answer
         → (answer ≡ Err Memory) ⊎ ComesTo question contents names answer }
-    ensures decided { (f : Plain) (states : ℕ) (answer : Answer EaVerdict EaFault)
+    ensures decided { (f : Plain) (engine : Engine) (answer : Answer EaVerdict EaFault)
         → AreTaken (by_class is_decided) (f ∷ []) → IsCounted (plan_of f)
-        → IsDecision f states answer → (answer ≡ Err Memory) ⊎ DecidesOne f states answer }
-    ensures related { (relation : Relation) (f g : Plain) (states : ℕ)
+        → IsDecision f engine answer → (answer ≡ Err Memory) ⊎ DecidesBy f engine answer }
+    ensures related { (relation : Relation) (f g : Plain) (engine : Engine)
         (answer : Answer EaVerdict EaFault) → AreTaken (by_class is_of_one_kind) (f ∷ g ∷ [])
-        → Each IsCounted (plans_between relation f g) → IsRelated relation f g states answer
-        → (answer ≡ Err Memory) ⊎ Relates relation f g states answer }
+        → Each IsCounted (plans_between relation f g) → IsRelated relation f g engine answer
+        → (answer ≡ Err Memory) ⊎ Relates relation f g engine answer }
     ensures judged { (prefix : List Quant) (body : Tree) (list : List (Lasso Letter))
         (answer : Answer EaVerdict EaFault) → IsJudged list → IsJudgement prefix body list answer
         → (answer ≡ Err Memory) ⊎ ((answer ≡ Ok EaVerdict.OnTrue) × Satisfies list prefix body)

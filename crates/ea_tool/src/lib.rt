@@ -2,7 +2,9 @@
 #![tactic(auto)]
 
 mod bounds;
+mod circuits;
 mod deciding;
+mod engines;
 mod finding;
 mod judging;
 mod lassos;
@@ -14,4 +16,4 @@ mod verdict;
 mod words;
 
 pub use tool::EaHyper;
-pub use verdict::{EaFault, EaVerdict, Question, Relation};
+pub use verdict::{CircuitVerdict, EaFault, EaVerdict, Engine, Question, Relation};

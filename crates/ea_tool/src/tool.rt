@@ -43,12 +43,12 @@ impl Tool for EaHyper {
         let second = order.files.name(1);
         match order.question {
             Question::Judge => judge(alloc, shelf, first, second, names),
-            Question::Decide { states, .. } => decide(alloc, shelf, first, states, names),
+            Question::Decide { engine, .. } => decide(alloc, shelf, first, engine, names),
             Question::Relate {
                 relation,
-                states,
+                engine,
                 ..
-            } => { relate(alloc, shelf, relation, (first, second), states, names) }
+            } => { relate(alloc, shelf, relation, (first, second), engine, names) }
             Question::Find { bound, conflicts } => {
                 find(alloc, shelf, first, bound, conflicts, names)
             }

@@ -2,7 +2,9 @@
 
 use bound_search::Bound;
 use chain_check::Log;
+use cnf_frames::InductionProof;
 use hy_lasso::LassoList;
+use mc_core::Ask;
 use rank_proofs::RankProof;
 
 /// What is asked of two formulas.
@@ -14,21 +16,28 @@ pub enum Relation {
     Equivalence,
 }
 
-/// What is asked of the files of a command. `states` is the most states that a decision may visit,
-/// from 1 to 4,194,304, and `proof` asks for a proof beside the verdict.
+/// By what a question about formulas is decided.
+#[derive(Clone, Copy)]
+pub enum Engine {
+    /// By the branches of a tableau, at most `states` of them, from 1 to 4,194,304.
+    Branches { states: u32 },
+    /// By paths of a free circuit of at most `ask.depth` steps, up to 100,000, queries of at most
+    /// `ask.conflicts` conflicts, up to 1,000,000,000, and searches for clauses of at most `ask.calls`
+    /// calls of the solver, from 1 to 1,000,000. There `ask.plain` is false.
+    Circuit { ask: Ask },
+}
+
+/// What is asked of the files of a command. `proof` asks for a proof beside the verdict.
 #[derive(Clone, Copy)]
 pub enum Question {
     /// Whether the lassos of the second file satisfy the formula of the first.
     Judge,
     /// Whether the formula is satisfiable.
-    Decide {
-        states: u32,
-        proof: bool,
-    },
+    Decide { engine: Engine, proof: bool },
     /// Whether the formulas of the two files stand in a relation.
     Relate {
         relation: Relation,
-        states: u32,
+        engine: Engine,
         proof: bool,
     },
     /// Which list of lassos within a bound satisfies the formula, by a query of at most `conflicts`
@@ -37,6 +46,24 @@ pub enum Question {
         bound: Bound,
         conflicts: u32,
     },
+}
+
+/// What a free circuit says, but for lassos.
+#[derive(Drop)]
+pub enum CircuitVerdict {
+    /// No list of lassos satisfies the formula, by this proof about its free net.
+    Unsat { proof: InductionProof },
+    /// The first formula implies the second.
+    Implied { proof: InductionProof },
+    /// The formulas are equivalent: the first implies the second, and the second the first.
+    Equivalent {
+        first: InductionProof,
+        second: InductionProof,
+    },
+    /// Paths of so many steps leave it open.
+    UnknownDepth { depth: u32 },
+    /// A query learned as many clauses as it may.
+    UnknownConflicts { conflicts: u32 },
 }
 
 /// What is said where nothing is refused.
@@ -59,6 +86,8 @@ pub enum EaVerdict {
     /// The formulas are not equivalent: these lassos satisfy one alone, the first for side 0, the
     /// second for side 1.
     NotEquivalent { side: u8, list: LassoList },
+    /// What a free circuit says else.
+    ByCircuit(CircuitVerdict),
     /// The given lassos satisfy the formula.
     OnTrue,
     /// The given lassos do not satisfy the formula.

@@ -9,7 +9,8 @@ ghost use Rattle.ea_tool.specs.Rules.{ea_rules};
 ghost use Rattle.ea_tool.specs.Words.{AsksFor, TellsNothing, TellsOrder, bound_text};
 
 use crate::bounds::bound_in;
-use crate::verdict::{Question, Relation};
+use crate::engines::engine_in;
+use crate::verdict::{Engine, Question, Relation};
 use bound_search::Bound;
 use hy_base::M;
 use hy_run::{FileNames, Order};
@@ -20,12 +21,13 @@ use std::alloc::Global;
 ///
 /// ```text
 /// eahyper    [--on FILE | --implies FILE | --equivalent FILE] [--proof] [--states N] FORMULA
+/// eahyper    --ic3 CALLS [--depth K] [--conflicts N] [--implies FILE | --equivalent FILE] [--proof] FORMULA
 /// eahyper    --bound T,S,L [--conflicts N] FORMULA
 /// ```
-/// The numbers of states and of conflicts are in the ranges that `Question` gives, and 100,000 where
-/// they are not given; beside `--on` neither `--states` nor `--proof` changes anything. A bound is the
-/// most lassos, from 1 to 4, letters of a stem, from 0 to 8, and letters of a cycle, from 1 to 4;
-/// beside `--bound` stands nothing but `--conflicts`, and that only there.
+/// The numbers are in the ranges that `Engine` and `Question` give, those of states and of conflicts
+/// 100,000 and that of steps 10 where they are not given; beside `--on` neither `--states` nor
+/// `--proof` changes anything. A bound is the most lassos, from 1 to 4, letters of a stem, from 0 to 8,
+/// and letters of a cycle, from 1 to 4.
 ///
 /// `Memory` where memory ran out.
 pub fn order_of<'a>(alloc: Global, words: &'a [String]) -> M<Option<Order<'a, Question>>>
@@ -43,6 +45,8 @@ pub fn order_of<'a>(alloc: Global, words: &'a [String]) -> M<Option<Order<'a, Qu
             "states",
             "bound",
             "conflicts",
+            "ic3",
+            "depth",
         ],
     };
     match found_in(alloc, syntax, words)? {
@@ -74,32 +78,32 @@ fn asking<'a>(formula: &'a str, found: &Found<'a>) -> Option<Order<'a, Question>
         TellsOrder found.now order.question (names_in order.files)) }
     ensures none { IfNone result (TellsNothing found.now) }
 {
-    let states = number_or(100_000, found.value("states"), 1, 4_194_304)?;
+    let engine = engine_in(found)?;
     let proof = found.has("proof");
     let on = found.value("on");
     let implies = found.value("implies");
     let equivalent = found.value("equivalent");
-    match (on, implies, equivalent, found.value("conflicts")) {
-        (None, None, None, None) => Some(Order {
-            question: Question::Decide { states, proof },
+    match (on, implies, equivalent, engine) {
+        (None, None, None, _) => Some(Order {
+            question: Question::Decide { engine, proof },
             files: FileNames::one(formula),
         }),
-        (Some(lassos), None, None, None) => Some(Order {
+        (Some(lassos), None, None, Engine::Branches { .. }) => Some(Order {
             question: Question::Judge,
             files: FileNames::two(formula, lassos),
         }),
-        (None, Some(second), None, None) => Some(Order {
+        (None, Some(second), None, _) => Some(Order {
             question: Question::Relate {
                 relation: Relation::Implication,
-                states,
+                engine,
                 proof,
             },
             files: FileNames::two(formula, second),
         }),
-        (None, None, Some(second), None) => Some(Order {
+        (None, None, Some(second), _) => Some(Order {
             question: Question::Relate {
                 relation: Relation::Equivalence,
-                states,
+                engine,
                 proof,
             },
             files: FileNames::two(formula, second),
@@ -122,8 +126,11 @@ fn finding<'a>(formula: &'a str, bound: Bound, found: &Found<'a>) -> Option<Orde
     let implies = found.value("implies");
     let equivalent = found.value("equivalent");
     let states = found.value("states");
-    match (on, implies, equivalent, states, found.has("proof")) {
-        (None, None, None, None, false) => Some(Order {
+    let ic3 = found.value("ic3");
+    let depth = found.value("depth");
+    let proof = found.has("proof");
+    match (on, implies, equivalent, states, ic3, depth, proof) {
+        (None, None, None, None, None, None, false) => Some(Order {
             question: Question::Find { bound, conflicts },
             files: FileNames::one(formula),
         }),

@@ -1,3 +1,4 @@
 pub mod Answering
+pub mod QueryLimits
 pub mod Verdicts
 pub mod Usable

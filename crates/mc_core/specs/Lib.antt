@@ -1,3 +1,4 @@
 pub mod Answers
 pub mod Decisions
 pub mod Evidence
+pub mod QueryLimits

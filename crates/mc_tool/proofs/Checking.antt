@@ -26,15 +26,11 @@ use Rattle.aig_net.specs.declared.signals.Signal.{Signal}
 use Rattle.net_names.specs.Names.{AreSignals, IsBadName, IsFirstBad, IsOnly, name_at}
 use Rattle.formula_nets.specs.Posed.{checked_safe, members}
 use Rattle.formula_nets.proofs.SameSignals.{same-satisfaction}
-use Rattle.cnf_frames.specs.Queries.{IsPastBy}
-use Rattle.cnf_frames.specs.declared.facts.Fact.{Fact}
-use Rattle.cnf_frames.specs.declared.queries.FrameError.TheVariants as frame
-use Rattle.invar_find.specs.Kepts as kepts
-use Rattle.k_induct.specs.Verdicts.{IsStopped}
 use Rattle.live_safe.specs.declared.safe_net.SafeNet.{SafeNet}
 use Rattle.mc_core.specs.Answers.{IsAnswer, IsChecked, IsRefused as IsUnchecked}
 use Rattle.mc_core.specs.Evidence.{Denies}
 use Rattle.mc_core.specs.declared.ask.Ask.{Ask}
+use Rattle.mc_core.proofs.QueryLimits.{stopped_facts, stopped_paths}
 use Rattle.mc_core.specs.declared.checked.Checked.{Checked}
 use Rattle.mc_core.specs.declared.checked.Checked.TheVariants as checked
 use Rattle.mc_core.specs.declared.mc_error.McError.{McError}
@@ -45,7 +41,7 @@ use Rattle.hy_run.specs.Runs.{Answer}
 use Rattle.hy_run.specs.declared.refusal.Refusal.{Refusal}
 use Rattle.hy_run.specs.declared.refusal.Refusal.TheVariants.{Prefix, Limit, Own, Memory}
 use Rattle.mc_tool.specs.Checking.{ComesBy, found, facts_stop, paths_stop, IsCheck, untaken, large_closure, bad_name, done, spent, IsCheckable, IsWork, StandForOne}
-use Rattle.mc_tool.specs.Rules.{Agree, same, other_check, Deny, IsOfCheck, IsQueryLimit, mc_rules}
+use Rattle.mc_tool.specs.Rules.{Agree, same, other_check, Deny, IsOfCheck, mc_rules}
 use Rattle.mc_tool.specs.declared.verdict.McFault.{McFault}
 use Rattle.mc_tool.specs.declared.verdict.McFault.TheVariants.{Name, CnfLimit}
 use Rattle.mc_tool.specs.declared.verdict.McVerdict.{McVerdict}
@@ -153,18 +149,6 @@ module _ (net : Net) (names : List (List ℕ)) (body : Tree) where
       (is, bad_once (name_at names k) a b (subst P is one.bad) two.bad)
 
 -- ---- two works
-
-query_limit : (variables literals : ℕ) (kind : Kind) → IsPastBy variables literals kind → IsQueryLimit kind
-query_limit variables literals kinds.CnfVariables past = tt
-query_limit variables literals kinds.CnfLiterals past = tt
-query_limit variables literals _ past = absurd past
-
-pub stopped_facts : (safe : SafeNet) (limit : Past) → kepts.IsStopped safe (frame.Limit limit) → IsQueryLimit limit.kind
-stopped_facts safe limit (facts, group, starting, among, past, is) = query_limit _ _ limit.kind past
-
-pub stopped_paths : (safe : SafeNet) (facts : List Fact) (depth : ℕ) (kind : Kind) (limit : ℕ)
-    → IsStopped safe facts depth (frame.Limit (record { kind = kind; limit = limit })) → IsQueryLimit kind
-stopped_paths safe facts depth kind limit (k, step, asked, met, past, is) = query_limit _ _ kind past
 
 module _ (net : Net) (names : List (List ℕ)) (f : Plain) (ask : Ask) (s t : List Signal) (one : AreSignals net names f.body s) (two : AreSignals net names f.body t) where
   not_denied : (c d : Checked) → IsChecked net s f.prefix f.body ask c → IsChecked net t f.prefix f.body ask d → ¬ Denies c d

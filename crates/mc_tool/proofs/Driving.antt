@@ -21,6 +21,7 @@ use Rattle.strat_compose.specs.Refusals.{AreShaped}
 use Rattle.strat_compose.proofs.Prefixes.{counted, counts-are}
 use Rattle.mc_core.specs.Evidence.{Denies}
 use Rattle.mc_core.specs.declared.ask.Ask.{Ask}
+use Rattle.mc_core.proofs.QueryLimits.{stopped_facts, stopped_paths}
 use Rattle.mc_core.specs.declared.checked.Checked.{Checked}
 use Rattle.mc_core.specs.declared.checked.Checked.TheVariants as checks
 use Rattle.strat_core.specs.Answers.{IsOpen, IsStrategyAnswer, IsStrategyChecked, IsStrategyRefused}
@@ -38,7 +39,7 @@ use Rattle.mc_tool.specs.Driving.{DrivesBy, wins, fails, undecided, facts_stop, 
 use Rattle.mc_tool.specs.Rules.{other_driving, Deny, IsOfDriving, mc_rules}
 use Rattle.mc_tool.specs.declared.verdict.McFault.{McFault}
 use Rattle.mc_tool.specs.declared.verdict.McFault.TheVariants.{Name, Strategy, CnfLimit}
-use Rattle.mc_tool.proofs.Checking.{Said, equal, first_bad_once, none-bad, stand-for-one, stopped_facts, stopped_paths, unless_short}
+use Rattle.mc_tool.proofs.Checking.{Said, equal, first_bad_once, none-bad, stand-for-one, unless_short}
 use Rattle.mc_tool.proofs.Turns.{Turn, turn_once}
 
 -- ---- prefixes

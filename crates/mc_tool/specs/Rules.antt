@@ -1,10 +1,9 @@
 -- The rules of `mchyper`.
 use Rattle.std.specs.Prelude.{◌≡◌, ℕ, zero, suc, List, [], ◌∷◌, Ok, Err}
-use Rattle.hy_base.specs.declared.limit.Kind.{Kind}
-use Rattle.hy_base.specs.declared.limit.Kind.TheVariants as kinds
 use Rattle.hy_formula.specs.Formulas.{Plain}
 use Rattle.aig_net.specs.Nets.{Net}
 use Rattle.mc_core.specs.Evidence.{Denies}
+use Rattle.mc_core.specs.QueryLimits.{IsQueryLimit}
 use Rattle.strat_core.specs.Answers.{IsOpen}
 use Rattle.hy_files.specs.Contents.{IsFormula, IsNoFormula}
 use Rattle.hy_files.specs.declared.fault.FileFault.{FileFault}
@@ -46,12 +45,6 @@ ComesTo (CheckByStrategy ask) (one ∷ two ∷ three ∷ []) names answer =
 ComesTo _ _ names answer = ⊥
 
 -- ---- what two answers have in common
-
--- The limit is one of queries.
-abbrev pub IsQueryLimit : Kind → Type 0
-IsQueryLimit kinds.CnfVariables = Unit {0}
-IsQueryLimit kinds.CnfLiterals = Unit {0}
-IsQueryLimit _ = ⊥
 
 -- What a check answers, but for what it says of the circuit.
 abbrev pub IsOfCheck : Answer McVerdict McFault → Type 0

@@ -1,17 +1,7 @@
-use Rattle.hy_formula.specs.Formulas.{plain_formula}
-use Rattle.ea_tool.proofs.Decisions.{decide-sat, decide-unsat, decide-refused}
 use Rattle.ea_tool.proofs.deciding.decide_formula.Goals as goal
 
-pub returns-in-Ok-Sat : goal.returns-in-Ok-Sat
-returns-in-Ok-Sat c =
-    decide-sat c.args.states (plain_formula c.args.formula.now) c.in-Ok-Sat.list c.in-Ok-Sat.ensures.taken
-    c.in-Ok-Sat.ensures.within (rw c.in-Ok-Sat.field-0-is at c.in-Ok-Sat.ensures.decision)
+pub returns-in-Branches : goal.returns-in-Branches
+returns-in-Branches c = rw c.in-Branches.is c.decide_by_branches.ensures
 
-pub returns-in-Ok-Unsat : goal.returns-in-Ok-Unsat
-returns-in-Ok-Unsat c =
-    decide-unsat c.args.states (plain_formula c.args.formula.now) c.in-Ok-Unsat.proof c.in-Ok-Unsat.ensures.taken
-    c.in-Ok-Unsat.ensures.within (rw c.in-Ok-Unsat.field-0-is at c.in-Ok-Unsat.ensures.decision)
-
-pub returns-in-Err : goal.returns-in-Err
-returns-in-Err c =
-    rw c.decision_refusal.ensures (decide-refused c.args.states (plain_formula c.args.formula.now) _ c.in-Err.ensures.refused)
+pub returns-in-Circuit : goal.returns-in-Circuit
+returns-in-Circuit c = rw c.in-Circuit.is c.decide_by_circuit.ensures

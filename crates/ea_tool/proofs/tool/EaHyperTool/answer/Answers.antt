@@ -10,8 +10,8 @@ returns-in-Judge-clause-follows g c =
     (judges c.requires.asked.0 (names_in c.args.order.now.files) c.args.order.now.question c.requires.asked.1 c.in-Judge.is c.name-first.result.now c.name-second.result.now c.name-first.ensures c.name-second.ensures)
     c.judge.ensures.follows
 
-pub decide-requires-clause-states : goal.decide-requires-clause-states
-decide-requires-clause-states g c =
+pub decide-requires-clause-range : goal.decide-requires-clause-range
+decide-requires-clause-range g c =
     (decides c.requires.asked.0 (names_in c.args.order.now.files) c.args.order.now.question c.requires.asked.1 _ _ c.in-Decide.is c.name-first.result.now c.name-first.ensures).1
 
 pub returns-in-Decide-clause-follows : goal.returns-in-Decide-clause-follows
@@ -20,8 +20,8 @@ returns-in-Decide-clause-follows g c =
     (decides c.requires.asked.0 (names_in c.args.order.now.files) c.args.order.now.question c.requires.asked.1 _ _ c.in-Decide.is c.name-first.result.now c.name-first.ensures).0
     (c.decide.ensures.follows _)
 
-pub relate-requires-clause-states : goal.relate-requires-clause-states
-relate-requires-clause-states g c =
+pub relate-requires-clause-range : goal.relate-requires-clause-range
+relate-requires-clause-range g c =
     (relates c.requires.asked.0 (names_in c.args.order.now.files) c.args.order.now.question c.requires.asked.1 _ _ _ c.in-Relate.is c.name-first.result.now c.name-second.result.now c.name-first.ensures c.name-second.ensures).1
 
 pub returns-in-Relate-clause-follows : goal.returns-in-Relate-clause-follows
