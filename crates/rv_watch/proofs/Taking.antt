@@ -112,10 +112,10 @@ module _ (terms : Terms) (specs : List Spec) {E : Type 0} (g : Ghosts E) (from e
           let (said, says, fits, same) = is in
           (at.heard, inr (says_event said _ within says fits (crowded (rw (← same) many))))
 
-      module _ (room : ¬ IsCrowded c event) (w' : Watcher) where
+      module _ (w' : Watcher) where
         -- Where a trace comes there is room for it.
-        has-room : (next : History) → step c.history event ≡ goes next → arrives event ≡ true → HasRoom c
-        has-room next steps loud =
+        has-room : (next : History) → step c.history event ≡ goes next → arrives event ≡ true → (¬ IsCrowded c event) → HasRoom c
+        has-room next steps loud room =
             elim (cases_lt (length c.history.present.arrived) most_traces)
             [ inl few ↦ few | inr many ↦ absurd (room ((loud, (next, steps)), many)) ]
 
@@ -138,11 +138,11 @@ module _ (terms : Terms) (specs : List Spec) {E : Type 0} (g : Ghosts E) (from e
                 },
               )
 
-          pub took-arrival : (err' : E) (rv : Rv) (trace : ℕ) → w'.rv ≡ rv → Answers (held w.rv) (held rv) event (Ok (Arrived trace))
+          pub took-arrival : (err' : E) (rv : Rv) (trace : ℕ) → w'.rv ≡ rv → (¬ IsCrowded c event) → Answers (held w.rv) (held rv) event (Ok (Arrived trace))
               → ((h : History) → StandsFor (held rv) h → (w'.since ≡ (counted terms.question.every c h).since)
               × ReceivesAll g from err' (counted terms.question.every c h).said)
               → IsTaken terms specs g from err' w' line c None
-          took-arrival err' rv trace is_rv said wrote =
+          took-arrival err' rv trace is_rv room said wrote =
               let goes = answered-arrived (held w.rv) (held rv) event c.history (Ok (Arrived trace)) trace refl (said.right c.history at.stands) in
               let (told, says, fits, same) = is in
               let rule = said.rule ∙ at.rule in
@@ -152,7 +152,7 @@ module _ (terms : Terms) (specs : List Spec) {E : Type 0} (g : Ghosts E) (from e
               let R : Rv → Type 0 = λ r. StandsFor (held r) goes.next in
               let clean : IsClean terms.question.lengths specs goes.next.present.arrived = rw (← rule, ← specs_are) goes.stands.quiet.now in (
                 counted every c goes.next,
-                arrived told goes.next within says fits (has-room goes.next goes.steps goes.loud) (rw (← same) goes.steps) (rw (← same) goes.loud) clean,
+                arrived told goes.next within says fits (has-room goes.next goes.steps goes.loud room) (rw (← same) goes.steps) (rw (← same) goes.loud) clean,
                 record {
                   rule = ap (λ (r : Rv). (held r).rule) is_rv ∙ rule;
                   dropping = drops ∙ at.dropping;
@@ -164,15 +164,15 @@ module _ (terms : Terms) (specs : List Spec) {E : Type 0} (g : Ghosts E) (from e
                 },
               )
 
-        pub stopped-violated : (s trace : ℕ) (tuple : List ℕ) → Answers (held w.rv) (held w'.rv) event (Ok (Violation s trace tuple))
+        pub stopped-violated : (s trace : ℕ) (tuple : List ℕ) → (¬ IsCrowded c event) → Answers (held w.rv) (held w'.rv) event (Ok (Violation s trace tuple))
             → IsTaken terms specs g from err w' line c (Some (Ok (verdicts.Violation s trace tuple)))
-        stopped-violated s trace tuple said =
+        stopped-violated s trace tuple room said =
             let v = answered-violation (held w.rv) (held w'.rv) event c.history (Ok (Violation s trace tuple)) s trace tuple refl
             (said.right c.history at.stands) in
             let (told, says, fits, same) = is in
             let found : IsFound terms.question.lengths specs v.next.present.arrived s trace tuple = rw (← at.rule, ← at.specs_are) v.found in (
               at.heard,
-              inr (says_event told _ within says fits (violates v.next s trace tuple (has-room v.next v.steps v.loud) (rw (← same) v.steps) (rw (← same) v.loud) found)),
+              inr (says_event told _ within says fits (violates v.next s trace tuple (has-room v.next v.steps v.loud room) (rw (← same) v.steps) (rw (← same) v.loud) found)),
             )
 
         pub stopped-error : (error : RvError) (answer : WatchAnswer) → Answers (held w.rv) (held w'.rv) event (Err error)
