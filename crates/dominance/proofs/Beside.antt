@@ -78,6 +78,23 @@ zero-code p (a ∷ atoms) none =
     ap (λ b. one_if b + 2 * code_of p atoms) (none a.name a.variable)
     ∙ ap (λ n. 0 + 2 * n) (zero-code p atoms none)
 
+-- the codes of a trace at a place, past its end too
+pub column-at : (m : Machine) (place : ℕ) (x : Trace) (i : ℕ)
+    → slice_index (map (part_of m.atoms place) x) i ≡ part_of m.atoms place (get_or x i empty)
+column-at m place x i = elim (cases_lt i (length x)) [
+  | inl lt ↦ get_or-map (part_of m.atoms place) x i empty 0 lt
+  | inr past ↦
+      get_or_past (map (part_of m.atoms place) x) i 0
+      (omega (arith, length-map x (part_of m.atoms place), past))
+      ∙ sym (ap (part_of m.atoms place) (get_or_past x i empty past)
+      ∙ zero-code _ m.atoms
+      (λ name variable. nothing (nat_eq variable place) _ (contains-empty nat_cmp name)))
+]
+  where
+    nothing : (b d : Bool) → d ≡ false → (b && d) ≡ false
+    nothing true d e = e
+    nothing false d e = refl
+
 -- a place other than the one of the trace
 seam-other : (before after : List Trace) (x y : Trace) (v : ℕ) → ¬ (v ≡ length before)
     → get_or (before ++ x ∷ after) v [] ≡ get_or (before ++ y ∷ after) v []
@@ -133,23 +150,6 @@ module _ (m : Machine) (is : IsMonitor m) (rule : Lengths) (before after : List 
               eq-eqb variable (length before) same in absurd (cc)))
               ∙ sym (ap (λ b. (b && contains (get_or x i empty) name) ||
               (not b && trace_words (before ++ [] ∷ after) name variable i)) e)
-
-  column-at : (x : Trace) (i : ℕ) → slice_index (map (part_of m.atoms (length before)) x) i
-      ≡ part_of m.atoms (length before) (get_or x i empty)
-  column-at x i = elim (cases_lt i (length x)) [
-    | inl lt ↦ get_or-map (part_of m.atoms (length before)) x i empty 0 lt
-    | inr past ↦
-        get_or_past (map (part_of m.atoms (length before)) x) i 0
-        (omega (arith, length-map x (part_of m.atoms (length before)), past))
-        ∙ sym (ap (part_of m.atoms (length before)) (get_or_past x i empty past)
-        ∙ zero-code _ m.atoms
-        (λ name variable. nothing
-        (nat_eq variable (length before)) _ (contains-empty nat_cmp name)))
-  ]
-    where
-      nothing : (b d : Bool) → d ≡ false → (b && d) ≡ false
-      nothing true d e = e
-      nothing false d e = refl
 
   module _ (some : 0 < length (before ++ after)) (traces : Each IsTrace (before ++ after)) where
     -- past the ends of all others they say nothing
@@ -209,7 +209,7 @@ module _ (m : Machine) (is : IsMonitor m) (rule : Lengths) (before after : List 
           (joint (map (part_of m.atoms (length before)) x) (ended code n))
           (of_two rule (length (map (part_of m.atoms (length before)) x)) n)
           (of_two-some rule _ n (omega (arith, len, is_x)) positive) e
-          (λ i lt. ap (λ z. bit_or z (ended code n i)) (column-at x i)
+          (λ i lt. ap (λ z. bit_or z (ended code n i)) (column-at m (length before) x i)
           ∙ ap (bit_or (part_of m.atoms (length before) (get_or x i empty)))
           (ended-right rule refl (length (map (part_of m.atoms (length before)) x)) i lt)
           ∙ sym (code-beside x i))

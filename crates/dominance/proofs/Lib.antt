@@ -12,3 +12,5 @@ pub mod Meaning
 pub mod Exchanging
 pub mod Beside
 pub mod Refuting
+pub mod Staying
+pub mod Apart

@@ -1,5 +1,5 @@
 -- Nodes that are added last, and the choices that lead to a node.
-use Rattle.std.proofs.Common.{◌≡◌, ℕ, ◌+◌, ◌<◌, ◌≤◌, Bool, true, false, not, ◌&&◌, nat_eq, if◌then◌else◌, List, [], ◌∷◌, ◌++◌, length, inl, inr, sym, ap, ◌∙◌, subst, arith, length-append, append_assoc}
+use Rattle.std.proofs.Common.{◌≡◌, ℕ, zero, suc, ◌+◌, ◌<◌, ◌≤◌, Bool, true, false, not, ◌&&◌, nat_eq, if◌then◌else◌, List, [], ◌∷◌, ◌++◌, length, inl, inr, refl, sym, ap, ◌∙◌, subst, arith, length-append, append_assoc}
 use Rattle.std.specs.Prelude.{reverse}
 use Rattle.std.specs.List.{Contains}
 use Rattle.std.proofs.lemmas.Bool.{cases_lt, eqb-true, and_parts}
@@ -7,11 +7,12 @@ use Rattle.std.proofs.lemmas.List.{get_or_append_left, reverse-append}
 use Rattle.std.proofs.lemmas.List.Elements.{Contains-append_left}
 use Rattle.std.proofs.Math.Seq.{get_or-append_seam}
 use Rattle.hy_formula.specs.Quantifiers.{Each}
+use Rattle.hy_formula.proofs.Each.{each-append}
 use Rattle.dominance.specs.declared.reached.Node.{Node}
 use Rattle.dominance.specs.contracts.reached.NodePartialEq.TheImpl.{ghosts}
 use Rattle.dominance.specs.declared.reached.Link.{Link}
 use Rattle.dominance.specs.Runs.{Pairing, IsInside, start_node, next_node}
-use Rattle.dominance.specs.Trails.{node_at, link_at, AreLinked, FollowsBy, AreReached, Grows, led, LeadsOn}
+use Rattle.dominance.specs.Trails.{node_at, link_at, AreLinked, FollowsBy, AreReached, Grows, led, IsPath, LeadsOn}
 
 -- nodes that are compared as equal are equal
 pub equal-nodes : (x y : Node) → ghosts.eq x y ≡ true → x ≡ y
@@ -124,6 +125,36 @@ path-back s nodes links at to path link are some lt is (each, leads) =
     let e : link.choice ∷ reverse path ≡ reverse (path ++ link.choice ∷ []) =
     sym (reverse-append path (link.choice ∷ [])) in
     subst Q e ((f.choice, each), ap (λ y. led s y (reverse path)) (sym f.next) ∙ leads)
+
+led-more : (s : Pairing) (x : Node) (path : List ℕ) (choice : ℕ)
+    → led s x (path ++ choice ∷ []) ≡ next_node s (led s x path) choice
+led-more s x [] choice = refl
+led-more s x (c ∷ cs) choice = led-more s (next_node s x c) cs choice
+
+-- choices lead to each node
+pub path-to : (s : Pairing) (nodes : List Node) (links : List Link) → AreLinked nodes links
+    → AreReached s nodes links → (k : ℕ) → k < length nodes → (path : List ℕ)
+    × IsPath s nodes k path
+path-to s nodes links linked are k lt = within (suc k) k (omega arith) lt
+  where
+    within : (most k : ℕ) → k < most → k < length nodes → (path : List ℕ) × IsPath s nodes k path
+    within zero k small lt = absurd (omega arith)
+    within (suc most) zero small lt = ([], (tt, sym are.first))
+    within (suc most) (suc k) small lt =
+        let some : 0 < suc k = omega arith in
+        let link : Link = link_at links (suc k) in
+        let back = linked.back (suc k) some lt in
+        let follow = are.follow (suc k) some lt in
+        let (path, (each, leads)) = within most link.from (omega arith) (omega arith) in (
+          path ++ link.choice ∷ [],
+          (
+            each-append (λ (c : ℕ). c < length s.upper_codes) path (link.choice ∷ []) each
+                (follow.choice, tt),
+            led-more s start_node path link.choice
+                ∙ ap (λ x. next_node s x link.choice) leads
+                ∙ sym follow.next,
+          ),
+        )
 
 -- what a set of nodes holds after a new one
 pub inserted-new : (old new : List Node) (x : Node) (b is_new : Bool) → is_new ≡ not b

@@ -3,7 +3,7 @@ use Rattle.std.proofs.Common.{◌≡◌, ◌↔◌, ℕ, zero, suc, ◌+◌, ◌
 use Rattle.std.specs.List.{Contains}
 use Rattle.std.specs.FinSet.{empty, contains}
 use Rattle.std.proofs.lemmas.Bool.{cases_lt, eqb-true, eq-eqb, false_from_ne_true}
-use Rattle.std.proofs.lemmas.List.{get_or-map, length-map, get_or_append_left, get_or-append-add}
+use Rattle.std.proofs.lemmas.List.{get_or-map, length-map, get_or_append_left, get_or-append-add, length-take-le, length-drop}
 use Rattle.std.proofs.Math.Seq.{get_or-append_seam}
 use Rattle.hy_bits.specs.Letter.{Letter}
 use Rattle.hy_formula.specs.Quantifiers.{Each}
@@ -16,7 +16,7 @@ use Rattle.fin_monitor.specs.Codes.{code_of, part_of}
 use Rattle.fin_monitor.specs.Machines.{Machine, IsMonitor, is_accepting}
 use Rattle.dominance.specs.Dominance.{IsTrace, Dominates, DominatesAt, with_at, Refutes}
 use Rattle.dominance.specs.Choices.{Row, says, AreRows, row_code, word_of, words_from, other_words}
-use Rattle.dominance.specs.Runs.{Pairing, state_on, joint, ended, judged_state, codes_by, chosen, told_from, Differ, IsFound}
+use Rattle.dominance.specs.Runs.{Pairing, state_on, joint, ended, judged_state, codes_by, chosen, told_from, Differ, IsFound, exchanged, IsLeft}
 use Rattle.dominance.proofs.Elements.{each-below}
 use Rattle.dominance.proofs.Asking.{codes-agree, answer-code, row-says, machine-below, atom-below}
 use Rattle.dominance.proofs.Beside.{rest_code, beside-right}
@@ -35,7 +35,7 @@ told-first : (rule : Lengths) (a b : ℕ) → told_from rule a b ≤ a
 told-first Min a b = omega arith
 told-first Pad a b = omega arith
 
-told-second : (rule : Lengths) (a b : ℕ) → told_from rule a b ≤ b
+pub told-second : (rule : Lengths) (a b : ℕ) → told_from rule a b ≤ b
 told-second Min a b = omega arith
 told-second Pad a b = omega arith
 
@@ -309,7 +309,29 @@ module _ (m : Machine) (is : IsMonitor m) (rule : Lengths) (rows : List Row) (t 
       let P : ℕ → Type 0 = λ n. Each (λ (k : ℕ). k < n) path in
       path-refutes (subst P (length-map rows (row_code m)) each) told differ
 
--- what is found by the pairing of a place, by lists that are equal to its own
+-- the pairing of a place, by lists that are equal to its own
+pub same-pairing : (m : Machine) (rule : Lengths) (place : ℕ) (rows : List Row) (t u : Trace)
+    (upper lower codes codes' : List ℕ)
+    → upper ≡ map (part_of m.atoms place) t → lower ≡ map (part_of m.atoms place) u
+    → codes ≡ map (row_code m) rows → codes' ≡ map (row_code m) rows
+    → (record {
+      machine = m;
+      rule = rule;
+      upper = upper;
+      lower = lower;
+      upper_codes = codes;
+      lower_codes = codes';
+    }) ≡ pairing_at m rule place rows t u
+same-pairing m rule place rows t u upper lower codes codes' a b c d = λ i. record {
+  machine = m;
+  rule = rule;
+  upper = a i;
+  lower = b i;
+  upper_codes = c i;
+  lower_codes = d i;
+}
+
+-- what is found by the pairing of a place
 pub found-at : (m : Machine) (rule : Lengths) (place : ℕ) (rows : List Row) (t u : Trace)
     (upper lower codes codes' : List ℕ) (found wanted : Option (List ℕ))
     → upper ≡ map (part_of m.atoms place) t → lower ≡ map (part_of m.atoms place) u
@@ -324,27 +346,110 @@ pub found-at : (m : Machine) (rule : Lengths) (place : ℕ) (rows : List Row) (t
     }) found
     → IsFound (pairing_at m rule place rows t u) wanted
 found-at m rule place rows t u upper lower codes codes' found wanted a b c d e h =
-    let P : List ℕ → List ℕ → List ℕ → List ℕ → Option (List ℕ) → Type 0 = λ w x y z o.
-    IsFound (record {
-      machine = m;
-      rule = rule;
-      upper = w;
-      lower = x;
-      upper_codes = y;
-      lower_codes = z;
-    }) o in
-    let Q : List ℕ → Type 0 = λ w. P w lower codes codes' found in
-    let R : List ℕ → Type 0 = λ x. P (map (part_of m.atoms place) t) x codes codes' found in
-    let S : List ℕ → Type 0 = λ y.
-    P (map (part_of m.atoms place) t) (map (part_of m.atoms place) u) y codes' found in
-    let T : List ℕ → Type 0 = λ z.
-    P (map (part_of m.atoms place) t) (map (part_of m.atoms place) u) (map (row_code m) rows) z
-    found in
+    let P : Pairing → Type 0 = λ s. IsFound s found in
     let F : Option (List ℕ) → Type 0 = IsFound (pairing_at m rule place rows t u) in
-    subst F e (subst T d (subst S c (subst R b (subst Q a h))))
+    subst F e (subst P
+    (same-pairing m rule place rows t u upper lower codes codes' a b c d) h)
 
 -- where it does so at each place, the one dominates the other
 pub everywhere : (rule : Lengths) (n : ℕ) (body : Tree) (t u : Trace)
     → ((p : ℕ) → p < n → DominatesAt rule n body p t u) → Dominates rule n body t u
 everywhere rule n body t u h before after b a count =
     h (length before) (omega (arith, count)) before after b a refl count
+
+-- what refutes that the one dominates the other at a place
+pub refuted-at : (rule : Lengths) (n : ℕ) (body : Tree) (t u : Trace) (place : ℕ)
+    (others : List Trace) → Refutes rule n body t u place others
+    → ¬ DominatesAt rule n body place t u
+refuted-at rule n body t u place others r over =
+    let inside = r.inside in
+    let count = r.count in
+    let l = length-take-le place others (omega arith) in
+    let d = length-drop place others in
+    let (before, after) = each-parts others place r.words in
+    over (take place others) (drop place others) before after (omega arith) (omega arith)
+    r.violates r.satisfies
+  where
+    each-parts : (us : List Trace) (k : ℕ) → Each IsTrace us
+        → Each IsTrace (take k us) × Each IsTrace (drop k us)
+    each-parts us zero h = (tt, h)
+    each-parts [] (suc k) h = (tt, tt)
+    each-parts (u ∷ us) (suc k) (here, h) = let r = each-parts us k h in ((here, r.0), r.1)
+
+module _ (m : Machine) (is : IsMonitor m) (rule : Lengths) (rows : List Row) (t u : Trace)
+    (some_t : 1 ≤ length t) (some_u : 1 ≤ length u) (place : ℕ) (inside : place < m.variables)
+    (two : 2 ≤ m.variables) (are : AreRows m.atoms place rows) where
+  -- what is left of the claim that the one dominates the other
+  pub left-over : (claimed now : Bool)
+      → IsLeft (pairing_at m rule place rows t u) (Differ (pairing_at m rule place rows t u))
+      claimed now
+      → (now ≡ true)
+      ↔ ((claimed ≡ true) × DominatesAt rule m.variables m.body place t u)
+  left-over claimed true (is_claimed, none) = (
+    λ e. (
+      is_claimed,
+      none-dominates m is rule rows t u some_t some_u place are two none,
+    ),
+    λ both. refl,
+  )
+  left-over claimed false (inl e) = (λ f. absurd (cc), λ (f, over). absurd (cc))
+  left-over claimed false (inr (path, found)) = (
+    λ f. absurd (cc),
+    λ (f, over). absurd (refuted-at rule m.variables m.body t u place _
+        (found-refutes m is rule rows t u some_t some_u place inside two are path found) over),
+  )
+
+told-turned : (rule : Lengths) (a b : ℕ) → told_from rule a b ≡ told_from rule b a
+told-turned Min a b = refl
+told-turned Pad a b = omega arith
+
+-- the same with the runs exchanged
+pub left-exchanged : (m : Machine) (rule : Lengths) (place : ℕ) (rows : List Row) (t u : Trace)
+    (claimed now : Bool)
+    → IsLeft (pairing_at m rule place rows t u)
+    (Differ (exchanged (pairing_at m rule place rows t u))) claimed now
+    → IsLeft (pairing_at m rule place rows u t) (Differ (pairing_at m rule place rows u t))
+    claimed now
+left-exchanged m rule place rows t u claimed true (e, none) = (
+  e,
+  λ choice below n told. none choice below n (let P : ℕ → Type 0 = λ k. k ≤ n in
+      subst P (told-turned rule (length (map (part_of m.atoms place) u))
+      (length (map (part_of m.atoms place) t))) told),
+)
+left-exchanged m rule place rows t u claimed false (inl e) = inl e
+left-exchanged m rule place rows t u claimed false (inr (path, (each, told, differ))) =
+    let P : ℕ → Type 0 = λ k. k ≤ length path in
+    inr (
+      path,
+      (
+        each,
+        subst P (told-turned rule (length (map (part_of m.atoms place) t))
+            (length (map (part_of m.atoms place) u))) told,
+        differ,
+      ),
+    )
+
+-- of a list of places that grows
+pub over-more : (rule : Lengths) (n : ℕ) (body : Tree) (t u : Trace) (k : ℕ) (claimed now : Bool)
+    → ((claimed ≡ true) ↔ ((p : ℕ) → p < k → DominatesAt rule n body p t u))
+    → ((now ≡ true) ↔ ((claimed ≡ true) × DominatesAt rule n body k t u))
+    → ((now ≡ true) ↔ ((p : ℕ) → p < k + 1 → DominatesAt rule n body p t u))
+over-more rule n body t u k claimed now before there = (
+  λ e p lt. elim (cases_lt p k) [
+    | inl less ↦ before.0 (there.0 e).0 p less
+    | inr ge ↦
+        let same : k ≡ p = omega arith in
+        let P : ℕ → Type 0 = λ q. DominatesAt rule n body q t u in
+        subst P same (there.0 e).1
+  ],
+  λ all. there.1 (before.1 (λ p lt. all p (omega arith)), all k (omega arith)),
+)
+
+-- at all places
+pub over-all : (rule : Lengths) (n : ℕ) (body : Tree) (t u : Trace) (k : ℕ) (now : Bool) → n ≤ k
+    → ((now ≡ true) ↔ ((p : ℕ) → p < k → DominatesAt rule n body p t u))
+    → ((now ≡ true) ↔ Dominates rule n body t u)
+over-all rule n body t u k now all h = (
+  λ e. everywhere rule n body t u (λ p lt. h.0 e p (omega arith)),
+  λ over. h.1 (λ p lt before after b a at count. over before after b a count),
+)

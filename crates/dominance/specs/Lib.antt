@@ -6,3 +6,4 @@ pub mod LoneEnds
 pub mod Seen
 pub mod Trails
 pub mod Answers
+pub mod Telling

@@ -1,6 +1,6 @@
 -- Two runs of a monitor side by side: one beside each of two columns of codes, with the same
 -- choices for the rest.
-use Rattle.std.specs.Prelude.{◌≡◌, ℕ, zero, suc, ◌<◌, ◌≤◌, min, max, Bool, true, false, cond, nat_lt, List, [], length, slice_index, Option, Some, None}
+use Rattle.std.specs.Prelude.{◌≡◌, ◌⊎◌, ℕ, zero, suc, ◌<◌, ◌≤◌, min, max, Bool, true, false, cond, nat_lt, List, [], length, slice_index, Option, Some, None}
 use Rattle.std.specs.Int.RustNames.{bit_or}
 use Rattle.hy_formula.specs.Quantifiers.{Each}
 use Rattle.hy_finite.specs.declared.lengths.Lengths.{Lengths}
@@ -126,14 +126,22 @@ pub record Differ (s : Pairing) (choice : ℕ → ℕ) (n : ℕ) : Type 0 where
 abbrev pub chosen : List ℕ → ℕ → ℕ
 chosen path i = slice_index path i
 
+-- what some choices may do from so many positions on
+abbrev pub Deed : Type 1
+Deed = (ℕ → ℕ) → ℕ → Type 0
+
+-- What is found: choices that do it, or none where there are none.
+abbrev pub IsFoundFor : Pairing → Deed → Option (List ℕ) → Type 0
+IsFoundFor s Does (Some path) =
+    Each (λ (k : ℕ). k < length s.upper_codes) path × (first_told s ≤ length path)
+    × Does (chosen path) (length path)
+IsFoundFor s Does None =
+    (choice : ℕ → ℕ) → ((i : ℕ) → choice i < length s.upper_codes) → (n : ℕ) → first_told s ≤ n
+    → ¬ Does choice n
+
 -- What is found: choices by which the runs differ, or none where there are none.
 abbrev pub IsFound : Pairing → Option (List ℕ) → Type 0
-IsFound s (Some path) =
-    Each (λ (k : ℕ). k < length s.upper_codes) path × (first_told s ≤ length path)
-    × Differ s (chosen path) (length path)
-IsFound s None =
-    (choice : ℕ → ℕ) → ((i : ℕ) → choice i < length s.upper_codes) → (n : ℕ) → first_told s ≤ n
-    → ¬ Differ s choice n
+IsFound s found = IsFoundFor s (Differ s) found
 
 -- From the state of a run at its position, where the rest has n positions, the run ends in the
 -- other state.
@@ -141,6 +149,31 @@ abbrev pub EndsIn : Machine → Lengths → List ℕ → (ℕ → ℕ) → (n mo
 EndsIn m rule column code n most at q end =
     at ≡ min n most → q ≡ state_beside m rule column code n
     → end ≡ judged_state m rule column code n
+
+-- the same runs, the lower one first
+abbrev pub exchanged : Pairing → Pairing
+exchanged s = record {
+  machine = s.machine;
+  rule = s.rule;
+  upper = s.lower;
+  lower = s.upper;
+  upper_codes = s.lower_codes;
+  lower_codes = s.upper_codes;
+}
+
+-- A claim that no choices do something, after all of them: it is left where it stood and none do.
+abbrev pub IsLeft : Pairing → Deed → Bool → Bool → Type 0
+IsLeft s Does claimed true = (claimed ≡ true) × IsFoundFor s Does None
+IsLeft s Does claimed false = (claimed ≡ false) ⊎ ((path : List ℕ) × IsFoundFor s Does (Some path))
+
+-- The same after those choices by which the runs stand at a node.
+abbrev pub IsLeftAt : Pairing → Deed → Node → Bool → Bool → Type 0
+IsLeftAt s Does x claimed true =
+    (claimed ≡ true)
+    × ((choice : ℕ → ℕ) (n : ℕ) → Stands s choice n x → first_told s ≤ n → ¬ Does choice n)
+IsLeftAt s Does x claimed false =
+    (claimed ≡ false)
+    ⊎ ((choice : ℕ → ℕ) (n : ℕ) → Stands s choice n x → (first_told s ≤ n) × Does choice n)
 
 -- Whether some choices are found by which the runs differ.
 abbrev pub IsFoundOrNot : Pairing → Bool → Type 0

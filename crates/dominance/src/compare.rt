@@ -134,7 +134,7 @@ fn alone<L: Ledger>(
 }
 
 /// Whether a trace alone satisfies the body.
-fn satisfies<L: Ledger>(m: &Monitor, t: &[LetterMask], steps: &mut Steps<L>) -> bool
+pub(crate) fn satisfies<L: Ledger>(m: &Monitor, t: &[LetterMask], steps: &mut Steps<L>) -> bool
     requires one { (machine_of m.now).variables ≡ 1 }
     requires some { 1 ≤ length t.now }
     ensures { (rule : Rule) → IsTrue result ↔ Meets rule (machine_of m.now).body (t.now ∷ []) }

@@ -6,11 +6,17 @@ mod column;
 mod compare;
 pub mod laws;
 mod lone_ends;
+mod order;
+mod order_walk;
 mod others;
 mod pairing;
 mod reached;
+mod rejecting;
 mod rows;
 mod symmetry;
+mod telling;
 
 pub use compare::{Compare, WordList, dominates};
+pub use order::{Order, order_of};
 pub use symmetry::symmetric;
+pub use telling::telling_names;

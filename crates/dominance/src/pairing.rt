@@ -32,8 +32,8 @@ pub(crate) struct Pairing<'a> {
 /// What the upper and the lower run come to that go on alone, as far as it is kept.
 #[derive(Drop)]
 pub(crate) struct Ends {
-    upper: LoneEnds,
-    lower: LoneEnds,
+    pub(crate) upper: LoneEnds,
+    pub(crate) lower: LoneEnds,
 }
 
 impl Pairing<'_> {
@@ -72,7 +72,7 @@ impl Pairing<'_> {
 
     /// What the runs alone come to, with a place for each state where this is asked more than once:
     /// on the greatest length beside the shorter column.
-    fn ends(&self, alloc: Global) -> M<Ends>
+    pub(crate) fn ends(&self, alloc: Global) -> M<Ends>
         ensures upper { IfOk result (λ made. AreLoneEnds (machine_of self.now.monitor.now)
             self.now.upper.now made.upper.ends) }
         ensures lower { IfOk result (λ made. AreLoneEnds (machine_of self.now.monitor.now)
@@ -100,7 +100,7 @@ impl Pairing<'_> {
     }
 
     /// Adds the nodes that follow node `k`.
-    fn follow<L: Ledger>(
+    pub(crate) fn follow<L: Ledger>(
         &self,
         reached: &mut Reached,
         k: usize,
@@ -218,7 +218,7 @@ impl Pairing<'_> {
 
     /// Whether the position is one from which tuples are told apart: under the rule pad a word that
     /// ends before the shorter column is as one that is filled up to it.
-    fn is_told(&self, at: usize) -> bool
+    pub(crate) fn is_told(&self, at: usize) -> bool
         ensures { IsTrue result ↔ (first_told (pairing_of self.now) ≤ at) }
     {
         match self.lengths {
@@ -229,7 +229,7 @@ impl Pairing<'_> {
 
     /// The state at the end of the tuple, if the other places end at position `at`: under the rule
     /// pad the column goes on alone.
-    fn at_end<L: Ledger>(
+    pub(crate) fn at_end<L: Ledger>(
         &self,
         column: &[u32],
         at: usize,

@@ -2,7 +2,7 @@ use Rattle.std.proofs.Common.{ℕ, ◌≤◌, subst, arith}
 use Rattle.dominance.specs.declared.reached.Node.{Node}
 use Rattle.dominance.specs.Runs.{Pairing, Stands, Differ, first_told}
 use Rattle.dominance.specs.Seen.{pairing_of}
-use Rattle.dominance.proofs.Searching.{done-more, none-differ, path-differs}
+use Rattle.dominance.proofs.Searching.{done-more, none-found, path-found}
 use Rattle.dominance.proofs.pairing.Pairing.search.Goals as goal
 
 pub loop-k-init : goal.loop-k-init
@@ -25,7 +25,7 @@ pub returns-in_default : goal.returns-in_default
 returns-in_default g c =
     let inv = c.loop-k.invariant in
     let past = c.in_default.ensures.none in
-    none-differ (pairing_of c.args.self.now) c.loop-k.reached.nodes.keys c.loop-k.reached.links
+    none-found (pairing_of c.args.self.now) (Differ (pairing_of c.args.self.now)) c.loop-k.reached.nodes.keys c.loop-k.reached.links
     inv.reached inv.linked.some (λ j lt. inv.done j (omega (arith, lt, past)))
 
 pub returns-then-differ : goal.returns-then-differ
@@ -34,7 +34,7 @@ returns-then-differ g c =
     let inv = c.loop-k.invariant in
     let P : Node → Type 0 = λ x. (choice : ℕ → ℕ) (n : ℕ) → Stands s choice n x → (first_told s ≤ n)
     × Differ s choice n in
-    path-differs s c.loop-k.reached.nodes.keys c.loop-k.reached.links inv.reached c.loop-k.k
+    path-found s (Differ s) c.loop-k.reached.nodes.keys c.loop-k.reached.links inv.reached c.loop-k.k
     c.in_ok-path.field-0 (c.in_ok-path.ensures.path s inv.reached)
     (subst P c.in-Some.ensures.node c.if-differ.ensures.differ)
 
@@ -50,7 +50,7 @@ loop-k-preserved g c =
       reached = e.reached;
       upper = c.if-differ.ensures.upper;
       lower = c.if-differ.ensures.lower;
-      done = done-more s c.loop-k.reached.nodes.keys c.follow.new.reached.nodes.keys e.grown
+      done = done-more s (Differ s) c.loop-k.reached.nodes.keys c.follow.new.reached.nodes.keys e.grown
           c.loop-k.k inv.done c.in-Some.ensures.there e.followed
           (subst P c.in-Some.ensures.node c.if-differ.ensures.same);
     }

@@ -1,6 +1,7 @@
 use Rattle.std.proofs.Common.{ℕ, ◌<◌}
 use Rattle.fin_monitor.specs.Seen.{machine_of}
 use Rattle.dominance.specs.LoneEnds.{AreLoneEnds}
+use Rattle.dominance.specs.Runs.{Differ}
 use Rattle.dominance.specs.Seen.{pairing_of}
 use Rattle.dominance.specs.Trails.{AreLinked, AreReached}
 use Rattle.dominance.proofs.Searching.{IsDone}
@@ -12,5 +13,5 @@ invariant-loop-k g l = record {
   reached : AreReached (pairing_of l.self) l.reached.nodes.keys l.reached.links;
   upper : AreLoneEnds (machine_of l.self.monitor.now) l.self.upper.now l.ends.upper.ends;
   lower : AreLoneEnds (machine_of l.self.monitor.now) l.self.lower.now l.ends.lower.ends;
-  done : (j : ℕ) → j < l.k → IsDone (pairing_of l.self) l.reached.nodes.keys j;
+  done : (j : ℕ) → j < l.k → IsDone (pairing_of l.self) (Differ (pairing_of l.self)) l.reached.nodes.keys j;
 }
