@@ -1,9 +1,9 @@
 -- Of traces that differ in a name that must agree with another place neither dominates the other.
-use Rattle.std.proofs.Common.{◌≡◌, ◌⊎◌, ℕ, zero, suc, ◌+◌, ◌<◌, ◌≤◌, Bool, true, false, ◌&&◌, ◌||◌, nat_eq, List, [], ◌∷◌, length, map, take, Some, inl, inr, refl, sym, ap, ◌∙◌, subst, arith, get_or, bit_or}
-use Rattle.std.specs.Prelude.{IsTrue, slice_index}
+use Rattle.std.proofs.Common.{◌≡◌, ◌⊎◌, ℕ, zero, suc, ◌<◌, ◌≤◌, Bool, true, false, ◌&&◌, ◌||◌, nat_eq, List, [], ◌∷◌, length, map, take, Some, inl, inr, refl, sym, ap, ◌∙◌, subst, arith, get_or, bit_or}
+use Rattle.std.specs.Prelude.{slice_index}
 use Rattle.std.specs.List.{Contains}
 use Rattle.std.specs.FinSet.{empty, contains}
-use Rattle.std.proofs.lemmas.Bool.{cases_lt, cases_Bool, eq-eqb, ne_eqb}
+use Rattle.std.proofs.lemmas.Bool.{cases_lt, eq-eqb, ne_eqb}
 use Rattle.std.proofs.lemmas.List.{get_or-map, length-map}
 use Rattle.std.proofs.lemmas.Nat.{pow_pos, or_lt}
 use Rattle.hy_bits.specs.Binary.{has_one}
@@ -17,10 +17,10 @@ use Rattle.fin_monitor.specs.Codes.{code_of, joint_letter, part_of}
 use Rattle.fin_monitor.specs.Machines.{Machine, IsMonitor, codes, states_of, next_state, is_accepting, settled_state}
 use Rattle.fin_monitor.proofs.CodeBits.{code-lt, code-or, has-first, has-later}
 use Rattle.fin_monitor.proofs.Running.{place-inside}
-use Rattle.dominance.specs.Choices.{Row, says, AreRows, row_code}
+use Rattle.dominance.specs.Choices.{Row, says, row_code}
 use Rattle.dominance.specs.Dominance.{IsTrace, Dominates}
-use Rattle.dominance.specs.Runs.{AreCodesOf, state_on, joint, ended, codes_by, chosen, Differ, IsFound}
-use Rattle.dominance.specs.Telling.{DifferIn, AreTelling, MustAgree, atom_at, IsTold, AreTold, IsRejected, IsRejectable}
+use Rattle.dominance.specs.Runs.{state_on, joint, ended, codes_by, chosen, IsFound}
+use Rattle.dominance.specs.Telling.{DifferIn, AreTelling, atom_at, IsTold, AreTold, IsRejected, IsRejectable}
 use Rattle.dominance.proofs.Asking.{row-says, machine-below, atom-below}
 use Rattle.dominance.proofs.Beside.{column-at}
 use Rattle.dominance.proofs.Elements.{each-below}

@@ -1,5 +1,5 @@
 -- Choices beside a trace that stay among states that do not accept.
-use Rattle.std.proofs.Common.{◌≡◌, ◌⊎◌, ℕ, zero, suc, ◌+◌, ◌<◌, true, not, ◌&&◌, nat_eq, List, [], ◌∷◌, ◌++◌, length, map, Bool, false, inl, inr, refl, sym, ap, ◌∙◌, subst, arith, get_or, bit_or, length-append}
+use Rattle.std.proofs.Common.{◌≡◌, ◌⊎◌, ℕ, zero, suc, ◌<◌, true, not, ◌&&◌, nat_eq, List, [], ◌∷◌, ◌++◌, length, map, Bool, false, inl, inr, refl, sym, ap, ◌∙◌, subst, arith, get_or, bit_or, length-append}
 use Rattle.std.specs.Prelude.{IsTrue, slice_index}
 use Rattle.std.specs.List.{Contains}
 use Rattle.std.specs.FinSet.{empty, contains}

@@ -1,5 +1,5 @@
 -- Names whose difference shows that neither of two traces dominates the other.
-use Rattle.std.specs.Prelude.{◌≡◌, ℕ, ◌<◌, Bool, true, false, IsTrue, List, length, map, slice_index, slice_index_or}
+use Rattle.std.specs.Prelude.{◌≡◌, ℕ, ◌<◌, Bool, false, IsTrue, List, length, map, slice_index, slice_index_or}
 use Rattle.std.specs.Coded.{Π_prop, →_prop, le_prop}
 use Rattle.std.specs.Int.RustNames.{bit_or}
 use Rattle.std.specs.List.{Contains}

@@ -1,13 +1,11 @@
-use Rattle.std.proofs.Common.{◌≡◌, ◌<◌, ℕ, List, length, map, Some, None, sym, ap, ◌∙◌, subst}
-use Rattle.std.proofs.lemmas.Nat.{pow_pos}
+use Rattle.std.proofs.Common.{ℕ, List, length, map, Some, None, sym, ap, ◌∙◌, subst}
 use Rattle.hy_finite.specs.Traces.{Trace}
 use Rattle.fin_monitor.specs.Codes.{part_of}
-use Rattle.fin_monitor.specs.Machines.{Machine, codes}
+use Rattle.fin_monitor.specs.Machines.{Machine}
 use Rattle.fin_monitor.specs.Seen.{machine_of}
 use Rattle.fin_monitor.proofs.CodeBits.{code-lt}
 use Rattle.dominance.specs.Choices.{Row, row_code, other_words}
 use Rattle.dominance.specs.Dominance.{Refutes}
-use Rattle.dominance.specs.Runs.{AreCodesOf}
 use Rattle.dominance.proofs.Meaning.{codes-below}
 use Rattle.dominance.proofs.Refuting.{none-dominates, found-refutes, found-at}
 use Rattle.dominance.proofs.compare.refuting.Goals as goal

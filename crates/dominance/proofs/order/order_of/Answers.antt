@@ -1,4 +1,4 @@
-use Rattle.std.proofs.Common.{ℕ, true, false, sym, subst}
+use Rattle.std.proofs.Common.{sym, subst}
 use Rattle.hy_finite.specs.Traces.{Trace}
 use Rattle.fin_monitor.specs.Machines.{Machine}
 use Rattle.fin_monitor.specs.Seen.{machine_of}
@@ -6,7 +6,7 @@ use Rattle.dominance.specs.Dominance.{Dominates}
 use Rattle.dominance.proofs.order.order_of.Goals as goal
 
 pub returns-then-are_apart : goal.returns-then-are_apart
-returns-then-are_apart g c =
+returns-then-are_apart c =
     let m : Machine = machine_of c.args.m.now in
     let (over, under) = c.are_apart.ensures c.if-are_apart.true c.args.lengths in
     let P : Trace → Type 0 = λ t. Dominates c.args.lengths m.variables m.body t

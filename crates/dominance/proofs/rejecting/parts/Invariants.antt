@@ -1,9 +1,9 @@
-use Rattle.std.proofs.Common.{◌≡◌, ℕ, ◌<◌, [], take, get_or}
+use Rattle.std.proofs.Common.{◌≡◌, ℕ, ◌<◌, [], get_or}
 use Rattle.std.specs.List.{Contains}
 use Rattle.std.specs.FinSet.{empty}
 use Rattle.fin_monitor.specs.Codes.{part_of}
 use Rattle.fin_monitor.specs.Seen.{machine_of}
-use Rattle.dominance.specs.Choices.{Row, row_code}
+use Rattle.dominance.specs.Choices.{row_code}
 use Rattle.dominance.specs.Runs.{AreCodesOf}
 use Rattle.dominance.proofs.rejecting.parts.Given as goal
 

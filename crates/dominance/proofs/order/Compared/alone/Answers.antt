@@ -1,4 +1,3 @@
-use Rattle.std.proofs.Common.{◌≡◌, ◌↔◌, Bool, true}
 use Rattle.hy_finite.specs.Traces.{Trace}
 use Rattle.fin_monitor.specs.Seen.{machine_of}
 use Rattle.dominance.proofs.Meaning.{alone-over}

@@ -1,4 +1,4 @@
-use Rattle.std.proofs.Common.{ℕ, ◌≤◌, Bool, subst, sym, arith}
+use Rattle.std.proofs.Common.{Bool, subst, arith}
 use Rattle.dominance.specs.declared.reached.Node.{Node}
 use Rattle.dominance.specs.Runs.{Pairing, Deed, Differ, exchanged, IsLeftAt}
 use Rattle.dominance.specs.Seen.{pairing_of}

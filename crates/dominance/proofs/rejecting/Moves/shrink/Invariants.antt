@@ -1,4 +1,4 @@
-use Rattle.std.proofs.Common.{ℕ, ◌≤◌, length}
+use Rattle.std.proofs.Common.{◌≤◌, length}
 use Rattle.fin_monitor.specs.Seen.{machine_of}
 use Rattle.dominance.specs.Telling.{AreRejecting}
 use Rattle.dominance.proofs.rejecting.Moves.shrink.Given as goal
