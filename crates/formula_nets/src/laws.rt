@@ -1,6 +1,6 @@
 //! What is known of a formula that is posed to a circuit.
 
-ghost use Rattle.std.specs.Prelude.{ℕ, ◌+◌, ◌<◌, ◌≤◌, List, length, not, IsTrue};
+ghost use Rattle.std.specs.Prelude.{ℕ, ◌+◌, ◌*◌, ◌<◌, ◌≤◌, List, length, not, IsTrue};
 ghost use Rattle.hy_base.specs.declared.reading.TheConstants.{BYTES_LIMIT};
 ghost use Rattle.hy_bits.specs.Letter.{Letter};
 ghost use Rattle.hy_formula.specs.Lassos as letters;
@@ -10,12 +10,14 @@ ghost use Rattle.hy_formula.specs.Trees.{Tree, vars_below};
 ghost use Rattle.aig_net.specs.declared.run.Run.{Run};
 ghost use Rattle.aig_net.specs.declared.signals.Signal.{Signal};
 ghost use Rattle.aig_net.specs.Executions.{Word};
-ghost use Rattle.aig_net.specs.Nets.{IsNet, Net};
+ghost use Rattle.aig_net.specs.Nets.{IsNet, Net, variables};
+ghost use Rattle.ltl_closure.specs.Jobs.{Rooted};
 ghost use Rattle.live_safe.specs.Paths.{IsBadPath};
 ghost use Rattle.net_names.specs.Names.{AreSignals};
 ghost use Rattle.wit_lasso.specs.FormulaNets.{AreOwn};
 ghost use Rattle.wit_lasso.specs.Satisfaction.{Satisfies};
 ghost use Rattle.formula_nets.specs.Posed.{HasRoom, IsTaken, checked_safe, is_existential};
+ghost use Rattle.formula_nets.specs.SafeNets.{safe_over};
 ghost use Rattle.formula_nets.specs.Witnesses.{AreWitnesses};
 
 use live_safe::safe_nets_are_small;
@@ -60,6 +62,19 @@ pub fn witnesses_decide()
         → Signed (is_existential prefix) (Satisfies net signals prefix body) }
 {}
 
+/// The safe net of a closure over `n` copies of a net has few variables for each of the net in each
+/// copy, and for each member and root of the closure.
+pub fn safe_nets_over_are_small()
+    ensures { (net : Net) (signals : List Signal) (n : ℕ) (closure : Rooted) → 0 < n
+        → variables (safe_over net signals n closure).net
+        ≤ 13 * (n * variables net + 6 * length closure.nodes + length closure.roots)
+        + 5 * (n * length net.fairs + length closure.nodes) + 18 }
+{
+    safe_nets_are_small();
+    attached_nets_are_small();
+    copies_are_as_large();
+}
+
 /// There is room for the safe net of a formula of at most four quantifiers on a circuit of at most
 /// 1,048,576 variables that was read from a file.
 pub fn circuits_have_room()
@@ -68,7 +83,5 @@ pub fn circuits_have_room()
         → length net.outputs + length net.constraints + length net.fairs ≤ BYTES_LIMIT
         → 0 < length prefix → length prefix ≤ 4 → HasRoom net names prefix body }
 {
-    safe_nets_are_small();
-    attached_nets_are_small();
-    copies_are_as_large();
+    safe_nets_over_are_small();
 }

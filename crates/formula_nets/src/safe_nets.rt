@@ -1,4 +1,4 @@
-//! The safe net of a formula.
+//! The safe net of a closure over copies of a net, and that of a formula.
 
 ghost use Rattle.std.specs.Prelude.{All, ◌≡◌, ◌+◌, ◌*◌, ◌/◌, ◌<◌, ◌≤◌, ◌^◌, IfOk};
 ghost use Rattle.hy_formula.specs.Trees.{tree_of};
@@ -7,6 +7,7 @@ ghost use Rattle.ltl_closure.specs.Bodies.{body_closure};
 ghost use Rattle.self_compose.specs.Copies.{copy_literal as literal_in_copy};
 ghost use Rattle.cnf_frames.specs.Facts.{IsSafe};
 ghost use Rattle.wit_lasso.specs.FormulaNets.{AreOwn, copy_signals as signals_of_copies, formula_net, formula_safe};
+ghost use Rattle.formula_nets.specs.SafeNets as of_closure;
 
 use aig_net::{Net, Signal, Signals};
 use hy_base::M;
@@ -16,6 +17,44 @@ use ltl_closure::Closure;
 use self_compose::compose;
 use std::alloc::Global;
 use sym_tableau::attach;
+
+/// `n` copies of a net with the oracles of a closure, whose variables are the copies. In time and
+/// memory linear in the net and the closure.
+pub fn net_over(alloc: Global, net: &Net, n: u8, closure: &Closure, signals: &Signals) -> M<Net>
+    requires some { 0 < n }
+    requires own { AreOwn net.now signals.now }
+    requires room { variables (of_closure.net_over net.now signals.now n closure.now) ≤ 2 ^ 31 }
+    ensures { IfOk result (λ made.
+        made ≡ of_closure.net_over net.now signals.now n closure.now) }
+{
+    net.variables(); // what each net keeps
+    let copies = compose(alloc, net, n)?;
+    let own = copy_signals(alloc, signals, n)?;
+    attach(alloc, &copies, closure, &own)
+}
+
+/// The safe net of these. In time and memory linear in the net and the closure.
+pub fn safe_over(
+    alloc: Global,
+    net: &Net,
+    n: u8,
+    closure: &Closure,
+    signals: &Signals,
+) -> M<SafeNet>
+    requires some { 0 < n }
+    requires own { AreOwn net.now signals.now }
+    requires room { variables (of_closure.safe_over net.now signals.now n closure.now).net
+        ≤ 2 ^ 31 }
+    ensures made { IfOk result (λ made.
+        made ≡ of_closure.safe_over net.now signals.now n closure.now) }
+    ensures safe { IfOk result IsSafe }
+{
+    net.variables(); // what each net keeps
+    closure.len(); // and each closure
+    paths_are_lassos(); // and each safe net
+    let whole = net_over(alloc, net, n, closure, signals)?;
+    to_safe(alloc, &whole)
+}
 
 /// The copies of a net with the oracles of a formula of `n` variables, whose closure and signals
 /// these are. In time and memory linear in the net and the closure.
@@ -36,10 +75,7 @@ pub fn net_for(
     ensures { IfOk result (λ made.
         made ≡ formula_net net.now signals.now n (tree_of body.now) positive) }
 {
-    net.variables(); // what each net keeps
-    let copies = compose(alloc, net, n)?;
-    let own = copy_signals(alloc, signals, n)?;
-    attach(alloc, &copies, closure, &own)
+    net_over(alloc, net, n, closure, signals)
 }
 
 /// The safe net of a formula of `n` variables, whose closure and signals these are. In time and
@@ -62,10 +98,7 @@ pub fn safe_for(
         made ≡ formula_safe net.now signals.now n (tree_of body.now) positive) }
     ensures safe { IfOk result IsSafe }
 {
-    net.variables(); // what each net keeps
-    paths_are_lassos(); // and each safe net
-    let whole = net_for(alloc, net, n, body, positive, closure, signals)?;
-    to_safe(alloc, &whole)
+    safe_over(alloc, net, n, closure, signals)
 }
 
 /// The signals of the copies: each of them in each copy.

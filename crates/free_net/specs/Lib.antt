@@ -1,0 +1,2 @@
+pub mod FreeNets
+pub mod Reduced
