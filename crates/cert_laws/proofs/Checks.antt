@@ -31,7 +31,7 @@ use Rattle.wit_lasso.specs.Seeing.{IsTraceOf}
 use Rattle.wit_lasso.specs.Unfoldings.{no_run}
 use Rattle.cnf_frames.specs.Proofs.{AreQueriesWithin, IsInductionProof}
 use Rattle.cnf_frames.specs.Queries.{IsPastBy, IsWithin}
-use Rattle.cnf_frames.specs.ProofTexts.{proof_text}
+use Rattle.cnf_frames.specs.ProofTexts.{kind_text, proof_text}
 use Rattle.cnf_frames.specs.declared.facts.Fact.{Fact}
 use Rattle.cnf_frames.specs.declared.inductions.InductionProof.{InductionProof}
 use Rattle.cnf_frames.specs.declared.queries.Asked.{Asked}
@@ -181,7 +181,7 @@ module _ (names : List (List ℕ)) (table : IsTable names) (net : Net) (signals 
         certificate = induction holds proof;
         spelled =
             printed_induction holds proof
-            (printable_induction (safe_net net signals f) proof is within (safe-latch
+            (printable_induction (kind_text proof.inv) (safe_net net signals f) proof is within (safe-latch
             (formula_net net signals (length f.prefix) f.body (is_existential f.prefix)))
             (omega (arith, short, long)));
         good = (wants, (signals, are, (is, deep)));

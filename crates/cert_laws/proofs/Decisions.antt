@@ -16,10 +16,10 @@ use Rattle.ea_core.specs.Decided.{Decides, DecidesEquivalence, DecidesImplicatio
 use Rattle.ea_core.specs.Proofs.{IsProofOf}
 use Rattle.ea_core.specs.declared.decision.Both.TheVariants as both_ways
 use Rattle.ea_core.specs.declared.decision.Decision.TheVariants as decisions
-use Rattle.cert_text.specs.Certificates.{first, second, model, ranks, both}
+use Rattle.cert_text.specs.Certificates.{first, second, model, ranks, refuted, both}
 use Rattle.cert_text.specs.Printed.{IsPrintable}
 use Rattle.cert_text.proofs.Printable.{printable_ranks}
-use Rattle.cert_text.proofs.PrintedRanks.{printed_equivalent, printed_implied, printed_unsat}
+use Rattle.cert_text.proofs.PrintedRefutations.{printed_equivalent, printed_implied, printed_unsat}
 use Rattle.cert_text.proofs.PrintedRuns.{printed_not_equivalent, printed_not_implied, printed_sat}
 use Rattle.claim_check.specs.Claims.{equivalence, formula, implication}
 use Rattle.claim_check.specs.Good.{IsModel, Separates, lassos_over, plan_against, reduction}
@@ -44,9 +44,9 @@ module _ (names : List (List ℕ)) where
   unsat-good f proof few (none, is) short =
       let long = length-append (codes "unsat\n") (proof_text proof) in
       record {
-        certificate = ranks proof;
+        certificate = refuted (ranks proof);
         spelled =
-            printed_unsat proof
+            printed_unsat (ranks proof)
             (printable (reduction f) proof few is (omega (arith, short, long)));
         good = is.right;
         shown = refl;
@@ -60,9 +60,9 @@ module _ (names : List (List ℕ)) where
   implied-good f g proof few (implies, is) short =
       let long = length-append (codes "implied\n") (proof_text proof) in
       record {
-        certificate = ranks proof;
+        certificate = refuted (ranks proof);
         spelled =
-            printed_implied proof
+            printed_implied (ranks proof)
             (printable (plan_against f g) proof few is (omega (arith, short, long)));
         good = is.right;
         shown = refl;
@@ -79,14 +79,14 @@ module _ (names : List (List ℕ)) where
       let long = length-append front (proof_text two) in
       let begun = length-append (codes "equivalent\n") (proof_text one) in
       record {
-        certificate = both one two;
+        certificate = both (ranks one) (ranks two);
         spelled =
-            printed_equivalent one two
+            printed_equivalent (ranks one) (ranks two)
             (printable (plan_against f g) one few is (omega (arith, short, long, begun)))
             (printable (plan_against g f) two small are (omega (arith, short, long)));
         good = (is.right, are.right);
         shown = refl;
-        unrefused = λ limit refused. refused;
+        unrefused = λ limit refused. elim refused [ inl one ↦ one | inr two ↦ two ];
       }
 
 -- ---- lassos

@@ -8,14 +8,14 @@ use Rattle.hy_lasso.specs.LassoLines.{SaysLasso}
 use Rattle.cert_text.specs.declared.question.Question.{Question}
 use Rattle.cert_text.specs.declared.question.Question.TheVariants.{Formula, Implication, Equivalence, Circuit}
 use Rattle.cert_text.specs.declared.want.Want.{Want}
-use Rattle.cert_text.specs.declared.want.Want.TheVariants.{Verdict, FirstLasso, Lassos, Evidence, MoreEvidence, RankHeads, Branches, Reasons, Facts, Logs, LearnedClauses, Runs}
+use Rattle.cert_text.specs.declared.want.Want.TheVariants.{Verdict, FirstLasso, Lassos, Evidence, MoreEvidence, Proofs, Branches, Reasons, Facts, Logs, LearnedClauses, Runs}
 use Rattle.cnf_frames.specs.declared.facts.Fact.TheVariants.{Zero}
 use Rattle.cert_text.specs.Lines.{Line, Speaks}
 use Rattle.hy_text.specs.Numbers.{SaysNumber}
 use Rattle.cert_text.specs.RankLines.{SaysRankHead, SaysBranch, SaysReason}
 use Rattle.cert_text.specs.InductionLines.{SaysFact, SaysLogHead, SaysLearned}
 use Rattle.cert_text.specs.RunLines.{SaysRunsHead, SaysRun}
-use Rattle.cert_text.specs.Wants.{Ends, Many, FillRanks, FillLogs, FillShown, FillEvidence, FillSome, Fills}
+use Rattle.cert_text.specs.Wants.{Ends, Many, FillLogs, FillProofs, FillShown, FillEvidence, FillSome, Fills}
 use Rattle.cert_text.proofs.Joining.{AreFree}
 use Rattle.cert_text.proofs.Verdicts.{IsSpelled, sat_opens, not_implied_opens, equivalent_opens, holds_opens}
 
@@ -78,24 +78,24 @@ fill_many Is Then line free is then (suc n) =
     let more = fill_many Is Then line free is then n in
     record { lines = line ∷ more.lines; free = (free, more.free); fills = (is, more.fills) }
 
-fill_ranks : (n : ℕ) → IsFilled (FillRanks n)
-fill_ranks zero = record { lines = []; free = tt; fills = refl }
-fill_ranks (suc n) =
-    let more = fill_ranks n in
+fill_proofs : (n : ℕ) → IsFilled (FillProofs n)
+fill_proofs zero = record { lines = []; free = tt; fills = refl }
+fill_proofs (suc n) =
+    let more = fill_proofs n in
     record {
       lines = codes "proof rank 0 0" ∷ more.lines;
       free = (refl, more.free);
-      fills = (0, 0, rank_head, more.fills);
+      fills = inl (0, 0, rank_head, more.fills);
     }
 
-fill_reasons : (r n : ℕ) → IsFilled (Many (Speaks SaysReason) r (FillRanks n))
-fill_reasons r n = fill_many (Speaks SaysReason) (FillRanks n) (codes "n") refl reason
-    (fill_ranks n) r
+fill_reasons : (r n : ℕ) → IsFilled (Many (Speaks SaysReason) r (FillProofs n))
+fill_reasons r n = fill_many (Speaks SaysReason) (FillProofs n) (codes "n") refl reason
+    (fill_proofs n) r
 
-fill_logs : (n : ℕ) → IsFilled (FillLogs n)
-fill_logs zero = record { lines = []; free = tt; fills = refl }
-fill_logs (suc n) =
-    let more = fill_logs n in
+fill_logs : (logs n : ℕ) → IsFilled (FillLogs logs (FillProofs n))
+fill_logs zero n = fill_proofs n
+fill_logs (suc logs) n =
+    let more = fill_logs logs n in
     record {
       lines = codes "log 0" ∷ more.lines;
       free = (refl, more.free);
@@ -131,7 +131,7 @@ fill_verdict Implication = record {
   fills = (not_implied_opens (codes "not implied") refl fill_some.lines).1 fill_some.fills;
 }
 fill_verdict Equivalence =
-    let proofs = fill_ranks 2 in
+    let proofs = fill_proofs 2 in
     record {
       lines = codes "equivalent" ∷ proofs.lines;
       free = (refl, proofs.free);
@@ -149,17 +149,18 @@ fillable FirstLasso = fill_some
 fillable Lassos = record { lines = []; free = tt; fills = tt }
 fillable Evidence = fill_evidence
 fillable MoreEvidence = fill_shown
-fillable (RankHeads n) = fill_ranks n
+fillable (Proofs n) = fill_proofs n
 fillable (Branches b r n) =
-    fill_many (Speaks SaysBranch) (Many (Speaks SaysReason) r (FillRanks n)) (codes "b 0 - -") refl
+    fill_many (Speaks SaysBranch) (Many (Speaks SaysReason) r (FillProofs n)) (codes "b 0 - -") refl
     branch (fill_reasons r n) b
 fillable (Reasons r n) = fill_reasons r n
-fillable (Facts clauses f n) =
-    fill_many (Speaks (SaysFact clauses)) (FillLogs n) (codes "f 0 0") refl (fact clauses)
-    (fill_logs n) f
-fillable (Logs n) = fill_logs n
-fillable (LearnedClauses k n) =
-    fill_many (Speaks SaysLearned) (FillLogs n) (codes "c 0 0") refl learned (fill_logs n) k
+fillable (Facts clauses f logs n) =
+    fill_many (Speaks (SaysFact clauses)) (FillLogs logs (FillProofs n)) (codes "f 0 0") refl
+    (fact clauses) (fill_logs logs n) f
+fillable (Logs logs n) = fill_logs logs n
+fillable (LearnedClauses k logs n) =
+    fill_many (Speaks SaysLearned) (FillLogs logs (FillProofs n)) (codes "c 0 0") refl learned
+    (fill_logs logs n) k
 fillable (Runs n) =
     let none : IsFilled Ends = record { lines = []; free = tt; fills = refl } in
     fill_many (Speaks SaysRun) Ends (codes "- |-") refl run none n

@@ -13,14 +13,14 @@ use Rattle.hy_lasso.proofs.ReadingLassos.{one_lasso}
 use Rattle.cert_text.specs.declared.question.Question.{Question}
 use Rattle.cert_text.specs.Lines.{Line, Say, Speaks}
 use Rattle.cert_text.specs.RankLines.{SaysRankHead, SaysBranch, SaysReason, SayRankProof}
-use Rattle.cert_text.specs.InductionLines.{kind_word, SaysInductionHead, SaysFact, SaysLogHead, SaysLearned, SayLogs, SayInductionProof}
+use Rattle.cert_text.specs.InductionLines.{kind_word, free_word, SaysHead, SaysFact, SaysLogHead, SaysLearned, SayLogs, SayProofBy, SayInductionProof}
 use Rattle.cert_text.specs.RunLines.{SaysRun, SaysRunsHead, SayRuns}
-use Rattle.cert_text.specs.Certificates.{Side, first, second, Certificate, model, ranks, both, induction, runs, SayLassos, holds_line, side_line, Spells, satisfiable, unsatisfiable, not_implied, implied, not_equivalent, equivalent, proved, shown}
+use Rattle.cert_text.specs.Certificates.{Side, first, second, Certificate, Refutation, model, ranks, free, refuted, both, induction, runs, SayLassos, SayRefutation, holds_line, side_line, Spells, satisfiable, unsatisfiable, not_implied, implied, not_equivalent, equivalent, proved, shown}
 use Rattle.cert_text.specs.Texts.{IsText}
 use Rattle.cert_text.proofs.Lists.{heads, tails, parts_same}
 use Rattle.cert_text.proofs.OneReading.{SaysOnce, say_once, say_long, one_branch, one_reason, one_fact, one_entry, one_run}
 use Rattle.cert_text.proofs.Verdicts.{side_long}
-use Rattle.cert_text.proofs.Stepping.{same_one, same_two, same_head, proof_no_lasso}
+use Rattle.cert_text.proofs.Stepping.{same_one, same_two, same_head, words_apart, proof_no_lasso}
 
 -- so many lines of one kind, and others behind them
 said_same : {A : Type 0} (Says : Line → A → Type 0) → SaysOnce Says
@@ -59,38 +59,47 @@ one_rank_proof front rest other more p q e one two =
 
 -- ---- proofs by induction
 
-one_logs : (lines : List Line) (xs ys : List (List Learned)) → length xs ≡ length ys
-    → SayLogs lines xs → SayLogs lines ys → xs ≡ ys
-one_logs lines [] [] long one two = refl
-one_logs lines [] (y ∷ ys) long one two = absurd (omega arith)
-one_logs lines (x ∷ xs) [] long one two = absurd (omega arith)
-one_logs lines (x ∷ xs) (y ∷ ys) long (head, clauses, rest, parts, counts, said, more)
-    (head2, clauses2, rest2, parts2, counts2, said2, more2) =
-    let whole = sym parts ∙ parts2 in
+-- Logs at the front are so many of these.
+one_logs : (front rest other more : List Line) (xs ys : List (List Learned))
+    → front ++ rest ≡ other ++ more → length xs ≡ length ys → SayLogs front xs
+    → SayLogs other ys → (xs ≡ ys) × (rest ≡ more)
+one_logs front rest other more [] [] e long one two =
+    (refl, ap (λ l. l ++ rest) (sym one) ∙ e ∙ ap (λ l. l ++ more) two)
+one_logs front rest other more [] (y ∷ ys) e long one two = absurd (omega arith)
+one_logs front rest other more (x ∷ xs) [] e long one two = absurd (omega arith)
+one_logs front rest other more (x ∷ xs) (y ∷ ys) e long
+    (head, clauses, behind, parts, counts, said, others)
+    (head2, clauses2, behind2, parts2, counts2, said2, others2) =
+    let whole : head ∷ (clauses ++ behind) ++ rest ≡ head2 ∷ (clauses2 ++ behind2) ++ more =
+    ap (λ l. l ++ rest) (sym parts) ∙ e ∙ ap (λ l. l ++ more) parts2 in
     let P : Line → Type 0 = λ l. SaysLogHead l (length x) in
     let many = same_one (codes "log") head2 (length x) (length y) (subst P (heads whole) counts)
     counts2 in
-    let (same, behind) = said_same SaysLearned one_entry clauses rest clauses2 rest2 x y
-    (tails whole)
-    many said said2 in
-    let Q : List Line → Type 0 = λ l. SayLogs l xs in
-    ap (λ l. l ∷ xs) same ∙ ap (λ l. y ∷ l) (one_logs rest2 xs ys (omega arith) (subst Q behind
-    more) more2)
+    let apart = sym (append_assoc clauses behind rest) ∙ tails whole
+    ∙ append_assoc clauses2 behind2 more in
+    let (same, left) = said_same SaysLearned one_entry clauses (behind ++ rest) clauses2
+    (behind2 ++ more) x y apart many said said2 in
+    let (all, end) = one_logs behind rest behind2 more xs ys left (omega arith) others others2 in
+    (ap (λ l. l ∷ xs) same ∙ ap (λ l. y ∷ l) all, end)
 
-pub one_induction : (lines : List Line) (p q : InductionProof) → SayInductionProof lines p
-    → SayInductionProof lines q → p ≡ q
-one_induction lines p q one two =
-    let whole = sym one.parts ∙ two.parts in
-    let P : Line → Type 0 = λ l. SaysInductionHead one.clauses l p.depth (length p.inv) in
-    let (kind, depth, many) = same_head one.clauses two.clauses two.head _ _ _ _
+-- One proof by induction with this word stands at the front.
+one_by : (word : List ℕ) (clauses : Bool) (front rest other more : List Line)
+    (p q : InductionProof) → front ++ rest ≡ other ++ more → SayProofBy word clauses front p
+    → SayProofBy word clauses other q → (p ≡ q) × (rest ≡ more)
+one_by word clauses front rest other more p q e one two =
+    let whole : one.head ∷ (one.facts ++ one.logs) ++ rest
+    ≡ two.head ∷ (two.facts ++ two.logs) ++ more =
+    ap (λ l. l ++ rest) (sym one.parts) ∙ e ∙ ap (λ l. l ++ more) two.parts in
+    let P : Line → Type 0 = λ l. SaysHead word l p.depth (length p.inv) in
+    let (depth, many) = same_two (codes "proof") word two.head _ _ _ _
     (subst P (heads whole) one.counts) two.counts in
-    let R : Bool → Type 0 = λ b. Say (SaysFact b) one.facts p.inv in
-    let (facts, behind) = said_same (SaysFact two.clauses) (one_fact two.clauses) one.facts
-    one.logs two.facts two.logs p.inv q.inv (tails whole) many (subst R kind one.states)
+    let apart = sym (append_assoc one.facts one.logs rest) ∙ tails whole
+    ∙ append_assoc two.facts two.logs more in
+    let (facts, behind) = said_same (SaysFact clauses) (one_fact clauses) one.facts
+    (one.logs ++ rest) two.facts (two.logs ++ more) p.inv q.inv apart many one.states
     two.states in
     let keeps : length p.keep ≡ length q.keep = one.keeps ∙ ap groups facts ∙ sym two.keeps in
     let bases : length p.base ≡ length q.base = one.bases ∙ ap suc depth ∙ sym two.bases in
-    let Q : List Line → Type 0 = λ l. SayLogs l (p.keep ++ p.base ++ p.step ∷ []) in
     let long : length (p.keep ++ p.base ++ p.step ∷ []) ≡ length (q.keep ++ q.base ++ q.step ∷ []) =
     omega (
       arith,
@@ -101,21 +110,59 @@ one_induction lines p q one two =
       length-append (q.keep ++ q.base) (q.step ∷ []),
       length-append q.keep q.base,
     ) in
-    let logs = one_logs two.logs (p.keep ++ p.base ++ p.step ∷ [])
-    (q.keep ++ q.base ++ q.step ∷ []) long (subst Q behind one.refuted) two.refuted in
+    let (logs, end) = one_logs one.logs rest two.logs more (p.keep ++ p.base ++ p.step ∷ [])
+    (q.keep ++ q.base ++ q.step ∷ []) behind long one.refuted two.refuted in
     let both_many : length (p.keep ++ p.base) ≡ length (q.keep ++ q.base) =
     omega (arith, keeps, bases, length-append p.keep p.base, length-append q.keep q.base) in
     let (fronts, steps) = parts_same (p.keep ++ p.base) (p.step ∷ []) (q.keep ++ q.base)
     (q.step ∷ [])
     logs both_many in
-    let (keep, base) = parts_same p.keep p.base q.keep q.base fronts keeps in
-    λ i. record {
-      inv = facts i;
-      depth = depth i;
-      keep = keep i;
-      base = base i;
-      step = heads steps i;
-    }
+    let (keep, base) = parts_same p.keep p.base q.keep q.base fronts keeps in (
+      λ i. record {
+        inv = facts i;
+        depth = depth i;
+        keep = keep i;
+        base = base i;
+        step = heads steps i;
+      },
+      end,
+    )
+
+pub one_induction : (lines : List Line) (p q : InductionProof) → SayInductionProof lines p
+    → SayInductionProof lines q → p ≡ q
+one_induction lines p q (a, one) (b, two) =
+    let whole = sym one.parts ∙ two.parts in
+    let P : Line → Type 0 = λ l. SaysHead (kind_word a) l p.depth (length p.inv) in
+    let (kind, _, _) = same_head a b two.head _ _ _ _ (subst P (heads whole) one.counts)
+    two.counts in
+    let Q : Bool → Type 0 = λ k. SayProofBy (kind_word k) k lines p in
+    (one_by (kind_word b) b lines [] lines [] p q refl (subst Q kind one) two).0
+
+-- ---- proofs about formulas
+
+-- the heads of two proofs at the front
+ranks_not_free : (front rest other more : List Line) (p : RankProof) (q : InductionProof)
+    → front ++ rest ≡ other ++ more → SayRankProof front p
+    → ¬ SayProofBy free_word true other q
+ranks_not_free front rest other more p q e one two =
+    let whole : one.head ∷ (one.branches ++ one.reasons) ++ rest
+    ≡ two.head ∷ (two.facts ++ two.logs) ++ more =
+    ap (λ l. l ++ rest) (sym one.parts) ∙ e ∙ ap (λ l. l ++ more) two.parts in
+    let P : Line → Type 0 = λ l. SaysRankHead l (length p.branches) (length p.reasons) in
+    words_apart two.head _ _ _ _ (subst P (heads whole) one.counts) two.counts
+
+pub one_refutation : (front rest other more : List Line) (p q : Refutation)
+    → front ++ rest ≡ other ++ more → SayRefutation front p → SayRefutation other q
+    → (p ≡ q) × (rest ≡ more)
+one_refutation front rest other more (ranks p) (ranks q) e one two =
+    let (same, end) = one_rank_proof front rest other more p q e one two in (ap ranks same, end)
+one_refutation front rest other more (ranks p) (free q) e one two =
+    absurd (ranks_not_free front rest other more p q e one two)
+one_refutation front rest other more (free p) (ranks q) e one two =
+    absurd (ranks_not_free other more front rest q p (sym e) two one)
+one_refutation front rest other more (free p) (free q) e one two =
+    let (same, end) = one_by free_word true front rest other more p q e one two in
+    (ap free same, end)
 
 -- ---- lassos and runs
 
@@ -165,11 +212,11 @@ no_mixture : (lines front rest : List Line) (p : InductionProof) (xs : List Spel
 no_mixture lines [] rest p [] one e (said, some) = absurd (omega arith)
 no_mixture lines [] rest p (x ∷ xs) one e (said, some) = absurd said
 no_mixture lines (line ∷ front) rest p [] one e (said, some) = absurd said
-no_mixture lines (line ∷ front) rest p (x ∷ xs) one e ((says, said), some) =
+no_mixture lines (line ∷ front) rest p (x ∷ xs) (clauses, one) e ((says, said), some) =
     let same = heads (sym one.parts ∙ e) in
-    let P : Line → Type 0 = λ l. SaysInductionHead one.clauses l p.depth (length p.inv) in
+    let P : Line → Type 0 = λ l. SaysHead (kind_word clauses) l p.depth (length p.inv) in
     let (k, f, words, depth, facts) = subst P same one.counts in
-    proof_no_lasso line (kind_word one.clauses ∷ k ∷ f ∷ []) words (x, says)
+    proof_no_lasso line (kind_word clauses ∷ k ∷ f ∷ []) words (x, says)
 
 -- ---- certificates
 
@@ -197,7 +244,7 @@ one_spelled lines question c d (unsatisfiable rest e said) (satisfiable more f a
     absurd (omega (arith, ap length (heads (sym e ∙ f))))
 one_spelled lines question c d (unsatisfiable {proof = p} rest e said) (unsatisfiable {proof =
     q} more f also) =
-    ap ranks (one_rank_proof rest [] more [] p q (ap (λ l. l ++ []) (tails (sym e
+    ap refuted (one_refutation rest [] more [] p q (ap (λ l. l ++ []) (tails (sym e
     ∙ f))) said also).0
 one_spelled lines question c d (not_implied {lassos = xs} rest e said) (not_implied {lassos =
     ys} more f also) =
@@ -208,7 +255,7 @@ one_spelled lines question c d (not_implied rest e said) (implied more f also) =
 one_spelled lines question c d (implied rest e said) (not_implied more f also) =
     absurd (omega (arith, ap length (heads (sym e ∙ f))))
 one_spelled lines question c d (implied {proof = p} rest e said) (implied {proof = q} more f also) =
-    ap ranks (one_rank_proof rest [] more [] p q (ap (λ l. l ++ []) (tails (sym e
+    ap refuted (one_refutation rest [] more [] p q (ap (λ l. l ++ []) (tails (sym e
     ∙ f))) said also).0
 one_spelled lines question c d (not_equivalent {side = s} {lassos =
     xs} rest e said) (not_equivalent {side = t} {lassos = ys} more f also) =
@@ -223,9 +270,9 @@ one_spelled lines question c d (equivalent front rest e one two) (not_equivalent
     absurd (omega (arith, side_long t, ap length (heads (sym e ∙ f))))
 one_spelled lines question c d (equivalent {one = p} {two = r} front rest e one two)
     (equivalent {one = q} {two = t} other more f one2 two2) =
-    let (first_same, behind) = one_rank_proof front rest other more p q (tails (sym e
+    let (first_same, behind) = one_refutation front rest other more p q (tails (sym e
     ∙ f)) one one2 in
-    let (second_same, none) = one_rank_proof rest [] more [] r t (ap (λ l. l ++ []) behind) two
+    let (second_same, none) = one_refutation rest [] more [] r t (ap (λ l. l ++ []) behind) two
     two2 in
     ap (λ x. both x r) first_same ∙ ap (both q) second_same
 one_spelled lines question c d (proved {holds = a} {proof = p} rest e said) (proved {holds =

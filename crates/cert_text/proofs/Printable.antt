@@ -29,7 +29,7 @@ use Rattle.chain_check.specs.LogTexts.{entry_text, log_text}
 use Rattle.chain_check.specs.Logs.{IsPassed}
 use Rattle.chain_check.specs.declared.logs.Learned.{Learned}
 use Rattle.cnf_frames.specs.Facts.{IsIn}
-use Rattle.cnf_frames.specs.ProofTexts.{fact_text, kind_text, proof_text as induction_text}
+use Rattle.cnf_frames.specs.ProofTexts.{fact_text}
 use Rattle.cnf_frames.specs.Proofs.{IsRefuted, IsInductionProof, AreQueriesWithin}
 use Rattle.cnf_frames.specs.Queries.{IsWithin, clauses_of, variables_of, groups}
 use Rattle.cnf_frames.specs.QueryPaths.{CanAsk}
@@ -39,6 +39,7 @@ use Rattle.cnf_frames.specs.declared.inductions.InductionProof.{InductionProof}
 use Rattle.cnf_frames.specs.declared.queries.Asked.{Asked}
 use Rattle.cnf_frames.specs.declared.queries.Asked.TheVariants.{Base, Step, Keep}
 use Rattle.cnf_frames.proofs.Fewness.{few-clauses}
+use Rattle.cert_text.specs.ProofTexts.{worded_text}
 use Rattle.cert_text.specs.Printed.{IsBelow, IsPrintableBranch, IsPrintableReason, IsPrintable, IsPrintableFact, IsPrintableLiteral, IsPrintableCount, IsPrintableEntry, IsPrintableLog, IsPrintableInduction, IsPrintableRun, ArePrintableRuns}
 
 each_there : {A : Type 0} (P : A → Type 0) (xs : List A) → ((x : A) → Contains xs x → P x)
@@ -222,12 +223,12 @@ logs_below : (logs : List (List Learned))
 logs_below logs each short = All-from_get_or IsPrintableLog logs [] (λ i lt. each i lt
     (omega (arith, short, among logs (get_or logs i []) (Contains-get_or logs i [] lt))))
 
-pub printable_induction : (safe : SafeNet) (proof : InductionProof) → IsInductionProof safe proof
-    → AreQueriesWithin safe proof → 0 < length safe.net.latches
-    → length (induction_text proof) ≤ BYTES_LIMIT → IsPrintableInduction proof
-printable_induction safe proof is within some short =
-    let head = codes "proof " ++ kind_text proof.inv ++ codes " " ++ decimal proof.depth
-    ++ codes " " ++ decimal (length proof.inv) ++ codes "\n" in
+pub printable_induction : (word : List ℕ) (safe : SafeNet) (proof : InductionProof)
+    → IsInductionProof safe proof → AreQueriesWithin safe proof → 0 < length safe.net.latches
+    → length (worded_text word proof) ≤ BYTES_LIMIT → IsPrintableInduction proof
+printable_induction word safe proof is within some short =
+    let head = codes "proof " ++ word ++ codes " " ++ decimal proof.depth ++ codes " "
+    ++ decimal (length proof.inv) ++ codes "\n" in
     let facts = flat_map fact_text proof.inv in
     let keeps = flat_map log_text proof.keep in
     let bases = flat_map log_text proof.base in

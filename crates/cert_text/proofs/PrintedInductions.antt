@@ -8,7 +8,7 @@ use Rattle.std.proofs.lemmas.Grind.{flat_map-append}
 use Rattle.std.proofs.lemmas.List.Elements.{All-head, All-tail, All-nil, All-cons, All-append}
 use Rattle.chain_check.specs.declared.logs.Learned.{Learned}
 use Rattle.chain_check.specs.LogTexts.{entry_text, log_text}
-use Rattle.cnf_frames.specs.ProofTexts.{fact_text, is_clause, kind_text, proof_text}
+use Rattle.cnf_frames.specs.ProofTexts.{fact_text, is_clause, proof_text}
 use Rattle.cnf_frames.specs.declared.facts.Fact.{Fact}
 use Rattle.cnf_frames.specs.declared.facts.Fact.TheVariants.{Zero, One, Same, Differ, AnyOf}
 use Rattle.cnf_frames.specs.declared.inductions.InductionProof.{InductionProof}
@@ -17,9 +17,10 @@ use Rattle.cert_text.specs.declared.question.Question.TheVariants.{Circuit}
 use Rattle.hy_text.specs.Numbers.{SaysNumber}
 use Rattle.cert_text.specs.Lines.{Line, Say}
 use Rattle.cert_text.specs.Numbers.{SaysCount, SaysLiteral}
-use Rattle.cert_text.specs.InductionLines.{kind_word, SaysFact, SaysLearned, SayLogs, SayInductionProof}
+use Rattle.cert_text.specs.InductionLines.{kind_word, SaysFact, SaysLearned, SayLogs, SayProofBy}
 use Rattle.cert_text.specs.Certificates.{induction, holds_line, proved}
 use Rattle.cert_text.specs.Texts.{IsText, ended}
+use Rattle.cert_text.specs.ProofTexts.{worded_text}
 use Rattle.cert_text.specs.Printed.{IsBelow, IsPrintableFact, IsPrintableLiteral, IsPrintableCount, IsPrintableEntry, IsPrintableLog, IsPrintableInduction}
 use Rattle.cert_text.proofs.Joining.{Lacks, EachLacks, IsFree, AreFree, split_joined, decimal_lacks, signed_lacks, lacks_feed}
 use Rattle.cert_text.proofs.OneFault.{ended_both}
@@ -301,34 +302,28 @@ logs_say (log ∷ logs) all =
 
 -- ---- proofs
 
--- whether some fact is a clause
-abbrev has_clauses : InductionProof → Bool
-has_clauses proof = list_any is_clause proof.inv
-
-abbrev induction_words : InductionProof → List (List ℕ)
-induction_words proof =
-    codes "proof" ∷ kind_word (has_clauses proof) ∷ decimal proof.depth
-    ∷ decimal (length proof.inv) ∷ []
+abbrev induction_words : List ℕ → InductionProof → List (List ℕ)
+induction_words word proof =
+    codes "proof" ∷ word ∷ decimal proof.depth ∷ decimal (length proof.inv) ∷ []
 
 abbrev logs_of : InductionProof → List (List Learned)
 logs_of proof = proof.keep ++ proof.base ++ proof.step ∷ []
 
-abbrev induction_lines : InductionProof → List Line
-induction_lines proof =
-    join_with_byte 32 (induction_words proof)
+abbrev pub induction_lines : List ℕ → InductionProof → List Line
+induction_lines word proof =
+    join_with_byte 32 (induction_words word proof)
     ∷ (map fact_line proof.inv ++ flat_map log_lines (logs_of proof))
 
-kind_above : (clauses : Bool) → list_all (nat_le 33) (kind_word clauses) ≡ true
-kind_above true = refl
-kind_above false = refl
+-- The bytes of a word are behind the space.
+abbrev pub IsWord : List ℕ → Type 0
+IsWord word = list_all (nat_le 33) word ≡ true
 
-induction_lacks : (byte : ℕ) (proof : InductionProof) → byte < 33 → IsPrintableInduction proof
-    → EachLacks byte (induction_words proof)
-induction_lacks byte proof low is =
+induction_lacks : (byte : ℕ) (word : List ℕ) (proof : InductionProof) → byte < 33 → IsWord word
+    → IsPrintableInduction proof → EachLacks byte (induction_words word proof)
+induction_lacks byte word proof low above is =
     let depth = decimal_lacks byte proof.depth (omega arith) is.depth in
     let facts = decimal_lacks byte (length proof.inv) (omega arith) is.facts in
-    let kind = word_lacks byte (kind_word (has_clauses proof)) low
-    (kind_above (has_clauses proof)) in
+    let kind = word_lacks byte word low above in
     (word_lacks byte (codes "proof") low refl, (kind, (depth, (facts, tt))))
 
 all_logs : (proof : InductionProof) → IsPrintableInduction proof
@@ -353,13 +348,14 @@ head_ends : (kind depth facts : List ℕ)
     ≡ join_with_byte 32 (codes "proof" ∷ kind ∷ depth ∷ facts ∷ []) ++ 10 ∷ []
 head_ends kind depth facts = simp append_assoc
 
-induction_ends : (proof : InductionProof) → proof_text proof ≡ ended (induction_lines proof)
-induction_ends proof =
-    let head = join_with_byte 32 (induction_words proof) in
+pub induction_ends : (word : List ℕ) (proof : InductionProof)
+    → worded_text word proof ≡ ended (induction_lines word proof)
+induction_ends word proof =
+    let head = join_with_byte 32 (induction_words word proof) in
     let facts = flat_map fact_text proof.inv in
-    let front : codes "proof " ++ kind_text proof.inv ++ codes " " ++ decimal proof.depth
+    let front : codes "proof " ++ word ++ codes " " ++ decimal proof.depth
     ++ codes " " ++ decimal (length proof.inv) ++ codes "\n" ≡ head ++ 10 ∷ [] =
-    head_ends (kind_text proof.inv) (decimal proof.depth) (decimal (length proof.inv)) in
+    head_ends word (decimal proof.depth) (decimal (length proof.inv)) in
     let keep = flat_map log_text proof.keep in
     let base = flat_map log_text proof.base in
     let step = log_text proof.step in
@@ -374,46 +370,56 @@ induction_ends proof =
     ∙ ap (λ t. (head ++ 10 ∷ []) ++ t)
     (sym (ended_both (map fact_line proof.inv) (flat_map log_lines (logs_of proof))))
 
-induction_free : (proof : InductionProof) → IsPrintableInduction proof
-    → AreFree (induction_lines proof)
-induction_free proof is = (
-  lacks_feed (join_with_byte 32 (induction_words proof))
-      (free_words (induction_words proof) (induction_lacks 10 proof (omega arith) is)),
-  each-append IsFree (map fact_line proof.inv) (flat_map log_lines (logs_of proof))
-      (free_lines_of fact_line IsPrintableFact fact_free proof.inv is.each_fact)
-      (logs_free (logs_of proof) (all_logs proof is)),
-)
+module _ (word : List ℕ) (proof : InductionProof) (above : IsWord word)
+    (is : IsPrintableInduction proof) where
+  pub induction_free : AreFree (induction_lines word proof)
+  induction_free = (
+    lacks_feed (join_with_byte 32 (induction_words word proof))
+        (free_words (induction_words word proof)
+        (induction_lacks 10 word proof (omega arith) above is)),
+    each-append IsFree (map fact_line proof.inv) (flat_map log_lines (logs_of proof))
+        (free_lines_of fact_line IsPrintableFact fact_free proof.inv is.each_fact)
+        (logs_free (logs_of proof) (all_logs proof is)),
+  )
 
-induction_said : (proof : InductionProof) → IsPrintableInduction proof
-    → SayInductionProof (induction_lines proof) proof
-induction_said proof is = record {
-  clauses = has_clauses proof;
-  head = join_with_byte 32 (induction_words proof);
-  facts = map fact_line proof.inv;
-  logs = flat_map log_lines (logs_of proof);
-  parts = refl;
-  counts = (
-    decimal proof.depth,
-    decimal (length proof.inv),
-    split_joined 32 (codes "proof")
-        (kind_word (has_clauses proof) ∷ decimal proof.depth ∷ decimal (length proof.inv) ∷ [])
-        (induction_lacks 32 proof (omega arith) is),
-    spelled_number proof.depth is.depth,
-    spelled_number (length proof.inv) is.facts,
-  );
-  states = facts_say (has_clauses proof) proof.inv (λ is. is) is.each_fact;
-  refuted = logs_say (logs_of proof) (all_logs proof is);
-  keeps = is.keeps;
-  bases = is.bases;
-}
+  pub induction_said : (clauses : Bool) → (IsTrue (list_any is_clause proof.inv) → IsTrue clauses)
+      → SayProofBy word clauses (induction_lines word proof) proof
+  induction_said clauses taken = record {
+    head = join_with_byte 32 (induction_words word proof);
+    facts = map fact_line proof.inv;
+    logs = flat_map log_lines (logs_of proof);
+    parts = refl;
+    counts = (
+      decimal proof.depth,
+      decimal (length proof.inv),
+      split_joined 32 (codes "proof")
+          (word ∷ decimal proof.depth ∷ decimal (length proof.inv) ∷ [])
+          (induction_lacks 32 word proof (omega arith) above is),
+      spelled_number proof.depth is.depth,
+      spelled_number (length proof.inv) is.facts,
+    );
+    states = facts_say clauses proof.inv taken is.each_fact;
+    refuted = logs_say (logs_of proof) (all_logs proof is);
+    keeps = is.keeps;
+    bases = is.bases;
+  }
+
+-- ---- proofs about circuits
+
+kind_above : (clauses : Bool) → IsWord (kind_word clauses)
+kind_above true = refl
+kind_above false = refl
 
 pub printed_induction : (holds : Bool) (proof : InductionProof) → IsPrintableInduction proof
     → IsText Circuit (holds_line holds ++ codes "\n" ++ proof_text proof) (induction holds
     proof)
 printed_induction holds proof is =
-    let text = lines_text Circuit (holds_line holds ∷ induction_lines proof) (induction holds proof)
-    (holds_free holds, induction_free proof is)
-    (proved (induction_lines proof) refl (induction_said proof is)) in
+    let clauses = list_any is_clause proof.inv in
+    let word = kind_word clauses in
+    let text = lines_text Circuit (holds_line holds ∷ induction_lines word proof)
+    (induction holds proof) (holds_free holds, induction_free word proof (kind_above clauses) is)
+    (proved (induction_lines word proof) refl
+    (clauses, induction_said word proof (kind_above clauses) is clauses (λ is. is))) in
     let P : List ℕ → Type 0 =
     λ b. IsText Circuit (holds_line holds ++ codes "\n" ++ b) (induction holds proof) in
-    subst P (sym (induction_ends proof)) text
+    subst P (sym (induction_ends word proof)) text

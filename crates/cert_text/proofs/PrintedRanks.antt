@@ -6,17 +6,15 @@ use Rattle.rank_proofs.specs.ProofTexts.{numbers_text, branch_text, reason_text,
 use Rattle.rank_proofs.specs.declared.rank_proof.RankProof.{RankProof}
 use Rattle.rank_proofs.specs.declared.rank_proof.ProofBranch.{ProofBranch}
 use Rattle.hy_formula.proofs.Each.{each-append}
-use Rattle.cert_text.specs.declared.question.Question.TheVariants.{Formula, Implication, Equivalence}
 use Rattle.cert_text.specs.Lines.{Line, Say}
 use Rattle.hy_text.specs.Numbers.{SaysNumber}
 use Rattle.cert_text.specs.Numbers.{SaysMembers}
 use Rattle.cert_text.specs.RankLines.{SaysRankHead, SaysBranch, SaysReason, SayRankProof}
-use Rattle.cert_text.specs.Certificates.{ranks, both, unsatisfiable, implied, equivalent}
-use Rattle.cert_text.specs.Texts.{IsText, ended}
+use Rattle.cert_text.specs.Texts.{ended}
 use Rattle.cert_text.specs.Printed.{IsBelow, AreMembers, IsPrintableBranch, IsPrintableReason, IsPrintable}
 use Rattle.cert_text.proofs.Joining.{Lacks, EachLacks, IsFree, AreFree, split_joined, joined_lacks, decimal_lacks, lacks_feed}
 use Rattle.cert_text.proofs.OneFault.{ended_both}
-use Rattle.cert_text.proofs.PrintedLines.{word_lacks, words_lack, spelled_number, texts_end, free_lines_of, say_lines_of, lines_text}
+use Rattle.cert_text.proofs.PrintedLines.{word_lacks, words_lack, spelled_number, texts_end, free_lines_of, say_lines_of}
 
 -- ---- members
 
@@ -145,12 +143,12 @@ head_says b r one two = (
 
 -- ---- proofs
 
-abbrev rank_lines : RankProof → List Line
+abbrev pub rank_lines : RankProof → List Line
 rank_lines proof =
     head_line (length proof.branches) (length proof.reasons)
     ∷ (map branch_line proof.branches ++ map reason_line proof.reasons)
 
-proof_ends : (proof : RankProof) → proof_text proof ≡ ended (rank_lines proof)
+pub proof_ends : (proof : RankProof) → proof_text proof ≡ ended (rank_lines proof)
 proof_ends proof =
     let b = length proof.branches in
     let r = length proof.reasons in
@@ -166,7 +164,7 @@ proof_ends proof =
     (texts_end reason_line reason_text reason_ends proof.reasons)
     ∙ ap (λ t. (head_line b r ++ 10 ∷ []) ++ t) (sym both)
 
-proof_free : (proof : RankProof) → IsPrintable proof → AreFree (rank_lines proof)
+pub proof_free : (proof : RankProof) → IsPrintable proof → AreFree (rank_lines proof)
 proof_free proof is = (
   lacks_feed (head_line (length proof.branches) (length proof.reasons))
       (joined_lacks 10 32 (head_words (length proof.branches) (length proof.reasons))
@@ -178,7 +176,7 @@ proof_free proof is = (
       (free_lines_of reason_line IsPrintableReason reason_free proof.reasons is.each_reason),
 )
 
-proof_said : (proof : RankProof) → IsPrintable proof → SayRankProof (rank_lines proof) proof
+pub proof_said : (proof : RankProof) → IsPrintable proof → SayRankProof (rank_lines proof) proof
 proof_said proof is = record {
   head = head_line (length proof.branches) (length proof.reasons);
   branches = map branch_line proof.branches;
@@ -193,34 +191,3 @@ proof_said proof is = record {
       say_lines_of reason_line IsPrintableReason SaysReason reason_says proof.reasons
       is.each_reason;
 }
-
-pub printed_unsat : (proof : RankProof) → IsPrintable proof
-    → IsText Formula (codes "unsat\n" ++ proof_text proof) (ranks proof)
-printed_unsat proof is =
-    let text = lines_text Formula (codes "unsat" ∷ rank_lines proof) (ranks proof)
-    (refl, proof_free proof is) (unsatisfiable (rank_lines proof) refl (proof_said proof is)) in
-    let P : List ℕ → Type 0 = λ b. IsText Formula (codes "unsat\n" ++ b) (ranks proof) in
-    subst P (sym (proof_ends proof)) text
-
-pub printed_implied : (proof : RankProof) → IsPrintable proof
-    → IsText Implication (codes "implied\n" ++ proof_text proof) (ranks proof)
-printed_implied proof is =
-    let text = lines_text Implication (codes "implied" ∷ rank_lines proof) (ranks proof)
-    (refl, proof_free proof is) (implied (rank_lines proof) refl (proof_said proof is)) in
-    let P : List ℕ → Type 0 = λ b. IsText Implication (codes "implied\n" ++ b) (ranks proof) in
-    subst P (sym (proof_ends proof)) text
-
-pub printed_equivalent : (one two : RankProof) → IsPrintable one → IsPrintable two
-    → IsText Equivalence (codes "equivalent\n" ++ proof_text one ++ proof_text two) (both one two)
-printed_equivalent one two is also =
-    let lines = codes "equivalent" ∷ (rank_lines one ++ rank_lines two) in
-    let text = lines_text Equivalence lines (both one two)
-    (refl, each-append IsFree (rank_lines one) (rank_lines two) (proof_free one is) (proof_free two also))
-    (equivalent (rank_lines one) (rank_lines two) refl (proof_said one is) (proof_said two also)) in
-    let bytes : codes "equivalent\n" ++ proof_text one ++ proof_text two ≡ ended lines =
-    append_assoc (codes "equivalent\n") (proof_text one) (proof_text two)
-    ∙ ap (λ t. codes "equivalent\n" ++ (t ++ proof_text two)) (proof_ends one)
-    ∙ ap (λ t. codes "equivalent\n" ++ (ended (rank_lines one) ++ t)) (proof_ends two)
-    ∙ ap (λ t. codes "equivalent\n" ++ t) (sym (ended_both (rank_lines one) (rank_lines two))) in
-    let P : List ℕ → Type 0 = λ b. IsText Equivalence b (both one two) in
-    subst P (sym bytes) text

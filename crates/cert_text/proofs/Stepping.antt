@@ -10,10 +10,9 @@ use Rattle.cert_text.specs.Lines.{Line, words_of, Speaks}
 use Rattle.hy_text.specs.Numbers.{SaysNumber}
 use Rattle.cert_text.specs.Numbers.{SaysOne, SaysTwo}
 use Rattle.cert_text.specs.RankLines.{SaysRankHead, SaysBranch, SaysReason}
-use Rattle.cert_text.specs.InductionLines.{SaysInductionHead, SaysLogHead, SaysLearned}
+use Rattle.cert_text.specs.InductionLines.{SaysInductionHead, SaysFreeHead, SaysLogHead, SaysLearned, free_word}
 use Rattle.cert_text.specs.RunLines.{SaysRunsHead, SaysRun}
-use Rattle.cert_text.specs.Wants.{Ends, Many, FillRanks, FillLogs, FillShown, FillEvidence}
-use Rattle.cert_text.proofs.Evidence.{FillInduction}
+use Rattle.cert_text.specs.Wants.{Ends, Many, FillInduction, FillLogs, FillProofs, FillShown, FillEvidence}
 use Rattle.cert_text.proofs.Lists.{heads, tails}
 use Rattle.cert_text.proofs.NumbersRead.{same_number}
 
@@ -106,47 +105,74 @@ proof_no_lasso line more e (said, (end, stem, cycle)) =
 
 -- ---- heads
 
+-- a proof by ranks is none over a free net
+pub words_apart : (line : Line) (b r k f : ℕ) → SaysRankHead line b r → ¬ SaysFreeHead line k f
+words_apart line b r k f (x, y, words, says, more) (v, w, others, also, last) =
+    let same : codes "rank" ≡ codes "free" = heads (tails (sym words ∙ others)) in
+    absurd (omega (arith, ap (λ w. get_or w 0 0) same))
+
 pub rank_step : (n b r : ℕ) (line : Line) (rest : List Line) → n ≢ 0 → SaysRankHead line b r
-    → FillRanks n (line ∷ rest)
-    ↔ Many (Speaks SaysBranch) b (Many (Speaks SaysReason) r (FillRanks (n - 1))) rest
+    → FillProofs n (line ∷ rest)
+    ↔ Many (Speaks SaysBranch) b (Many (Speaks SaysReason) r (FillProofs (n - 1))) rest
 rank_step zero b r line rest some says = absurd (some refl)
 rank_step (suc n) b r line rest some says =
     let less : n ≡ suc n - 1 = omega arith in
     let P : ℕ → Type 0 = λ m. Many (Speaks SaysBranch) b (Many (Speaks SaysReason) r
-    (FillRanks m)) rest in (
-      λ (p, q, also, fill).
-          let (one, two) = same_two (codes "proof") (codes "rank") line p q b r also says in
-          let Q : ℕ → Type 0 = λ m. Many (Speaks SaysBranch) m (Many (Speaks SaysReason) q
-          (FillRanks n)) rest in
-          let R : ℕ → Type 0 = λ m. Many (Speaks SaysBranch) b (Many (Speaks SaysReason) m
-          (FillRanks n)) rest in
-          subst P less (subst R two (subst Q one fill)),
-      λ fill. (b, r, says, subst P (sym less) fill),
+    (FillProofs m)) rest in (
+      λ fill. elim fill [
+        | inl (p, q, also, fill) ↦
+            let (one, two) = same_two (codes "proof") (codes "rank") line p q b r also says in
+            let Q : ℕ → Type 0 = λ m. Many (Speaks SaysBranch) m (Many (Speaks SaysReason) q
+            (FillProofs n)) rest in
+            let R : ℕ → Type 0 = λ m. Many (Speaks SaysBranch) b (Many (Speaks SaysReason) m
+            (FillProofs n)) rest in
+            subst P less (subst R two (subst Q one fill))
+        | inr (k, f, also, fill) ↦ absurd (words_apart line b r k f says also)
+      ],
+      λ fill. inl (b, r, says, subst P (sym less) fill),
     )
 
-pub log_step : (n k : ℕ) (line : Line) (rest : List Line) → n ≢ 0 → SaysLogHead line k
-    → FillLogs n (line ∷ rest) ↔ Many (Speaks SaysLearned) k (FillLogs (n - 1)) rest
-log_step zero k line rest some says = absurd (some refl)
-log_step (suc n) k line rest some says =
+pub free_step : (n k f : ℕ) (line : Line) (rest : List Line) → n ≢ 0 → SaysFreeHead line k f
+    → FillProofs n (line ∷ rest) ↔ FillInduction true k f (FillProofs (n - 1)) rest
+free_step zero k f line rest some says = absurd (some refl)
+free_step (suc n) k f line rest some says =
     let less : n ≡ suc n - 1 = omega arith in
-    let P : ℕ → Type 0 = λ m. Many (Speaks SaysLearned) k (FillLogs m) rest in (
+    let P : ℕ → Type 0 = λ m. FillInduction true k f (FillProofs m) rest in (
+      λ fill. elim fill [
+        | inl (b, r, also, fill) ↦ absurd (words_apart line b r k f also says)
+        | inr (p, q, also, fill) ↦
+            let (one, two) = same_two (codes "proof") free_word line p q k f also says in
+            let Q : ℕ → Type 0 = λ m. FillInduction true m q (FillProofs n) rest in
+            let R : ℕ → Type 0 = λ m. FillInduction true k m (FillProofs n) rest in
+            subst P less (subst R two (subst Q one fill))
+      ],
+      λ fill. inr (k, f, says, subst P (sym less) fill),
+    )
+
+pub log_step : (n k : ℕ) (Then : List Line → Type 0) (line : Line) (rest : List Line) → n ≢ 0
+    → SaysLogHead line k
+    → FillLogs n Then (line ∷ rest) ↔ Many (Speaks SaysLearned) k (FillLogs (n - 1) Then) rest
+log_step zero k Then line rest some says = absurd (some refl)
+log_step (suc n) k Then line rest some says =
+    let less : n ≡ suc n - 1 = omega arith in
+    let P : ℕ → Type 0 = λ m. Many (Speaks SaysLearned) k (FillLogs m Then) rest in (
       λ (j, also, fill).
           let one = same_one (codes "log") line j k also says in
-          let Q : ℕ → Type 0 = λ m. Many (Speaks SaysLearned) m (FillLogs n) rest in
+          let Q : ℕ → Type 0 = λ m. Many (Speaks SaysLearned) m (FillLogs n Then) rest in
           subst P less (subst Q one fill),
       λ fill. (k, says, subst P (sym less) fill),
     )
 
 pub induction_step : (clauses : Bool) (k f : ℕ) (line : Line) (rest : List Line)
     → SaysInductionHead clauses line k f
-    → FillEvidence (line ∷ rest) ↔ FillInduction clauses k f rest
+    → FillEvidence (line ∷ rest) ↔ FillInduction clauses k f (FillProofs 0) rest
 induction_step clauses k f line rest says = (
   λ fill. elim fill [
     | inl (d, p, q, also, fill) ↦
         let (kind, one, two) = same_head d clauses line p q k f also says in
-        let P : Bool → Type 0 = λ b. FillInduction b p q rest in
-        let Q : ℕ → Type 0 = λ m. FillInduction clauses m q rest in
-        let R : ℕ → Type 0 = λ m. FillInduction clauses k m rest in
+        let P : Bool → Type 0 = λ b. FillInduction b p q (FillProofs 0) rest in
+        let Q : ℕ → Type 0 = λ m. FillInduction clauses m q (FillProofs 0) rest in
+        let R : ℕ → Type 0 = λ m. FillInduction clauses k m (FillProofs 0) rest in
         subst R two (subst Q one (subst P kind fill))
     | inr (speaks, fill) ↦ absurd (proof_no_lasso line _ says.2 speaks)
   ],
@@ -166,15 +192,17 @@ runs_step n line rest says = (
 )
 
 -- another line
-pub no_rank : (n : ℕ) (line : Line) (rest : List Line) → n ≢ 0
-    → ((b r : ℕ) → ¬ SaysRankHead line b r) → ¬ FillRanks n (line ∷ rest)
-no_rank zero line rest some none fill = some refl
-no_rank (suc n) line rest some none (b, r, says, fill) = none b r says
+pub no_proof : (n : ℕ) (line : Line) (rest : List Line) → n ≢ 0
+    → ((b r : ℕ) → ¬ SaysRankHead line b r) → ((k f : ℕ) → ¬ SaysFreeHead line k f)
+    → ¬ FillProofs n (line ∷ rest)
+no_proof zero line rest some no_ranks no_free fill = some refl
+no_proof (suc n) line rest some no_ranks no_free (inl (b, r, says, fill)) = no_ranks b r says
+no_proof (suc n) line rest some no_ranks no_free (inr (k, f, says, fill)) = no_free k f says
 
-pub no_log : (n : ℕ) (line : Line) (rest : List Line) → n ≢ 0
-    → ((k : ℕ) → ¬ SaysLogHead line k) → ¬ FillLogs n (line ∷ rest)
-no_log zero line rest some none fill = some refl
-no_log (suc n) line rest some none (k, says, fill) = none k says
+pub no_log : (n : ℕ) (Then : List Line → Type 0) (line : Line) (rest : List Line) → n ≢ 0
+    → ((k : ℕ) → ¬ SaysLogHead line k) → ¬ FillLogs n Then (line ∷ rest)
+no_log zero Then line rest some none fill = some refl
+no_log (suc n) Then line rest some none (k, says, fill) = none k says
 
 -- ---- lassos, where no head stands
 

@@ -3,17 +3,16 @@ use Rattle.std.proofs.Common.{◌≡◌, ◌<◌, ◌↔◌, ◌⊎◌, Bool, Li
 use Rattle.std.specs.Prelude.{codes}
 use Rattle.aig_net.specs.declared.run.Run.{Run}
 use Rattle.hy_lasso.specs.LassoLines.{Spelled, SaysLasso}
-use Rattle.rank_proofs.specs.declared.rank_proof.RankProof.{RankProof}
 use Rattle.cert_text.specs.declared.question.Question.{Question}
 use Rattle.cert_text.specs.declared.question.Question.TheVariants.{Formula, Implication, Equivalence, Circuit}
 use Rattle.cert_text.specs.Lines.{Line, Say, Speaks}
-use Rattle.cert_text.specs.RankLines.{SayRankProof}
+use Rattle.cert_text.specs.InductionLines.{SayProofBy, kind_word}
 use Rattle.cert_text.specs.RunLines.{SaysRun, SaysRunsHead, SayRuns}
-use Rattle.cert_text.specs.Certificates.{Side, first, second, Certificate, model, ranks, both, induction, runs, SayLassos, holds_line, side_line, Spells, satisfiable, unsatisfiable, not_implied, implied, not_equivalent, equivalent, proved, shown}
-use Rattle.cert_text.specs.Wants.{Ends, Many, FillRanks, FillSome, FillShown, FillEvidence}
+use Rattle.cert_text.specs.Certificates.{Side, first, second, Certificate, Refutation, model, refuted, both, induction, runs, SayLassos, SayRefutation, holds_line, side_line, Spells, satisfiable, unsatisfiable, not_implied, implied, not_equivalent, equivalent, proved, shown}
+use Rattle.cert_text.specs.Wants.{Ends, Many, FillProofs, FillSome, FillShown, FillEvidence}
 use Rattle.cert_text.proofs.Counted.{many_said, said_many}
 use Rattle.cert_text.proofs.WordsRead.{each_said, said_each}
-use Rattle.cert_text.proofs.Evidence.{ranks_said, said_ranks, induction_said, said_induction}
+use Rattle.cert_text.proofs.Evidence.{proof_said, said_proof, induction_said, said_induction}
 
 -- The lines are the lines that some certificate spells.
 abbrev pub IsSpelled : Question → List Line → Type 0
@@ -35,23 +34,24 @@ said_some (line ∷ lines) [] (said, some) = absurd said
 said_some (line ∷ lines) (lasso ∷ lassos) ((says, said), some) =
     ((lasso, says), said_each SaysLasso lines lassos said)
 
--- ---- rank proofs
+-- ---- proofs
 
-pub record IsRankSaid (lines : List Line) : Type 0 where
-  pub proof : RankProof
-  pub said : SayRankProof lines proof
+-- nothing stands behind the front
+front_whole : (lines front rest : List Line) → lines ≡ front ++ rest → rest ≡ [] → front ≡ lines
+front_whole lines front rest parts none =
+    sym (parts ∙ ap (λ l. front ++ l) none ∙ append-nil front)
 
-one_said : (lines : List Line) → FillRanks 1 lines → IsRankSaid lines
+one_said : (lines : List Line) → FillProofs 1 lines
+    → (proof : Refutation) × SayRefutation lines proof
 one_said lines fill =
-    let one = ranks_said 0 lines fill in
-    let whole : one.front ≡ lines =
-    sym (one.parts ∙ ap (λ l. one.front ++ l) one.behind ∙ append-nil one.front) in
-    let P : List Line → Type 0 = λ l. SayRankProof l one.proof in
-    record { proof = one.proof; said = subst P whole one.said }
+    let one = proof_said 0 lines fill in
+    let P : List Line → Type 0 = λ l. SayRefutation l one.proof in
+    (one.proof, subst P (front_whole lines one.front one.rest one.parts one.behind) one.said)
 
-said_one : (lines : List Line) (proof : RankProof) → SayRankProof lines proof → FillRanks 1 lines
+said_one : (lines : List Line) (proof : Refutation) → SayRefutation lines proof
+    → FillProofs 1 lines
 said_one lines proof said =
-    subst (FillRanks 1) (append-nil lines) (said_ranks 0 lines [] proof said refl)
+    subst (FillProofs 1) (append-nil lines) (said_proof 0 lines [] proof said refl)
 
 -- ---- lassos and runs
 
@@ -123,19 +123,19 @@ lassos_after line line' rest rest' lassos e said =
     let behind : rest' ≡ rest = cc in
     (same, subst FillSome behind (said_some rest' lassos said))
 
-rank_after : (line line' : Line) (rest rest' : List Line) (proof : RankProof)
-    → line ∷ rest ≡ line' ∷ rest' → SayRankProof rest' proof → (line ≡ line') × FillRanks 1 rest
-rank_after line line' rest rest' proof e said =
+proof_after : (line line' : Line) (rest rest' : List Line) (proof : Refutation)
+    → line ∷ rest ≡ line' ∷ rest' → SayRefutation rest' proof → (line ≡ line') × FillProofs 1 rest
+proof_after line line' rest rest' proof e said =
     let same : line ≡ line' = cc in
     let behind : rest' ≡ rest = cc in
-    (same, subst (FillRanks 1) behind (said_one rest' proof said))
+    (same, subst (FillProofs 1) behind (said_one rest' proof said))
 
 pub formula_spelled : (line : Line) (rest : List Line) → IsSpelled Formula (line ∷ rest)
-    → ((line ≡ codes "sat") × FillSome rest) ⊎ ((line ≡ codes "unsat") × FillRanks 1 rest)
+    → ((line ≡ codes "sat") × FillSome rest) ⊎ ((line ≡ codes "unsat") × FillProofs 1 rest)
 formula_spelled line rest (c, satisfiable {lassos} more e said) =
     inl (lassos_after line (codes "sat") rest more lassos e said)
 formula_spelled line rest (c, unsatisfiable {proof} more e said) =
-    inr (rank_after line (codes "unsat") rest more proof e said)
+    inr (proof_after line (codes "unsat") rest more proof e said)
 
 pub sat_opens : (line : Line) → line ≡ codes "sat" → Opens Formula line FillSome
 sat_opens line is rest = (
@@ -147,23 +147,23 @@ sat_opens line is rest = (
       (model first lassos, satisfiable rest (ap (λ l. l ∷ rest) is) said),
 )
 
-pub unsat_opens : (line : Line) → line ≡ codes "unsat" → Opens Formula line (FillRanks 1)
+pub unsat_opens : (line : Line) → line ≡ codes "unsat" → Opens Formula line (FillProofs 1)
 unsat_opens line is rest = (
   λ spelled. elim (formula_spelled line rest spelled) [
     | inl (e, fill) ↦ absurd (omega (arith, ap length (sym is ∙ e)))
     | inr (e, fill) ↦ fill
   ],
-  λ fill. let one = one_said rest fill in
-      (ranks one.proof, unsatisfiable rest (ap (λ l. l ∷ rest) is) one.said),
+  λ fill. let (proof, said) = one_said rest fill in
+      (refuted proof, unsatisfiable rest (ap (λ l. l ∷ rest) is) said),
 )
 
 pub implication_spelled : (line : Line) (rest : List Line) → IsSpelled Implication (line ∷ rest)
     → ((line ≡ codes "not implied") × FillSome rest)
-    ⊎ ((line ≡ codes "implied") × FillRanks 1 rest)
+    ⊎ ((line ≡ codes "implied") × FillProofs 1 rest)
 implication_spelled line rest (c, not_implied {lassos} more e said) =
     inl (lassos_after line (codes "not implied") rest more lassos e said)
 implication_spelled line rest (c, implied {proof} more e said) =
-    inr (rank_after line (codes "implied") rest more proof e said)
+    inr (proof_after line (codes "implied") rest more proof e said)
 
 pub not_implied_opens : (line : Line) → line ≡ codes "not implied"
     → Opens Implication line FillSome
@@ -176,27 +176,27 @@ not_implied_opens line is rest = (
       (model first lassos, not_implied rest (ap (λ l. l ∷ rest) is) said),
 )
 
-pub implied_opens : (line : Line) → line ≡ codes "implied" → Opens Implication line (FillRanks 1)
+pub implied_opens : (line : Line) → line ≡ codes "implied" → Opens Implication line (FillProofs 1)
 implied_opens line is rest = (
   λ spelled. elim (implication_spelled line rest spelled) [
     | inl (e, fill) ↦ absurd (omega (arith, ap length (sym is ∙ e)))
     | inr (e, fill) ↦ fill
   ],
-  λ fill. let one = one_said rest fill in
-      (ranks one.proof, implied rest (ap (λ l. l ∷ rest) is) one.said),
+  λ fill. let (proof, said) = one_said rest fill in
+      (refuted proof, implied rest (ap (λ l. l ∷ rest) is) said),
 )
 
 pub equivalence_spelled : (line : Line) (rest : List Line) → IsSpelled Equivalence (line ∷ rest)
     → ((side : Side) × (line ≡ side_line side) × FillSome rest)
-    ⊎ ((line ≡ codes "equivalent") × FillRanks 2 rest)
+    ⊎ ((line ≡ codes "equivalent") × FillProofs 2 rest)
 equivalence_spelled line rest (c, not_equivalent {side} {lassos} more e said) =
     let (same, fill) = lassos_after line (side_line side) rest more lassos e said in
     inl (side, same, fill)
 equivalence_spelled line rest (c, equivalent {one} {two} front more e said also) =
     let same : line ≡ codes "equivalent" = cc in
     let behind : front ++ more ≡ rest = cc in
-    let both_said = said_ranks 1 front more one said (said_one more two also) in
-    inr (same, subst (FillRanks 2) behind both_said)
+    let both_said = said_proof 1 front more one said (said_one more two also) in
+    inr (same, subst (FillProofs 2) behind both_said)
 
 pub side_long : (side : Side) → 10 < length (side_line side)
 side_long first = omega arith
@@ -214,27 +214,28 @@ side_opens side line is rest = (
 )
 
 pub equivalent_opens : (line : Line) → line ≡ codes "equivalent"
-    → Opens Equivalence line (FillRanks 2)
+    → Opens Equivalence line (FillProofs 2)
 equivalent_opens line is rest = (
   λ spelled. elim (equivalence_spelled line rest spelled) [
     | inl (side, e, fill) ↦ absurd (omega (arith, side_long side, ap length (sym is ∙ e)))
     | inr (e, fill) ↦ fill
   ],
-  λ fill. let one = ranks_said 1 rest fill in let two = one_said one.rest one.behind in
+  λ fill. let one = proof_said 1 rest fill in
+      let (two, also) = one_said one.rest one.behind in
       let parts : line ∷ rest ≡ codes "equivalent" ∷ (one.front ++ one.rest) = cc (one.parts) in
-      (both one.proof two.proof, equivalent one.front one.rest parts one.said two.said),
+      (both one.proof two, equivalent one.front one.rest parts one.said also),
 )
 
 pub circuit_spelled : (line : Line) (rest : List Line) → IsSpelled Circuit (line ∷ rest)
     → (holds : Bool) × (line ≡ holds_line holds) × FillEvidence rest
-circuit_spelled line rest (c, proved {holds} {proof} more e said) =
+circuit_spelled line rest (c, proved {holds} {proof} more e (clauses, said)) =
     let same : line ≡ holds_line holds = cc in
     let behind : more ≡ rest = cc in
-    let (clauses, head, lines, parts, counts, fill) = said_induction more proof said in (
+    let first = said_induction (kind_word clauses) clauses (FillProofs 0) more [] proof said refl in (
       holds,
       same,
-      subst FillEvidence (sym parts ∙ behind)
-          (inl (clauses, proof.depth, length proof.inv, counts, fill)),
+      subst FillEvidence (sym first.parts ∙ append-nil more ∙ behind)
+          (inl (clauses, proof.depth, length proof.inv, first.counts, first.fill)),
     )
 circuit_spelled line rest (c, shown {holds} {lassos} {tuple} front more e said also) =
     let same : line ≡ holds_line holds = cc in
@@ -253,8 +254,14 @@ spelled_circuit : (holds : Bool) (line : Line) (rest : List Line) → line ≡ h
     → FillEvidence rest → IsSpelled Circuit (line ∷ rest)
 spelled_circuit holds line [] is none = absurd none
 spelled_circuit holds line (head ∷ rest) is (inl (clauses, k, f, counts, fill)) =
-    let one = induction_said clauses k f head rest counts fill in
-    (induction holds one.proof, proved (head ∷ rest) (ap (λ l. l ∷ head ∷ rest) is) one.said)
+    let first = induction_said (kind_word clauses) clauses (FillProofs 0) k f head rest counts
+    fill in
+    let P : List Line → Type 0 = λ l. SayProofBy (kind_word clauses) clauses l first.proof in
+    let said = subst P
+    (front_whole (head ∷ rest) first.front first.rest first.parts first.behind) first.said in (
+      induction holds first.proof,
+      proved (head ∷ rest) (ap (λ l. l ∷ head ∷ rest) is) (clauses, said),
+    )
 spelled_circuit holds line (head ∷ rest) is (inr ((lasso, says), fill)) =
     let more = shown_said rest fill in
     let parts : line ∷ head ∷ rest ≡ holds_line holds ∷ ((head ∷ more.front) ++ more.rest) =

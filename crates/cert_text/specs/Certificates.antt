@@ -9,7 +9,7 @@ use Rattle.cert_text.specs.declared.question.Question.{Question}
 use Rattle.cert_text.specs.declared.question.Question.TheVariants.{Formula, Implication, Equivalence, Circuit}
 use Rattle.cert_text.specs.Lines.{Line, Say}
 use Rattle.cert_text.specs.RankLines.{SayRankProof}
-use Rattle.cert_text.specs.InductionLines.{SayInductionProof}
+use Rattle.cert_text.specs.InductionLines.{SayInductionProof, SayFreeProof}
 use Rattle.cert_text.specs.RunLines.{SayRuns}
 
 -- of two formulas, the one that the lassos satisfy; the other one they do not
@@ -17,12 +17,17 @@ pub data Side : Type 0 where
   first : Side
   second : Side
 
+-- why no lassos do what a formula asks: by ranks, or by induction over a free net
+pub data Refutation : Type 0 where
+  ranks : RankProof → Refutation
+  free : InductionProof → Refutation
+
 pub data Certificate : Type 0 where
   -- the lassos that satisfy a formula, and not the other one
   model : Side → List Spelled → Certificate
   -- that no lassos do, and for an equivalence in neither direction
-  ranks : RankProof → Certificate
-  both : RankProof → RankProof → Certificate
+  refuted : Refutation → Certificate
+  both : Refutation → Refutation → Certificate
   -- whether a circuit satisfies its formula, by a proof or by runs and what is seen of them
   induction : Bool → InductionProof → Certificate
   runs : Bool → List Spelled → List Run → Certificate
@@ -30,6 +35,10 @@ pub data Certificate : Type 0 where
 -- Lassos, one at least.
 abbrev pub SayLassos : List Line → List Spelled → Type 0
 SayLassos lines lassos = Say SaysLasso lines lassos × (0 < length lassos)
+
+abbrev pub SayRefutation : List Line → Refutation → Type 0
+SayRefutation lines (ranks proof) = SayRankProof lines proof
+SayRefutation lines (free proof) = SayFreeProof lines proof
 
 -- the first line of an answer about a circuit
 abbrev pub holds_line : Bool → Line
@@ -45,18 +54,18 @@ side_line second = codes "not equivalent second"
 pub data Spells (lines : List Line) : Question → Certificate → Type 0 where
   satisfiable : {lassos : List Spelled} (rest : List Line) → lines ≡ codes "sat" ∷ rest
       → SayLassos rest lassos → Spells lines Formula (model first lassos)
-  unsatisfiable : {proof : RankProof} (rest : List Line) → lines ≡ codes "unsat" ∷ rest
-      → SayRankProof rest proof → Spells lines Formula (ranks proof)
+  unsatisfiable : {proof : Refutation} (rest : List Line) → lines ≡ codes "unsat" ∷ rest
+      → SayRefutation rest proof → Spells lines Formula (refuted proof)
   not_implied : {lassos : List Spelled} (rest : List Line) → lines ≡ codes "not implied" ∷ rest
       → SayLassos rest lassos → Spells lines Implication (model first lassos)
-  implied : {proof : RankProof} (rest : List Line) → lines ≡ codes "implied" ∷ rest
-      → SayRankProof rest proof → Spells lines Implication (ranks proof)
+  implied : {proof : Refutation} (rest : List Line) → lines ≡ codes "implied" ∷ rest
+      → SayRefutation rest proof → Spells lines Implication (refuted proof)
   not_equivalent : {side : Side} {lassos : List Spelled} (rest : List Line)
       → lines ≡ side_line side ∷ rest → SayLassos rest lassos
       → Spells lines Equivalence (model side lassos)
-  equivalent : {one two : RankProof} (front rest : List Line)
-      → lines ≡ codes "equivalent" ∷ (front ++ rest) → SayRankProof front one
-      → SayRankProof rest two → Spells lines Equivalence (both one two)
+  equivalent : {one two : Refutation} (front rest : List Line)
+      → lines ≡ codes "equivalent" ∷ (front ++ rest) → SayRefutation front one
+      → SayRefutation rest two → Spells lines Equivalence (both one two)
   proved : {holds : Bool} {proof : InductionProof} (rest : List Line)
       → lines ≡ holds_line holds ∷ rest → SayInductionProof rest proof
       → Spells lines Circuit (induction holds proof)

@@ -5,6 +5,7 @@ pub mod LineParts
 pub mod Lines
 pub mod Numbers
 pub mod Printed
+pub mod ProofTexts
 pub mod RankLines
 pub mod RunLines
 pub mod Shortened

@@ -10,6 +10,7 @@ use Rattle.cnf_frames.specs.declared.inductions.InductionProof.{InductionProof}
 use Rattle.cnf_frames.specs.Queries.{groups}
 use Rattle.rank_proofs.specs.declared.rank_proof.RankProof.{RankProof}
 use Rattle.rank_proofs.specs.declared.rank_proof.ProofBranch.{ProofBranch}
+use Rattle.cert_text.specs.Certificates.{Refutation, ranks, free}
 
 abbrev pub IsBelow : ℕ → Type 0
 IsBelow n = n < 10 ^ 10
@@ -65,6 +66,12 @@ pub record IsPrintableInduction (proof : InductionProof) : Type 0 where
   pub step : IsPrintableLog proof.step
   pub keeps : length proof.keep ≡ groups proof.inv
   pub bases : length proof.base ≡ suc proof.depth
+
+-- ---- proofs about formulas
+
+abbrev pub IsPrintableRefutation : Refutation → Type 0
+IsPrintableRefutation (ranks proof) = IsPrintable proof
+IsPrintableRefutation (free proof) = IsPrintableInduction proof
 
 -- ---- runs
 

@@ -3,17 +3,16 @@
 ghost use Rattle.std.specs.Prelude.{◌↔◌, ◌<◌, ◌^◌, ◌∷◌, [], ℕ, Bool, codes, MatchOption, IfSome, IsTrue};
 ghost use Rattle.cert_text.specs.FactLines.{AreLiteralsFound, IsFactRead};
 ghost use Rattle.cert_text.specs.Lines.{Speaks};
-ghost use Rattle.cert_text.specs.InductionLines.{SaysInductionHead, SaysFact, SaysLiterals, SaysLogHead, SaysLearned};
+ghost use Rattle.cert_text.specs.InductionLines.{SaysFreeHead, SaysHead, SaysInductionHead, SaysFact, SaysLiterals, SaysLogHead, SaysLearned};
 ghost use Rattle.cert_text.specs.LineParts.{IsClauseFound, IsChain};
-ghost use Rattle.cert_text.specs.Numbers.{SaysTwo};
 
 use crate::fact_line::FactLine;
 use crate::numbers::{are_numbers, is_count, is_literal, one_number, two_numbers};
 use crate::words::{equals, past_word};
 use hy_text::cut;
 
-/// Whether the facts of a proof that begins with the line may be clauses, its depth, and how many
-/// facts it has.
+/// Whether the facts of a proof about a circuit that begins with the line may be clauses, its depth,
+/// and how many facts it has.
 pub fn induction_head(line: &[u8]) -> Option<(bool, u64, u64)>
     ensures said { MatchOption result
         ((clauses : Bool) (k f : ℕ) → ¬ SaysInductionHead clauses line.now k f)
@@ -29,17 +28,25 @@ pub fn induction_head(line: &[u8]) -> Option<(bool, u64, u64)>
     }
 }
 
-/// The depth of a proof of this kind that begins with the line, and how many facts it has.
-fn counts_of(line: &[u8], kind: &[u8]) -> Option<(u64, u64)>
-    ensures said { MatchOption result
-        ((k f : ℕ) → ¬ SaysTwo (codes "proof" ∷ kind.now ∷ []) line.now k f)
-        (λ counts. SaysTwo (codes "proof" ∷ kind.now ∷ []) line.now counts.0 counts.1) }
+/// The depth of a proof about a formula that begins with the line, and how many facts it has.
+pub fn free_head(line: &[u8]) -> Option<(u64, u64)>
+    ensures said { MatchOption result ((k f : ℕ) → ¬ SaysFreeHead line.now k f)
+        (λ head. SaysFreeHead line.now head.0 head.1) }
+    ensures short { IfSome result (λ head. (head.0 < 10 ^ 10) × (head.1 < 10 ^ 10)) }
+{
+    counts_of(line, b"free")
+}
+
+/// The depth of a proof with this word that begins with the line, and how many facts it has.
+fn counts_of(line: &[u8], word: &[u8]) -> Option<(u64, u64)>
+    ensures said { MatchOption result ((k f : ℕ) → ¬ SaysHead word.now line.now k f)
+        (λ counts. SaysHead word.now line.now counts.0 counts.1) }
     ensures short { IfSome result (λ counts. (counts.0 < 10 ^ 10) × (counts.1 < 10 ^ 10)) }
 {
     let Some(rest) = past_word(line, b"proof") else {
         return None;
     };
-    let Some(counts) = past_word(rest, kind) else {
+    let Some(counts) = past_word(rest, word) else {
         return None;
     };
     two_numbers(counts)

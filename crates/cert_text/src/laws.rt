@@ -21,8 +21,9 @@ ghost use Rattle.cnf_frames.specs.Proofs.{IsInductionProof, AreQueriesWithin};
 ghost use Rattle.cnf_frames.specs.ProofTexts.{proof_text as induction_text};
 ghost use Rattle.cnf_frames.specs.declared.inductions.InductionProof.{InductionProof};
 ghost use Rattle.cert_text.specs.declared.question.Question.{Question};
-ghost use Rattle.cert_text.specs.Certificates.{Certificate, Side, first, model, ranks, both, induction, runs, holds_line, side_line};
-ghost use Rattle.cert_text.specs.Printed.{IsPrintable, IsPrintableInduction, IsPrintableRun, ArePrintableRuns};
+ghost use Rattle.cert_text.specs.Certificates.{Certificate, Refutation, Side, first, model, refuted, both, induction, runs, holds_line, side_line};
+ghost use Rattle.cert_text.specs.Printed.{IsPrintable, IsPrintableInduction, IsPrintableRefutation, IsPrintableRun, ArePrintableRuns};
+ghost use Rattle.cert_text.specs.ProofTexts.{refutation_text, worded_text};
 ghost use Rattle.cert_text.specs.Texts.{IsText, IsFaultAt};
 
 /// A text spells one certificate.
@@ -39,15 +40,15 @@ pub fn one_fault()
         → IsFaultAt question bytes k → ¬ IsText question bytes certificate }
 {}
 
-/// What is printed of an answer with rank proofs is a text.
-pub fn printed_rank_proofs()
-    ensures unsat { (proof : RankProof) → IsPrintable proof
-        → IsText Question.Formula (codes "unsat\n" ++ proof_text proof) (ranks proof) }
-    ensures implied { (proof : RankProof) → IsPrintable proof
-        → IsText Question.Implication (codes "implied\n" ++ proof_text proof) (ranks proof) }
-    ensures equivalent { (one two : RankProof) → IsPrintable one → IsPrintable two
-        → IsText Question.Equivalence (codes "equivalent\n" ++ proof_text one ++ proof_text two)
-        (both one two) }
+/// What is printed of an answer with proofs about formulas is a text.
+pub fn printed_refutations()
+    ensures unsat { (proof : Refutation) → IsPrintableRefutation proof
+        → IsText Question.Formula (codes "unsat\n" ++ refutation_text proof) (refuted proof) }
+    ensures implied { (proof : Refutation) → IsPrintableRefutation proof
+        → IsText Question.Implication (codes "implied\n" ++ refutation_text proof) (refuted proof) }
+    ensures equivalent { (one two : Refutation) → IsPrintableRefutation one
+        → IsPrintableRefutation two → IsText Question.Equivalence
+        (codes "equivalent\n" ++ refutation_text one ++ refutation_text two) (both one two) }
 {}
 
 /// What is printed of an answer about a circuit with a proof by induction is a text.
@@ -94,11 +95,12 @@ pub fn printable_rank_proofs()
 {}
 
 /// A proof by induction whose queries are within their limits, of a net that has a latch, can be
-/// printed, where its text is no longer than a file may be.
+/// printed, where its text, with whatever word in its first line, is no longer than a file may be.
 pub fn printable_inductions()
-    ensures { (safe : SafeNet) (proof : InductionProof) → IsInductionProof safe proof
-        → AreQueriesWithin safe proof → 0 < length safe.net.latches
-        → length (induction_text proof) ≤ BYTES_LIMIT → IsPrintableInduction proof }
+    ensures { (word : List ℕ) (safe : SafeNet) (proof : InductionProof)
+        → IsInductionProof safe proof → AreQueriesWithin safe proof
+        → 0 < length safe.net.latches → length (worded_text word proof) ≤ BYTES_LIMIT
+        → IsPrintableInduction proof }
 {}
 
 /// Runs with a step in each cycle can be printed, where their text is no longer than a file may be.

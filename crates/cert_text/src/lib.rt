@@ -20,7 +20,7 @@ mod words;
 
 pub use fact_line::FactLine;
 pub use fault::fault_in;
-pub use induction_lines::{induction_head, literals_of, log_head, read_fact};
+pub use induction_lines::{free_head, induction_head, literals_of, log_head, read_fact};
 pub use learned_lines::read_learned;
 pub use question::Question;
 pub use rank_lines::{rank_head, read_branch, read_reason};

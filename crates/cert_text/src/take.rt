@@ -1,8 +1,9 @@
 //! What a line leaves of what is wanted.
 
-ghost use Rattle.cert_text.specs.Wants.{IsTaken};
+ghost use Rattle.std.specs.Prelude.{◌≡◌, ◌<◌, ◌^◌};
+ghost use Rattle.cert_text.specs.Wants.{IsTaken, logs_of as many_logs};
 
-use crate::induction_lines::{induction_head, is_fact, is_learned, log_head};
+use crate::induction_lines::{free_head, induction_head, is_fact, is_learned, log_head};
 use crate::lasso_lines::is_lasso;
 use crate::question::Question;
 use crate::rank_lines::{is_branch, is_reason, rank_head};
@@ -22,12 +23,12 @@ pub fn take(want: Want, line: &[u8], names: &NameTable) -> Option<Want>
         Want::Lassos => take_lasso(line, names),
         Want::Evidence => take_evidence(line, names),
         Want::MoreEvidence => take_more_evidence(line, names),
-        Want::RankHeads(proofs) => take_rank_head(proofs, line),
+        Want::Proofs(proofs) => take_proof(proofs, line),
         Want::Branches(branches, reasons, proofs) => take_branch(branches, reasons, proofs, line),
         Want::Reasons(reasons, proofs) => take_reason(reasons, proofs, line),
-        Want::Facts(clauses, facts, logs) => take_fact(clauses, facts, logs, line),
-        Want::Logs(logs) => take_log_head(logs, line),
-        Want::LearnedClauses(clauses, logs) => take_learned(clauses, logs, line),
+        Want::Facts(clauses, facts, logs, proofs) => take_fact(clauses, facts, logs, proofs, line),
+        Want::Logs(logs, proofs) => take_log_head(logs, proofs, line),
+        Want::LearnedClauses(clauses, logs, proofs) => take_learned(clauses, logs, proofs, line),
         Want::Runs(runs) => take_run(runs, line),
     }
 }
@@ -51,7 +52,7 @@ fn take_formula(line: &[u8]) -> Option<Want>
     if equals(line, b"sat") {
         Some(Want::FirstLasso)
     } else if equals(line, b"unsat") {
-        Some(Want::RankHeads(1))
+        Some(Want::Proofs(1))
     } else {
         None
     }
@@ -64,7 +65,7 @@ fn take_implication(line: &[u8]) -> Option<Want>
     if equals(line, b"not implied") {
         Some(Want::FirstLasso)
     } else if equals(line, b"implied") {
-        Some(Want::RankHeads(1))
+        Some(Want::Proofs(1))
     } else {
         None
     }
@@ -77,7 +78,7 @@ fn take_equivalence(line: &[u8]) -> Option<Want>
     if equals(line, b"not equivalent first") || equals(line, b"not equivalent second") {
         Some(Want::FirstLasso)
     } else if equals(line, b"equivalent") {
-        Some(Want::RankHeads(2))
+        Some(Want::Proofs(2))
     } else {
         None
     }
@@ -121,7 +122,7 @@ fn take_evidence(line: &[u8], names: &NameTable) -> Option<Want>
     ensures { IsTaken Want.Evidence line.now result }
 {
     if let Some((clauses, depth, facts)) = induction_head(line) {
-        return Some(Want::Facts(clauses, facts, (facts + 63) / 64 + (depth + 2)));
+        return Some(Want::Facts(clauses, facts, logs_of(depth, facts), 0));
     }
     if is_lasso(line, names) {
         Some(Want::MoreEvidence)
@@ -144,15 +145,27 @@ fn take_more_evidence(line: &[u8], names: &NameTable) -> Option<Want>
     }
 }
 
-/// The head of the next rank proof.
-fn take_rank_head(proofs: u64, line: &[u8]) -> Option<Want>
-    ensures { IsTaken (Want.RankHeads proofs) line.now result }
+/// How many logs a proof of this depth with so many facts has.
+fn logs_of(depth: u64, facts: u64) -> u64
+    requires depth { depth < 10 ^ 10 }
+    requires facts { facts < 10 ^ 10 }
+    ensures { result ≡ many_logs depth facts }
+{
+    (facts + 63) / 64 + (depth + 2)
+}
+
+/// The head of the next proof about a formula.
+fn take_proof(proofs: u64, line: &[u8]) -> Option<Want>
+    ensures { IsTaken (Want.Proofs proofs) line.now result }
 {
     if proofs == 0 {
         return None;
     }
-    match rank_head(line) {
-        Some((branches, ranks)) => Some(Want::Branches(branches, ranks, proofs - 1)),
+    if let Some((branches, ranks)) = rank_head(line) {
+        return Some(Want::Branches(branches, ranks, proofs - 1));
+    }
+    match free_head(line) {
+        Some((depth, facts)) => Some(Want::Facts(true, facts, logs_of(depth, facts), proofs - 1)),
         None => None,
     }
 }
@@ -176,7 +189,7 @@ fn take_reason(reasons: u64, proofs: u64, line: &[u8]) -> Option<Want>
     ensures { IsTaken (Want.Reasons reasons proofs) line.now result }
 {
     if reasons == 0 {
-        return take_rank_head(proofs, line);
+        return take_proof(proofs, line);
     }
     if is_reason(line) {
         Some(Want::Reasons(reasons - 1, proofs))
@@ -186,41 +199,41 @@ fn take_reason(reasons: u64, proofs: u64, line: &[u8]) -> Option<Want>
 }
 
 /// A fact, or what stands behind the last one.
-fn take_fact(clauses: bool, facts: u64, logs: u64, line: &[u8]) -> Option<Want>
-    ensures { IsTaken (Want.Facts clauses facts logs) line.now result }
+fn take_fact(clauses: bool, facts: u64, logs: u64, proofs: u64, line: &[u8]) -> Option<Want>
+    ensures { IsTaken (Want.Facts clauses facts logs proofs) line.now result }
 {
     if facts == 0 {
-        return take_log_head(logs, line);
+        return take_log_head(logs, proofs, line);
     }
     if is_fact(clauses, line) {
-        Some(Want::Facts(clauses, facts - 1, logs))
+        Some(Want::Facts(clauses, facts - 1, logs, proofs))
     } else {
         None
     }
 }
 
-/// The head of the next log.
-fn take_log_head(logs: u64, line: &[u8]) -> Option<Want>
-    ensures { IsTaken (Want.Logs logs) line.now result }
+/// The head of the next log, or what stands behind the last one.
+fn take_log_head(logs: u64, proofs: u64, line: &[u8]) -> Option<Want>
+    ensures { IsTaken (Want.Logs logs proofs) line.now result }
 {
     if logs == 0 {
-        return None;
+        return take_proof(proofs, line);
     }
     match log_head(line) {
-        Some(clauses) => Some(Want::LearnedClauses(clauses, logs - 1)),
+        Some(clauses) => Some(Want::LearnedClauses(clauses, logs - 1, proofs)),
         None => None,
     }
 }
 
 /// A learned clause, or what stands behind the last one of its log.
-fn take_learned(clauses: u64, logs: u64, line: &[u8]) -> Option<Want>
-    ensures { IsTaken (Want.LearnedClauses clauses logs) line.now result }
+fn take_learned(clauses: u64, logs: u64, proofs: u64, line: &[u8]) -> Option<Want>
+    ensures { IsTaken (Want.LearnedClauses clauses logs proofs) line.now result }
 {
     if clauses == 0 {
-        return take_log_head(logs, line);
+        return take_log_head(logs, proofs, line);
     }
     if is_learned(line) {
-        Some(Want::LearnedClauses(clauses - 1, logs))
+        Some(Want::LearnedClauses(clauses - 1, logs, proofs))
     } else {
         None
     }

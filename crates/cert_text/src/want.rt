@@ -19,18 +19,19 @@ pub enum Want {
     Evidence,
     /// Lassos, maybe none, and runs.
     MoreEvidence,
-    /// So many rank proofs.
-    RankHeads(u64),
-    /// So many branches, then so many reasons, then so many rank proofs.
+    /// So many proofs about formulas, each by ranks or over a free net.
+    Proofs(u64),
+    /// So many branches, then so many reasons, then so many proofs about formulas.
     Branches(u64, u64, u64),
-    /// So many reasons, then so many rank proofs.
+    /// So many reasons, then so many proofs about formulas.
     Reasons(u64, u64),
-    /// So many facts, which may be clauses or not, then so many logs.
-    Facts(bool, u64, u64),
-    /// So many logs.
-    Logs(u64),
-    /// So many learned clauses, then so many logs.
-    LearnedClauses(u64, u64),
+    /// So many facts, which may be clauses or not, then so many logs, then so many proofs about
+    /// formulas.
+    Facts(bool, u64, u64, u64),
+    /// So many logs, then so many proofs about formulas.
+    Logs(u64, u64),
+    /// So many learned clauses, then so many logs, then so many proofs about formulas.
+    LearnedClauses(u64, u64, u64),
     /// So many runs.
     Runs(u64),
 }
@@ -42,14 +43,16 @@ impl Want {
     {
         match self {
             Want::Lassos => true,
-            Want::RankHeads(proofs) => proofs == 0,
+            Want::Proofs(proofs) => proofs == 0,
             Want::Branches(branches, reasons, proofs) => {
                 branches == 0 && reasons == 0 && proofs == 0
             }
             Want::Reasons(reasons, proofs) => reasons == 0 && proofs == 0,
-            Want::Facts(_, facts, logs) => facts == 0 && logs == 0,
-            Want::Logs(logs) => logs == 0,
-            Want::LearnedClauses(clauses, logs) => clauses == 0 && logs == 0,
+            Want::Facts(_, facts, logs, proofs) => facts == 0 && logs == 0 && proofs == 0,
+            Want::Logs(logs, proofs) => logs == 0 && proofs == 0,
+            Want::LearnedClauses(clauses, logs, proofs) => {
+                clauses == 0 && logs == 0 && proofs == 0
+            }
             Want::Runs(runs) => runs == 0,
             _ => false,
         }

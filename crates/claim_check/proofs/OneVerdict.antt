@@ -20,13 +20,14 @@ use Rattle.aig_net.specs.Nets.{Net}
 use Rattle.aig_net.specs.Signals.{has_signal, literal_of}
 use Rattle.net_names.specs.Names.{IsBadName, IsOnly, name_at}
 use Rattle.cnf_frames.specs.Queries.{IsPastBy}
-use Rattle.cert_text.specs.Certificates.{Certificate, model, ranks, both, induction, runs}
+use Rattle.cert_text.specs.Certificates.{Certificate, Refutation, model, ranks, free, refuted, both, induction, runs}
 use Rattle.cert_text.specs.Texts.{IsFaultAt, IsText}
 use Rattle.claim_check.specs.declared.error.CertError.{CertError}
 use Rattle.claim_check.specs.declared.error.CertError.TheVariants.{Prefix, Limit, Name, Text, Memory}
 use Rattle.claim_check.specs.Claims.{Claim, formula, implication, equivalence, circuit, question_of}
+use Rattle.claim_check.specs.Good.{plan_against, reduction}
 use Rattle.claim_check.specs.Truths.{IsFree}
-use Rattle.claim_check.specs.Verdicts.{AnyOf, AreNamed, AreTaken, IsAnswered, IsCounted, IsJudgement, IsLarge, IsSmall, IsVerdict, PassesLimit, RefusesClass, RefusesName, RefusesQuery, closures_of, large_query, many_instances, many_members, many_positions, plans_of}
+use Rattle.claim_check.specs.Verdicts.{AnyOf, AreNamed, AreTaken, IsAnswered, IsCounted, IsJudgement, IsLarge, IsSmall, IsVerdict, PassesLimit, RefusesClass, RefusesIn, RefusesName, RefusesQuery, closures_of, large_query, many_instances, many_members, many_positions, plans_of}
 
 -- ---- classes
 
@@ -91,18 +92,41 @@ past-kind v l CnfVariables past = inl refl
 past-kind v l CnfLiterals past = inr refl
 past-kind v l _ past = absurd past
 
+-- A query of a proof about a formula, which only those over a free net have.
+proof-free : (plan : PlainPlan) (proof : Refutation) (limit : Past) → RefusesIn plan proof limit
+    → IsFree (Err (Limit limit))
+proof-free plan (ranks proof) limit refused = absurd refused
+proof-free plan (free proof) limit (asked, is, (past, most)) = past-kind _ _ limit.kind past
+
 query-free : (names : List (List ℕ)) (claim : Claim) (c : Certificate) (limit : Past)
     → RefusesQuery names claim c limit → IsFree (Err (Limit limit))
+query-free names (formula f) (model side lassos) limit refused = absurd refused
+query-free names (formula f) (refuted proof) limit refused =
+    proof-free (reduction f) proof limit refused
+query-free names (formula f) (both one two) limit refused = absurd refused
+query-free names (formula f) (induction holds proof) limit refused = absurd refused
+query-free names (formula f) (runs holds lassos tuple) limit refused = absurd refused
+query-free names (implication f g) (model side lassos) limit refused = absurd refused
+query-free names (implication f g) (refuted proof) limit refused =
+    proof-free (plan_against f g) proof limit refused
+query-free names (implication f g) (both one two) limit refused = absurd refused
+query-free names (implication f g) (induction holds proof) limit refused = absurd refused
+query-free names (implication f g) (runs holds lassos tuple) limit refused = absurd refused
+query-free names (equivalence f g) (model side lassos) limit refused = absurd refused
+query-free names (equivalence f g) (refuted proof) limit refused = absurd refused
+query-free names (equivalence f g) (both one two) limit (inl refused) =
+    proof-free (plan_against f g) one limit refused
+query-free names (equivalence f g) (both one two) limit (inr refused) =
+    proof-free (plan_against g f) two limit refused
+query-free names (equivalence f g) (induction holds proof) limit refused = absurd refused
+query-free names (equivalence f g) (runs holds lassos tuple) limit refused = absurd refused
+query-free names (circuit net f) (model side lassos) limit refused = absurd refused
+query-free names (circuit net f) (refuted proof) limit refused = absurd refused
+query-free names (circuit net f) (both one two) limit refused = absurd refused
 query-free names (circuit net f) (induction holds proof) limit refused =
     let (wants, (signals, are, (asked, is, (past, most)))) = refused in
     past-kind _ _ limit.kind past
-query-free names (circuit net f) (model side lassos) limit refused = absurd refused
-query-free names (circuit net f) (ranks proof) limit refused = absurd refused
-query-free names (circuit net f) (both one two) limit refused = absurd refused
 query-free names (circuit net f) (runs holds lassos tuple) limit refused = absurd refused
-query-free names (formula f) c limit refused = absurd refused
-query-free names (implication f g) c limit refused = absurd refused
-query-free names (equivalence f g) c limit refused = absurd refused
 
 -- ---- limits
 

@@ -12,8 +12,8 @@ use Rattle.hy_text.specs.Sets.{letter_of}
 use Rattle.hy_text.specs.Words.{SpellsWord}
 use Rattle.cert_text.specs.declared.question.Question.{Question}
 use Rattle.cert_text.specs.declared.question.Question.TheVariants.{Formula, Implication, Equivalence, Circuit}
-use Rattle.cert_text.specs.Certificates.{Certificate, Spells, first, second, model, ranks, both, induction, runs, holds_line, side_line, satisfiable, unsatisfiable, not_implied, implied, not_equivalent, equivalent, proved, shown}
-use Rattle.cert_text.specs.InductionLines.{SaysInductionHead}
+use Rattle.cert_text.specs.Certificates.{Certificate, Refutation, SayRefutation, Spells, first, second, model, ranks, free, refuted, both, induction, runs, holds_line, side_line, satisfiable, unsatisfiable, not_implied, implied, not_equivalent, equivalent, proved, shown}
+use Rattle.cert_text.specs.InductionLines.{SaysFreeHead, SaysInductionHead}
 use Rattle.cert_text.specs.Lines.{Line, Say}
 use Rattle.cert_text.specs.RankLines.{SaysRankHead}
 use Rattle.cert_text.specs.RunLines.{SaysRunsHead}
@@ -46,7 +46,7 @@ parts-of Formula (model first lassos) lines (satisfiable rest e (said, some)) = 
   filled = some;
   shows = refl;
 }
-parts-of Formula (ranks proof) lines (unsatisfiable rest e shows) = record {
+parts-of Formula (refuted proof) lines (unsatisfiable rest e shows) = record {
   head = codes "unsat";
   front = [];
   back = rest;
@@ -66,7 +66,7 @@ parts-of Implication (model first lassos) lines (not_implied rest e (said, some)
   filled = some;
   shows = refl;
 }
-parts-of Implication (ranks proof) lines (implied rest e shows) = record {
+parts-of Implication (refuted proof) lines (implied rest e shows) = record {
   head = codes "implied";
   front = [];
   back = rest;
@@ -125,11 +125,11 @@ parts-of Implication (model second lassos) lines x = elim x [ ]
 parts-of Implication (both one two) lines x = elim x [ ]
 parts-of Implication (induction holds proof) lines x = elim x [ ]
 parts-of Implication (runs holds lassos tuple) lines x = elim x [ ]
-parts-of Equivalence (ranks proof) lines x = elim x [ ]
+parts-of Equivalence (refuted proof) lines x = elim x [ ]
 parts-of Equivalence (induction holds proof) lines x = elim x [ ]
 parts-of Equivalence (runs holds lassos tuple) lines x = elim x [ ]
 parts-of Circuit (model side lassos) lines x = elim x [ ]
-parts-of Circuit (ranks proof) lines x = elim x [ ]
+parts-of Circuit (refuted proof) lines x = elim x [ ]
 parts-of Circuit (both one two) lines x = elim x [ ]
 
 -- ---- what stands behind the lassos
@@ -142,6 +142,9 @@ abbrev pub InductionEnds : Type 0
 InductionEnds =
     (clauses : Bool) (line : Line) (k f : ℕ) (said : Spelled) → SaysInductionHead clauses line k f
     → ¬ SaysLasso line said
+
+abbrev pub FreeEnds : Type 0
+FreeEnds = (line : Line) (k f : ℕ) (said : Spelled) → SaysFreeHead line k f → ¬ SaysLasso line said
 
 abbrev pub RunsEnd : Type 0
 RunsEnd = (line : Line) (n : ℕ) (said : Spelled) → SaysRunsHead line n → ¬ SaysLasso line said
@@ -156,8 +159,24 @@ record Behind (back : List Line) : Type 0 where
   pub parts : back ++ [] ∷ [] ≡ line ∷ more
   pub silent : (said : Spelled) → ¬ SaysLasso line said
 
-module _ (ranks-end : RanksEnd) (induction-ends : InductionEnds) (runs-end : RunsEnd)
-    (empty-ends : EmptyEnds) where
+module _ (ranks-end : RanksEnd) (induction-ends : InductionEnds) (free-ends : FreeEnds)
+    (runs-end : RunsEnd) (empty-ends : EmptyEnds) where
+  -- a proof about a formula, whatever stands behind it
+  refutation-behind : (proof : Refutation) (front rest : List Line) → SayRefutation front proof
+      → Behind (front ++ rest)
+  refutation-behind (ranks proof) front rest shows = record {
+    line = shows.head;
+    more = ((shows.branches ++ shows.reasons) ++ rest) ++ [] ∷ [];
+    parts = ap (λ l. (l ++ rest) ++ [] ∷ []) shows.parts;
+    silent = λ said. ranks-end shows.head _ _ said shows.counts;
+  }
+  refutation-behind (free proof) front rest shows = record {
+    line = shows.head;
+    more = ((shows.facts ++ shows.logs) ++ rest) ++ [] ∷ [];
+    parts = ap (λ l. (l ++ rest) ++ [] ∷ []) shows.parts;
+    silent = λ said. free-ends shows.head _ _ said shows.counts;
+  }
+
   behind : (c : Certificate) (back : List Line) → Shows back c → Behind back
   behind (model side lassos) back none = record {
     line = [];
@@ -165,23 +184,15 @@ module _ (ranks-end : RanksEnd) (induction-ends : InductionEnds) (runs-end : Run
     parts = ap (λ l. l ++ [] ∷ []) none;
     silent = empty-ends;
   }
-  behind (ranks proof) back shows = record {
-    line = shows.head;
-    more = (shows.branches ++ shows.reasons) ++ [] ∷ [];
-    parts = ap (λ l. l ++ [] ∷ []) shows.parts;
-    silent = λ said. ranks-end shows.head _ _ said shows.counts;
-  }
-  behind (both one two) back (front, rest, e, a, b) = record {
-    line = a.head;
-    more = ((a.branches ++ a.reasons) ++ rest) ++ [] ∷ [];
-    parts = ap (λ l. l ++ [] ∷ []) (e ∙ ap (λ l. l ++ rest) a.parts);
-    silent = λ said. ranks-end a.head _ _ said a.counts;
-  }
-  behind (induction holds proof) back shows = record {
+  behind (refuted proof) back shows =
+      subst Behind (append-nil back) (refutation-behind proof back [] shows)
+  behind (both one two) back (front, rest, e, a, b) =
+      subst Behind (sym e) (refutation-behind one front rest a)
+  behind (induction holds proof) back (clauses, shows) = record {
     line = shows.head;
     more = (shows.facts ++ shows.logs) ++ [] ∷ [];
     parts = ap (λ l. l ++ [] ∷ []) shows.parts;
-    silent = λ said. induction-ends shows.clauses shows.head _ _ said shows.counts;
+    silent = λ said. induction-ends clauses shows.head _ _ said shows.counts;
   }
   behind (runs holds lassos tuple) back shows = record {
     line = shows.head;

@@ -11,7 +11,7 @@ use Rattle.net_names.specs.Names.{AreSignals}
 use Rattle.cnf_frames.specs.declared.inductions.InductionProof.{InductionProof}
 use Rattle.wit_lasso.specs.Satisfaction.{Satisfies}
 use Rattle.formula_nets.specs.Posed.{is_existential}
-use Rattle.cert_text.specs.Certificates.{Certificate, model, ranks, both, induction, runs}
+use Rattle.cert_text.specs.Certificates.{Certificate, model, refuted, both, induction, runs}
 use Rattle.claim_check.specs.Claims.{circuit}
 use Rattle.claim_check.specs.Good.{AreGoodRuns, IsGood, lassos_over, safe_net}
 use Rattle.induction_judge.specs.Good.{IsGoodInduction}
@@ -48,7 +48,7 @@ module _ (net : Net) (names : List (List ℕ)) (f : Plain) where
     pub circuit-true : (c : Certificate) → IsGood names (circuit net f) c
         → IsSaid names (circuit net f) c
     circuit-true (model side lassos) good = absurd good
-    circuit-true (ranks proof) good = absurd good
+    circuit-true (refuted proof) good = absurd good
     circuit-true (both one two) good = absurd good
     circuit-true (induction holds proof) (wants, (signals, are, good)) =
         said holds (not (is_existential f.prefix)) wants signals are

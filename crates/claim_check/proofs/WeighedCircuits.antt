@@ -16,7 +16,7 @@ use Rattle.cnf_frames.specs.declared.queries.FrameError.{FrameError}
 use Rattle.cnf_frames.specs.declared.queries.FrameError.TheVariants as frame
 use Rattle.formula_nets.specs.Posed.{is_existential}
 use Rattle.cert_text.specs.declared.question.Question.TheVariants.{Circuit}
-use Rattle.cert_text.specs.Certificates.{Certificate, model, ranks, both, induction, runs, holds_line}
+use Rattle.cert_text.specs.Certificates.{Certificate, model, refuted, both, induction, runs, holds_line}
 use Rattle.cert_text.specs.InductionLines.{SayInductionProof}
 use Rattle.cert_text.specs.Lines.{Line}
 use Rattle.cert_text.specs.RunLines.{SayRuns}
@@ -88,7 +88,7 @@ module _ (net : Net) (names : List (List ℕ)) (f : Plain) (head : Line) (list :
   pub runs_wanted : (c : Certificate) → IsRead names Circuit c head list evidence
       → h ≡ is_existential f.prefix → length list ≡ 0 → ¬ IsGood names (circuit net f) c
   runs_wanted (model side lassos) read wants none good = good
-  runs_wanted (ranks proof) read wants none good = good
+  runs_wanted (refuted proof) read wants none good = good
   runs_wanted (both one two) read wants none good = good
   runs_wanted (induction holds proof) read wants none good =
       not-itself holds (is_existential f.prefix)
@@ -99,7 +99,7 @@ module _ (net : Net) (names : List (List ℕ)) (f : Plain) (head : Line) (list :
   pub proof_wanted : (c : Certificate) → IsRead names Circuit c head list evidence
       → h ≢ is_existential f.prefix → 0 < length list → ¬ IsGood names (circuit net f) c
   proof_wanted (model side lassos) read other some good = good
-  proof_wanted (ranks proof) read other some good = good
+  proof_wanted (refuted proof) read other some good = good
   proof_wanted (both one two) read other some good = good
   proof_wanted (induction holds proof) read other some good = omega (arith, read.filled, some)
   proof_wanted (runs holds lassos tuple) read other some good =
@@ -112,7 +112,7 @@ module _ (net : Net) (names : List (List ℕ)) (f : Plain) (head : Line) (list :
         → SayRuns lines tuple → IsTrue good ↔ AreGoodRuns net signals f list tuple)
         → IsTrue good ↔ IsGood names (circuit net f) c
     runs_weighed (model side lassos) read wants some good weighs = absurd read.begun
-    runs_weighed (ranks proof) read wants some good weighs = absurd read.begun
+    runs_weighed (refuted proof) read wants some good weighs = absurd read.begun
     runs_weighed (both one two) read wants some good weighs = absurd read.begun
     runs_weighed (induction holds proof) read wants some good weighs =
         absurd (omega (arith, read.filled, some))
@@ -134,7 +134,7 @@ module _ (net : Net) (names : List (List ℕ)) (f : Plain) (head : Line) (list :
         → IsTrue good ↔ IsGoodInduction (safe_net net signals f) proof)
         → IsTrue good ↔ IsGood names (circuit net f) c
     proof_weighed (model side lassos) read wants none good weighs = absurd read.begun
-    proof_weighed (ranks proof) read wants none good weighs = absurd read.begun
+    proof_weighed (refuted proof) read wants none good weighs = absurd read.begun
     proof_weighed (both one two) read wants none good weighs = absurd read.begun
     proof_weighed (runs holds lassos tuple) read wants none good weighs =
         absurd (omega (arith, read.filled, none))
@@ -154,7 +154,7 @@ module _ (net : Net) (names : List (List ℕ)) (f : Plain) (head : Line) (list :
         → SayInductionProof lines proof → IsQueryRefusal (safe_net net signals f) proof e)
         → IsWeighed names (circuit net f) c (Err e)
     proof_refused (model side lassos) read wants none e refuses = absurd read.begun
-    proof_refused (ranks proof) read wants none e refuses = absurd read.begun
+    proof_refused (refuted proof) read wants none e refuses = absurd read.begun
     proof_refused (both one two) read wants none e refuses = absurd read.begun
     proof_refused (runs holds lassos tuple) read wants none e refuses =
         absurd (omega (arith, read.filled, none))

@@ -43,15 +43,22 @@ Stops names claim list (Name name twice) = IsWithin claim list × RefusesName na
 Stops names claim list (Text line) = ⊥
 Stops names claim list Memory = Unit {0}
 
+-- why evidence was not judged, of which a query is refused so; want of memory needs no cause
+abbrev pub IsRefusalBy : (Past → Type 0) → CertError → Type 0
+IsRefusalBy Refuses (Limit limit) = Refuses limit
+IsRefusalBy Refuses Memory = Unit {0}
+IsRefusalBy Refuses _ = ⊥
+
+-- what is found of evidence that is good so
+abbrev pub IsFound : Type 0 → (Past → Type 0) → Result Bool CertError → Type 0
+IsFound Good Refuses (Ok good) = IsTrue good ↔ Good
+IsFound Good Refuses (Err e) = IsRefusalBy Refuses e
+
 -- what is answered to evidence
 abbrev pub IsWeighed : List (List ℕ) → Claim → Certificate → Result Bool CertError → Type 0
-IsWeighed names claim c (Ok good) = IsTrue good ↔ IsGood names claim c
-IsWeighed names claim c (Err (Limit limit)) = RefusesQuery names claim c limit
-IsWeighed names claim c (Err Memory) = Unit {0}
-IsWeighed names claim c (Err _) = ⊥
+IsWeighed names claim c = IsFound (IsGood names claim c) (RefusesQuery names claim c)
 
--- why a proof by induction was not judged; want of memory needs no cause
+-- why a proof by induction was not judged
 abbrev pub IsQueryRefusal : SafeNet → InductionProof → CertError → Type 0
-IsQueryRefusal safe proof (Limit limit) = IsRefusedInduction safe proof (frame.Limit limit)
-IsQueryRefusal safe proof Memory = Unit {0}
-IsQueryRefusal safe proof _ = ⊥
+IsQueryRefusal safe proof =
+    IsRefusalBy (λ limit. IsRefusedInduction safe proof (frame.Limit limit))

@@ -9,20 +9,20 @@ use Rattle.ltl_tableau.specs.Ranks.{IsRankProof}
 use Rattle.ea_reduce.specs.Fulfilled as lists
 use Rattle.ea_reduce.specs.Plans as plans
 use Rattle.ea_reduce.specs.Plans.{PlainPlan}
-use Rattle.rank_proofs.specs.declared.rank_proof.RankProof.{RankProof}
 use Rattle.rank_proofs.specs.Proofs.{plain_proof, plan_nodes, plan_roots}
 use Rattle.aig_net.specs.declared.run.Run.{Run}
 use Rattle.aig_net.specs.declared.signals.Signal.{Signal}
 use Rattle.aig_net.specs.Nets.{Net}
 use Rattle.net_names.specs.Names.{AreSignals}
 use Rattle.live_safe.specs.declared.safe_net.SafeNet.{SafeNet}
+use Rattle.free_net.specs.FreeNets.{plan_safe}
 use Rattle.formula_nets.specs.Posed.{checked_safe, is_existential}
 use Rattle.formula_nets.specs.Witnesses.{AreWitnesses}
-use Rattle.cert_text.specs.Certificates.{Certificate, first, second, model, ranks, both, induction, runs}
+use Rattle.cert_text.specs.Certificates.{Certificate, Refutation, first, second, model, ranks, free, refuted, both, induction, runs}
 use Rattle.induction_judge.specs.Good.{IsGoodInduction}
 use Rattle.claim_check.specs.Claims.{Claim, formula, implication, equivalence, circuit}
 
--- ---- lists of lassos, and rank proofs that there are none
+-- ---- lists of lassos, and proofs that there are none
 
 -- the lassos that are spelled, over a table of names
 abbrev pub lassos_over : List (List ℕ) → List Spelled → List (Lasso Letter)
@@ -44,9 +44,11 @@ IsModel f list = lists.IsModel f.prefix f.body list
 abbrev pub Separates : Plain → Plain → List (Lasso Letter) → Type 0
 Separates f g list = lists.Separates f.prefix f.body g.prefix g.body list
 
--- The proof shows that no lassos fulfil the plan.
-abbrev pub Refutes : PlainPlan → RankProof → Type 0
-Refutes plan proof = IsRankProof (plan_nodes plan) (plan_roots plan) (plain_proof proof)
+-- The proof shows that no lassos fulfil the plan: by ranks of its branches, or since no path of the
+-- safe net of its free net is bad.
+abbrev pub Refutes : PlainPlan → Refutation → Type 0
+Refutes plan (ranks proof) = IsRankProof (plan_nodes plan) (plan_roots plan) (plain_proof proof)
+Refutes plan (free proof) = IsGoodInduction (plan_safe plan) proof
 
 -- ---- circuits
 
@@ -74,9 +76,9 @@ AreGoodRuns net signals f list tuple =
 -- The names are those of the table by which the formulas of the claim were read.
 abbrev pub IsGood : List (List ℕ) → Claim → Certificate → Type 0
 IsGood names (formula f) (model first lassos) = IsModel f (lassos_over names lassos)
-IsGood names (formula f) (ranks proof) = Refutes (reduction f) proof
+IsGood names (formula f) (refuted proof) = Refutes (reduction f) proof
 IsGood names (implication f g) (model first lassos) = Separates f g (lassos_over names lassos)
-IsGood names (implication f g) (ranks proof) = Refutes (plan_against f g) proof
+IsGood names (implication f g) (refuted proof) = Refutes (plan_against f g) proof
 IsGood names (equivalence f g) (model first lassos) = Separates f g (lassos_over names lassos)
 IsGood names (equivalence f g) (model second lassos) = Separates g f (lassos_over names lassos)
 IsGood names (equivalence f g) (both one two) =

@@ -7,10 +7,9 @@ use Rattle.hy_lasso.specs.Words.{AreLassos}
 use Rattle.hy_text.specs.Lines.{lines_of}
 use Rattle.cert_text.specs.declared.question.Question.{Question}
 use Rattle.cert_text.specs.declared.question.Question.TheVariants.{Formula, Implication, Equivalence, Circuit}
-use Rattle.cert_text.specs.Certificates.{Certificate, first, model, ranks, both, induction, runs, holds_line, side_line}
+use Rattle.cert_text.specs.Certificates.{Certificate, SayRefutation, first, model, refuted, both, induction, runs, holds_line, side_line}
 use Rattle.cert_text.specs.InductionLines.{SayInductionProof}
 use Rattle.cert_text.specs.Lines.{Line}
-use Rattle.cert_text.specs.RankLines.{SayRankProof}
 use Rattle.cert_text.specs.RunLines.{SayRuns}
 use Rattle.claim_check.specs.Good.{lassos_over}
 use Rattle.claim_check.specs.Verdicts.{spelled_in}
@@ -18,9 +17,9 @@ use Rattle.claim_check.specs.Verdicts.{spelled_in}
 -- The line is the first one of such a certificate. A question has no others.
 abbrev pub IsHead : Question → Certificate → Line → Type 0
 IsHead Formula (model first lassos) head = head ≡ codes "sat"
-IsHead Formula (ranks proof) head = head ≡ codes "unsat"
+IsHead Formula (refuted proof) head = head ≡ codes "unsat"
 IsHead Implication (model first lassos) head = head ≡ codes "not implied"
-IsHead Implication (ranks proof) head = head ≡ codes "implied"
+IsHead Implication (refuted proof) head = head ≡ codes "implied"
 IsHead Equivalence (model side lassos) head = head ≡ side_line side
 IsHead Equivalence (both one two) head = head ≡ codes "equivalent"
 IsHead Circuit (induction holds proof) head = head ≡ holds_line holds
@@ -36,10 +35,10 @@ IsFilled _ n = n ≡ 0
 -- The lines are what stands behind the lassos.
 abbrev pub Shows : List Line → Certificate → Type 0
 Shows lines (model side lassos) = lines ≡ []
-Shows lines (ranks proof) = SayRankProof lines proof
+Shows lines (refuted proof) = SayRefutation lines proof
 Shows lines (both one two) =
     (front rest : List Line) × (lines ≡ front ++ rest)
-    × SayRankProof front one × SayRankProof rest two
+    × SayRefutation front one × SayRefutation rest two
 Shows lines (induction holds proof) = SayInductionProof lines proof
 Shows lines (runs holds lassos tuple) = SayRuns lines tuple
 

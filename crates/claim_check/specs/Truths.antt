@@ -12,7 +12,7 @@ use Rattle.aig_net.specs.declared.signals.Signal.{Signal}
 use Rattle.aig_net.specs.Nets.{Net}
 use Rattle.net_names.specs.Names.{AreSignals}
 use Rattle.wit_lasso.specs.Satisfaction as circuits
-use Rattle.cert_text.specs.Certificates.{Certificate, first, second, model, ranks, both, induction, runs}
+use Rattle.cert_text.specs.Certificates.{Certificate, first, second, model, refuted, both, induction, runs}
 use Rattle.claim_check.specs.declared.error.CertError.{CertError}
 use Rattle.claim_check.specs.declared.error.CertError.TheVariants.{Limit, Memory}
 use Rattle.claim_check.specs.Claims.{Claim, formula, implication, equivalence, circuit}
@@ -50,9 +50,9 @@ Says holds net names f =
 
 abbrev pub IsSaid : List (List ℕ) → Claim → Certificate → Type 0
 IsSaid names (formula f) (model side lassos) = IsSatisfiable f
-IsSaid names (formula f) (ranks proof) = ¬ IsSatisfiable f
+IsSaid names (formula f) (refuted proof) = ¬ IsSatisfiable f
 IsSaid names (implication f g) (model side lassos) = AreApart f g
-IsSaid names (implication f g) (ranks proof) = Implies f g
+IsSaid names (implication f g) (refuted proof) = Implies f g
 IsSaid names (equivalence f g) (model first lassos) = AreApart f g
 IsSaid names (equivalence f g) (model second lassos) = AreApart g f
 IsSaid names (equivalence f g) (both one two) = Implies f g × Implies g f

@@ -25,9 +25,10 @@ use Rattle.live_safe.specs.declared.safe_net.SafeNet.{SafeNet}
 use Rattle.cnf_frames.specs.declared.inductions.InductionProof.{InductionProof}
 use Rattle.cnf_frames.specs.declared.queries.FrameError.{FrameError}
 use Rattle.cnf_frames.specs.declared.queries.FrameError.TheVariants as frame
+use Rattle.free_net.specs.FreeNets.{plan_safe}
 use Rattle.formula_nets.specs.Posed as posed
 use Rattle.formula_nets.specs.Posed.{is_existential}
-use Rattle.cert_text.specs.Certificates.{Certificate, model, induction, runs}
+use Rattle.cert_text.specs.Certificates.{Certificate, Refutation, model, ranks, free, refuted, both, induction, runs}
 use Rattle.cert_text.specs.Texts.{IsText, IsFaultAt}
 use Rattle.claim_check.specs.declared.error.CertError.{CertError}
 use Rattle.claim_check.specs.declared.error.CertError.TheVariants.{Prefix, Limit, Name, Text, Memory}
@@ -98,12 +99,26 @@ RefusesName names _ name twice = ⊥
 
 -- ---- queries
 
+-- A query that the proof is to refute is past the limit; rank proofs have none.
+abbrev pub RefusesIn : PlainPlan → Refutation → Past → Type 0
+RefusesIn plan (ranks proof) = λ limit. ⊥
+RefusesIn plan (free proof) =
+    λ limit. IsRefusedInduction (plan_safe plan) proof (frame.Limit limit)
+
+-- So is one of two proofs.
+abbrev pub RefusesEither : PlainPlan → Refutation → PlainPlan → Refutation → Past → Type 0
+RefusesEither there one back two = λ limit. RefusesIn there one limit ⊎ RefusesIn back two limit
+
 -- A query that the certificate is to refute is past the limit.
 abbrev pub RefusesQuery : List (List ℕ) → Claim → Certificate → Past → Type 0
-RefusesQuery names (circuit net f) (induction holds proof) limit =
+RefusesQuery names (formula f) (refuted proof) = RefusesIn (reduction f) proof
+RefusesQuery names (implication f g) (refuted proof) = RefusesIn (plan_against f g) proof
+RefusesQuery names (equivalence f g) (both one two) =
+    RefusesEither (plan_against f g) one (plan_against g f) two
+RefusesQuery names (circuit net f) (induction holds proof) = λ limit.
     WantsInduction f holds × ((signals : List Signal) × AreSignals net names f.body signals
     × IsRefusedInduction (safe_net net signals f) proof (frame.Limit limit))
-RefusesQuery names _ _ limit = ⊥
+RefusesQuery names _ _ = λ limit. ⊥
 
 -- Why a proof by induction was not judged; want of memory needs no cause.
 abbrev pub RefusesProof : SafeNet → Plain → Bool → InductionProof → FrameError → Type 0

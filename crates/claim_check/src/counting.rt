@@ -7,9 +7,11 @@ ghost use Rattle.ea_reduce.specs.Plans.{plain_plan, plan_tasks};
 ghost use Rattle.claim_check.specs.Claims.{equivalence, formula, implication as one_implication};
 ghost use Rattle.claim_check.specs.Counting.{IsWithin, Stops};
 ghost use Rattle.claim_check.specs.Good.{plan_against, reduction};
+ghost use Rattle.claim_check.specs.Refuting.{HasFreeNet};
 
 use crate::error::CertError;
 use ea_reduce::{Plan, implication, reduce};
+use free_net::laws::plans_are_reduced;
 use hy_formula::Formula;
 use hy_lasso::{LassoList, are_judged};
 use ltl_closure::Closure;
@@ -35,10 +37,12 @@ pub struct BothPlanned {
 pub fn plan_formula(alloc: Global, f: &Formula, list: &LassoList) -> Result<Planned, CertError>
     ensures plan { IfOk result
         (λ made. plain_plan made.plan ≡ reduction (plain_formula f.now)) }
+    ensures net { IfOk result (λ made. HasFreeNet (plain_plan made.plan)) }
     ensures within { OnOk result (IsWithin (formula (plain_formula f.now)) list.now) }
     ensures stopped { IfErr result (λ e. (names : List (List ℕ))
         → Stops names (formula (plain_formula f.now)) list.now e) }
 {
+    plans_are_reduced(); // what each plan is
     let plan = reduce(alloc, f)?;
     let closure = plan_closure(alloc, &plan)?;
     if !are_judged(list) {
@@ -57,11 +61,13 @@ pub fn plan_implication(
 ) -> Result<Planned, CertError>
     ensures plan { IfOk result (λ made.
         plain_plan made.plan ≡ plan_against (plain_formula f.now) (plain_formula g.now)) }
+    ensures net { IfOk result (λ made. HasFreeNet (plain_plan made.plan)) }
     ensures within { OnOk result
         (IsWithin (one_implication (plain_formula f.now) (plain_formula g.now)) list.now) }
     ensures stopped { IfErr result (λ e. (names : List (List ℕ))
         → Stops names (one_implication (plain_formula f.now) (plain_formula g.now)) list.now e) }
 {
+    plans_are_reduced(); // what each plan is
     let plan = implication(alloc, f, g)?;
     let closure = plan_closure(alloc, &plan)?;
     if !are_judged(list) {
@@ -82,11 +88,14 @@ pub fn plan_equivalence(
         plain_plan made.there.plan ≡ plan_against (plain_formula f.now) (plain_formula g.now)) }
     ensures back { IfOk result (λ made.
         plain_plan made.back.plan ≡ plan_against (plain_formula g.now) (plain_formula f.now)) }
+    ensures nets { IfOk result (λ made. HasFreeNet (plain_plan made.there.plan)
+        × HasFreeNet (plain_plan made.back.plan)) }
     ensures within { OnOk result
         (IsWithin (equivalence (plain_formula f.now) (plain_formula g.now)) list.now) }
     ensures stopped { IfErr result (λ e. (names : List (List ℕ))
         → Stops names (equivalence (plain_formula f.now) (plain_formula g.now)) list.now e) }
 {
+    plans_are_reduced(); // what each plan is
     let plan = implication(alloc, f, g)?;
     let converse = implication(alloc, g, f)?;
     let closure = plan_closure(alloc, &plan)?;

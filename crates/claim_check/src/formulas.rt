@@ -26,7 +26,7 @@ pub fn judge_formula(alloc: Global, f: &Formula, read: &Reading) -> Result<bool,
 {
     let planned = plan_formula(alloc, f, &read.list)?;
     if read.list.is_empty() {
-        Ok(is_refuted(alloc, &planned, read.evidence)?)
+        is_refuted(alloc, &planned, read.evidence)
     } else {
         Ok(is_model(alloc, f, &read.list)?)
     }
@@ -47,7 +47,7 @@ pub fn judge_implication(
 {
     let planned = plan_implication(alloc, f, g, &read.list)?;
     if read.list.is_empty() {
-        Ok(is_refuted(alloc, &planned, read.evidence)?)
+        is_refuted(alloc, &planned, read.evidence)
     } else {
         Ok(separates(alloc, f, g, &read.list)?)
     }
@@ -68,7 +68,7 @@ pub fn judge_equivalence(
 {
     let planned = plan_equivalence(alloc, f, g, &read.list)?;
     if read.list.is_empty() {
-        Ok(are_refuted(alloc, &planned, read.evidence)?)
+        are_refuted(alloc, &planned, read.evidence)
     } else if read.head == b"not equivalent second".as_slice() {
         Ok(separates(alloc, g, f, &read.list)?)
     } else {

@@ -21,8 +21,8 @@ use std::alloc::Global;
 /// over the same names.
 ///
 /// In time linear in the bytes, for lassos in what `hy_lasso::holds` takes, for rank proofs in the
-/// branches of each next set that they name, and for proofs by induction in their queries. No
-/// solver and no search is asked.
+/// branches of each next set that they name, and for proofs by induction, about a circuit or over the
+/// free net of a plan, in their queries. No solver and no search is asked.
 ///
 /// # Errors
 ///

@@ -2,7 +2,7 @@
 use Rattle.std.proofs.Common.{◌≡◌, ℕ, suc, ◌+◌, ◌-◌, ◌<◌, ◌≤◌, Bool, true, false, cond, List, [], ◌∷◌, ◌++◌, length, drop, refl, sym, ◌∙◌, ap, subst, arith, drop-cons, append_assoc, length-append, ltb-true, ltb-false, leb-true, leb-false, lt-ltb, le-leb, below_more}
 use Rattle.std.specs.Prelude.{nat_lt, nat_le}
 use Rattle.std.proofs.lemmas.Bool.{le-ltb, lt-leb}
-use Rattle.std.proofs.lemmas.List.{get_or_append_left, get_or-append-add}
+use Rattle.std.proofs.lemmas.List.{drop_all, get_or_append_left, get_or-append-add}
 use Rattle.chain_check.specs.declared.logs.Learned.{Learned}
 use Rattle.chain_check.specs.Clauses.{Clause}
 use Rattle.chain_check.specs.Logs.{IsRefutation}
@@ -144,26 +144,40 @@ module _ (safe : SafeNet) (facts : List Fact) (depth : ℕ) (keep base : List (L
 
 -- the first log, and the lines of the others
 pub first_log : (text : List ℕ) (log : List Learned) (logs : List (List Learned))
-    → AreLogs text (log ∷ logs) → (rest : List Line) × IsLogAt text log rest × SayLogs rest logs
-first_log text log logs are =
-    let (head, clauses, rest, parts, counts, said, more) = are.said in (
-      rest,
+    (rest : List Line) → AreLogs text (log ∷ logs) rest
+    → (others : List Line) × IsLogAt text log (others ++ rest) × SayLogs others logs
+first_log text log logs rest are =
+    let (head, clauses, others, parts, counts, said, more) = are.said in
+    let whole : are.lines ++ rest ≡ head ∷ (clauses ++ (others ++ rest)) =
+    ap (λ l. l ++ rest) parts ∙ ap (λ l. head ∷ l) (append_assoc clauses others rest) in (
+      others,
       record {
         head = head;
         clauses = clauses;
-        parts = are.parts ∙ ap (λ l. l ++ [] ∷ []) parts;
+        parts = are.parts ∙ ap (λ l. l ++ [] ∷ []) whole;
         counts = counts;
         said = said;
       },
       more,
     )
 
-here : (text : List ℕ) (logs : List (List Learned)) (i : ℕ) → i < length logs
-    → AreLogs text (drop i logs) → AreLogs text (log_at logs i ∷ drop (suc i) logs)
-here text logs i lt are = subst (AreLogs text) (drop-cons logs i [] lt) are
+here : (text : List ℕ) (logs : List (List Learned)) (rest : List Line) (i : ℕ) → i < length logs
+    → AreLogs text (drop i logs) rest → AreLogs text (log_at logs i ∷ drop (suc i) logs) rest
+here text logs rest i lt are =
+    let P : List (List Learned) → Type 0 = λ l. AreLogs text l rest in
+    subst P (drop-cons logs i [] lt) are
+
+-- No log is left.
+pub none_left : (text : List ℕ) (logs : List (List Learned)) (rest : List Line) (n : ℕ)
+    → length logs ≤ n → AreLogs text (drop n logs) rest → AreLines text rest
+none_left text logs rest n all are =
+    let P : List (List Learned) → Type 0 = λ l. AreLogs text l rest in
+    let end = subst P (drop_all n logs all) are in
+    let Q : List Line → Type 0 = λ l. AreLines text (l ++ rest) in
+    subst Q end.said end.parts
 
 module _ (safe : SafeNet) (asked : ℕ → Asked) (i variables : ℕ) (clauses : List Clause)
-    (text : List ℕ) (logs : List (List Learned)) (lt : i < length logs)
+    (text : List ℕ) (logs : List (List Learned)) (rest : List Line) (lt : i < length logs)
     (few : variables ≡ variables_of safe (asked i)) (same : clauses ≡ clauses_of safe (asked i))
   where
     abbrev pub AreBefore : ℕ → Type 0
@@ -173,42 +187,43 @@ module _ (safe : SafeNet) (asked : ℕ → Asked) (i variables : ℕ) (clauses :
     pub one_refuted : (next : List ℕ)
         → ((log : List Learned) (rest : List Line) → IsLogAt text log rest
         → IsRefutation variables clauses log × AreLines next rest)
-        → AreLogs text (drop i logs) × AreBefore i
-        → AreLogs next (drop (i + 1) logs) × AreBefore (i + 1)
+        → AreLogs text (drop i logs) rest × AreBefore i
+        → AreLogs next (drop (i + 1) logs) rest × AreBefore (i + 1)
     one_refuted next judged (are, before) =
-        let (rest, at, more) = first_log text (log_at logs i) (drop (suc i) logs)
-        (here text logs i lt are) in
-        let (right, parts) = judged (log_at logs i) rest at in
+        let (others, at, more) = first_log text (log_at logs i) (drop (suc i) logs) rest
+        (here text logs rest i lt are) in
+        let (right, parts) = judged (log_at logs i) (others ++ rest) at in
         let up : suc i ≡ i + 1 = omega arith in
         let P : ℕ → Type 0 = λ n. IsRefutation n clauses (log_at logs i) in
         let Q : List Clause → Type 0 =
         λ cs. IsRefutation (variables_of safe (asked i)) cs (log_at logs i) in
         let refuted = subst Q same (subst P few right) in
-        let R : ℕ → Type 0 = λ n. AreLogs next (drop n logs) in (
-          subst R up (record { lines = rest; parts = parts; said = more }),
+        let R : ℕ → Type 0 = λ n. AreLogs next (drop n logs) rest in (
+          subst R up (record { lines = others; parts = parts; said = more }),
           below_more (λ j. IsRefuted safe (asked j) (log_at logs j)) i before refuted,
         )
 
     -- This log does not.
     pub not_refuted : ((log : List Learned) (rest : List Line) → IsLogAt text log rest
-        → ¬ IsRefutation variables clauses log) → AreLogs text (drop i logs)
+        → ¬ IsRefutation variables clauses log) → AreLogs text (drop i logs) rest
         → (n : ℕ) → i < n → ¬ AreBefore n
     not_refuted judged are n below right =
-        let (rest, at, more) = first_log text (log_at logs i) (drop (suc i) logs)
-        (here text logs i lt are) in
+        let (others, at, more) = first_log text (log_at logs i) (drop (suc i) logs) rest
+        (here text logs rest i lt are) in
         let P : ℕ → Type 0 = λ n. IsRefutation n clauses (log_at logs i) in
         let Q : List Clause → Type 0 =
         λ cs. IsRefutation (variables_of safe (asked i)) cs (log_at logs i) in
-        judged (log_at logs i) rest at (subst P (sym few) (subst Q (sym same) (right i below)))
+        judged (log_at logs i) (others ++ rest) at (subst P (sym few) (subst Q (sym same) (right i below)))
 
 -- ---- the logs of the keep queries, and those behind them
 
 -- There is no group.
 pub none_kept : (safe : SafeNet) (facts : List Fact) (text : List ℕ) (logs : List (List Learned))
-    → groups facts ≡ 0 → AreLogs text logs
-    → AreLogs text (drop (groups facts) logs) × AreKeepsRefuted safe facts logs (groups facts)
-none_kept safe facts text logs none are =
-    let P : ℕ → Type 0 = λ n. AreLogs text (drop n logs) in
+    (rest : List Line) → groups facts ≡ 0 → AreLogs text logs rest
+    → AreLogs text (drop (groups facts) logs) rest
+    × AreKeepsRefuted safe facts logs (groups facts)
+none_kept safe facts text logs rest none are =
+    let P : ℕ → Type 0 = λ n. AreLogs text (drop n logs) rest in
     (subst P (sym none) are, λ g lt. absurd (omega (arith, none, lt)))
 
 pub kept_refuted : (safe : SafeNet) (facts : List Fact) (depth : ℕ) (logs : List (List Learned))

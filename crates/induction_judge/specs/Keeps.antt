@@ -8,6 +8,7 @@ use Rattle.cnf_frames.specs.declared.queries.Asked.TheVariants.{Keep}
 use Rattle.cnf_frames.specs.declared.queries.FrameError.{FrameError}
 use Rattle.cnf_frames.specs.Proofs.{IsRefuted, log_at}
 use Rattle.cnf_frames.specs.Queries.{IsRefusal, groups}
+use Rattle.cert_text.specs.Lines.{Line}
 use Rattle.induction_judge.specs.Reading.{AreLogs}
 
 -- The first n logs refute the keep queries of their groups.
@@ -19,11 +20,12 @@ AreKeepsRefuted safe facts logs n =
 -- not.
 abbrev pub AreKeepsJudged : SafeNet → List Fact → List ℕ → Option (Bor (List ℕ)) → Type 0
 AreKeepsJudged safe facts text None =
-    (logs : List (List Learned)) → AreLogs text logs → groups facts ≤ length logs
-    → ¬ AreKeepsRefuted safe facts logs (groups facts)
+    (logs : List (List Learned)) (rest : List Line) → AreLogs text logs rest
+    → groups facts ≤ length logs → ¬ AreKeepsRefuted safe facts logs (groups facts)
 AreKeepsJudged safe facts text (Some left) =
-    (logs : List (List Learned)) → AreLogs text logs → groups facts ≤ length logs
-    → AreLogs left.now (drop (groups facts) logs) × AreKeepsRefuted safe facts logs (groups facts)
+    (logs : List (List Learned)) (rest : List Line) → AreLogs text logs rest
+    → groups facts ≤ length logs → AreLogs left.now (drop (groups facts) logs) rest
+    × AreKeepsRefuted safe facts logs (groups facts)
 
 -- Some keep query is refused so.
 abbrev pub IsKeepRefused : SafeNet → List Fact → FrameError → Type 0

@@ -1,4 +1,5 @@
 pub mod Asking
 pub mod Good
+pub mod Judged
 pub mod Reading
 pub mod Keeps

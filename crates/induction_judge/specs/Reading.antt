@@ -99,8 +99,8 @@ IsLogJudged variables given text (Some left) =
     (log : List Learned) (rest : List Line) → IsLogAt text log rest
     → IsRefutation variables given log × AreLines left.now rest
 
--- The lines of the text are these logs.
-pub record AreLogs (text : List ℕ) (logs : List (List Learned)) : Type 0 where
+-- At the front of the text stand these logs, and these lines behind them.
+pub record AreLogs (text : List ℕ) (logs : List (List Learned)) (rest : List Line) : Type 0 where
   pub lines : List Line
-  pub parts : AreLines text lines
+  pub parts : AreLines text (lines ++ rest)
   pub said : SayLogs lines logs

@@ -1,5 +1,5 @@
-//! Judges the proof by induction of a certificate text about a circuit, with no search: each query is
-//! made again, and its log is checked line by line.
+//! Judges a proof by induction of a certificate text, about a circuit or over the free net of a plan,
+//! with no search: each query is made again, and its log is checked line by line.
 #![tactic(auto)]
 
 mod clauses;
@@ -9,4 +9,4 @@ mod keeps;
 mod logs;
 mod queries;
 
-pub use judge::judge_induction;
+pub use judge::{judge_free, judge_induction};

@@ -2,7 +2,7 @@
 
 ghost use Rattle.std.specs.Prelude.{ℕ, Bool, List, []};
 ghost use Rattle.hy_lasso.specs.LassoLines.{Spelled, SaysLasso};
-ghost use Rattle.cert_text.specs.InductionLines.{SaysInductionHead};
+ghost use Rattle.cert_text.specs.InductionLines.{SaysFreeHead, SaysInductionHead};
 ghost use Rattle.cert_text.specs.Lines.{Line};
 ghost use Rattle.cert_text.specs.RankLines.{SaysRankHead};
 ghost use Rattle.cert_text.specs.RunLines.{SaysRunsHead};
@@ -14,6 +14,8 @@ pub fn lassos_end()
         → ¬ SaysLasso line said }
     ensures induction { (clauses : Bool) (line : Line) (k f : ℕ) (said : Spelled)
         → SaysInductionHead clauses line k f → ¬ SaysLasso line said }
+    ensures free { (line : Line) (k f : ℕ) (said : Spelled) → SaysFreeHead line k f
+        → ¬ SaysLasso line said }
     ensures runs { (line : Line) (n : ℕ) (said : Spelled) → SaysRunsHead line n
         → ¬ SaysLasso line said }
     ensures empty { (said : Spelled) → ¬ SaysLasso [] said }

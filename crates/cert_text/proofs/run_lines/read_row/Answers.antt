@@ -1,4 +1,4 @@
-use Rattle.std.proofs.Common.{◌≡◌, true, false, not, sym, ◌∙◌, ap}
+use Rattle.std.proofs.Common.{◌≡◌, true, false, sym, ◌∙◌}
 use Rattle.cert_text.proofs.Rows.{row_read}
 use Rattle.cert_text.proofs.run_lines.read_row.Goals as goal
 

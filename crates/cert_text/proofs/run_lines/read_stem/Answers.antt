@@ -1,5 +1,5 @@
-use Rattle.std.proofs.Common.{◌≡◌, true, false, List, length, nat_eq, sym, ◌∙◌, ap, Option, Result, Ok, Err}
-use Rattle.std.specs.Prelude.{ℕ, Bool, IfOk}
+use Rattle.std.proofs.Common.{◌≡◌, true, false, length, nat_eq, sym, ◌∙◌, ap, Ok, Err}
+use Rattle.std.specs.Prelude.{IfOk}
 use Rattle.cert_text.specs.Lines.{IsSaid}
 use Rattle.cert_text.specs.RunLines.{SaysStem, SaysCycle}
 use Rattle.cert_text.proofs.Rows.{stem_read}

@@ -1,8 +1,10 @@
-use Rattle.std.proofs.Common.{inl, inr, subst}
+use Rattle.std.proofs.Common.{inl, inr, subst, sym}
 use Rattle.std.proofs.lemmas.Result.{err_from_is_err_and}
 use Rattle.hy_formula.specs.Formulas.{plain_formula}
 use Rattle.ea_reduce.specs.Plans.{PlainPlan, plain_plan}
 use Rattle.rank_proofs.specs.Counts.{HasFewMembers, HasManyMembers}
+use Rattle.hy_formula.specs.Trees.{tree_of}
+use Rattle.claim_check.specs.Refuting.{HasFreeNet}
 use Rattle.claim_check.specs.Claims.{equivalence}
 use Rattle.claim_check.proofs.Counted.{back_stops, joint_stops, planned_stops, there_stops}
 use Rattle.claim_check.proofs.counting.plan_equivalence.Goals as goal
@@ -55,6 +57,23 @@ returns-then-not-are_judged-clause-stopped c =
       (subst Small c.in_ok-converse.ensures.plan c.in_ok-other.ensures.few, tt),
     )
     c.are_judged.ensures c.if-not-are_judged.true)
+
+pub returns-clause-nets : goal.returns-clause-nets
+returns-clause-nets c =
+    let P : PlainPlan → Type 0 = HasFreeNet in (
+      subst P (sym c.in_ok-plan.ensures.plan) (record {
+        reduced =
+            c.plans_are_reduced.ensures.implication c.args.f.now.prefix (tree_of c.args.f.now.body)
+            c.args.g.now.prefix (tree_of c.args.g.now.body);
+        few = c.in_ok-plan.ensures.few;
+      }),
+      subst P (sym c.in_ok-converse.ensures.plan) (record {
+        reduced =
+            c.plans_are_reduced.ensures.implication c.args.g.now.prefix (tree_of c.args.g.now.body)
+            c.args.f.now.prefix (tree_of c.args.f.now.body);
+        few = c.in_ok-converse.ensures.few;
+      }),
+    )
 
 pub returns-clause-within : goal.returns-clause-within
 returns-clause-within c =

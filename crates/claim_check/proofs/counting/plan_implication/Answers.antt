@@ -1,11 +1,23 @@
-use Rattle.std.proofs.Common.{inl, subst}
+use Rattle.std.proofs.Common.{inl, subst, sym}
 use Rattle.std.proofs.lemmas.Result.{err_from_is_err_and}
 use Rattle.hy_formula.specs.Formulas.{plain_formula}
 use Rattle.ea_reduce.specs.Plans.{PlainPlan, plain_plan}
 use Rattle.rank_proofs.specs.Counts.{HasFewMembers, HasManyMembers}
+use Rattle.hy_formula.specs.Trees.{tree_of}
+use Rattle.claim_check.specs.Refuting.{HasFreeNet}
 use Rattle.claim_check.specs.Claims.{implication}
 use Rattle.claim_check.proofs.Counted.{joint_stops, planned_stops, implication_stops}
 use Rattle.claim_check.proofs.counting.plan_implication.Goals as goal
+
+pub returns-clause-net : goal.returns-clause-net
+returns-clause-net c =
+    let P : PlainPlan → Type 0 = HasFreeNet in
+    subst P (sym c.in_ok-plan.ensures.plan) (record {
+      reduced =
+          c.plans_are_reduced.ensures.implication c.args.f.now.prefix (tree_of c.args.f.now.body)
+          c.args.g.now.prefix (tree_of c.args.g.now.body);
+      few = c.in_ok-plan.ensures.few;
+    })
 
 pub returns-in_err-plan-clause-stopped : goal.returns-in_err-plan-clause-stopped
 returns-in_err-plan-clause-stopped c =

@@ -18,12 +18,6 @@ returns-in_err-planned c names certificate read =
     (stopped_judged names (equivalence (plain_formula c.args.f.now) (plain_formula c.args.g.now)) certificate c.args.read.now.list
     read.over c.in_err-planned.field-0.0 (c.in_err-planned.ensures.stopped names))
 
-pub returns-in_err-are_refuted : goal.returns-in_err-are_refuted
-returns-in_err-are_refuted c names certificate read =
-    let p = err_from_is_err_and c.from_residual-in_err-are_refuted.result
-    c.from_residual-in_err-are_refuted.ensures.1 in
-    rw (p.1, p.2) tt
-
 pub returns-in_err-separates : goal.returns-in_err-separates
 returns-in_err-separates c names certificate read =
     let p = err_from_is_err_and c.from_residual-in_err-separates.result
@@ -41,18 +35,18 @@ returns-then-is_empty c names certificate read =
     let there = plan_against (plain_formula c.args.f.now) (plain_formula c.args.g.now) in
     let back = plain_plan c.in_ok-planned.planned.back.plan in
     let P : PlainPlan → Type 0 =
-    λ plan. WeighsBoth c.args.read.now.evidence.now c.in_ok-are_refuted.field-0 plan back in
+    λ plan. WeighsBoth c.args.read.now.evidence.now c.are_refuted.result plan back in
     let Q : PlainPlan → Type 0 =
-    WeighsBoth c.args.read.now.evidence.now c.in_ok-are_refuted.field-0 there in
+    WeighsBoth c.args.read.now.evidence.now c.are_refuted.result there in
     let none =
     empty_so (length c.args.read.now.list) c.is_empty.result c.is_empty.ensures c.if-is_empty.true in
-    weighed_judged names (equivalence (plain_formula c.args.f.now) (plain_formula c.args.g.now)) certificate c.args.read.now.list
-    read.over (Ok c.in_ok-are_refuted.field-0) c.in_ok-planned.ensures.within tt
+    weighed_judged names (equivalence (plain_formula c.args.f.now) (plain_formula c.args.g.now))
+    certificate c.args.read.now.list read.over c.are_refuted.result c.in_ok-planned.ensures.within tt
     (equivalence_refuted names c.args.read.now.head.now c.args.read.now.list
-    c.args.read.now.evidence.now c.in_ok-are_refuted.field-0 (plain_formula c.args.f.now)
+    c.args.read.now.evidence.now c.are_refuted.result (plain_formula c.args.f.now)
     (plain_formula c.args.g.now) certificate read none
     (subst Q c.in_ok-planned.ensures.back
-    (subst P c.in_ok-planned.ensures.there c.in_ok-are_refuted.ensures)))
+    (subst P c.in_ok-planned.ensures.there c.are_refuted.ensures)))
 
 pub returns-then-eq : goal.returns-then-eq
 returns-then-eq c names certificate read =

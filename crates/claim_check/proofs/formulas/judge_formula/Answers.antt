@@ -16,16 +16,14 @@ returns-in_err-planned c names certificate read =
 
 pub returns-then-is_empty : goal.returns-then-is_empty
 returns-then-is_empty c names certificate read =
-    let P : PlainPlan → Type 0 =
-    Weighs c.args.read.now.evidence.now c.in_ok-is_refuted.field-0 in
+    let P : PlainPlan → Type 0 = Weighs c.args.read.now.evidence.now c.is_refuted.result in
     let none =
     empty_so (length c.args.read.now.list) c.is_empty.result c.is_empty.ensures c.if-is_empty.true in
-    weighed_judged names (formula (plain_formula c.args.f.now)) certificate c.args.read.now.list
-    read.over (Ok c.in_ok-is_refuted.field-0) c.in_ok-planned.ensures.within tt
+    weighed_judged names (formula (plain_formula c.args.f.now))
+    certificate c.args.read.now.list read.over c.is_refuted.result c.in_ok-planned.ensures.within tt
     (formula_refuted names c.args.read.now.head.now c.args.read.now.list
-    c.args.read.now.evidence.now c.in_ok-is_refuted.field-0 (plain_formula c.args.f.now)
-    certificate read none
-    (subst P c.in_ok-planned.ensures.plan c.in_ok-is_refuted.ensures))
+    c.args.read.now.evidence.now c.is_refuted.result (plain_formula c.args.f.now)
+    certificate read none (subst P c.in_ok-planned.ensures.plan c.is_refuted.ensures))
 
 pub returns : goal.returns
 returns c names certificate read =

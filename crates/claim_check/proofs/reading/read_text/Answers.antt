@@ -7,7 +7,7 @@ use Rattle.claim_check.proofs.reading.read_text.Goals as goal
 pub returns-in_default-clause-read : goal.returns-in_default-clause-read
 returns-in_default-clause-read c question certificate is =
     absurd (not_alone c.lassos_end.ensures.ranks c.lassos_end.ensures.induction
-    c.lassos_end.ensures.runs c.lassos_end.ensures.empty c.args.names.now c.args.text.now question
+    c.lassos_end.ensures.free c.lassos_end.ensures.runs c.lassos_end.ensures.empty c.args.names.now c.args.text.now question
     certificate is c.split_line.result.0.now
     (c.split_line.ensures.lines
     ∙ ap (λ o. c.split_line.result.0.now ∷ left_lines (option_copied o)) c.in_default.is))
@@ -17,5 +17,5 @@ returns-clause-read c question certificate is =
     let cut = c.split_line.ensures.lines
     ∙ ap (λ o. c.split_line.result.0.now ∷ left_lines (option_copied o)) c.in-Some.is in
     is_read c.lassos_end.ensures.ranks c.lassos_end.ensures.induction
-    c.lassos_end.ensures.runs c.lassos_end.ensures.empty c.args.names.now c.args.text.now question
+    c.lassos_end.ensures.free c.lassos_end.ensures.runs c.lassos_end.ensures.empty c.args.names.now c.args.text.now question
     certificate is c.split_line.result.0.now c.in-Some.rest.now _ _ cut c.in_ok-list.ensures.lassos

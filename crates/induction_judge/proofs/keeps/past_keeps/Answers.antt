@@ -11,8 +11,8 @@ use Rattle.induction_judge.proofs.Places.{none_kept, not_refuted, one_refuted}
 use Rattle.induction_judge.proofs.keeps.past_keeps.Goals as goal
 
 pub returns-then-groups-eq0-clause-judged : goal.returns-then-groups-eq0-clause-judged
-returns-then-groups-eq0-clause-judged c = λ logs are many.
-    none_kept c.args.safe.now c.args.facts.now c.args.text.now logs
+returns-then-groups-eq0-clause-judged c = λ logs rest are many.
+    none_kept c.args.safe.now c.args.facts.now c.args.text.now logs rest
     (omega (arith, c.groups_of-groups.ensures.groups, c.if-groups-eq0.true)) are
 
 pub returns-in_err-restart-clause-refused : goal.returns-in_err-restart-clause-refused
@@ -46,17 +46,17 @@ past_log-requires-clause-few c =
     omega (arith, ap length (ap K c.in_ok-restart.ensures.started), c.in_ok-others.ensures.rest.few)
 
 pub returns-in_default-clause-judged : goal.returns-in_default-clause-judged
-returns-in_default-clause-judged c = λ logs are many right.
+returns-in_default-clause-judged c = λ logs behind are many right.
     let V : Known → ℕ = λ k. k.variables in
     let K : Known → List Clause = λ k. k.clauses in
     let P : Option (Bor (List ℕ)) → Type 0 =
     IsLogJudged c.restart.new.self.variables c.restart.new.self.clauses c.loop-group.left.now in
-    let (left, before) = c.loop-group.invariant.going logs are many in
+    let (left, before) = c.loop-group.invariant.going logs behind are many in
     let few : c.loop-group.group < groups c.args.facts.now =
     omega (arith, c.loop-group-test.true, c.groups_of-groups.ensures.groups) in
     not_refuted c.args.safe.now (Keep c.args.facts.now) c.loop-group.group
     c.restart.new.self.variables c.restart.new.self.clauses c.loop-group.left.now logs
-    (omega (arith, few, many))
+    behind (omega (arith, few, many))
     (ap V c.in_ok-restart.ensures.started ∙ c.in_ok-others.ensures.rest.variables)
     (ap K c.in_ok-restart.ensures.started ∙ c.in_ok-others.ensures.rest.clauses)
     (subst P c.in_default.is c.in_ok-rest.ensures.judged) left (groups c.args.facts.now) few right
@@ -72,20 +72,20 @@ loop-group-preserved c =
     let shorter = subst Q c.in-Some.is c.in_ok-rest.ensures.shorter in
     record {
       shorter = omega (arith, shorter, c.loop-group.invariant.shorter);
-      going = λ logs are many.
+      going = λ logs behind are many.
           one_refuted c.args.safe.now (Keep c.args.facts.now) c.loop-group.group
           c.restart.new.self.variables c.restart.new.self.clauses c.loop-group.left.now logs
-          (omega (arith, c.loop-group-test.true, c.groups_of-groups.ensures.groups, many))
+          behind (omega (arith, c.loop-group-test.true, c.groups_of-groups.ensures.groups, many))
           (ap V c.in_ok-restart.ensures.started ∙ c.in_ok-others.ensures.rest.variables)
           (ap K c.in_ok-restart.ensures.started ∙ c.in_ok-others.ensures.rest.clauses)
           c.in-Some.rest.now (subst P c.in-Some.is c.in_ok-rest.ensures.judged)
-          (c.loop-group.invariant.going logs are many);
+          (c.loop-group.invariant.going logs behind are many);
     }
 
 pub returns-clause-judged : goal.returns-clause-judged
-returns-clause-judged c = λ logs are many.
-    let R : ℕ → Type 0 = λ n. AreLogs c.loop-group.left.now (drop n logs)
+returns-clause-judged c = λ logs behind are many.
+    let R : ℕ → Type 0 = λ n. AreLogs c.loop-group.left.now (drop n logs) behind
     × AreKeepsRefuted c.args.safe.now c.args.facts.now logs n in
     subst R
     (omega (arith, c.loop-group-test.false, c.loop-group.auto.group-end, c.groups_of-groups.ensures.groups))
-    (c.loop-group.invariant.going logs are many)
+    (c.loop-group.invariant.going logs behind are many)
