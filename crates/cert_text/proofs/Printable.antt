@@ -29,7 +29,7 @@ use Rattle.chain_check.specs.LogTexts.{entry_text, log_text}
 use Rattle.chain_check.specs.Logs.{IsPassed}
 use Rattle.chain_check.specs.declared.logs.Learned.{Learned}
 use Rattle.cnf_frames.specs.Facts.{IsIn}
-use Rattle.cnf_frames.specs.ProofTexts.{fact_text}
+use Rattle.cnf_frames.specs.ProofTexts.{fact_text, worded_text}
 use Rattle.cnf_frames.specs.Proofs.{IsRefuted, IsInductionProof, AreQueriesWithin}
 use Rattle.cnf_frames.specs.Queries.{IsWithin, clauses_of, variables_of, groups}
 use Rattle.cnf_frames.specs.QueryPaths.{CanAsk}
@@ -39,7 +39,6 @@ use Rattle.cnf_frames.specs.declared.inductions.InductionProof.{InductionProof}
 use Rattle.cnf_frames.specs.declared.queries.Asked.{Asked}
 use Rattle.cnf_frames.specs.declared.queries.Asked.TheVariants.{Base, Step, Keep}
 use Rattle.cnf_frames.proofs.Fewness.{few-clauses}
-use Rattle.cert_text.specs.ProofTexts.{worded_text}
 use Rattle.cert_text.specs.Printed.{IsBelow, IsPrintableBranch, IsPrintableReason, IsPrintable, IsPrintableFact, IsPrintableLiteral, IsPrintableCount, IsPrintableEntry, IsPrintableLog, IsPrintableInduction, IsPrintableRun, ArePrintableRuns}
 
 each_there : {A : Type 0} (P : A → Type 0) (xs : List A) → ((x : A) → Contains xs x → P x)

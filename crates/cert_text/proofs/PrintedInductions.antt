@@ -8,7 +8,7 @@ use Rattle.std.proofs.lemmas.Grind.{flat_map-append}
 use Rattle.std.proofs.lemmas.List.Elements.{All-head, All-tail, All-nil, All-cons, All-append}
 use Rattle.chain_check.specs.declared.logs.Learned.{Learned}
 use Rattle.chain_check.specs.LogTexts.{entry_text, log_text}
-use Rattle.cnf_frames.specs.ProofTexts.{fact_text, is_clause, proof_text}
+use Rattle.cnf_frames.specs.ProofTexts.{fact_text, is_clause, proof_text, worded_text}
 use Rattle.cnf_frames.specs.declared.facts.Fact.{Fact}
 use Rattle.cnf_frames.specs.declared.facts.Fact.TheVariants.{Zero, One, Same, Differ, AnyOf}
 use Rattle.cnf_frames.specs.declared.inductions.InductionProof.{InductionProof}
@@ -20,7 +20,6 @@ use Rattle.cert_text.specs.Numbers.{SaysCount, SaysLiteral}
 use Rattle.cert_text.specs.InductionLines.{kind_word, SaysFact, SaysLearned, SayLogs, SayProofBy}
 use Rattle.cert_text.specs.Certificates.{induction, holds_line, proved}
 use Rattle.cert_text.specs.Texts.{IsText, ended}
-use Rattle.cert_text.specs.ProofTexts.{worded_text}
 use Rattle.cert_text.specs.Printed.{IsBelow, IsPrintableFact, IsPrintableLiteral, IsPrintableCount, IsPrintableEntry, IsPrintableLog, IsPrintableInduction}
 use Rattle.cert_text.proofs.Joining.{Lacks, EachLacks, IsFree, AreFree, split_joined, decimal_lacks, signed_lacks, lacks_feed}
 use Rattle.cert_text.proofs.OneFault.{ended_both}
