@@ -18,7 +18,7 @@ ghost use Rattle.aig_net.specs.RunTexts.{runs_text};
 ghost use Rattle.aig_net.specs.declared.run.Run.{Run};
 ghost use Rattle.live_safe.specs.declared.safe_net.SafeNet.{SafeNet};
 ghost use Rattle.cnf_frames.specs.Proofs.{IsInductionProof, AreQueriesWithin};
-ghost use Rattle.cnf_frames.specs.ProofTexts.{proof_text, worded_text as induction_text};
+ghost use Rattle.cnf_frames.specs.ProofTexts.{proof_text as induction_text, worded_text};
 ghost use Rattle.cnf_frames.specs.declared.inductions.InductionProof.{InductionProof};
 ghost use Rattle.cert_text.specs.declared.question.Question.{Question};
 ghost use Rattle.cert_text.specs.Certificates.{Certificate, Refutation, Side, first, model, refuted, both, induction, runs, holds_line, side_line};
