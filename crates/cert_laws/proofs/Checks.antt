@@ -57,7 +57,7 @@ use Rattle.cert_laws.proofs.Named.{name-below}
 use Rattle.cert_laws.proofs.Shown.{IsShown}
 
 -- A safe net has a latch, that which says whether a state was saved.
-safe-latch : (net : Net) → 0 < length (to_safe net).net.latches
+pub safe-latch : (net : Net) → 0 < length (to_safe net).net.latches
 safe-latch net = omega arith
 
 -- The cycle of a normal form is not empty.
@@ -88,7 +88,7 @@ asked-within safe proof within (Step inv k) (same, deep) =
     subst P (sym same) (subst Q (sym deep) within.step)
 
 -- A proof whose queries can be made is refused for none.
-never-refused : (safe : SafeNet) (proof : InductionProof) → AreQueriesWithin safe proof → (limit : Past)
+pub never-refused : (safe : SafeNet) (proof : InductionProof) → AreQueriesWithin safe proof → (limit : Past)
     → ¬ IsRefusedInduction safe proof (frame.Limit limit)
 never-refused safe proof within limit (asked, is, (past, least)) =
     let fits = asked-within safe proof within asked is in

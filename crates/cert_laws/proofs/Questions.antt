@@ -13,13 +13,16 @@ use Rattle.circuit_files.specs.Circuits.{IsCircuit}
 use Rattle.hy_files.specs.Contents.{IsText}
 use Rattle.hy_run.specs.Names.{Text}
 use Rattle.hy_run.specs.Runs.{Answer}
-use Rattle.hy_words.specs.Words.{given_in}
+use Rattle.hy_words.specs.Words.{Item, given_in}
 use Rattle.ea_tool.specs.Rules.{ComesTo as EaComesTo}
 use Rattle.ea_tool.specs.Texts.{shows_proof as ea_shows_proof, text_of as ea_text_of, verdict_text}
+use Rattle.ea_tool.specs.Words.{AsksFor, IsEngine, IsDepth as IsEaDepth}
 use Rattle.ea_tool.specs.declared.verdict.EaFault.{EaFault}
 use Rattle.ea_tool.specs.declared.verdict.EaVerdict.{EaVerdict}
+use Rattle.ea_tool.specs.declared.verdict.Engine.{Engine}
+use Rattle.ea_tool.specs.declared.verdict.Engine.TheVariants.{Branches, Circuit}
 use Rattle.ea_tool.specs.declared.verdict.Question.{Question as EaQuestion}
-use Rattle.ea_tool.specs.declared.verdict.Question.TheVariants.{Decide, Relate}
+use Rattle.ea_tool.specs.declared.verdict.Question.TheVariants.{Judge, Decide, Relate, Find}
 use Rattle.ea_tool.specs.declared.verdict.Relation.TheVariants.{Implication, Equivalence}
 use Rattle.mc_tool.specs.Rules.{ComesTo as McComesTo}
 use Rattle.mc_tool.specs.Texts.{checked_text, shows_proof as mc_shows_proof, text_of as mc_text_of}
@@ -31,7 +34,7 @@ use Rattle.mc_tool.specs.declared.verdict.Question.{Question as McQuestion}
 use Rattle.mc_tool.specs.declared.verdict.Question.TheVariants.{Check, CheckByStrategy}
 use Rattle.hy_check.specs.Contents.{MakeClaim}
 use Rattle.hy_check.proofs.Claims.{one_claim}
-use Rattle.cert_laws.specs.Claimed.{CertifiesEa, CertifiesMc, IsFound, models_of, traces_in, traces_of}
+use Rattle.cert_laws.specs.Claimed.{AsksLow, CertifiesEa, CertifiesMc, IsFound, IsKnown, IsLow, models_of, traces_in, traces_of}
 use Rattle.cert_laws.specs.GoodTexts.{IsGoodText, IsShort}
 use Rattle.cert_laws.proofs.Evidence.{IsEvidence}
 use Rattle.cert_laws.proofs.Files.{formula-over, two-over}
@@ -47,52 +50,77 @@ pub record MakesEvidence (asked : Question) (files : List (List ℕ)) (names : L
 -- ---- questions of formulas
 
 module _ (names : List Text) (text : List ℕ) (a : Answer EaVerdict EaFault) where
-  ea-claim : (question : EaQuestion) (asked : Question) (files : List (List ℕ)) → CertifiesEa question asked → EaComesTo question files names a
+  ea-claim : (question : EaQuestion) (asked : Question) (files : List (List ℕ)) → AsksLow question → CertifiesEa question asked → EaComesTo question files names a
       → MakesEvidence asked files names (λ claim. EaShows names claim a) text
-  ea-claim (Decide states proof) certificates.Formula (one ∷ []) certifies (f, is, comes) = record {
+  ea-claim (Decide engine proof) certificates.Formula (one ∷ []) low certifies (f, is, comes) = record {
     claim = formula f;
     makes = is;
-    is = decision-shown names f states (formula-over 8 one f names is) a comes;
+    is = decision-shown names f engine low (formula-over 8 one f names is) a comes;
   }
-  ea-claim (Relate Implication states proof) certificates.Implication (one ∷ two ∷ []) certifies (f, g, known, is, also, comes) = record {
+  ea-claim (Relate Implication engine proof) certificates.Implication (one ∷ two ∷ []) low certifies (f, g, known, is, also, comes) = record {
     claim = implication f g;
     makes = (known, is, also);
-    is = implication-shown names f g states (two-over one two f g names (known, is, also)) a comes;
+    is = implication-shown names f g engine low (two-over one two f g names (known, is, also)) a comes;
   }
-  ea-claim (Relate Equivalence states proof) certificates.Equivalence (one ∷ two ∷ []) certifies (f, g, known, is, also, comes) = record {
+  ea-claim (Relate Equivalence engine proof) certificates.Equivalence (one ∷ two ∷ []) low certifies (f, g, known, is, also, comes) = record {
     claim = equivalence f g;
     makes = (known, is, also);
-    is = comparison-shown names f g states (two-over one two f g names (known, is, also)) a comes;
+    is = comparison-shown names f g engine low (two-over one two f g names (known, is, also)) a comes;
   }
-  ea-claim (Decide states proof) certificates.Formula _ certifies comes = absurd comes
-  ea-claim (Relate Implication states proof) certificates.Implication _ certifies comes = absurd comes
-  ea-claim (Relate Equivalence states proof) certificates.Equivalence _ certifies comes = absurd comes
-  ea-claim _ _ files certifies comes = absurd certifies
+  ea-claim (Decide engine proof) certificates.Formula _ low certifies comes = absurd comes
+  ea-claim (Relate Implication engine proof) certificates.Implication _ low certifies comes = absurd comes
+  ea-claim (Relate Equivalence engine proof) certificates.Equivalence _ low certifies comes = absurd comes
+  ea-claim _ _ files low certifies comes = absurd certifies
 
 -- A question with a certificate shows proofs.
 ea-shows : (question : EaQuestion) (asked : Question) → CertifiesEa question asked → ea_shows_proof question ≡ true
-ea-shows (Decide states proof) certificates.Formula certifies = certifies
-ea-shows (Relate Implication states proof) certificates.Implication certifies = certifies
-ea-shows (Relate Equivalence states proof) certificates.Equivalence certifies = certifies
+ea-shows (Decide engine proof) certificates.Formula certifies = certifies
+ea-shows (Relate Implication engine proof) certificates.Implication certifies = certifies
+ea-shows (Relate Equivalence engine proof) certificates.Equivalence certifies = certifies
 ea-shows _ _ certifies = absurd certifies
 
 -- One that shows proofs has one.
 pub ea-certifies : (question : EaQuestion) → ea_shows_proof question ≡ true → (asked : Question) × CertifiesEa question asked
-ea-certifies (Decide states proof) shows = (certificates.Formula, shows)
-ea-certifies (Relate Implication states proof) shows = (certificates.Implication, shows)
-ea-certifies (Relate Equivalence states proof) shows = (certificates.Equivalence, shows)
+ea-certifies (Decide engine proof) shows = (certificates.Formula, shows)
+ea-certifies (Relate Implication engine proof) shows = (certificates.Implication, shows)
+ea-certifies (Relate Equivalence engine proof) shows = (certificates.Equivalence, shows)
 ea-certifies _ shows = absurd (true≢false (sym shows))
 
 pub ea-evidence : (question : EaQuestion) (asked : Question) (files : List (List ℕ)) (names : List Text) (verdict : EaVerdict)
-    → CertifiesEa question asked → EaComesTo question files names (Ok verdict) → (text : List ℕ) → text ≡ ea_text_of question names verdict
+    → AsksLow question → CertifiesEa question asked → IsKnown verdict → EaComesTo question files names (Ok verdict) → (text : List ℕ)
+    → text ≡ ea_text_of question names verdict
     → IsShort text → MakesEvidence asked files names (λ claim. IsEvidence names claim (models_of verdict) text) text
-ea-evidence question asked files names verdict certifies comes text same short =
+ea-evidence question asked files names verdict low certifies known comes text same short =
     let shown = ea-shows question asked certifies in
     let P : Bool → Type 0 = λ b. text ≡ verdict_text b names verdict in
     let printed : text ≡ verdict_text true names verdict = subst P shown same in
-    let made = ea-claim names text (Ok verdict) question asked files certifies comes in
+    let made = ea-claim names text (Ok verdict) question asked files low certifies comes in
     let R : List ℕ → Type 0 = λ t. IsEvidence names made.claim (models_of verdict) t in
-    record { claim = made.claim; makes = made.makes; is = subst R (sym printed) (made.is (subst IsShort printed short)) }
+    record { claim = made.claim; makes = made.makes; is = subst R (sym printed) (made.is known (subst IsShort printed short)) }
+
+-- Words ask a free circuit for no more steps than a certificate has.
+given-low : (given : List Text) (n : ℕ) → IsEaDepth given n → n ≤ most_depth
+given-low [] n e = omega (arith, e)
+given-low (value ∷ more) n (is, least, most) = most
+
+low-engine : (items : List Item) (engine : Engine) → IsEngine items engine → IsLow engine
+low-engine items (Branches states) is = tt
+low-engine items (Circuit ask) (calls, deep, rest) = given-low (given_in (codes "depth") items) ask.depth deep
+
+pub asks-low : (words files : List Text) (question : EaQuestion) → AsksFor words question files → AsksLow question
+asks-low words (one ∷ []) (Decide engine proof) (items, are, asks) = low-engine items engine asks.by
+asks-low words (one ∷ two ∷ []) (Relate Implication engine proof) (items, are, asks) = low-engine items engine asks.by
+asks-low words (one ∷ two ∷ []) (Relate Equivalence engine proof) (items, are, asks) = low-engine items engine asks.by
+asks-low words files Judge (items, are, asks) = tt
+asks-low words files (Find bound conflicts) (items, are, asks) = tt
+asks-low words [] (Decide engine proof) (items, are, none) = absurd none
+asks-low words (one ∷ two ∷ files) (Decide engine proof) (items, are, none) = absurd none
+asks-low words [] (Relate Implication engine proof) (items, are, none) = absurd none
+asks-low words (one ∷ []) (Relate Implication engine proof) (items, are, none) = absurd none
+asks-low words (one ∷ two ∷ three ∷ files) (Relate Implication engine proof) (items, are, none) = absurd none
+asks-low words [] (Relate Equivalence engine proof) (items, are, none) = absurd none
+asks-low words (one ∷ []) (Relate Equivalence engine proof) (items, are, none) = absurd none
+asks-low words (one ∷ two ∷ three ∷ files) (Relate Equivalence engine proof) (items, are, none) = absurd none
 
 -- ---- questions of circuits
 

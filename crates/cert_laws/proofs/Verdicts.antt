@@ -20,20 +20,23 @@ use Rattle.claim_check.specs.Claims.{Claim, circuit, equivalence, formula, impli
 use Rattle.hy_run.specs.Classes.{AreTaken, by_class, is_decided, is_of_one_kind}
 use Rattle.hy_run.specs.Runs.{Answer}
 use Rattle.ea_tool.specs.Deciding as deciding
-use Rattle.ea_tool.specs.Deciding.{ComparesTwo, DecidesOne, DecidesTwo, Outcome, IsComparison, IsDecision, IsImplication}
+use Rattle.ea_tool.specs.Deciding.{ComparesTwo, DecidesBy, DecidesOne, DecidesTwo, Outcome, IsDecision, IsOpen, IsRelated, Relates, SettlesBoth, SettlesOne, SettlesTwo}
 use Rattle.ea_tool.specs.Texts.{verdict_text}
 use Rattle.ea_tool.specs.declared.verdict.EaFault.{EaFault}
 use Rattle.ea_tool.specs.declared.verdict.EaVerdict.{EaVerdict}
+use Rattle.ea_tool.specs.declared.verdict.Engine.{Engine}
+use Rattle.ea_tool.specs.declared.verdict.Engine.TheVariants.{Branches, Circuit}
+use Rattle.ea_tool.specs.declared.verdict.Relation.TheVariants.{Implication, Equivalence}
 use Rattle.mc_tool.specs.Checking as checking
 use Rattle.mc_tool.specs.Checking.{ComesBy, IsCheck}
 use Rattle.mc_tool.specs.Texts.{checked_text}
 use Rattle.mc_tool.specs.declared.verdict.McFault.{McFault}
 use Rattle.mc_tool.specs.declared.verdict.McVerdict.{McVerdict}
 use Rattle.mc_tool.specs.declared.verdict.McVerdict.TheVariants as verdicts
-use Rattle.cert_laws.specs.Claimed.{IsFound, models_of, traces_of}
+use Rattle.cert_laws.specs.Claimed.{IsFound, IsKnown, IsLow, models_of, traces_of}
 use Rattle.cert_laws.specs.GoodTexts.{IsShort}
 use Rattle.cert_laws.proofs.Checks.{holds-good, violated-good}
-use Rattle.cert_laws.proofs.Decisions.{equivalent-good, first-alone-good, implied-good, not-implied-good, sat-good, second-alone-good, unsat-good}
+use Rattle.cert_laws.proofs.Decisions.{equivalent-good, first-alone-good, free-equivalent-good, free-implied-good, free-unsat-good, implied-good, not-implied-good, sat-good, second-alone-good, unsat-good}
 use Rattle.cert_laws.proofs.Evidence.{IsEvidence}
 use Rattle.cert_laws.proofs.Files.{AreOver}
 use Rattle.cert_laws.proofs.Shown.{IsShown}
@@ -55,10 +58,10 @@ one-kind Other taken = absurd (true≢false (sym taken))
 -- ---- decisions
 
 module _ (names : List (List ℕ)) where
-  -- The text of an answer of `eahyper` is evidence for the claim, if it is a verdict and short.
+  -- The text of an answer of `eahyper` is evidence for the claim, if it is a verdict that leaves nothing open, and short.
   abbrev pub EaShows : Claim → Answer EaVerdict EaFault → Type 0
   EaShows claim (Ok verdict) =
-      IsShort (verdict_text true names verdict) → IsEvidence names claim (models_of verdict) (verdict_text true names verdict)
+      IsKnown verdict → IsShort (verdict_text true names verdict) → IsEvidence names claim (models_of verdict) (verdict_text true names verdict)
   EaShows claim (Err refusal) = Unit {0}
 
   -- Behind the counts the work answers.
@@ -72,7 +75,13 @@ module _ (names : List (List ℕ)) where
   shown-outcome claim takes formulas plans decides work a (deciding.done _ taken counted is) = work taken counted a is
   shown-outcome claim takes formulas plans decides work _ deciding.spent = tt
 
-  module _ (f : Plain) (states : ℕ) (are : AreOver (f ∷ []) names) where
+  -- Of a plan that is left open nothing is shown.
+  open-shown : (claim : Claim) (plan : PlainPlan) (ask : Ask) (a : Answer EaVerdict EaFault) → IsOpen plan ask a → EaShows claim a
+  open-shown claim plan ask _ (deciding.deep kept path is) = λ known short. absurd known
+  open-shown claim plan ask _ (deciding.tired k step kept log is) = λ known short. absurd known
+  open-shown claim plan ask _ (deciding.past limit kept is) = tt
+
+  module _ (f : Plain) (engine : Engine) (low : IsLow engine) (are : AreOver (f ∷ []) names) where
     module _ (taken : AreTaken (by_class is_decided) (f ∷ [])) (counted : Each IsCounted (deciding.plan_of f ∷ [])) where
       formula-evidence : (lassos : List (Lasso Letter)) (text : List ℕ) → IsShown names (formula f) lassos text
           → IsEvidence names (formula f) lassos text
@@ -84,17 +93,29 @@ module _ (names : List (List ℕ)) where
         named = tt;
       }
 
-      one-shown : (a : Answer EaVerdict EaFault) → DecidesOne f states a → EaShows (formula f) a
-      one-shown _ (deciding.sat list is within) = λ short. formula-evidence _ _ (sat-good names are.table f are.over.0 list is)
-      one-shown _ (deciding.unsat proof is within) = λ short. formula-evidence _ _ (unsat-good names f proof counted.0.members is short)
-      one-shown _ (deciding.beyond many) = tt
+      branches-shown : (states : ℕ) (a : Answer EaVerdict EaFault) → DecidesOne f states a → EaShows (formula f) a
+      branches-shown states _ (deciding.sat list is within) = λ known short. formula-evidence _ _ (sat-good names are.table f are.over.0 list is)
+      branches-shown states _ (deciding.unsat proof is within) =
+          λ known short. formula-evidence _ _ (unsat-good names f proof counted.0.members is short)
+      branches-shown states _ (deciding.beyond many) = tt
 
-    pub decision-shown : (a : Answer EaVerdict EaFault) → IsDecision f states a → EaShows (formula f) a
+      circuit-shown : (ask : Ask) → ask.depth ≤ most_depth → (a : Answer EaVerdict EaFault) → SettlesOne f ask a → EaShows (formula f) a
+      circuit-shown ask deep _ (deciding.sat list is) = λ known short. formula-evidence _ _ (sat-good names are.table f are.over.0 list is)
+      circuit-shown ask deep _ (deciding.unsat proof is) =
+          λ known short. formula-evidence _ _ (free-unsat-good names ask deep f proof is.1 short)
+      circuit-shown ask deep a (deciding.unsettled _ is) = open-shown (formula f) (deciding.plan_of f) ask a is
+
+    pub decision-shown : (a : Answer EaVerdict EaFault) → IsDecision f engine a → EaShows (formula f) a
     decision-shown =
-        shown-outcome (formula f) is_decided (f ∷ []) (deciding.plan_of f ∷ []) (DecidesOne f states)
-        (λ taken counted. one-shown taken counted)
+        shown-outcome (formula f) is_decided (f ∷ []) (deciding.plan_of f ∷ []) (DecidesBy f engine)
+        (λ taken counted. by engine low taken counted)
+      where
+        by : (other : Engine) → IsLow other → AreTaken (by_class is_decided) (f ∷ []) → Each IsCounted (deciding.plan_of f ∷ [])
+            → (a : Answer EaVerdict EaFault) → DecidesBy f other a → EaShows (formula f) a
+        by (Branches states) shallow taken counted = branches-shown taken counted states
+        by (Circuit ask) shallow taken counted = circuit-shown taken counted ask shallow
 
-  module _ (f g : Plain) (states : ℕ) (are : AreOver (f ∷ g ∷ []) names) where
+  module _ (f g : Plain) (engine : Engine) (low : IsLow engine) (are : AreOver (f ∷ g ∷ []) names) where
     both-taken : AreTaken (by_class is_of_one_kind) (f ∷ g ∷ []) → IsOfOneKind f.prefix × IsOfOneKind g.prefix
     both-taken taken = (one-kind (class_of f.prefix) taken.0, one-kind (class_of g.prefix) taken.1.0)
 
@@ -109,15 +130,30 @@ module _ (names : List (List ℕ)) where
         named = tt;
       }
 
-      two-shown : (a : Answer EaVerdict EaFault) → DecidesTwo f g states a → EaShows (implication f g) a
-      two-shown _ (deciding.implied proof is within) = λ short. implication-evidence _ _ (implied-good names f g proof counted.0.members is short)
-      two-shown _ (deciding.not_implied list is within) = λ short. implication-evidence _ _ (not-implied-good names are.table f g are.over.0 are.over.1.0 list is)
-      two-shown _ (deciding.beyond many) = tt
+      implied-by-branches : (states : ℕ) (a : Answer EaVerdict EaFault) → DecidesTwo f g states a → EaShows (implication f g) a
+      implied-by-branches states _ (deciding.implied proof is within) =
+          λ known short. implication-evidence _ _ (implied-good names f g proof counted.0.members is short)
+      implied-by-branches states _ (deciding.not_implied list is within) =
+          λ known short. implication-evidence _ _ (not-implied-good names are.table f g are.over.0 are.over.1.0 list is)
+      implied-by-branches states _ (deciding.beyond many) = tt
 
-    pub implication-shown : (a : Answer EaVerdict EaFault) → IsImplication f g states a → EaShows (implication f g) a
+      implied-by-circuit : (ask : Ask) → ask.depth ≤ most_depth → (a : Answer EaVerdict EaFault) → SettlesTwo f g ask a
+          → EaShows (implication f g) a
+      implied-by-circuit ask deep _ (deciding.implied proof is) =
+          λ known short. implication-evidence _ _ (free-implied-good names ask deep f g proof is.1 short)
+      implied-by-circuit ask deep _ (deciding.not_implied list is) =
+          λ known short. implication-evidence _ _ (not-implied-good names are.table f g are.over.0 are.over.1.0 list is)
+      implied-by-circuit ask deep a (deciding.unsettled _ is) = open-shown (implication f g) (deciding.plan_against f g) ask a is
+
+    pub implication-shown : (a : Answer EaVerdict EaFault) → IsRelated Implication f g engine a → EaShows (implication f g) a
     implication-shown =
-        shown-outcome (implication f g) is_of_one_kind (f ∷ g ∷ []) (deciding.plan_against f g ∷ []) (DecidesTwo f g states)
-        (λ taken counted. two-shown taken counted)
+        shown-outcome (implication f g) is_of_one_kind (f ∷ g ∷ []) (deciding.plan_against f g ∷ []) (Relates Implication f g engine)
+        (λ taken counted. by engine low taken counted)
+      where
+        by : (other : Engine) → IsLow other → AreTaken (by_class is_of_one_kind) (f ∷ g ∷ []) → Each IsCounted (deciding.plan_against f g ∷ [])
+            → (a : Answer EaVerdict EaFault) → Relates Implication f g other a → EaShows (implication f g) a
+        by (Branches states) shallow taken counted = implied-by-branches taken counted states
+        by (Circuit ask) shallow taken counted = implied-by-circuit taken counted ask shallow
 
     module _ (taken : AreTaken (by_class is_of_one_kind) (f ∷ g ∷ []))
         (counted : Each IsCounted (deciding.plan_against f g ∷ deciding.plan_against g f ∷ [])) where
@@ -131,16 +167,37 @@ module _ (names : List (List ℕ)) where
         named = tt;
       }
 
-      compared-shown : (a : Answer EaVerdict EaFault) → ComparesTwo f g states a → EaShows (equivalence f g) a
-      compared-shown _ (deciding.equivalent one two is within) = λ short. equivalence-evidence _ _ (equivalent-good names f g one two counted.0.members counted.1.0.members is short)
-      compared-shown _ (deciding.first_alone list is within) = λ short. equivalence-evidence _ _ (first-alone-good names are.table f g are.over.0 are.over.1.0 list is)
-      compared-shown _ (deciding.second_alone list is within) = λ short. equivalence-evidence _ _ (second-alone-good names are.table f g are.over.0 are.over.1.0 list is)
-      compared-shown _ (deciding.many_branches many) = tt
+      compared-by-branches : (states : ℕ) (a : Answer EaVerdict EaFault) → ComparesTwo f g states a → EaShows (equivalence f g) a
+      compared-by-branches states _ (deciding.equivalent one two is within) =
+          λ known short. equivalence-evidence _ _ (equivalent-good names f g one two counted.0.members counted.1.0.members is short)
+      compared-by-branches states _ (deciding.first_alone list is within) =
+          λ known short. equivalence-evidence _ _ (first-alone-good names are.table f g are.over.0 are.over.1.0 list is)
+      compared-by-branches states _ (deciding.second_alone list is within) =
+          λ known short. equivalence-evidence _ _ (second-alone-good names are.table f g are.over.0 are.over.1.0 list is)
+      compared-by-branches states _ (deciding.many_branches many) = tt
 
-    pub comparison-shown : (a : Answer EaVerdict EaFault) → IsComparison f g states a → EaShows (equivalence f g) a
+      compared-by-circuit : (ask : Ask) → ask.depth ≤ most_depth → (a : Answer EaVerdict EaFault) → SettlesBoth f g ask a
+          → EaShows (equivalence f g) a
+      compared-by-circuit ask deep _ (deciding.equivalent one two is) =
+          λ known short. equivalence-evidence _ _ (free-equivalent-good names ask deep f g one two is.0.1 is.1.1 short)
+      compared-by-circuit ask deep _ (deciding.first_alone list is) =
+          λ known short. equivalence-evidence _ _ (first-alone-good names are.table f g are.over.0 are.over.1.0 list is)
+      compared-by-circuit ask deep _ (deciding.second_alone list is) =
+          λ known short. equivalence-evidence _ _ (second-alone-good names are.table f g are.over.0 are.over.1.0 list is)
+      compared-by-circuit ask deep a (deciding.unsettled _ is) = open-shown (equivalence f g) (deciding.plan_against f g) ask a is
+      compared-by-circuit ask deep a (deciding.unsettled_back _ implies is) =
+          open-shown (equivalence f g) (deciding.plan_against g f) ask a is
+
+    pub comparison-shown : (a : Answer EaVerdict EaFault) → IsRelated Equivalence f g engine a → EaShows (equivalence f g) a
     comparison-shown =
         shown-outcome (equivalence f g) is_of_one_kind (f ∷ g ∷ []) (deciding.plan_against f g ∷ deciding.plan_against g f ∷ [])
-        (ComparesTwo f g states) (λ taken counted. compared-shown taken counted)
+        (Relates Equivalence f g engine) (λ taken counted. by engine low taken counted)
+      where
+        by : (other : Engine) → IsLow other → AreTaken (by_class is_of_one_kind) (f ∷ g ∷ [])
+            → Each IsCounted (deciding.plan_against f g ∷ deciding.plan_against g f ∷ [])
+            → (a : Answer EaVerdict EaFault) → Relates Equivalence f g other a → EaShows (equivalence f g) a
+        by (Branches states) shallow taken counted = compared-by-branches taken counted states
+        by (Circuit ask) shallow taken counted = compared-by-circuit taken counted ask shallow
 
 -- ---- checks
 

@@ -19,11 +19,11 @@ use Rattle.mc_tool.specs.Texts.{shows_proof as mc_shows_proof}
 use Rattle.mc_tool.specs.Words.{Asks}
 use Rattle.mc_tool.specs.declared.verdict.McVerdict.{McVerdict}
 use Rattle.mc_tool.specs.declared.verdict.Question.{Question as McQuestion}
-use Rattle.cert_laws.specs.Claimed.{CertifiesEa, CertifiesMc, IsFound, models_of, traces_in}
+use Rattle.cert_laws.specs.Claimed.{CertifiesEa, CertifiesMc, IsFound, IsKnown, models_of, traces_in}
 use Rattle.cert_laws.specs.GoodTexts.{IsShort}
 use Rattle.cert_laws.specs.Written.{IsWrittenGood}
 use Rattle.cert_laws.proofs.Evidence.{IsEvidence}
-use Rattle.cert_laws.proofs.Questions.{MakesEvidence, ea-certifies, ea-evidence, mc-certifies, mc-evidence}
+use Rattle.cert_laws.proofs.Questions.{MakesEvidence, asks-low, ea-certifies, ea-evidence, mc-certifies, mc-evidence}
 use Rattle.cert_laws.proofs.Shown.{good-text}
 
 -- ---- a run with a verdict, of any tool
@@ -69,10 +69,10 @@ pub record WritesEvidence {S : Type 0} (g : Ghosts S) (old new : S) (files : Lis
   pub made : MakesEvidence asked contents names (λ claim. IsEvidence names claim lassos text) text
 
 module _ {S : Type 0} (g : Ghosts S) (words : List Text) (old new : S) (text : List ℕ) (few : IsShort text) where
-  pub ea-writes : (verdict : EaVerdict) → Comes ea_rules g words old new (Ok verdict) text → (question : EaQuestion) × (files : List Text)
+  pub ea-writes : (verdict : EaVerdict) → IsKnown verdict → Comes ea_rules g words old new (Ok verdict) text → (question : EaQuestion) × (files : List Text)
       × AsksFor words question files × (ea_shows_proof question ≡ true → (asked : Question) × CertifiesEa question asked
       × WritesEvidence g old new files asked (models_of verdict) text)
-  ea-writes verdict comes =
+  ea-writes verdict known comes =
       let has = has-verdict ea_rules g words old new verdict (Ok verdict) text refl comes in (
         has.question,
         has.files,
@@ -84,7 +84,9 @@ module _ {S : Type 0} (g : Ghosts S) (words : List Text) (old new : S) (text : L
             contents = has.contents;
             read = has.read;
             names = has.names;
-            made = ea-evidence has.question asked has.contents has.names verdict certifies has.comes text has.printed few;
+            made =
+                ea-evidence has.question asked has.contents has.names verdict (asks-low words has.files has.question has.asks) certifies known has.comes
+                text has.printed few;
           },
         ),
       )

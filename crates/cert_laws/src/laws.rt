@@ -31,7 +31,7 @@ ghost use Rattle.mc_tool.specs.Texts.{checked_text, shows_proof as mc_shows_proo
 ghost use Rattle.mc_tool.specs.Words.{Asks};
 ghost use Rattle.mc_tool.specs.declared.verdict.Question.{Question as McQuestion};
 ghost use Rattle.hy_check.specs.Contents.{MakeClaim};
-ghost use Rattle.cert_laws.specs.Claimed.{CertifiesEa, CertifiesMc, IsFound, models_of, traces_in};
+ghost use Rattle.cert_laws.specs.Claimed.{AsksLow, CertifiesEa, CertifiesMc, IsFound, IsKnown, models_of, traces_in};
 ghost use Rattle.cert_laws.specs.GoodTexts.{IsFormulaOver, IsGoodText, IsShort, IsTable};
 ghost use Rattle.cert_laws.specs.Written.{IsWrittenAccepted, IsWrittenGood};
 
@@ -110,11 +110,13 @@ pub fn checked_circuits()
 {}
 
 /// What is printed, with proofs, of a verdict to which a question comes is good for the claim that its
-/// files make, where the text is no longer than a file may be; of a check where it found evidence, and
-/// where some words ask for it.
+/// files make, where the text is no longer than a file may be; of formulas where a free circuit is asked
+/// for no more steps than a certificate has and leaves nothing open, and of a check where it found
+/// evidence, and where some words ask for it.
 pub fn commands_print_good()
     ensures formulas { (question : EaQuestion) (asked : Question) (files : List (List ℕ))
-        (names : List Text) (verdict : EaVerdict) (claim : Claim) → CertifiesEa question asked
+        (names : List Text) (verdict : EaVerdict) (claim : Claim) → AsksLow question
+        → CertifiesEa question asked → IsKnown verdict
         → EaComesTo question files names (Ok verdict) → IsShort (ea_text_of question names verdict)
         → MakeClaim asked (files ++ ea_text_of question names verdict ∷ []) claim names
         → IsGoodText names claim (ea_text_of question names verdict) }
@@ -130,10 +132,10 @@ pub fn commands_print_good()
 }
 
 /// What a run has to write of a verdict is good for what its words claim of the files that it read,
-/// where they ask for proofs and the text is no longer than a file may be.
+/// where they ask for proofs, nothing is left open and the text is no longer than a file may be.
 pub fn runs_write_good<S: Shelf>()
     ensures formulas { (words : List Text) (old new : S) (verdict : EaVerdict) (text : List ℕ)
-        → Comes ea_rules S.Shelf words old new (Ok verdict) text → IsShort text
+        → Comes ea_rules S.Shelf words old new (Ok verdict) text → IsKnown verdict → IsShort text
         → (question : EaQuestion) × (files : List Text) × AsksFor words question files
         × (ea_shows_proof question ≡ true → (asked : Question) × CertifiesEa question asked
         × IsWrittenGood S.Shelf old new files asked text) }
@@ -149,7 +151,7 @@ pub fn runs_write_good<S: Shelf>()
 /// within the limit; or memory runs out.
 pub fn runs_are_accepted<S: Shelf, R: Shelf>()
     ensures formulas { (words : List Text) (old new : S) (verdict : EaVerdict) (text : List ℕ)
-        → Comes ea_rules S.Shelf words old new (Ok verdict) text → IsShort text
+        → Comes ea_rules S.Shelf words old new (Ok verdict) text → IsKnown verdict → IsShort text
         → IsJudged (models_of verdict) → (question : EaQuestion) × (files : List Text)
         × AsksFor words question files × (ea_shows_proof question ≡ true → (asked : Question)
         × CertifiesEa question asked × IsWrittenAccepted S.Shelf R.Shelf old new files asked text) }

@@ -23,7 +23,7 @@ use Rattle.rv_tool.specs.declared.verdict.RvFault.TheVariants as rv_faults
 use Rattle.rv_tool.specs.declared.verdict.RvVerdict.{RvVerdict}
 use Rattle.rv_tool.specs.declared.verdict.RvVerdict.TheVariants as rv
 use Rattle.hy_top.specs.declared.answer.Answer.{Answer}
-use Rattle.hy_top.specs.declared.answer.Answer.TheVariants.{Sat, Unsat, NoneWithin, Implied, NotImplied, Equivalent, NotEquivalent, OnTrue, OnFalse, NoViolation, Violation, Checked, StrategyHolds, StrategyFails}
+use Rattle.hy_top.specs.declared.answer.Answer.TheVariants.{Sat, Unsat, NoneWithin, Implied, NotImplied, Equivalent, NotEquivalent, ByCircuit, OnTrue, OnFalse, NoViolation, Violation, Checked, StrategyHolds, StrategyFails}
 use Rattle.hy_top.specs.declared.answer.Answer.TheVariants.{Words, Syntax, Unbound, Prefix, Line, Session, Circuit, Strategy, Name, OpenFault, ReadFault, WriteFault, Limit, CnfLimit, States, Memory}
 
 -- ---- refusals
@@ -72,6 +72,7 @@ abbrev pub ea_answer : runs.Answer EaVerdict EaFault → Answer
 ea_answer (Ok (ea.Sat list)) = Sat list
 ea_answer (Ok (ea.Unsat proof)) = Unsat proof
 ea_answer (Ok (ea.NoneWithin log)) = NoneWithin log
+ea_answer (Ok (ea.ByCircuit verdict)) = ByCircuit verdict
 ea_answer (Ok (ea.Spent conflicts log)) = given_up conflicts log
 ea_answer (Ok (ea.Implied proof)) = Implied proof
 ea_answer (Ok (ea.NotImplied list)) = NotImplied list

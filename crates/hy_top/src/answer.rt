@@ -3,6 +3,7 @@
 use aig_kind::AigKind;
 use aig_net::RunList;
 use chain_check::Log;
+use ea_tool::CircuitVerdict;
 use hy_base::{Kind, NumList, Text};
 use hy_formula::Class;
 use hy_lasso::LassoList;
@@ -46,6 +47,8 @@ pub enum Answer {
         side: u8,
         list: LassoList,
     },
+    /// What a free circuit says of formulas, but for lassos.
+    ByCircuit(CircuitVerdict),
     /// The given lassos satisfy the formula.
     OnTrue,
     /// The given lassos do not satisfy the formula.

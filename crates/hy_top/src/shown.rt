@@ -29,6 +29,7 @@ pub fn ea_answer(alloc: Global, said: Result<EaVerdict, Refusal<EaFault>>) -> An
         Ok(EaVerdict::NotImplied { list }) => Answer::NotImplied { list },
         Ok(EaVerdict::Equivalent { first, second }) => Answer::Equivalent { first, second },
         Ok(EaVerdict::NotEquivalent { side, list }) => Answer::NotEquivalent { side, list },
+        Ok(EaVerdict::ByCircuit(verdict)) => Answer::ByCircuit(verdict),
         Ok(EaVerdict::OnTrue) => Answer::OnTrue,
         Ok(EaVerdict::OnFalse) => Answer::OnFalse,
         Err(refusal) => match refusal_answer(refusal) {

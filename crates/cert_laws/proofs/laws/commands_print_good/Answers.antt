@@ -6,10 +6,10 @@ use Rattle.cert_laws.proofs.Questions.{claim-good, ea-evidence, mc-evidence}
 use Rattle.cert_laws.proofs.laws.commands_print_good.Goals as goal
 
 pub returns-clause-formulas : goal.returns-clause-formulas
-returns-clause-formulas c question asked files names verdict claim certifies comes short makes =
+returns-clause-formulas c question asked files names verdict claim low certifies known comes short makes =
     let text = ea_text_of question names verdict in
     claim-good c.one_text.ensures.taken c.one_circuit.ensures.taken asked files names text (models_of verdict) claim makes
-    (ea-evidence question asked files names verdict certifies comes text refl short)
+    (ea-evidence question asked files names verdict low certifies known comes text refl short)
 
 pub returns-clause-circuits : goal.returns-clause-circuits
 returns-clause-circuits c words given question asked files names verdict claim said certifies found comes short makes =

@@ -3,8 +3,8 @@ use Rattle.cert_laws.proofs.Written.{ea-writes, mc-writes, written-good}
 use Rattle.cert_laws.proofs.laws.runs_write_good.Goals as goal
 
 pub returns-clause-formulas : goal.returns-clause-formulas
-returns-clause-formulas g c words old new verdict text comes short =
-    let (question, files, asks, writes) = ea-writes g.S.Shelf words old new text short verdict comes in (
+returns-clause-formulas g c words old new verdict text comes known short =
+    let (question, files, asks, writes) = ea-writes g.S.Shelf words old new text short verdict known comes in (
       question,
       files,
       asks,
