@@ -58,7 +58,9 @@ fn related(
 {
     match (relation, engine) {
         (Relation::Implication, Engine::Branches { states }) => imply(alloc, first, second, states),
-        (Relation::Equivalence, Engine::Branches { states }) => compare(alloc, first, second, states),
+        (Relation::Equivalence, Engine::Branches { states }) => compare(
+            alloc, first, second, states,
+        ),
         (Relation::Implication, Engine::Circuit { ask }) => {
             imply_by_circuit(alloc, first, second, &ask)
         }

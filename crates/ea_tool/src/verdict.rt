@@ -33,7 +33,10 @@ pub enum Question {
     /// Whether the lassos of the second file satisfy the formula of the first.
     Judge,
     /// Whether the formula is satisfiable.
-    Decide { engine: Engine, proof: bool },
+    Decide {
+        engine: Engine,
+        proof: bool,
+    },
     /// Whether the formulas of the two files stand in a relation.
     Relate {
         relation: Relation,
@@ -52,18 +55,26 @@ pub enum Question {
 #[derive(Drop)]
 pub enum CircuitVerdict {
     /// No list of lassos satisfies the formula, by this proof about its free net.
-    Unsat { proof: InductionProof },
+    Unsat {
+        proof: InductionProof,
+    },
     /// The first formula implies the second.
-    Implied { proof: InductionProof },
+    Implied {
+        proof: InductionProof,
+    },
     /// The formulas are equivalent: the first implies the second, and the second the first.
     Equivalent {
         first: InductionProof,
         second: InductionProof,
     },
     /// Paths of so many steps leave it open.
-    UnknownDepth { depth: u32 },
+    UnknownDepth {
+        depth: u32,
+    },
     /// A query learned as many clauses as it may.
-    UnknownConflicts { conflicts: u32 },
+    UnknownConflicts {
+        conflicts: u32,
+    },
 }
 
 /// What is said where nothing is refused.
