@@ -94,7 +94,7 @@ module _ (names : List (List ℕ)) where
     spelled = printed_equivalent one two is.printable also.printable;
     good = (is.refutes, also.refutes);
     shown = refl;
-    unrefused = λ limit refused. elim refused [ inl first ↦ is.unrefused limit first | inr second ↦ also.unrefused limit second ];
+    unrefused = λ limit refused. elim refused [ inl r ↦ is.unrefused limit r | inr r ↦ also.unrefused limit r ];
   }
 
   pub unsat-good : (f : Plain) (proof : RankProof) → HasFewMembers (reduction f)
@@ -125,9 +125,9 @@ module _ (names : List (List ℕ)) where
       → IsShort (verdict_text true names (verdicts.Equivalent one two))
       → IsShown names (equivalence f g) [] (verdict_text true names (verdicts.Equivalent one two))
   equivalent-good f g one two few small ((there, is), (back, are)) short =
-      let (first, second) = two-short (proof_text one) (proof_text two) short in
-      equivalent-shown f g (ranks one) (ranks two) (ranks-shown (plan_against f g) one few is first)
-      (ranks-shown (plan_against g f) two small are second)
+      let (begun, rest) = two-short (proof_text one) (proof_text two) short in
+      equivalent-shown f g (ranks one) (ranks two) (ranks-shown (plan_against f g) one few is begun)
+      (ranks-shown (plan_against g f) two small are rest)
 
   -- So are proofs about free nets.
   module _ (ask : Ask) (low : ask.depth ≤ most_depth) where
@@ -150,9 +150,9 @@ module _ (names : List (List ℕ)) where
         → IsShort (verdict_text true names (verdicts.ByCircuit (circuit.Equivalent one two)))
         → IsShown names (equivalence f g) [] (verdict_text true names (verdicts.ByCircuit (circuit.Equivalent one two)))
     free-equivalent-good f g one two is are short =
-        let (first, second) = two-short (worded_text free_word one) (worded_text free_word two) short in
-        equivalent-shown f g (free one) (free two) (free-shown (plan_against f g) ask one low is first)
-        (free-shown (plan_against g f) ask two low are second)
+        let (begun, rest) = two-short (worded_text free_word one) (worded_text free_word two) short in
+        equivalent-shown f g (free one) (free two) (free-shown (plan_against f g) ask one low is begun)
+        (free-shown (plan_against g f) ask two low are rest)
 
 -- ---- lassos
 

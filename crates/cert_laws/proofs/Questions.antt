@@ -105,7 +105,7 @@ given-low (value ∷ more) n (is, least, most) = most
 
 low-engine : (items : List Item) (engine : Engine) → IsEngine items engine → IsLow engine
 low-engine items (Branches states) is = tt
-low-engine items (Circuit ask) (calls, deep, rest) = given-low (given_in (codes "depth") items) ask.depth deep
+low-engine items (Circuit ask) (calls, deep, budget, bare, missing) = given-low (given_in (codes "depth") items) ask.depth deep
 
 pub asks-low : (words files : List Text) (question : EaQuestion) → AsksFor words question files → AsksLow question
 asks-low words (one ∷ []) (Decide engine proof) (items, are, asks) = low-engine items engine asks.by
