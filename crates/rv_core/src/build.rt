@@ -51,7 +51,7 @@ impl Rv {
         ensures refused { IfErr result (IsNewRefusal formulas.now) }
     {
         all_universal(formulas)?;
-        let watches = watches_of(alloc, formulas)?;
+        let watches = watches_of(alloc, formulas, drop_dominated)?;
         let kept = Kept::none(alloc, watches.len())?;
         let sessions = Sessions::none(alloc)?;
         Ok(Rv {
@@ -86,7 +86,7 @@ fn all_universal(formulas: &[Formula]) -> Result<(), RvNewError>
 }
 
 /// A watch of each formula. `Limit` as `Rv::new` says.
-fn watches_of(alloc: Global, formulas: &[Formula]) -> Result<List<Watch>, RvNewError>
+fn watches_of(alloc: Global, formulas: &[Formula], drops: bool) -> Result<List<Watch>, RvNewError>
     requires quantifiers { All HasFewQuantifiers formulas.now }
     requires universal { AreUniversal formulas.now }
     ensures fresh { IfOk result (λ made. AreFresh formulas.now (watched_by made)) }
@@ -96,7 +96,7 @@ fn watches_of(alloc: Global, formulas: &[Formula]) -> Result<List<Watch>, RvNewE
     let mut watches = List::new(alloc);
     let mut refused = None;
     for formula in formulas {
-        match watch_of(alloc, formula) {
+        match watch_of(alloc, formula, drops) {
             Ok(watch) => watches.push(watch)?,
             Err(MonitorError::Limit(kind)) => refused = Some(first_kind(refused, kind)),
             Err(MonitorError::Memory) => return Err(RvNewError::Memory),
@@ -109,7 +109,7 @@ fn watches_of(alloc: Global, formulas: &[Formula]) -> Result<List<Watch>, RvNewE
 }
 
 /// The watch of a formula.
-fn watch_of(alloc: Global, formula: &Formula) -> Result<Watch, MonitorError>
+fn watch_of(alloc: Global, formula: &Formula, drops: bool) -> Result<Watch, MonitorError>
     requires { HasFewQuantifiers formula.now }
     ensures fresh { IfOk result (λ made. IsFresh formula.now (watched made)) }
     ensures taken { OnOk result (IsTaken (tree_of formula.now.body)) }
@@ -117,7 +117,7 @@ fn watch_of(alloc: Global, formula: &Formula) -> Result<Watch, MonitorError>
 {
     let monitor = Monitor::build(alloc, &formula.body, formula.prefix.len() as u8)?;
     let names = Names::of(alloc, &formula.body)?;
-    Ok(Watch::new(alloc, names, monitor)?)
+    Ok(Watch::new(alloc, names, monitor, drops)?)
 }
 
 /// Of two kinds that are refused the one that is answered.

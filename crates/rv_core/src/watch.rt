@@ -7,7 +7,8 @@ ghost use Rattle.trace_trie.specs.Numbered.{Numbered};
 ghost use Rattle.std.specs.List.{Contains};
 ghost use Rattle.hy_finite.specs.declared.lengths.Lengths.{Lengths as Rule};
 ghost use Rattle.fin_monitor.specs.Seen.{machine_of};
-ghost use Rattle.dominance.specs.Dominance.{Dominates};
+ghost use Rattle.dominance.specs.Answers.{IsOrder};
+ghost use Rattle.dominance.specs.Telling.{AreTelling, AreTelling-prop};
 ghost use Rattle.tuple_walk.specs.Finds.{AreViolating, AllMeet, traces_of};
 ghost use Rattle.rv_core.specs.Masks.{AreNamesOf, AreNamesOf-prop};
 ghost use Rattle.rv_core.specs.Watched.{MayTurn, MayTurn-prop, IsExact, IsExact-prop};
@@ -15,9 +16,9 @@ ghost use Rattle.rv_core.specs.Arrivals.{IsNext};
 ghost use Rattle.rv_core.specs.StepBounds.{IsBound};
 
 use crate::names::Names;
-use dominance::{Compare, dominates, symmetric};
+use dominance::{Order, order_of, symmetric, telling_names};
 use fin_monitor::Monitor;
-use hy_base::{M, Steps};
+use hy_base::{List, M, Steps};
 use hy_bits::LetterMask;
 use hy_finite::{Lengths, Trace};
 use std::alloc::Global;
@@ -33,26 +34,32 @@ pub(crate) struct Watch {
     pub(crate) names: Names,
     /// Exchanging two traces never changes the verdict.
     symmetric: bool,
+    /// Names that tell traces apart, where dominated ones are dropped.
+    telling: List<usize>,
     ghost some: { 1 ≤ (machine_of monitor).variables },
     ghost named: { AreNamesOf names (machine_of monitor).body } by { AreNamesOf-prop names (machine_of monitor).body },
     ghost turns: { IsTrue symmetric → MayTurn (machine_of monitor) } by { →_prop (MayTurn-prop (machine_of monitor)) },
     ghost exact: { IsExact symmetric (machine_of monitor) } by { IsExact-prop symmetric (machine_of monitor) },
+    ghost tell: { AreTelling (machine_of monitor).variables (machine_of monitor).body telling } by { AreTelling-prop (machine_of monitor).variables (machine_of monitor).body telling },
 }
 
 impl Watch {
     ghost use Rattle.rv_core.specs.Seen.{watched};
 
-    /// A watch by the monitor of a body that has these names. In time as `symmetric`.
-    pub(crate) fn new(alloc: Global, names: Names, monitor: Monitor) -> M<Watch>
+    /// A watch by the monitor of a body that has these names, for traces of which dominated ones
+    /// may be dropped. In time as `symmetric`, and as `telling_names` where they are.
+    pub(crate) fn new(alloc: Global, names: Names, monitor: Monitor, drops: bool) -> M<Watch>
         requires some { 1 ≤ (machine_of monitor).variables }
         requires named { AreNamesOf names (machine_of monitor).body }
         ensures { IfOk result (λ made. watched made ≡ machine_of monitor) }
     {
         let symmetric = symmetric(alloc, &monitor)?;
+        let telling = telling(alloc, &monitor, drops)?;
         Ok(Watch {
             monitor,
             names,
             symmetric,
+            telling,
         })
     }
 
@@ -121,7 +128,7 @@ impl Watch {
     /// What is kept with a new trace, where dominated ones are dropped: what was kept, if one of
     /// these dominates the new one; else those of them that it does not dominate, and the new one.
     ///
-    /// The new trace is compared with each kept one, both ways.
+    /// The new trace is compared with each kept one.
     pub(crate) fn leaders(
         &self,
         alloc: Global,
@@ -137,10 +144,11 @@ impl Watch {
         let mut left = kept.share()?;
         let mut from = 0;
         while let Some((other, held)) = kept.next(from) {
-            if self.is_over(alloc, rule, held, trace)? {
+            let order = self.order(alloc, rule, held, trace)?;
+            if order.over {
                 return kept.share();
             }
-            if self.is_over(alloc, rule, trace, held)? {
+            if order.under {
                 left = left.without(other)?;
             }
             from = other + 1;
@@ -148,14 +156,30 @@ impl Watch {
         left.insert(number, trace)
     }
 
-    /// Whether a trace dominates another.
-    fn is_over(&self, alloc: Global, rule: Lengths, upper: &Trace, lower: &Trace) -> M<bool>
-        ensures { IfOk result (λ answer. IsTrue answer ↔ Dominates rule
-            (watched self.now).variables (watched self.now).body upper.now lower.now) }
+    /// Which of a kept trace and a new one dominates the other.
+    fn order(&self, alloc: Global, rule: Lengths, held: &Trace, trace: &Trace) -> M<Order>
+        ensures { IfOk result (IsOrder rule (watched self.now).variables (watched self.now).body
+            held.now trace.now) }
     {
-        match dominates(alloc, &self.monitor, upper, lower, rule)? {
-            Compare::Yes => Ok(true),
-            Compare::No { .. } => Ok(false),
-        }
+        order_of(
+            alloc,
+            &self.monitor,
+            self.telling.as_slice(),
+            held,
+            trace,
+            rule,
+        )
+    }
+}
+
+/// Names that tell traces of a monitor's body apart; none where no traces are dropped.
+fn telling(alloc: Global, monitor: &Monitor, drops: bool) -> M<List<usize>>
+    ensures { IfOk result (AreTelling (machine_of monitor.now).variables
+        (machine_of monitor.now).body) }
+{
+    if drops {
+        telling_names(alloc, monitor)
+    } else {
+        Ok(List::new(alloc))
     }
 }

@@ -7,7 +7,7 @@ use Rattle.rv_core.specs.Seen.{watched}
 use Rattle.rv_core.proofs.Places.{ok-more}
 use Rattle.rv_core.proofs.Sifting.{IsSifted, rest-next, rest-contains, sifted-start, sifted-stays, sifted-dropped, sifted-end}
 use Rattle.rv_core.proofs.watch.Watch.leaders.Goals as goal
-use Rattle.rv_core.proofs.watch.Watch.leaders.Goals.{then-branch-2+in_ok-left-2, else-branch-2}
+use Rattle.rv_core.proofs.watch.Watch.leaders.Goals.{then-order-2+in_ok-left-2, else-order-2}
 
 differ : ¬ (false ≡ true)
 differ e = cc
@@ -24,14 +24,14 @@ loop-other-init c =
       below = subst Q (sym c.in_ok-left.ensures) c.requires;
     }
 
-pub returns-then-branch : goal.returns-then-branch
-returns-then-branch c =
+pub returns-then-order : goal.returns-then-order
+returns-then-order c =
     let p : Numbered = (c.in-Some.other, c.in-Some.held.now) in
     let (more, e) = c.in-Some.ensures.some in
     let has = rest-contains c.loop-other.from c.args.kept.now p more e in
-    ok-more c.share-then-branch.result
-    (λ made same. over p has (c.in_ok-is_over.ensures.0 c.if-branch.true) same)
-    c.share-then-branch.ensures
+    ok-more c.share-then-order.result
+    (λ made same. over p has (c.in_ok-order.ensures.over.0 c.if-order.true) same)
+    c.share-then-order.ensures
 
 pub overflow_add-from : goal.overflow_add-from
 overflow_add-from c =
@@ -61,23 +61,23 @@ loop-other-preserved c =
     let (more, e) = c.in-Some.ensures.some in
     let ascending = c.numbers_ascend.ensures.ascending in
     let not_over : ¬ IsOver rule true m t p =
-    λ is. differ (sym c.if-branch.false ∙ c.in_ok-is_over.ensures.1 is) in
+    λ is. differ (sym c.if-order.false ∙ c.in_ok-order.ensures.over.1 is) in
     let P : List Numbered → Type 0 =
     IsSifted rule true m t kept (c.in-Some.other + 1) in
     let Q : List Numbered → Type 0 = Each (λ (p : Numbered). p.0 < c.args.number) in
-    elim c.if-branch-2.branch [
-      | then-branch-2+in_ok-left-2 w ↦
+    elim c.if-order-2.branch [
+      | then-order-2+in_ok-left-2 w ↦
           let same = w.left-is ∙ w.in_ok-left-2.ensures in
           record {
             sifted = subst P (sym same) (sifted-dropped rule true m t kept from
                 c.loop-other.left p more c.loop-other.invariant.sifted ascending e not_over
-                (c.in_ok-is_over-2.ensures.0 w.if-branch-2.true));
+                (c.in_ok-order.ensures.under.0 w.if-order-2.true));
             below = subst Q (sym same)
                 (each-filter (λ (p : Numbered). p.0 < c.args.number) _ c.loop-other.left c.loop-other.invariant.below);
           }
-      | else-branch-2 w ↦
+      | else-order-2 w ↦
           let not_under : ¬ IsUnder rule true m t p =
-          λ is. differ (sym w.if-branch-2.false ∙ c.in_ok-is_over-2.ensures.1 is) in
+          λ is. differ (sym w.if-order-2.false ∙ c.in_ok-order.ensures.under.1 is) in
           record {
             sifted = subst P (sym w.left-is) (sifted-stays rule true m t kept from
                 c.loop-other.left p more c.loop-other.invariant.sifted ascending e not_over
