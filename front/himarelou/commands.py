@@ -7,7 +7,7 @@ import signal
 import subprocess
 import sys
 from collections.abc import Sequence
-from concurrent.futures import ThreadPoolExecutor, as_completed
+from concurrent.futures import FIRST_COMPLETED, ThreadPoolExecutor, wait
 from pathlib import Path
 from typing import NoReturn
 
@@ -62,12 +62,15 @@ def run_all(circuits: Circuits, questions: Sequence[Question], jobs: int, screen
     is_whole = True
     with ThreadPoolExecutor(max_workers=jobs) as pool:
         kinds = {"check": Check, "monitor": Monitor}
-        futures = [pool.submit(lambda it: kinds[it.kind](circuits, it, screen.stage).run(), it) for it in questions]
+        futures = {pool.submit(lambda it: kinds[it.kind](circuits, it, screen.stage).run(), it) for it in questions}
         try:
-            for future in as_completed(futures):
-                result = future.result()
-                results[result.name] = result
-                screen.ended(result)
+            while futures:
+                # in short turns: where another thread takes a signal, this one sees it when it next runs
+                done, futures = wait(futures, timeout=0.1, return_when=FIRST_COMPLETED)
+                for future in done:
+                    result = future.result()
+                    results[result.name] = result
+                    screen.ended(result)
         except (KeyboardInterrupt, Stopped):
             is_whole = False
             circuits.runner.stop()
