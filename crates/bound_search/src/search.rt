@@ -20,7 +20,7 @@ use chain_check::Log;
 use hy_base::M;
 use hy_formula::Formula;
 use hy_lasso::LassoList;
-use sat_core::{Assignment, Outcome, solve};
+use sat_core::{Assignment, Outcome, solve_owned};
 use std::alloc::Global;
 
 /// What a search within a bound found.
@@ -56,7 +56,7 @@ pub fn search_bound(
         (λ e. IsRefusal bound.now f.now.prefix (tree_of f.now.body) e) }
 {
     let cnf = bound_query(alloc, f, *bound)?;
-    match solve(alloc, &cnf, conflicts)? {
+    match solve_owned(alloc, cnf, conflicts)? {
         Outcome::Satisfied(values) => {
             let list = read_list(alloc, f, *bound, &values)?;
             Ok(BoundAnswer::Found(list))

@@ -1,8 +1,8 @@
 -- A visit to a clause.
-use Rattle.std.proofs.Common.{◌≡◌, ℕ, ◌+◌, ◌*◌, ◌<◌, List, [], ◌∷◌, ◌++◌, Some, length, get_or, set, inl, inr, refl, sym, ap, ◌∙◌, subst, arith, get_or-set_same}
-use Rattle.std.specs.Prelude.{ℤ, slice_get}
+use Rattle.std.proofs.Common.{◌≡◌, ℕ, ◌+◌, ◌-◌, ◌*◌, ◌<◌, ◌≤◌, List, [], ◌∷◌, ◌++◌, Some, length, get_or, set, inl, inr, refl, sym, ap, ◌∙◌, subst, arith, get_or-set_same}
+use Rattle.std.specs.Prelude.{ℤ, slice_get, unsigned_abs}
 use Rattle.std.specs.List.{Contains}
-use Rattle.std.proofs.lemmas.List.{length_push}
+use Rattle.std.proofs.lemmas.List.{length_push, get_or_default}
 use Rattle.std.proofs.lemmas.List.Elements.{Contains-get_or}
 use Rattle.std.proofs.lemmas.Option.{get_or_from_slice_get, slice_get-get_or, slice_get_within}
 use Rattle.chain_check.specs.Clauses.{Clause, IsLiteral, AreLiterals}
@@ -40,6 +40,20 @@ pub literals-read : (s : Solver) → IsReady s → (k : ℕ) → k < length s.cl
     slice_get s.clauses k ≡ Some c → AreLiterals s.partial.variables c
 literals-read s ready k lt c at = let P : Clause → Type 0 = AreLiterals s.partial.variables in
     subst P (clause-is s.clauses k c at) (literal-there s ready k lt)
+
+-- a literal of the clause with a number, as both are read
+pub literal-read : (s : Solver) → IsReady s → (number : ℕ) → 0 < number →
+    number ≤ length s.clauses → (c : Clause) → slice_get s.clauses (number - 1) ≡ Some c → (i : ℕ) →
+    i < length c → (l : ℤ) → l ≡ get_or c i l → IsLiteral s.partial.variables l
+literal-read s ready number counted within c at i lt l is =
+    literals-read s ready (number - 1) (omega (arith, counted, within)) c at l (i, lt, sym is)
+
+-- the place of its variable, as it is read
+pub place-read : (s : Solver) → IsReady s → (l : ℤ) → IsLiteral s.partial.variables l →
+    (v place : ℕ) → v ≡ unsigned_abs l → place ≡ get_or s.places.items v place →
+    place ≡ get_or s.places.items (unsigned_abs l) 0
+place-read s ready l right v place is at = at ∙ get_or_default s.places.items v place 0
+    (omega (arith, right.1, is, ready.sized)) ∙ ap (λ u. get_or s.places.items u 0) is
 
 -- the conflict at the clause of a place
 pub conflict-at : (t : Solver) (place : ℕ) → place < length t.clauses →

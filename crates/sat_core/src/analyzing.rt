@@ -28,7 +28,7 @@ impl Solver {
         ensures chain { OnOk result (analysis.new.chain.items ≡ analysis.old.chain.items) }
     {
         for l in self.clauses.clause(number as usize - 1) {
-            let place = self.places[l.variable()];
+            let place = self.places[l.variable()] as usize;
             if place < p {
                 analysis.see(*l, place, start)?;
             }

@@ -33,7 +33,7 @@ impl Solver {
         ensures excluded { IfOk result (λ core. Excludes self.now.clauses core) }
     {
         seen.clear(self.partial.len())?;
-        let place = self.places[l.variable()];
+        let place = self.places[l.variable()] as usize;
         seen.mark(place);
         self.trace(seen, place);
         let mut core = List::new(alloc);
@@ -106,7 +106,7 @@ impl Solver {
             (slice_index_or self.now.clauses (number - 1) []) }
     {
         for l in self.clauses.clause(number as usize - 1) {
-            let place = self.places[l.variable()];
+            let place = self.places[l.variable()] as usize;
             if place < p {
                 seen.mark(place);
             }
@@ -122,7 +122,7 @@ impl Solver {
             slice_index_or seen.now i false ≡ true → slice_index self.now.reasons.items i ≡ 0 →
             IsTrue result }
     {
-        let place = self.places[l.variable()];
+        let place = self.places[l.variable()] as usize;
         if self.partial.len() <= place {
             return false;
         }

@@ -148,7 +148,7 @@ impl Solver {
     {
         let reason = self.reason_at(step.place)?;
         for i in step.passed..reason.len() {
-            let place = *self.places.get(reason[i].variable())?;
+            let place = *self.places.get(reason[i].variable())? as usize;
             let passes = place < first || step.place <= place || p <= place;
             if !passes && !seen.is_marked(place) && implied.get(place) != Some(true) {
                 return Some(Step { place, passed: i });

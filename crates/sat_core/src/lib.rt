@@ -20,4 +20,4 @@ mod watching;
 
 pub use asking::Reply;
 pub use session::Session;
-pub use solving::{Assignment, Outcome, solve};
+pub use solving::{Assignment, Outcome, solve, solve_owned};

@@ -13,6 +13,8 @@ const MOST: f64 = 1e100;
 const SCALE: f64 = 1e-100;
 /// By how much a conflict weighs more than the one before it.
 const GROWTH: f64 = 1.0 / 0.95;
+/// The place of what is not in the heap, past all of it.
+const NOWHERE: u32 = u32::MAX;
 
 /// The variables in the order of their activity.
 ///
@@ -27,9 +29,9 @@ pub struct Order {
     /// By variable: its last value.
     phases: Vec<bool>,
     /// By variable: its place in the heap.
-    places: Vec<Option<usize>>,
+    places: Vec<u32>,
     /// The heap, and behind its first `size` variables what is left of old ones.
-    heap: Vec<usize>,
+    heap: Vec<u32>,
     size: usize,
     ghost phased: { length phases.items ≡ length activities.items },
     ghost placed: { length places.items ≡ length activities.items },
@@ -47,8 +49,8 @@ impl Order {
         let mut places = Vec::new(alloc);
         let mut heap = Vec::new(alloc);
         for variable in 0..count {
-            places.push(Some(variable))?;
-            heap.push(variable)?;
+            places.push(variable as u32)?;
+            heap.push(variable as u32)?;
         }
         Ok(Order {
             activities: vec![in alloc; 0.0; count]?,
@@ -65,10 +67,10 @@ impl Order {
         if self.size == 0 {
             return None;
         }
-        let top = self.heap[0];
+        let top = self.heap[0] as usize;
         let number = top as i32;
         let l = Literal::new(if self.phases[top] { number } else { -number });
-        self.places[top] = None;
+        self.places[top] = NOWHERE;
         self.size -= 1;
         if 0 < self.size {
             self.heap[0] = self.heap[self.size];
@@ -85,9 +87,9 @@ impl Order {
             return;
         }
         self.phases[variable] = 0 < l.number();
-        if self.places[variable].is_none() && self.size < self.heap.len() {
+        if self.places[variable] == NOWHERE && self.size < self.heap.len() {
             let place = self.size;
-            self.heap[place] = variable;
+            self.heap[place] = variable as u32;
             self.size += 1;
             self.rise(place);
         }
@@ -100,14 +102,12 @@ impl Order {
         if self.activities.len() <= variable {
             return;
         }
-        let place = self.places[variable];
+        let place = self.places[variable] as usize;
         self.activities[variable] += self.step;
         if MOST < self.activities[variable] {
             self.scale();
         }
-        if let Some(place) = place {
-            self.rise(place);
-        }
+        self.rise(place);
     }
 
     /// Ends a conflict: the next one weighs more.
@@ -123,26 +123,26 @@ impl Order {
         self.step *= SCALE;
     }
 
-    /// Moves the variable at `place` of the heap up to where it belongs.
+    /// Moves the variable at `place` of the heap, if there is one, up to where it belongs.
     fn rise(&mut self, place: usize) {
         if self.size <= place {
             return;
         }
         let mut place = place;
         let variable = self.heap[place];
-        let activity = self.activities[variable];
+        let activity = self.activities[variable as usize];
         while 0 < place {
             let above = (place - 1) / 2;
             let other = self.heap[above];
-            if activity <= self.activities[other] {
+            if activity <= self.activities[other as usize] {
                 break;
             }
             self.heap[place] = other;
-            self.places[other] = Some(place);
+            self.places[other as usize] = place as u32;
             place = above;
         }
         self.heap[place] = variable;
-        self.places[variable] = Some(place);
+        self.places[variable as usize] = place as u32;
     }
 
     /// Moves the variable at `place` of the heap down to where it belongs.
@@ -152,19 +152,19 @@ impl Order {
         }
         let mut place = place;
         let variable = self.heap[place];
-        let activity = self.activities[variable];
+        let activity = self.activities[variable as usize];
         while 2 * place + 1 < self.size {
             let below = self.below(place);
             let other = self.heap[below];
-            if self.activities[other] <= activity {
+            if self.activities[other as usize] <= activity {
                 break;
             }
             self.heap[place] = other;
-            self.places[other] = Some(place);
+            self.places[other as usize] = place as u32;
             place = below;
         }
         self.heap[place] = variable;
-        self.places[variable] = Some(place);
+        self.places[variable as usize] = place as u32;
     }
 
     /// Of the one or two places below `place`, the one with the more active variable.
@@ -176,7 +176,8 @@ impl Order {
         let left = 2 * place + 1;
         let right = left + 1;
         if right < self.size
-            && self.activities[self.heap[left]] < self.activities[self.heap[right]]
+            && self.activities[self.heap[left] as usize]
+                < self.activities[self.heap[right] as usize]
         {
             right
         } else {

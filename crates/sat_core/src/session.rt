@@ -5,7 +5,7 @@ ghost use Rattle.chain_check.specs.Clauses.{AreLiterals};
 ghost use Rattle.sat_core.specs.Sessions.{IsLearned, IsRefutation, IsReply};
 
 use crate::asking::Reply;
-use crate::solving::Search;
+use crate::solving::{Search, copied};
 use chain_check::{Cnf, Literal};
 use hy_base::{List, M, Memory};
 use std::alloc::Global;
@@ -46,11 +46,20 @@ impl Session {
         ensures variables { IfOk result (λ s. s.variables ≡ cnf.now.variables) }
         ensures clauses { IfOk result (λ s. s.clauses ≡ cnf.now.clauses) }
     {
+        Session::owning(alloc, copied(alloc, cnf)?)
+    }
+
+    /// As `new`, of clauses that nobody needs any more: the session takes them up, and copies none.
+    pub fn owning(alloc: Global, cnf: Cnf) -> M<Session>
+        ensures variables { IfOk result (λ s. s.variables ≡ cnf.variables) }
+        ensures clauses { IfOk result (λ s. s.clauses ≡ cnf.clauses) }
+    {
+        let variables = cnf.variables;
         let mut search = Search::new(alloc, cnf)?;
         let refuted = search.solver.watch_all(&mut search.watches)?.is_some();
         Ok(Session {
             search,
-            variables: cnf.variables,
+            variables,
             sound: !refuted,
             refuted,
         })

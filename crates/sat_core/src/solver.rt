@@ -1,6 +1,6 @@
 //! The state of a search: what is true, why, and since which decision.
 
-ghost use Rattle.std.specs.Prelude.{◌≡◌, ◌<◌, ◌+◌, ◌∷◌, ◌++◌, unsigned_abs, [], length, slice_set, OnOk};
+ghost use Rattle.std.specs.Prelude.{◌≡◌, ◌<◌, ◌+◌, ◌^◌, ◌∷◌, ◌++◌, unsigned_abs, [], length, slice_set, OnOk};
 ghost use Rattle.chain_check.specs.Clauses.{IsLiteral};
 ghost use Rattle.sat_core.specs.Trails.{IsOpenIn, IsStep, AreSettled};
 ghost use Rattle.sat_core.specs.Solvers.{IsReady, GoesOn};
@@ -19,7 +19,7 @@ pub struct Solver {
     /// By place: the number of the clause by which it became true, or 0 for a decision.
     pub reasons: Vec<u32>,
     /// By variable: its place.
-    pub places: Vec<usize>,
+    pub places: Vec<u32>,
     /// By level: the place of its decision.
     pub limits: Vec<usize>,
 }
@@ -30,8 +30,8 @@ impl Solver {
         requires right { IsLiteral self.old.partial.variables l }
         requires open_yet { IsOpenIn self.old.partial.literals l }
         requires sized { self.old.partial.variables < length self.old.places.items }
-        ensures clauses { self.new.clauses ≡ self.old.clauses }
-        ensures limits { self.new.limits ≡ self.old.limits }
+        requires few { length self.old.partial.literals < 2 ^ 32 }
+        ensures kept { (self.new.clauses ≡ self.old.clauses) × (self.new.limits ≡ self.old.limits) }
         ensures reasons { OnOk result (self.new.reasons.items ≡ self.old.reasons.items ++ reason ∷
             []) }
         ensures places { self.new.places.items ≡ slice_set self.old.places.items (unsigned_abs l)
@@ -40,7 +40,7 @@ impl Solver {
             { literals = self.old.partial.literals ++ l ∷ [] }) }
     {
         let place = self.partial.len();
-        self.places[l.variable()] = place;
+        self.places[l.variable()] = place as u32;
         self.reasons.push(reason)?;
         self.partial.make_true(l)
     }

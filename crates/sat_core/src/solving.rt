@@ -33,18 +33,17 @@ pub enum Outcome {
 
 impl Solver {
     /// Nothing is true yet.
-    pub(crate) fn new(alloc: Global, cnf: &Cnf) -> M<Solver>
+    pub(crate) fn new(alloc: Global, cnf: Cnf) -> M<Solver>
         ensures ready { IfOk result IsReady }
-        ensures clauses { IfOk result (λ s. s.clauses ≡ cnf.now.clauses) }
+        ensures clauses { IfOk result (λ s. s.clauses ≡ cnf.clauses) }
         ensures none { IfOk result (λ s. s.partial ≡ record
-            { variables = cnf.now.variables; literals = [] }) }
+            { variables = cnf.variables; literals = [] }) }
         ensures no_limits { IfOk result (λ s. s.limits.items ≡ []) }
     {
-        let clauses = cnf.clauses.copy(alloc)?;
         let partial = Partial::new(alloc, cnf.variables)?;
         let places = vec![in alloc; 0; cnf.variables as usize + 1]?;
         Ok(Solver {
-            clauses,
+            clauses: cnf.clauses,
             partial,
             reasons: Vec::new(alloc),
             places,
@@ -130,10 +129,10 @@ pub struct Search {
 
 impl Search {
     /// Nothing is true or watched yet.
-    pub(crate) fn new(alloc: Global, cnf: &Cnf) -> M<Search>
+    pub(crate) fn new(alloc: Global, cnf: Cnf) -> M<Search>
         ensures start { IfOk result IsStart }
-        ensures clauses { IfOk result (λ s. s.solver.clauses ≡ cnf.now.clauses) }
-        ensures variables { IfOk result (λ s. s.solver.partial.variables ≡ cnf.now.variables) }
+        ensures clauses { IfOk result (λ s. s.solver.clauses ≡ cnf.clauses) }
+        ensures variables { IfOk result (λ s. s.solver.partial.variables ≡ cnf.variables) }
     {
         let variables = cnf.variables as usize;
         Ok(Search {
@@ -267,6 +266,25 @@ impl Search {
 pub fn solve(alloc: Global, cnf: &Cnf, conflicts: u32) -> M<Outcome>
     requires { conflicts < 2 ^ 31 }
     ensures { IfOk result (λ o. IsOutcome cnf.now.variables cnf.now.clauses conflicts o) }
+{
+    solve_owned(alloc, copied(alloc, cnf)?, conflicts)
+}
+
+/// Equal clauses over as many variables.
+pub(crate) fn copied(alloc: Global, cnf: &Cnf) -> M<Cnf>
+    ensures variables { IfOk result (λ copy. copy.variables ≡ cnf.now.variables) }
+    ensures clauses { IfOk result (λ copy. copy.clauses ≡ cnf.now.clauses) }
+{
+    Ok(Cnf {
+        variables: cnf.variables,
+        clauses: cnf.clauses.copy(alloc)?,
+    })
+}
+
+/// As `solve`, of clauses that nobody needs any more: the search takes them up, and copies none.
+pub fn solve_owned(alloc: Global, cnf: Cnf, conflicts: u32) -> M<Outcome>
+    requires { conflicts < 2 ^ 31 }
+    ensures { IfOk result (λ o. IsOutcome cnf.variables cnf.clauses conflicts o) }
 {
     let mut search = Search::new(alloc, cnf)?;
     search.run(alloc, conflicts)

@@ -106,8 +106,12 @@ impl Solver {
         if self.partial.is_true(other) {
             return Ok(Visit::Kept);
         }
-        let clause = self.clauses.clause(place as usize);
-        match watches.find(&self.partial, clause, place, other) {
+        match watches.find(
+            &self.partial,
+            self.clauses.clause(place as usize),
+            place,
+            other,
+        ) {
             Some(found) => {
                 watches.replace(place, other, found)?;
                 Ok(Visit::Moved)

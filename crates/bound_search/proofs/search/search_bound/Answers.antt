@@ -16,8 +16,8 @@ returns-in-Refuted-clause-answer c =
     c.in_ok-cnf.cnf.clauses c.in_ok-cnf.ensures.variables c.in_ok-cnf.ensures.clauses
     c.in_ok-values.field-0 c.in-Refuted.log c.in-Refuted.is c.in_ok-values.ensures
 
-pub returns-clause-answer : goal.returns-clause-answer
-returns-clause-answer c =
+pub returns-in-Spent-clause-answer : goal.returns-in-Spent-clause-answer
+returns-in-Spent-clause-answer c =
     spent_query c.args.bound.now c.requires.bound c.args.f.now.prefix
     (tree_of c.args.f.now.body) c.args.f.now.bound c.args.conflicts c.in_ok-cnf.cnf.variables
     c.in_ok-cnf.cnf.clauses c.in_ok-cnf.ensures.variables c.in_ok-cnf.ensures.clauses

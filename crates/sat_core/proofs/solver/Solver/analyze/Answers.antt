@@ -33,7 +33,7 @@ loop-p-preserved c =
 pub loop-p-preserved-in-Continue-branch-2 : goal.loop-p-preserved-in-Continue-branch-2
 loop-p-preserved-in-Continue-branch-2 c = (
   c.in_ok-resolve.ensures.is,
-  c.in_ok-resolve.ensures.refuting [] (refuting-next c.args.self.now.clauses
-      c.args.self.now.partial.literals c.loop-p.p [] c.loop-p.analysis.seen
-      c.loop-p.analysis.chain.items (omega (arith, c.loop-p-test.true)) c.loop-p.invariant.1),
+  c.in_ok-resolve.ensures.refuting []
+      (refuting-next _ _ _ [] _ c.loop-p.analysis.chain.items (omega (arith, c.loop-p-test.true))
+      c.loop-p.invariant.1),
 )

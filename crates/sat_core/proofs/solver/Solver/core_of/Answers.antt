@@ -1,11 +1,12 @@
-use Rattle.std.proofs.Common.{◌≡◌, ◌+◌, ◌<◌, true, false, List, [], ◌∷◌, ◌++◌, length, get_or, sym, ap, ◌∙◌, subst, arith, get_or-set_same}
-use Rattle.std.specs.Prelude.{ℤ, pos, neg_ℤ, unsigned_abs}
+use Rattle.std.proofs.Common.{◌≡◌, ◌+◌, true, false, List, [], ◌∷◌, ◌++◌, get_or, sym, ap, ◌∙◌, subst, arith, get_or-set_same}
+use Rattle.std.specs.Prelude.{ℤ, pos, neg_ℤ}
 use Rattle.std.proofs.lemmas.Bool.{both_ways}
 use Rattle.std.proofs.lemmas.List.{get_or_default}
 use Rattle.std.proofs.lemmas.List.Elements.{Contains-append_left, Contains-push}
 use Rattle.chain_check.specs.Clauses.{Clause, IsSubset}
 use Rattle.sat_core.specs.Sessions.{Excludes, IsTraced}
 use Rattle.sat_core.proofs.Assuming.{subset-more}
+use Rattle.sat_core.proofs.Visiting.{place-read}
 use Rattle.sat_core.proofs.Forcing.{AreFound, found-more, core-excludes, false-place, traced-begins}
 use Rattle.sat_core.proofs.solver.Solver.core_of.Goals as goal
 use Rattle.sat_core.proofs.solver.Solver.core_of.Goals.{then-is_traced+in_ok-push_literal, else-is_traced}
@@ -43,25 +44,20 @@ loop-m-preserved c =
 pub returns-clause-excluded : goal.returns-clause-excluded
 returns-clause-excluded c =
     let right = c.requires.right c.args.l c.requires.there in
-    let small : c.variable.result < length c.args.self.now.places.items =
-    omega (arith, right.1, c.variable.ensures, c.requires.ready.sized) in
-    let its : c.index-place.result.now
-    ≡ get_or c.args.self.now.places.items (unsigned_abs c.args.l) 0 =
-    c.index-place.ensures ∙ get_or_default c.args.self.now.places.items c.variable.result
-    c.index-place.result.now 0 small ∙
-    ap (λ v. get_or c.args.self.now.places.items v 0) c.variable.ensures in
-    let place = false-place c.args.self.now c.args.l c.index-place.result.now c.requires.ready
+    let its = place-read c.args.self.now c.requires.ready c.args.l right c.variable.result
+    c.index.result.now c.variable.ensures c.index.ensures in
+    let place = false-place c.args.self.now c.args.l c.index.result.now c.requires.ready
     c.requires.is_false its in
-    let marked : get_or c.mark.new.self c.index-place.result.now false ≡ true =
-    ap (λ xs. get_or xs c.index-place.result.now false) c.mark.ensures ∙
-    get_or-set_same c.clear.new.self c.index-place.result.now true false
+    let marked : get_or c.mark.new.self c.index.result.now false ≡ true =
+    ap (λ xs. get_or xs c.index.result.now false) c.mark.ensures ∙
+    get_or-set_same c.clear.new.self c.index.result.now true false
     (omega (arith, place.0, c.in_ok-clear.ensures.room, c.len.ensures)) in
     let T : ℤ → Type 0 = IsTraced c.args.self.now c.mark.new.self
-    (c.index-place.result.now + 1) in
+    (c.index.result.now + 1) in
     let E : Clause → Type 0 = Excludes c.args.self.now.clauses in
     subst E (sym c.in_ok-push_literal-2.ensures) (core-excludes c.args.self.now c.trace.new.seen
     c.args.assumptions.now c.loop-m.core c.args.l c.loop-m.m-index c.requires.ready right.0
     c.loop-m-test.false
     (c.trace.ensures.traced (neg_ℤ c.args.l) (subst T place.1
-    (traced-begins c.args.self.now c.mark.new.self c.index-place.result.now place.0 marked)))
+    (traced-begins c.args.self.now c.mark.new.self c.index.result.now place.0 marked)))
     c.requires.decided c.loop-m.invariant.found)

@@ -1,29 +1,20 @@
-use Rattle.std.proofs.Common.{◌≡◌, ◌<◌, ◌+◌, ◌-◌, ℕ, List, [], ◌∷◌, ◌++◌, take, length, get_or, arith, sym, subst, ap, ◌∙◌, true, false}
+use Rattle.std.proofs.Common.{◌≡◌, ◌+◌, ◌-◌, ℕ, List, [], ◌∷◌, ◌++◌, take, get_or, arith, sym, subst, ap, ◌∙◌, true, false}
 use Rattle.std.specs.Prelude.{ℤ, unsigned_abs}
-use Rattle.std.specs.List.{Contains}
-use Rattle.std.proofs.lemmas.List.{take_more, take_all, get_or_default}
-use Rattle.std.proofs.lemmas.List.Elements.{Contains-get_or}
-use Rattle.std.proofs.lemmas.Option.{get_or_from_slice_get}
-use Rattle.chain_check.specs.Clauses.{Clause, IsLiteral}
+use Rattle.std.proofs.lemmas.List.{take_more, take_all}
+use Rattle.chain_check.specs.Clauses.{Clause}
 use Rattle.sat_core.specs.Analyses.{AreMarked}
 use Rattle.sat_core.proofs.Propagating.{no-more-than}
+use Rattle.sat_core.proofs.Visiting.{clause-is, literal-read, place-read}
 use Rattle.sat_core.proofs.Analysing.{IsMarking, marking-skips, marking-sees, count-few}
 use Rattle.sat_core.specs.declared.analysis.Analysis.{Analysis}
 use Rattle.sat_core.proofs.solver.Solver.mark.Goals as goal
 use Rattle.sat_core.proofs.solver.Solver.mark.Goals.{then-place-p+in_ok-see, else-place-p}
 
-pub index-place-requires : goal.index-place-requires
-index-place-requires c =
-    let its : get_or c.args.self.now.clauses (c.args.number - 1) [] ≡ c.clause-l-items.result.now =
-    get_or_from_slice_get c.args.self.now.clauses
-    (c.args.number - 1) c.clause-l-items.result.now [] c.clause-l-items.ensures in
-    let P : Clause → Type 0 = Contains c.args.self.now.clauses in
-    let there : P c.clause-l-items.result.now =
-    subst P its (Contains-get_or c.args.self.now.clauses (c.args.number - 1) []
-    (omega (arith, c.requires.counted, c.requires.within))) in
-    let right : IsLiteral c.args.self.now.partial.variables c.l-item.result =
-    c.requires.ready.right c.clause-l-items.result.now there c.l-item.result
-    (c.loop-l.l-index, c.loop-l-test.true, sym c.l-item.is) in
+pub index-requires : goal.index-requires
+index-requires c =
+    let right = literal-read c.args.self.now c.requires.ready c.args.number c.requires.counted
+    c.requires.within c.clause-l-items.result.now c.clause-l-items.ensures c.loop-l.l-index
+    c.loop-l-test.true c.l-item.result c.l-item.is in
     omega (arith, right.1, c.variable.ensures, c.requires.ready.sized)
 
 pub see-requires-clause-room : goal.see-requires-clause-room
@@ -41,22 +32,12 @@ loop-l-preserved c =
     let trail : List ℤ = c.args.self.now.partial.literals in
     let places : List ℕ = c.args.self.now.places.items in
     let clause : Clause = c.clause-l-items.result.now in
-    let its : get_or c.args.self.now.clauses (c.args.number - 1) [] ≡ c.clause-l-items.result.now =
-    get_or_from_slice_get c.args.self.now.clauses
-    (c.args.number - 1) c.clause-l-items.result.now [] c.clause-l-items.ensures in
-    let B : Clause → Type 0 = Contains c.args.self.now.clauses in
-    let here : Contains clause c.l-item.result =
-    (c.loop-l.l-index, c.loop-l-test.true, sym c.l-item.is) in
-    let there : B c.clause-l-items.result.now =
-    subst B its (Contains-get_or c.args.self.now.clauses (c.args.number - 1) []
-    (omega (arith, c.requires.counted, c.requires.within))) in
-    let right : IsLiteral c.args.self.now.partial.variables c.l-item.result =
-    c.requires.ready.right c.clause-l-items.result.now there c.l-item.result here in
-    let small : c.variable.result < length places =
-    omega (arith, right.1, c.variable.ensures, c.requires.ready.sized) in
-    let place : c.index-place.result.now ≡ get_or places (unsigned_abs c.l-item.result) 0 =
-    c.index-place.ensures ∙ get_or_default places c.variable.result c.index-place.result.now 0
-    small ∙ ap (λ v. get_or places v 0) c.variable.ensures in
+    let place : c.index.result.now ≡ get_or places (unsigned_abs c.l-item.result) 0 =
+    place-read c.args.self.now c.requires.ready c.l-item.result
+    (literal-read c.args.self.now c.requires.ready c.args.number c.requires.counted
+    c.requires.within c.clause-l-items.result.now c.clause-l-items.ensures c.loop-l.l-index
+    c.loop-l-test.true c.l-item.result c.l-item.is)
+    c.variable.result c.index.result.now c.variable.ensures c.index.ensures in
     let more : take (c.loop-l.l-index + 1) clause ≡ take c.loop-l.l-index clause ++ c.l-item.result
     ∷ [] =
     take_more clause c.loop-l.l-index c.l-item.result c.loop-l-test.true ∙
@@ -85,10 +66,8 @@ loop-l-preserved c =
 
 pub returns-clause-marked : goal.returns-clause-marked
 returns-clause-marked c =
-    let its : get_or c.args.self.now.clauses (c.args.number - 1) [] ≡ c.clause-l-items.result.now =
-    get_or_from_slice_get c.args.self.now.clauses
-    (c.args.number - 1) c.clause-l-items.result.now [] c.clause-l-items.ensures in
     let P : Clause → Type 0 = AreMarked c.args.self.now.partial.literals c.args.p
     c.loop-l.analysis.seen in
-    subst P (take_all c.loop-l.l-index c.clause-l-items.result.now c.loop-l-test.false ∙ sym its)
+    subst P (take_all c.loop-l.l-index c.clause-l-items.result.now c.loop-l-test.false ∙ sym (clause-is c.args.self.now.clauses
+    (c.args.number - 1) c.clause-l-items.result.now c.clause-l-items.ensures))
     c.loop-l.invariant.marked

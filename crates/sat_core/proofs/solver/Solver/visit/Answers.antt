@@ -20,19 +20,19 @@ is_true-requires c = literal-there c.args.self.now c.requires.ready c.args.place
 
 pub find-requires : goal.find-requires
 find-requires c = literals-read c.args.self.now c.requires.ready c.args.place
-    c.requires.place c.clause-clause.result.now c.clause-clause.ensures
+    c.requires.place c.clause.result.now c.clause.ensures
 
 pub replace-requires-clause-few : goal.replace-requires-clause-few
 replace-requires-clause-few c =
     let right : IsLiteral c.args.self.now.partial.variables c.in-Some.found.literal =
     literals-read c.args.self.now c.requires.ready c.args.place c.requires.place
-    c.clause-clause.result.now c.clause-clause.ensures c.in-Some.found.literal c.in-Some.ensures.there in
+    c.clause.result.now c.clause.ensures c.in-Some.found.literal c.in-Some.ensures.there in
     omega (arith, right.1, c.requires.ready.few_variables)
 
 pub replace-requires-clause-inside : goal.replace-requires-clause-inside
 replace-requires-clause-inside c = place-inside c.args.self.now.partial.variables c.in-Some.found.literal
     c.args.watches.now.lists (literals-read c.args.self.now c.requires.ready c.args.place
-    c.requires.place c.clause-clause.result.now c.clause-clause.ensures c.in-Some.found.literal c.in-Some.ensures.there)
+    c.requires.place c.clause.result.now c.clause.ensures c.in-Some.found.literal c.in-Some.ensures.there)
     c.requires.sized
 
 pub returns-in_ok-replace-in-Some-clause-visit : goal.returns-in_ok-replace-in-Some-clause-visit
@@ -43,8 +43,8 @@ returns-in_ok-replace-in-Some-clause-visit c =
     c.args.place c.args.l c.other-other.result c.in-Some.found.literal = record {
       same = refl;
       is_other = c.other-other.ensures;
-      found = subst P (sym (clause-is c.args.self.now.clauses c.args.place c.clause-clause.result.now
-          c.clause-clause.ensures)) c.in-Some.ensures;
+      found = subst P (sym (clause-is c.args.self.now.clauses c.args.place c.clause.result.now
+          c.clause.ensures)) c.in-Some.ensures;
       pairs = c.in_ok-replace-in-Some.ensures.pairs;
       lists = c.in_ok-replace-in-Some.ensures.lists;
     } in
@@ -59,21 +59,21 @@ pub returns-then-is_false-clause-visit : goal.returns-then-is_false-clause-visit
 returns-then-is_false-clause-visit c =
     let P : Clause → Type 0 = λ d. AllFalseIn c.args.self.now.partial.literals d in (
       (refl, refl),
-      subst P (sym (clause-is c.args.self.now.clauses c.args.place c.clause-clause.result.now
-          c.clause-clause.ensures)) (left-false c.args.self.now.partial.literals c.clause-clause.result.now
+      subst P (sym (clause-is c.args.self.now.clauses c.args.place c.clause.result.now
+          c.clause.ensures)) (left-false c.args.self.now.partial.literals c.clause.result.now
           c.other-other.result c.in-None.ensures (c.is_false.ensures.0 c.if-is_false.true)),
     )
 
 pub imply-requires-clause-step : goal.imply-requires-clause-step
 imply-requires-clause-step c =
     let P : Clause → Type 0 = λ d. Contains d c.other-other.result in
-    let there : P c.clause-clause.result.now = subst P
-    (clause-is c.args.self.now.clauses c.args.place c.clause-clause.result.now c.clause-clause.ensures)
+    let there : P c.clause.result.now = subst P
+    (clause-is c.args.self.now.clauses c.args.place c.clause.result.now c.clause.ensures)
     (other-there _ _ c.args.l c.other-other.result c.requires.first c.requires.second
     c.other-other.ensures) in
-    unit-step c.args.self.now c.args.place c.clause-clause.result.now c.other-other.result c.requires.ready
-    c.clause-clause.ensures
-    (left-unit c.args.self.now.partial.literals c.clause-clause.result.now c.other-other.result
+    unit-step c.args.self.now c.args.place c.clause.result.now c.other-other.result c.requires.ready
+    c.clause.ensures
+    (left-unit c.args.self.now.partial.literals c.clause.result.now c.other-other.result
     c.in-None.ensures there (λ h. both_ways c.is_false.result c.if-is_false.false
     (c.is_false.ensures.1 h)))
     (λ h. both_ways c.is_true.result c.if-is_true.false (c.is_true.ensures.1 h))
