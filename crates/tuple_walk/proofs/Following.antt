@@ -237,19 +237,22 @@ pub position-code : (m : Machine) (i : ℕ) (ts : List Trace)
 position-code m i ts = λ j. code_of (λ name v. contains (position-word i ts v j) name) m.atoms
 
 -- the parts of two letters
+pub two-letters : (m : Machine) (a b : Letter)
+    → bit_or (part_of m.atoms 0 a) (part_of m.atoms 1 b)
+    ≡ code_of (joint_letter (a ∷ b ∷ [])) m.atoms
+two-letters m a b =
+    let letters = a ∷ b ∷ [] in
+    ap (λ k. bit_or k (part_of m.atoms 1 b))
+    (sym (or_zero_l (part_of m.atoms 0 a))
+    ∙ ap (λ k. bit_or k (part_of m.atoms 0 a)) (sym (code-none m.atoms))
+    ∙ code-more letters 0 a m.atoms refl)
+    ∙ code-more letters 1 b m.atoms refl
+
 pub two-code : (m : Machine) (i : ℕ) (t u : Trace)
     → bit_or (part_of m.atoms 0 (get_or t i empty)) (part_of m.atoms 1 (get_or u i empty))
     ≡ code_at m (trace_words (t ∷ u ∷ [])) i
 two-code m i t u =
-    let letters = letters_at_position i (t ∷ u ∷ []) in
-    let first = part_of m.atoms 0 (get_or t i empty) in
-    let second = part_of m.atoms 1 (get_or u i empty) in
-    ap (λ k. bit_or k second)
-    (sym (or_zero_l first)
-    ∙ ap (λ k. bit_or k first) (sym (code-none m.atoms))
-    ∙ code-more letters 0 (get_or t i empty) m.atoms refl)
-    ∙ code-more letters 1 (get_or u i empty) m.atoms refl
-    ∙ position-code m i (t ∷ u ∷ [])
+    two-letters m (get_or t i empty) (get_or u i empty) ∙ position-code m i (t ∷ u ∷ [])
 
 -- the parts of three letters
 pub three-code : (m : Machine) (i : ℕ) (t u v : Trace)
@@ -258,13 +261,7 @@ pub three-code : (m : Machine) (i : ℕ) (t u v : Trace)
     ≡ code_at m (trace_words (t ∷ u ∷ v ∷ [])) i
 three-code m i t u v =
     let letters = letters_at_position i (t ∷ u ∷ v ∷ []) in
-    let first = part_of m.atoms 0 (get_or t i empty) in
-    let second = part_of m.atoms 1 (get_or u i empty) in
-    let third = part_of m.atoms 2 (get_or v i empty) in
-    ap (λ k. bit_or (bit_or k second) third)
-    (sym (or_zero_l first)
-    ∙ ap (λ k. bit_or k first) (sym (code-none m.atoms))
-    ∙ code-more letters 0 (get_or t i empty) m.atoms refl)
-    ∙ ap (λ k. bit_or k third) (code-more letters 1 (get_or u i empty) m.atoms refl)
+    ap (λ k. bit_or k (part_of m.atoms 2 (get_or v i empty)))
+    (two-letters m (get_or t i empty) (get_or u i empty))
     ∙ code-more letters 2 (get_or v i empty) m.atoms refl
     ∙ position-code m i (t ∷ u ∷ v ∷ [])

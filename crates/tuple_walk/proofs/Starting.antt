@@ -30,7 +30,7 @@ starts-right list x (suc n) (suc k) zero le lt =
 starts-right list x (suc n) (suc k) (suc p) le lt =
     ap (λ ls. list ∷ ls) (starts-right list x n k p (omega arith) (omega arith))
 
-some-in : {A : Type 0} (xs : List A) (x : A) → Contains xs x → 0 < length xs
+pub some-in : {A : Type 0} (xs : List A) (x : A) → Contains xs x → 0 < length xs
 some-in [] x c = absurd (contains-none x c)
 some-in (y ∷ ys) x c = omega arith
 

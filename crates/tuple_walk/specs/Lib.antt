@@ -3,6 +3,7 @@ pub mod Counted
 pub mod Finds
 pub mod Four
 pub mod JointPrefixes
+pub mod Pairs
 pub mod Places
 pub mod Searches
 pub mod Walks

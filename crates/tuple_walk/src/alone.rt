@@ -81,7 +81,12 @@ impl<'a, L: Ledger> Walk<'a, L> {
 
     /// Whether the tuple of these rests is rejected from state `q` on. It is stepped once for each
     /// position on which it is judged, until nothing is rejected any more.
-    fn rejects_rests(&self, rests: &[&[LetterMask]], q: u32, steps: &mut Steps<L>) -> bool
+    pub(crate) fn rejects_rests(
+        &self,
+        rests: &[&[LetterMask]],
+        q: u32,
+        steps: &mut Steps<L>,
+    ) -> bool
         requires some { 1 ≤ (machine_in self.now).variables }
         requires state { q < states_of (machine_in self.now) }
         requires each { length rests.now ≡ (machine_in self.now).variables }
@@ -165,7 +170,7 @@ impl<'a, L: Ledger> Walk<'a, L> {
 
 /// Letter `i` of a rest, empty past its end.
 #[inline(always)]
-fn letter_at(rest: &[LetterMask], i: usize) -> LetterMask
+pub(crate) fn letter_at(rest: &[LetterMask], i: usize) -> LetterMask
     ensures { result ≡ slice_index_or rest.now i empty }
 {
     if i < rest.len() {

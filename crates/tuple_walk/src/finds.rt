@@ -156,7 +156,36 @@ impl<'a, L: Ledger> Walk<'a, L> {
         if self.monitor.is_settled(self.monitor.start()) {
             return None;
         }
+        if self.monitor.vars() == 2 {
+            return self.search_two(version, place, number, trace, steps);
+        }
         self.search_from(version, place, number, trace, steps)
+    }
+
+    /// As `search_at`, where the formula has two variables.
+    fn search_two(
+        &self,
+        version: &'a Version,
+        place: usize,
+        number: u32,
+        trace: &[LetterMask],
+        steps: &mut Steps<L>,
+    ) -> Option<Tuple>
+        requires two { (machine_in self.now).variables ≡ 2 }
+        requires member { Contains version.now (number, trace.now) }
+        requires within { place < (machine_in self.now).variables }
+        ensures searched { IsSearch (machine_in self.now) self.now.lengths 0 0
+            (starts version.now (number, trace.now) (machine_in self.now).variables place) result }
+        ensures steps { steps.old ≤ steps.new }
+        ensures counted { AreSteps self.now.lengths
+            (starts version.now (number, trace.now) (machine_in self.now).variables place)
+            (steps.new - steps.old) }
+    {
+        let first = place == 0;
+        match self.search_beside(first, trace, &version.root(), self.monitor.start(), steps) {
+            Some(other) => Some(self.pair(first, number, other)),
+            None => None,
+        }
     }
 
     /// As `search_at`, from places. These are large, so they stand in a function of their own, which

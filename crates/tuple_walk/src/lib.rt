@@ -11,6 +11,7 @@ mod place;
 mod places;
 mod spot;
 mod tuple;
+mod two;
 mod walk;
 
 pub use counted_monitor::CountedMonitor;

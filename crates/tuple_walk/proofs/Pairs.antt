@@ -1,0 +1,592 @@
+-- Pairs of traces, one of which is given: before and behind one step.
+use Rattle.std.proofs.Common.{◌≡◌, ◌⊎◌, ℕ, zero, suc, ◌+◌, ◌-◌, ◌<◌, ◌≤◌, Bool, true, false, cond, List, [], ◌∷◌, length, map, take, set, slice_get, get_or, bit_or, nat_eq, Option, Some, None, IfSome, IfNone, not, ◌||◌, ◌&&◌, is_some, inl, inr, refl, sym, ap, ◌∙◌, subst, arith}
+use denote.Ref.{Bor}
+use Rattle.std.specs.List.{Contains, list_any}
+use Rattle.std.specs.FinSet.{empty}
+use Rattle.std.proofs.lemmas.Bool.{eqb-true}
+use Rattle.std.proofs.lemmas.Nat.{or_comm}
+use Rattle.hy_base.proofs.Members.{contains-here, contains-later, contains-cases, contains-one}
+use Rattle.hy_bits.specs.Letter.{Letter as NameSet}
+use Rattle.hy_formula.specs.Quantifiers.{Each}
+use Rattle.hy_formula.proofs.Each.{each-at}
+use Rattle.hy_finite.specs.declared.lengths.Lengths.{Lengths}
+use Rattle.hy_finite.specs.declared.lengths.Lengths.TheVariants.{Min, Pad}
+use Rattle.hy_finite.specs.Traces.{Trace, judged}
+use Rattle.fin_monitor.specs.Codes.{code_of, part_of, joint_letter}
+use Rattle.fin_monitor.specs.Machines.{Machine, next_state, is_accepting, codes}
+use Rattle.fin_monitor.proofs.CodeBits.{code-lt}
+use Rattle.trace_trie.specs.Cursors.{AreLetters, rests_at}
+use Rattle.trace_trie.specs.Numbered.{Numbered, tail, under, led_by}
+use Rattle.trace_trie.specs.declared.cursor.Cursor.{Cursor}
+use Rattle.tuple_walk.specs.declared.spot.Spot.TheVariants.{Alone, Node}
+use Rattle.tuple_walk.specs.declared.place.Taken.{Taken}
+use Rattle.tuple_walk.specs.declared.place.Taken.TheVariants.{Letter, Gap}
+use Rattle.tuple_walk.specs.declared.place.Place.{Place}
+use Rattle.tuple_walk.specs.Finds.{numbers_of, traces_of}
+use Rattle.tuple_walk.specs.JointPrefixes.{entry}
+use Rattle.tuple_walk.specs.Pairs.{pair_of, beside, found, stops_of, over_of, MayGoOn}
+use Rattle.tuple_walk.specs.Places.{whole_of, taken_of, letter_or, is_letter, taken_entry, HasEnded, HasNoGap, IsMoved, IsWay, AreSome, starts}
+use Rattle.tuple_walk.specs.Searches.{IsTupleOf, IsRejected, IsAccepted, AreRejected, AreAccepted, AreAcceptedBy, IsSearch, IsSearchBy, CanStop, AreEnded, AreSteps, AreStepsBy}
+use Rattle.tuple_walk.proofs.Choosing.{tuple-at, rejected-part, accepted-way, accepted-more, accepted-all, none-gaps, steps-more, steps-gap}
+use Rattle.tuple_walk.proofs.Ending.{from-none, stop-rejected, goes-on}
+use Rattle.tuple_walk.proofs.Following.{two-letters, ones-accepted, ones-steps}
+use Rattle.tuple_walk.proofs.Lists.{get-contains}
+use Rattle.tuple_walk.proofs.Longest.{longest_in, in-most, in-least}
+use Rattle.tuple_walk.proofs.Nexts.{step-search}
+use Rattle.tuple_walk.proofs.Stepping.{left_at, step-steps, taken-code}
+use Rattle.tuple_walk.proofs.Ways.{long-led, letter-way, gap-way}
+
+-- ---- two of a kind
+
+map-pair : {A B : Type 0} (f : A → B) (first : Bool) (x y : A)
+    → map f (pair_of first x y) ≡ pair_of first (f x) (f y)
+map-pair f true x y = refl
+map-pair f false x y = refl
+
+each-pair : {A : Type 0} (P : A → Type 0) (first : Bool) (x y : A) → P x → P y
+    → Each P (pair_of first x y)
+each-pair P true x y p q = (p, (q, tt))
+each-pair P false x y p q = (q, (p, tt))
+
+-- where the other one stands
+abbrev pub other_place : Bool → ℕ
+other_place first = cond first 1 0
+
+other-here : (first : Bool) (x : Numbered) (rests : List Numbered)
+    → get_or (beside first x rests) (other_place first) [] ≡ rests
+other-here true x rests = refl
+other-here false x rests = refl
+
+other-set : (first : Bool) (x : Numbered) (rests way : List Numbered)
+    → set (beside first x rests) (other_place first) way ≡ beside first x way
+other-set true x rests way = refl
+other-set false x rests way = refl
+
+other-within : (first : Bool) (x : Numbered) (rests : List Numbered)
+    → other_place first < length (beside first x rests)
+other-within true x rests = omega arith
+other-within false x rests = omega arith
+
+given-here : (first : Bool) (x : Numbered) (rests : List Numbered)
+    → get_or (beside first x rests) (cond first 0 1) [] ≡ x ∷ []
+given-here true x rests = refl
+given-here false x rests = refl
+
+given-within : (first : Bool) (x : Numbered) (rests : List Numbered)
+    → cond first 0 1 < length (beside first x rests)
+given-within true x rests = omega arith
+given-within false x rests = omega arith
+
+some-beside : (first : Bool) (x : Numbered) (rests : List Numbered) → 0 < length rests
+    → AreSome (beside first x rests)
+some-beside first x rests some =
+    each-pair (λ (l : List Numbered). 0 < length l) first (x ∷ []) rests (omega arith) some
+
+pub starts-beside : (list : List Numbered) (x : Numbered) (n place : ℕ) → n ≡ 2 → place < n
+    → starts list x n place ≡ beside (nat_eq place 0) x list
+starts-beside list x n place two lt =
+    ap (λ k. starts list x k place) two ∙ at place (omega (arith, lt, two))
+  where
+    at : (place : ℕ) → place < 2 → starts list x 2 place ≡ beside (nat_eq place 0) x list
+    at zero lt = refl
+    at (suc zero) lt = refl
+    at (suc (suc place)) lt = absurd (omega arith)
+
+-- ---- the two places behind a step
+
+abbrev taken_first : Trace → Taken
+taken_first [] = Gap
+taken_first (a ∷ t) = Letter a
+
+abbrev given_at : ℕ → Trace → Bor Trace → Place
+given_at number t left = record { taken = taken_first t; spot = Alone number left }
+
+abbrev other_at : NameSet → Cursor → Place
+other_at a child = record { taken = Letter a; spot = Node child }
+
+given-moved : (lengths : Lengths) (number : ℕ) (t : Trace) (left : Bor Trace)
+    → left.now ≡ tail t → MayGoOn lengths t → IsMoved lengths (given_at number t left)
+given-moved Min number [] left is goes = absurd (omega (arith, goes))
+given-moved Pad number [] left is goes = (refl, (is, tt))
+given-moved lengths number (a ∷ t) left is goes = tt
+
+given-whole : (number : ℕ) (t : Trace) (left : Bor Trace) → left.now ≡ tail t
+    → whole_of (given_at number t left) ≡ (number, t) ∷ []
+given-whole number [] left is = ap (λ (u : Trace). (number, u) ∷ []) is
+given-whole number (a ∷ t) left is = ap (λ (u : Trace). (number, a ∷ u) ∷ []) is
+
+given-letter : (t : Trace) → letter_or (taken_entry (taken_first t)) ≡ get_or t 0 empty
+given-letter [] = refl
+given-letter (a ∷ t) = refl
+
+some-letter : (first : Bool) (number : ℕ) (t : Trace) (left : Bor Trace) (a : NameSet)
+    (child : Cursor)
+    → list_any is_letter (map taken_of (pair_of first (given_at number t left) (other_at a child)))
+    ≡ true
+some-letter true number [] left a child = refl
+some-letter true number (b ∷ t) left a child = refl
+some-letter false number t left a child = refl
+
+pair-code : (m : Machine) (first : Bool) (number : ℕ) (t : Trace) (left : Bor Trace) (a : NameSet)
+    (child : Cursor)
+    → bit_or (part_of m.atoms (cond first 0 1) (get_or t 0 empty))
+    (part_of m.atoms (other_place first) a)
+    ≡ code_of (joint_letter (map letter_or (map taken_of
+    (pair_of first (given_at number t left) (other_at a child))))) m.atoms
+pair-code m true number t left a child =
+    two-letters m (get_or t 0 empty) a
+    ∙ ap (λ (b : NameSet). code_of (joint_letter (b ∷ a ∷ [])) m.atoms) (sym (given-letter t))
+pair-code m false number t left a child =
+    or_comm (part_of m.atoms 1 (get_or t 0 empty)) (part_of m.atoms 0 a)
+    ∙ two-letters m a (get_or t 0 empty)
+    ∙ ap (λ (b : NameSet). code_of (joint_letter (a ∷ b ∷ [])) m.atoms) (sym (given-letter t))
+
+-- ---- one letter of the other trace
+
+pub some-under : (rests : List Numbered) (letters : List NameSet) → AreLetters letters rests
+    → (k : ℕ) (a : NameSet) → slice_get letters k ≡ Some a → 0 < length (under a rests)
+some-under rests letters are k a there =
+    each-at (λ (b : NameSet). 0 < length (under b rests)) letters a are.some
+    (get-contains letters k a there)
+
+module _ (m : Machine) (lengths : Lengths) (q next : ℕ) (first : Bool) (number : ℕ) (t : Trace)
+    (left : Bor Trace) (is : left.now ≡ tail t) (goes : MayGoOn lengths t)
+    (rests : List Numbered) (letters : List NameSet) (are : AreLetters letters rests) (k : ℕ)
+    (a : NameSet) (there : slice_get letters k ≡ Some a) (child : Cursor)
+    (below : rests_at child ≡ under a rests)
+    (steps : next ≡ next_state m q (bit_or (part_of m.atoms (cond first 0 1) (get_or t 0 empty))
+    (part_of m.atoms (other_place first) a))) where
+  abbrev all : List (List Numbered)
+  all = beside first (number, t) rests
+
+  abbrev behind : List (List Numbered)
+  behind = beside first (number, left.now) (rests_at child)
+
+  abbrev places : List Place
+  places = pair_of first (given_at number t left) (other_at a child)
+
+  abbrev way : List Numbered
+  way = led_by a (under a rests)
+
+  some : 0 < length (under a rests)
+  some = some-under rests letters are k a there
+
+  is-way : IsWay (get_or all (other_place first) []) (Some a) way
+  is-way =
+      let P : List Numbered → Type 0 = λ l. IsWay l (Some a) way in
+      subst P (sym (other-here first (number, t) rests)) (letter-way a rests some)
+
+  moved : Each (IsMoved lengths) places
+  moved = each-pair (IsMoved lengths) first (given_at number t left) (other_at a child)
+      (given-moved lengths number t left is goes) tt
+
+  letter : list_any is_letter (map taken_of places) ≡ true
+  letter = some-letter first number t left a child
+
+  wholes : map whole_of places ≡ set all (other_place first) way
+  wholes =
+      map-pair whole_of first (given_at number t left) (other_at a child)
+      ∙ (λ i. pair_of first (given-whole number t left is i) (led_by a (below i)))
+      ∙ sym (other-set first (number, t) rests way)
+
+  stepped : (r : Option (List ℕ)) → IsSearch m lengths next 0 behind r
+      → IsSearch m lengths q 1 (set all (other_place first) way) r
+  stepped r s =
+      let P : List (List Numbered) → Type 0 = λ ls. IsSearch m lengths q 1 ls r in
+      subst P wholes (step-search m lengths q _ next places moved letter steps
+      (pair-code m first number t left a child) behind
+      (sym (map-pair left_at first (given_at number t left) (other_at a child))) r s)
+
+  pub letter-rejected : (numbers : List ℕ) → AreRejected m lengths next behind numbers
+      → AreRejected m lengths q all numbers
+  letter-rejected numbers r =
+      rejected-part m lengths q all (other_place first) (Some a) way numbers is-way
+      (stepped (Some numbers) r)
+
+  pub letter-accepted : AreAcceptedBy m lengths q (other_place first) (take k letters) all
+      → AreAccepted m lengths next 0 behind
+      → AreAcceptedBy m lengths q (other_place first) (take (k + 1) letters) all
+  letter-accepted before accepted =
+      let P : ℕ → Type 0 = λ j. AreAcceptedBy m lengths q (other_place first) (take j letters) all in
+      let one : suc k ≡ k + 1 = omega arith in
+      subst P one (accepted-more m lengths q all (other_place first) letters k a way
+      (other-within first (number, t) rests) there is-way before (stepped None accepted))
+
+  pub letter-steps : (before more made : ℕ) → before + (more + 1) ≡ made
+      → AreStepsBy lengths (other_place first) (take k letters) all before
+      → AreSteps lengths behind more
+      → AreStepsBy lengths (other_place first) (take (k + 1) letters) all made
+  letter-steps before more made sum s u =
+      let P : ℕ → Type 0 = λ j. AreStepsBy lengths (other_place first) (take j letters) all made in
+      let Q : ℕ → Type 0 = AreStepsBy lengths (other_place first) (take (suc k) letters) all in
+      let R : List (List Numbered) → Type 0 = λ ls. AreSteps lengths ls more in
+      let S : List (List Numbered) → Type 0 = λ ls. AreSteps lengths ls (more + 1) in
+      let one : suc k ≡ k + 1 = omega arith in
+      let long : 0 < length way = omega (arith, some, long-led a (under a rests)) in
+      let some_wholes : AreSome (map whole_of places) =
+      subst AreSome (sym (wholes ∙ other-set first (number, t) rests way))
+      (some-beside first (number, t) way long) in
+      subst P one (subst Q sum (steps-more lengths all (other_place first) letters k a way
+      (other-within first (number, t) rests) are.distinct there is-way before (more + 1) s
+      (subst S wholes (step-steps m lengths q _ next places moved letter steps
+      (λ ts f. pair-code m first number t left a child
+      ∙ taken-code m (map letter_or (map taken_of places)) ts (ap (map letter_or) f))
+      more some_wholes
+      (subst R (sym (map-pair left_at first (given_at number t left) (other_at a child))) u)))))
+
+-- ---- fewer letters are left
+
+led-longer : (a : NameSet) (ps : List Numbered) → 0 < length ps
+    → longest_in ps + 1 ≤ longest_in (led_by a ps)
+led-longer a [] some = absurd (omega arith)
+led-longer a (p ∷ []) some = omega arith
+led-longer a (p ∷ q ∷ ps) some = omega (arith, led-longer a (q ∷ ps) (omega arith))
+
+pub longest-under : (rests : List Numbered) (letters : List NameSet) → AreLetters letters rests
+    → (k : ℕ) (a : NameSet) → slice_get letters k ≡ Some a
+    → longest_in (under a rests) + 1 ≤ longest_in rests
+longest-under rests letters are k a there =
+    let some = some-under rests letters are k a there in
+    let way = letter-way a rests some in
+    omega (
+      arith,
+      led-longer a (under a rests) some,
+      in-least (led_by a (under a rests)) (longest_in rests)
+          (λ p c. in-most rests p (way.part p c)),
+    )
+
+-- ---- where the node is done
+
+-- none of a pair is past an end under the least length
+pub ended-accepted : (m : Machine) (q : ℕ) (first : Bool) (number : ℕ) (t : Trace)
+    (rests : List Numbered) → t ≡ []
+    → AreAccepted m Min q 1 (beside first (number, t) rests)
+ended-accepted m q first number t rests e = λ tuple h some.
+    let ls = beside first (number, t) rests in
+    let i = cond first 0 1 in
+    let lt = given-within first (number, t) rests in
+    let P : List Numbered → Type 0 = λ l. Contains (traces_of l) (get_or tuple i []) in
+    let is : t ≡ get_or tuple i [] =
+    contains-one t (get_or tuple i [])
+    (subst P (given-here first (number, t) rests) (tuple-at ls i tuple lt h)) in
+    absurd (none-gaps Min ls i lt tt tuple h some (ap entry (sym is ∙ e)))
+
+module _ (m : Machine) (lengths : Lengths) (q : ℕ) (first : Bool) (number : ℕ) (t : Trace)
+    (rests : List Numbered) (letters : List NameSet) (are : AreLetters letters rests)
+    (here : (ts : List Trace) → IsTupleOf (beside first (number, t) rests) ts
+    → judged lengths ts ≡ 0 → is_accepting m q ≡ true) where
+  abbrev lists : List (List Numbered)
+  lists = beside first (number, t) rests
+
+  letters-here : AreLetters letters (get_or lists (other_place first) [])
+  letters-here =
+      let P : List Numbered → Type 0 = AreLetters letters in
+      subst P (sym (other-here first (number, t) rests)) are
+
+  -- no trace ends where tuples are judged past an end
+  pub node-accepted : HasNoGap lengths rests
+      → AreAcceptedBy m lengths q (other_place first) letters lists
+      → AreAccepted m lengths q 0 lists
+  node-accepted none by_letter =
+      let P : List Numbered → Type 0 = HasNoGap lengths in
+      let gap = subst P (sym (other-here first (number, t) rests)) none in
+      let lt = other-within first (number, t) rests in
+      from-none m lengths q lists
+      (accepted-all m lengths q lists (other_place first) letters lt letters-here by_letter
+      (λ tuple h some e.
+      absurd (none-gaps lengths lists (other_place first) lt gap tuple h some e))) here
+
+  module _ (ended : ℕ) (among : Contains rests (ended, [])) where
+    gap-here : IsWay (get_or lists (other_place first) []) None ((ended, []) ∷ [])
+    gap-here =
+        let P : List Numbered → Type 0 = λ l. IsWay l None ((ended, []) ∷ []) in
+        subst P (sym (other-here first (number, t) rests)) (gap-way ended rests among)
+
+    pub end-search : AreAcceptedBy m lengths q (other_place first) letters lists
+        → (r : Option ℕ)
+        → IsSearch m lengths q 0 (beside first (number, t) ((ended, []) ∷ []))
+        (found first number r)
+        → IsSearch m lengths q 0 lists (found first number r)
+    end-search by_letter (Some other) s =
+        let P : List (List Numbered) → Type 0 = λ ls.
+        AreRejected m lengths q ls (pair_of first number other) in
+        rejected-part m lengths q lists (other_place first) None ((ended, []) ∷ [])
+        (pair_of first number other) gap-here
+        (subst P (sym (other-set first (number, t) rests ((ended, []) ∷ []))) s)
+    end-search by_letter None s =
+        let P : List (List Numbered) → Type 0 = AreAccepted m lengths q 1 in
+        let lt = other-within first (number, t) rests in
+        from-none m lengths q lists
+        (accepted-all m lengths q lists (other_place first) letters lt letters-here by_letter
+        (accepted-way m lengths q lists (other_place first) None ((ended, []) ∷ []) lt gap-here
+        (subst P (sym (other-set first (number, t) rests ((ended, []) ∷ [])))
+        (λ tuple h some. s tuple h (omega arith))))) here
+
+    pub end-steps : (before more made : ℕ) → before + more ≡ made
+        → AreStepsBy lengths (other_place first) letters lists before
+        → AreSteps lengths (beside first (number, t) ((ended, []) ∷ [])) more
+        → AreSteps lengths lists made
+    end-steps before more made sum s u =
+        let P : List (List Numbered) → Type 0 = λ ls. AreSteps lengths ls more in
+        let Q : ℕ → Type 0 = AreSteps lengths lists in
+        subst Q sum (steps-gap lengths lists (other_place first) letters ((ended, []) ∷ [])
+        (other-within first (number, t) rests) gap-here before more s
+        (subst P (sym (other-set first (number, t) rests ((ended, []) ∷ []))) u))
+
+-- ---- where a tuple has no position left
+
+given-ended : (number : ℕ) (t : Trace) → HasEnded ((number, t) ∷ []) → t ≡ []
+given-ended number t (n, c) =
+    ap (λ (p : Numbered). p.1) (contains-one (number, t) (n, []) c)
+
+ended-given : (number : ℕ) (t : Trace) → t ≡ [] → HasEnded ((number, t) ∷ [])
+ended-given number t e =
+    let P : Trace → Type 0 = λ u. Contains {X = Numbered} ((number, t) ∷ []) (number, u) in
+    (number, subst P e (contains-here (number, t) []))
+
+pub stop-search : (m : Machine) (lengths : Lengths) (q : ℕ) (first : Bool) (number : ℕ)
+    (t : Trace) (rests : List Numbered) → 0 < length rests → (r : Option ℕ)
+    → IfSome r (λ n. (u : Trace) × Contains rests (n, u) × (HasEnded rests → u ≡ []))
+    → IfNone r (rests ≡ []) → CanStop lengths (beside first (number, t) rests)
+    → is_accepting m q ≡ false
+    → IsSearch m lengths q 0 (beside first (number, t) rests) (found first number r)
+stop-search m lengths q first number t rests some None any none can rejects =
+    absurd (omega (arith, some, ap (λ (l : List Numbered). length l) none))
+stop-search m lengths q first number t rests some (Some other) (u, c, ended) none can rejects =
+    stop-rejected m lengths q (beside first (number, t) rests) (pair_of first number other) can
+    rejects (pair_of first (number, t) (other, u), both first, same first)
+  where
+    here : Contains {X = Numbered} ((number, t) ∷ []) (number, t)
+    here = contains-here (number, t) []
+
+    both : (first : Bool)
+        → AreEnded (beside first (number, t) rests) (pair_of first (number, t) (other, u))
+    both true = (here, given-ended number t, (c, ended, tt))
+    both false = (c, ended, (here, given-ended number t, tt))
+
+    same : (first : Bool) → numbers_of (pair_of first (number, t) (other, u))
+        ≡ pair_of first number other
+    same true = refl
+    same false = refl
+
+given-stops : (first : Bool) (number : ℕ) (t : Trace) (rests : List Numbered) → t ≡ []
+    → CanStop Min (beside first (number, t) rests)
+given-stops true number t rests e =
+    ((number, t) ∷ [], contains-here ((number, t) ∷ []) (rests ∷ []), ended-given number t e)
+given-stops false number t rests e = (
+  (number, t) ∷ [],
+  contains-later rests ((number, t) ∷ []) (((number, t) ∷ []) ∷ [])
+      (contains-here ((number, t) ∷ []) []),
+  ended-given number t e,
+)
+
+other-stops : (first : Bool) (number : ℕ) (t : Trace) (rests : List Numbered)
+    → HasEnded rests → CanStop Min (beside first (number, t) rests)
+other-stops true number t rests e = (
+  rests,
+  contains-later ((number, t) ∷ []) rests (rests ∷ []) (contains-here rests []),
+  e,
+)
+other-stops false number t rests e =
+    (rests, contains-here rests (((number, t) ∷ []) ∷ []), e)
+
+both-stop : (first : Bool) (number : ℕ) (t : Trace) (rests : List Numbered) → t ≡ []
+    → HasEnded rests → CanStop Pad (beside first (number, t) rests)
+both-stop first number t rests e h =
+    each-pair HasEnded first ((number, t) ∷ []) rests (ended-given number t e) h
+
+one-stops : (first : Bool) (number : ℕ) (t : Trace) (rests : List Numbered)
+    → CanStop Min (beside first (number, t) rests) → (t ≡ []) ⊎ HasEnded rests
+one-stops true number t rests (l, c, e) =
+    elim (contains-cases ((number, t) ∷ []) l (rests ∷ []) c) [
+      | inl is ↦ inl (given-ended number t (subst HasEnded (sym is) e))
+      | inr later ↦ inr (subst HasEnded (sym (contains-one rests l later)) e)
+    ]
+one-stops false number t rests (l, c, e) =
+    elim (contains-cases rests l (((number, t) ∷ []) ∷ []) c) [
+      | inl is ↦ inr (subst HasEnded (sym is) e)
+      | inr later ↦
+          inl (given-ended number t (subst HasEnded (sym (contains-one ((number, t) ∷ []) l later)) e))
+    ]
+
+none-stops : (first : Bool) (number : ℕ) (t : Trace) (rests : List Numbered) → ¬ (t ≡ [])
+    → (¬ HasEnded rests) → ¬ CanStop Min (beside first (number, t) rests)
+none-stops first number t rests some none can = elim (one-stops first number t rests can) [
+  | inl e ↦ some e
+  | inr e ↦ none e
+]
+
+stops-both : (first : Bool) (number : ℕ) (t : Trace) (rests : List Numbered)
+    → CanStop Pad (beside first (number, t) rests) → (t ≡ []) × HasEnded rests
+stops-both true number t rests can = (given-ended number t can.0, can.1.0)
+stops-both false number t rests can = (given-ended number t can.1.0, can.0)
+
+no-letters : (t : Trace) → nat_eq (length t) 0 ≡ true → t ≡ []
+no-letters [] e = refl
+no-letters (a ∷ t) e = absurd (omega (arith, eqb-true (length (a ∷ t)) 0 e))
+
+some-letters : (t : Trace) → nat_eq (length t) 0 ≡ false → 0 < length t
+some-letters [] e = absurd (cc)
+some-letters (a ∷ t) e = omega arith
+
+-- what is found of a trace that ends
+module _ (rests : List Numbered) where
+  ended-some : (r : Option ℕ) → IfSome r (λ n. Contains rests (n, [])) → is_some r ≡ true
+      → HasEnded rests
+  ended-some None h e = absurd (cc)
+  ended-some (Some n) h e = (n, h)
+
+  ended-none : (r : Option ℕ) → IfNone r (Each (λ (p : Numbered). 0 < length p.1) rests)
+      → is_some r ≡ false → ¬ HasEnded rests
+  ended-none None h e (n, c) =
+      let long : 0 < length {A = NameSet} [] = each-at (λ (p : Numbered). 0 < length p.1) rests (n, []) h c in
+      omega (arith, long)
+  ended-none (Some n) h e ended = absurd (cc)
+
+module _ (lengths : Lengths) (first : Bool) (number : ℕ) (t : Trace) (rests : List Numbered)
+    (r : Option ℕ) (some : IfSome r (λ n. Contains rests (n, [])))
+    (none : IfNone r (Each (λ (p : Numbered). 0 < length p.1) rests)) where
+  pub pair-stops : stops_of lengths (nat_eq (length t) 0) (is_some r) ≡ true
+      → CanStop lengths (beside first (number, t) rests)
+  pair-stops e = at lengths (nat_eq (length t) 0) refl (is_some r) refl e
+    where
+      at : (lengths : Lengths) (a : Bool) → nat_eq (length t) 0 ≡ a → (b : Bool)
+          → is_some r ≡ b → stops_of lengths a b ≡ true
+          → CanStop lengths (beside first (number, t) rests)
+      at Min true f b g e = given-stops first number t rests (no-letters t f)
+      at Min false f true g e = other-stops first number t rests (ended-some rests r some g)
+      at Min false f false g e = absurd (cc)
+      at Pad true f true g e =
+          both-stop first number t rests (no-letters t f) (ended-some rests r some g)
+      at Pad true f false g e = absurd (cc)
+      at Pad false f b g e = absurd (cc)
+
+  pub pair-goes : stops_of lengths (nat_eq (length t) 0) (is_some r) ≡ false
+      → ¬ CanStop lengths (beside first (number, t) rests)
+  pair-goes e = at lengths (nat_eq (length t) 0) refl (is_some r) refl e
+    where
+      apart : nat_eq (length t) 0 ≡ false → ¬ (t ≡ [])
+      apart f e = let long = some-letters t f in omega (arith, long, ap (λ (u : Trace). length u) e)
+
+      at : (lengths : Lengths) (a : Bool) → nat_eq (length t) 0 ≡ a → (b : Bool)
+          → is_some r ≡ b → stops_of lengths a b ≡ false
+          → ¬ CanStop lengths (beside first (number, t) rests)
+      at Min true f b g e can = absurd (cc)
+      at Min false f true g e can = absurd (cc)
+      at Min false f false g e can =
+          none-stops first number t rests (apart f) (ended-none rests r none g) can
+      at Pad true f true g e can = absurd (cc)
+      at Pad true f false g e can =
+          ended-none rests r none g (stops-both first number t rests can).1
+      at Pad false f b g e can = apart f (stops-both first number t rests can).0
+
+  -- what is known where nothing is rejected here, and where something is
+  pub pair-here : (m : Machine) (q : ℕ) (b : Bool)
+      → b ≡ (not (is_accepting m q)
+      && stops_of lengths (nat_eq (length t) 0) (is_some r))
+      → b ≡ false → (ts : List Trace) → IsTupleOf (beside first (number, t) rests) ts
+      → judged lengths ts ≡ 0 → is_accepting m q ≡ true
+  pair-here m q b is e ts h zero_judged = at (is_accepting m q) refl (sym is ∙ e)
+    where
+      two : 0 < length (beside first (number, t) rests)
+      two = omega (arith, other-within first (number, t) rests)
+
+      at : (a : Bool) → is_accepting m q ≡ a
+          → (not a && stops_of lengths (nat_eq (length t) 0) (is_some r)) ≡ false
+          → is_accepting m q ≡ true
+      at true f g = f
+      at false f g =
+          absurd (goes-on lengths (beside first (number, t) rests) two (pair-goes g) ts h
+          zero_judged)
+
+  pub pair-rejects : (m : Machine) (q : ℕ) (b : Bool)
+      → b ≡ (not (is_accepting m q)
+      && stops_of lengths (nat_eq (length t) 0) (is_some r))
+      → b ≡ true → CanStop lengths (beside first (number, t) rests)
+      × (is_accepting m q ≡ false)
+  pair-rejects m q b is e = at (is_accepting m q) refl (sym is ∙ e)
+    where
+      at : (a : Bool) → is_accepting m q ≡ a
+          → (not a && stops_of lengths (nat_eq (length t) 0) (is_some r)) ≡ true
+          → CanStop lengths (beside first (number, t) rests) × (is_accepting m q ≡ false)
+      at true f g = absurd (cc)
+      at false f g = (pair-stops g, f)
+
+-- where none of the pairs has a position left, and where the given trace may go on
+pub over-accepted : (m : Machine) (lengths : Lengths) (q : ℕ) (first : Bool) (number : ℕ)
+    (t : Trace) (rests : List Numbered) → over_of lengths (nat_eq (length t) 0) ≡ true
+    → AreAccepted m lengths q 1 (beside first (number, t) rests)
+over-accepted m Min q first number t rests e =
+    ended-accepted m q first number t rests (no-letters t e)
+over-accepted m Pad q first number t rests e = absurd (cc)
+
+pub may-go-on : (lengths : Lengths) (t : Trace)
+    → over_of lengths (nat_eq (length t) 0) ≡ false → MayGoOn lengths t
+may-go-on Min t e = some-letters t e
+may-go-on Pad t e = tt
+
+-- ---- one trace alone beside the given
+
+module _ (m : Machine) (lengths : Lengths) (q : ℕ) (number : ℕ) (t : Trace) (other : ℕ)
+    (u : Trace) where
+  pub pair-rejected : (first : Bool) → IsRejected m lengths q (pair_of first t u)
+      → AreRejected m lengths q (beside first (number, t) ((other, u) ∷ []))
+      (pair_of first number other)
+  pair-rejected true r = record {
+    pairs = (number, t) ∷ (other, u) ∷ [];
+    members = (contains-here (number, t) [], (contains-here (other, u) [], tt));
+    same = refl;
+    rejected = r;
+  }
+  pair-rejected false r = record {
+    pairs = (other, u) ∷ (number, t) ∷ [];
+    members = (contains-here (other, u) [], (contains-here (number, t) [], tt));
+    same = refl;
+    rejected = r;
+  }
+
+  pub pair-accepted : (first : Bool) → IsAccepted m lengths q (pair_of first t u)
+      → AreAccepted m lengths q 0 (beside first (number, t) ((other, u) ∷ []))
+  pair-accepted true e =
+      ones-accepted m lengths q ((number, t) ∷ (other, u) ∷ [])
+      (((number, t) ∷ []) ∷ ((other, u) ∷ []) ∷ []) refl e
+  pair-accepted false e =
+      ones-accepted m lengths q ((other, u) ∷ (number, t) ∷ [])
+      (((other, u) ∷ []) ∷ ((number, t) ∷ []) ∷ []) refl e
+
+  pub pair-steps : (first : Bool) (made : ℕ) → made ≤ judged lengths (pair_of first t u)
+      → AreSteps lengths (beside first (number, t) ((other, u) ∷ [])) made
+  pair-steps true made le =
+      ones-steps lengths ((number, t) ∷ (other, u) ∷ [])
+      (((number, t) ∷ []) ∷ ((other, u) ∷ []) ∷ []) refl made le
+  pair-steps false made le =
+      ones-steps lengths ((other, u) ∷ (number, t) ∷ [])
+      (((other, u) ∷ []) ∷ ((number, t) ∷ []) ∷ []) refl made le
+
+pub pair-within : (m : Machine) (first : Bool) (t : Trace) (a : NameSet)
+    → bit_or (part_of m.atoms (cond first 0 1) (get_or t 0 empty))
+    (part_of m.atoms (other_place first) a) < codes m
+pair-within m true t a =
+    omega (
+      arith,
+      two-letters m (get_or t 0 empty) a,
+      code-lt (joint_letter (get_or t 0 empty ∷ a ∷ [])) m.atoms,
+    )
+pair-within m false t a =
+    omega (
+      arith,
+      or_comm (part_of m.atoms 1 (get_or t 0 empty)) (part_of m.atoms 0 a),
+      two-letters m a (get_or t 0 empty),
+      code-lt (joint_letter (a ∷ get_or t 0 empty ∷ [])) m.atoms,
+    )
+
+-- the walk from the root
+pub two-search : (m : Machine) (lengths : Lengths) (q : ℕ) (list root : List Numbered)
+    (x : Numbered) (n place : ℕ) → n ≡ 2 → place < n → root ≡ list → q ≡ 0
+    → (r : Option (List ℕ)) → IsSearch m lengths q 0 (beside (nat_eq place 0) x root) r
+    → IsSearch m lengths 0 0 (starts list x n place) r
+two-search m lengths q list root x n place two lt same zero_q r s =
+    let P : ℕ → Type 0 = λ p. IsSearch m lengths p 0 (starts list x n place) r in
+    let Q : List (List Numbered) → Type 0 = λ ls. IsSearch m lengths q 0 ls r in
+    subst P zero_q (subst Q (ap (beside (nat_eq place 0) x) same
+    ∙ sym (starts-beside list x n place two lt)) s)
