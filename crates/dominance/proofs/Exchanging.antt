@@ -244,26 +244,25 @@ module _ (m : Machine) (is : IsMonitor m) (two : m.variables ≡ 2) where
       code-at f i lt = get_or-map f rows (get_or path i 0) [] 0
           (each-below (length rows) path inside i lt)
 
+      letter-at : (v i name : ℕ) → i < length path
+          → contains (get_or (row_at path i) v empty) name
+          ≡ contains (get_or (word_of v path) i empty) name
+      letter-at v i name lt =
+          ap (λ (l : Letter). contains l name)
+          (sym (get_or-map (λ k. get_or (get_or rows k []) v empty) path i 0 empty lt))
+
       says-word : (i name variable : ℕ) → i < length path → variable < 2
           → says (row_at path i) name variable ≡ trace_words
           (word_of 0 path ∷ word_of 1 path ∷ []) name variable i
-      says-word i name zero lt below =
-          ap (λ (l : Letter). contains l name)
-          (sym (get_or-map (λ k. get_or (get_or rows k []) 0 empty) path i 0 empty lt))
-      says-word i name (suc zero) lt below =
-          ap (λ (l : Letter). contains l name)
-          (sym (get_or-map (λ k. get_or (get_or rows k []) 1 empty) path i 0 empty lt))
+      says-word i name zero lt below = letter-at 0 i name lt
+      says-word i name (suc zero) lt below = letter-at 1 i name lt
       says-word i name (suc (suc v)) lt below = absurd (omega arith)
 
       turned-word : (i name variable : ℕ) → i < length path → variable < 2
           → joint_letter (turned (row_at path i)) name variable
           ≡ trace_words (word_of 1 path ∷ word_of 0 path ∷ []) name variable i
-      turned-word i name zero lt below =
-          ap (λ (l : Letter). contains l name)
-          (sym (get_or-map (λ k. get_or (get_or rows k []) 1 empty) path i 0 empty lt))
-      turned-word i name (suc zero) lt below =
-          ap (λ (l : Letter). contains l name)
-          (sym (get_or-map (λ k. get_or (get_or rows k []) 0 empty) path i 0 empty lt))
+      turned-word i name zero lt below = letter-at 1 i name lt
+      turned-word i name (suc zero) lt below = letter-at 0 i name lt
       turned-word i name (suc (suc v)) lt below = absurd (omega arith)
 
       joint-row : (i : ℕ) → row_code m (row_at path i) ≡ code_of (says (row_at path i)) m.atoms

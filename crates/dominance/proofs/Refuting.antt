@@ -21,15 +21,22 @@ use Rattle.dominance.proofs.Elements.{each-below}
 use Rattle.dominance.proofs.Asking.{codes-agree, answer-code, row-says, machine-below, atom-below}
 use Rattle.dominance.proofs.Beside.{rest_code, beside-right}
 
+-- the pairing that these lists make
+abbrev pub pairing_by : Machine → Lengths → List ℕ → List ℕ → List ℕ → List ℕ → Pairing
+pairing_by m rule upper lower codes codes' =
+    record {
+      machine = m;
+      rule = rule;
+      upper = upper;
+      lower = lower;
+      upper_codes = codes;
+      lower_codes = codes';
+    }
+
 abbrev pub pairing_at : Machine → Lengths → ℕ → List Row → Trace → Trace → Pairing
-pairing_at m rule place rows t u = record {
-  machine = m;
-  rule = rule;
-  upper = map (part_of m.atoms place) t;
-  lower = map (part_of m.atoms place) u;
-  upper_codes = map (row_code m) rows;
-  lower_codes = map (row_code m) rows;
-}
+pairing_at m rule place rows t u =
+    pairing_by m rule (map (part_of m.atoms place) t) (map (part_of m.atoms place) u)
+    (map (row_code m) rows) (map (row_code m) rows)
 
 told-first : (rule : Lengths) (a b : ℕ) → told_from rule a b ≤ a
 told-first Min a b = omega arith
@@ -314,36 +321,15 @@ pub same-pairing : (m : Machine) (rule : Lengths) (place : ℕ) (rows : List Row
     (upper lower codes codes' : List ℕ)
     → upper ≡ map (part_of m.atoms place) t → lower ≡ map (part_of m.atoms place) u
     → codes ≡ map (row_code m) rows → codes' ≡ map (row_code m) rows
-    → (record {
-      machine = m;
-      rule = rule;
-      upper = upper;
-      lower = lower;
-      upper_codes = codes;
-      lower_codes = codes';
-    }) ≡ pairing_at m rule place rows t u
-same-pairing m rule place rows t u upper lower codes codes' a b c d = λ i. record {
-  machine = m;
-  rule = rule;
-  upper = a i;
-  lower = b i;
-  upper_codes = c i;
-  lower_codes = d i;
-}
+    → (pairing_by m rule upper lower codes codes') ≡ pairing_at m rule place rows t u
+same-pairing m rule place rows t u upper lower codes codes' a b c d = λ i. pairing_by m rule (a i) (b i) (c i) (d i)
 
 -- what is found by the pairing of a place
 pub found-at : (m : Machine) (rule : Lengths) (place : ℕ) (rows : List Row) (t u : Trace)
     (upper lower codes codes' : List ℕ) (found wanted : Option (List ℕ))
     → upper ≡ map (part_of m.atoms place) t → lower ≡ map (part_of m.atoms place) u
     → codes ≡ map (row_code m) rows → codes' ≡ map (row_code m) rows → found ≡ wanted
-    → IsFound (record {
-      machine = m;
-      rule = rule;
-      upper = upper;
-      lower = lower;
-      upper_codes = codes;
-      lower_codes = codes';
-    }) found
+    → IsFound (pairing_by m rule upper lower codes codes') found
     → IsFound (pairing_at m rule place rows t u) wanted
 found-at m rule place rows t u upper lower codes codes' found wanted a b c d e h =
     let P : Pairing → Type 0 = λ s. IsFound s found in

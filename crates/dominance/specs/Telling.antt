@@ -5,6 +5,7 @@ use Rattle.std.specs.Int.RustNames.{bit_or}
 use Rattle.std.specs.List.{Contains}
 use Rattle.std.specs.FinSet.{empty, contains}
 use Rattle.hy_bits.specs.Binary.{has_one}
+use Rattle.hy_bits.specs.Letter.{Letter}
 use Rattle.hy_formula.specs.Atoms.{IndexedAtom}
 use Rattle.hy_formula.specs.Quantifiers.{Each}
 use Rattle.hy_formula.specs.Trees.{Tree}
@@ -79,6 +80,15 @@ MayStayBy m choices among q part =
 
 abbrev pub MayStay : Machine → List ℕ → List ℕ → List Bool → ℕ → Type 0
 MayStay m parts choices among q = (part : ℕ) → Contains parts part → MayStayBy m choices among q part
+
+-- Each letter's part at the place is one of these.
+abbrev pub HasParts : Machine → ℕ → List ℕ → Type 0
+HasParts m place parts = (letter : Letter) → Contains parts (part_of m.atoms place letter)
+
+-- From each of the states each part has a code by which it stays among them.
+abbrev pub AreClosed : Machine → List ℕ → List ℕ → List Bool → Type 0
+AreClosed m parts choices among =
+    (q : ℕ) → q < states_of m → IsTrue (flag_at among q) → MayStay m parts choices among q
 
 -- The choices lead beside the trace to a state that does not accept.
 pub record IsRejected (m : Machine) (place : ℕ) (rows : List Row) (t : Trace) (path : List ℕ)

@@ -1,10 +1,8 @@
 //! Two runs of a monitor side by side, where each may differ from the other.
 
 ghost use Rattle.std.specs.Prelude.{IfOk};
-ghost use Rattle.fin_monitor.specs.Seen.{machine_of};
 ghost use Rattle.dominance.specs.Runs.{IsPairing, IsInside, Differ, exchanged, IsLeft, IsLeftAt};
-ghost use Rattle.dominance.specs.LoneEnds.{AreLoneEnds};
-ghost use Rattle.dominance.specs.Seen.{pairing_of};
+ghost use Rattle.dominance.specs.Seen.{AreEndsOf, pairing_of};
 
 use crate::order::Order;
 use crate::pairing::{Ends, Pairing};
@@ -29,12 +27,7 @@ impl Pairing<'_> {
         ensures under { IfOk result (λ order. IsLeft (pairing_of self.now)
             (Differ (exchanged (pairing_of self.now))) claimed.under order.under) }
     {
-        let start = Node {
-            at: 0,
-            upper: self.monitor.start(),
-            lower: self.monitor.start(),
-        };
-        let mut reached = Reached::new(alloc, start)?;
+        let mut reached = Reached::new(alloc, self.start())?;
         let mut ends = self.ends(alloc)?;
         let mut order = claimed;
         for k in 0..usize::MAX {
@@ -60,14 +53,8 @@ impl Pairing<'_> {
     ) -> Order
         requires pairing { IsPairing (pairing_of self.now) }
         requires node { IsInside (pairing_of self.now) node }
-        requires upper { AreLoneEnds (machine_of self.now.monitor.now) self.now.upper.now
-            ends.old.upper.ends }
-        requires lower { AreLoneEnds (machine_of self.now.monitor.now) self.now.lower.now
-            ends.old.lower.ends }
-        ensures upper { AreLoneEnds (machine_of self.now.monitor.now) self.now.upper.now
-            ends.new.upper.ends }
-        ensures lower { AreLoneEnds (machine_of self.now.monitor.now) self.now.lower.now
-            ends.new.lower.ends }
+        requires ends { AreEndsOf (pairing_of self.now) ends.old }
+        ensures ends { AreEndsOf (pairing_of self.now) ends.new }
         ensures over { IsLeftAt (pairing_of self.now) (Differ (pairing_of self.now)) node
             claimed.over result.over }
         ensures under { IsLeftAt (pairing_of self.now)

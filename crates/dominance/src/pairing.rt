@@ -1,12 +1,12 @@
 //! Two runs of a monitor side by side.
 
-ghost use Rattle.std.specs.Prelude.{◌≡◌, ℕ, ◌<◌, ◌≤◌, max, length, slice_index, IfOk, OnOk, IsTrue, ◌↔◌};
+ghost use Rattle.std.specs.Prelude.{◌≡◌, ℕ, ◌<◌, ◌≤◌, max, length, IfOk, OnOk, IsTrue, ◌↔◌};
 ghost use Rattle.std.specs.Bool.{OnTrue, OnFalse};
 ghost use Rattle.fin_monitor.specs.Machines.{states_of, codes};
 ghost use Rattle.fin_monitor.specs.Seen.{machine_of};
-ghost use Rattle.dominance.specs.Runs.{AreCodesOf, IsPairing, IsInside, IsFound, Stands, Differ, moved, next_node, longest, first_told, state_on, EndsIn};
+ghost use Rattle.dominance.specs.Runs.{AreCodesOf, IsPairing, IsInside, IsFound, Stands, Differ, moved, next_node, start_node, longest, first_told, EndsIn};
 ghost use Rattle.dominance.specs.LoneEnds.{AreLoneEnds, IsLoneEnd};
-ghost use Rattle.dominance.specs.Seen.{pairing_of};
+ghost use Rattle.dominance.specs.Seen.{AreEndsOf, pairing_of};
 ghost use Rattle.dominance.specs.Trails.{node_at, AreLinked, AreReached, Grows, LeadsOn};
 
 use crate::lone_ends::LoneEnds;
@@ -51,12 +51,7 @@ impl Pairing<'_> {
         requires { IsPairing (pairing_of self.now) }
         ensures { IfOk result (IsFound (pairing_of self.now)) }
     {
-        let start = Node {
-            at: 0,
-            upper: self.monitor.start(),
-            lower: self.monitor.start(),
-        };
-        let mut reached = Reached::new(alloc, start)?;
+        let mut reached = Reached::new(alloc, self.start())?;
         let mut ends = self.ends(alloc)?;
         for k in 0..usize::MAX {
             let Some(node) = reached.node(k) else {
@@ -70,13 +65,22 @@ impl Pairing<'_> {
         Err(Memory)
     }
 
+    /// Where both runs begin.
+    pub(crate) fn start(&self) -> Node
+        ensures start { result ≡ start_node }
+        ensures inside { IsInside (pairing_of self.now) result }
+    {
+        Node {
+            at: 0,
+            upper: self.monitor.start(),
+            lower: self.monitor.start(),
+        }
+    }
+
     /// What the runs alone come to, with a place for each state where this is asked more than once:
     /// on the greatest length beside the shorter column.
     pub(crate) fn ends(&self, alloc: Global) -> M<Ends>
-        ensures upper { IfOk result (λ made. AreLoneEnds (machine_of self.now.monitor.now)
-            self.now.upper.now made.upper.ends) }
-        ensures lower { IfOk result (λ made. AreLoneEnds (machine_of self.now.monitor.now)
-            self.now.lower.now made.lower.ends) }
+        ensures { IfOk result (AreEndsOf (pairing_of self.now)) }
     {
         let upper = LoneEnds::new(alloc, self.kept(self.upper, self.lower), self.upper.len())?;
         let lower = LoneEnds::new(alloc, self.kept(self.lower, self.upper), self.lower.len())?;
@@ -193,14 +197,8 @@ impl Pairing<'_> {
     fn differ<L: Ledger>(&self, node: Node, ends: &mut Ends, steps: &mut Steps<L>) -> bool
         requires pairing { IsPairing (pairing_of self.now) }
         requires node { IsInside (pairing_of self.now) node }
-        requires upper { AreLoneEnds (machine_of self.now.monitor.now) self.now.upper.now
-            ends.old.upper.ends }
-        requires lower { AreLoneEnds (machine_of self.now.monitor.now) self.now.lower.now
-            ends.old.lower.ends }
-        ensures upper { AreLoneEnds (machine_of self.now.monitor.now) self.now.upper.now
-            ends.new.upper.ends }
-        ensures lower { AreLoneEnds (machine_of self.now.monitor.now) self.now.lower.now
-            ends.new.lower.ends }
+        requires ends { AreEndsOf (pairing_of self.now) ends.old }
+        ensures ends { AreEndsOf (pairing_of self.now) ends.new }
         ensures differ { OnTrue result ((choice : ℕ → ℕ) (n : ℕ)
             → Stands (pairing_of self.now) choice n node
             → (first_told (pairing_of self.now) ≤ n) × Differ (pairing_of self.now) choice n) }

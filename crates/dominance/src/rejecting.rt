@@ -1,15 +1,10 @@
 //! Whether at a place each trace is one of a tuple that violates the body.
 
-ghost use Rattle.std.specs.Prelude.{◌≡◌, ◌<◌, ℕ, length, IfOk, IsTrue};
-ghost use Rattle.std.specs.List.{Contains};
-ghost use Rattle.hy_bits.specs.Letter.{Letter};
-ghost use Rattle.hy_formula.specs.Quantifiers.{Each};
-ghost use Rattle.fin_monitor.specs.Codes.{part_of};
+ghost use Rattle.std.specs.Prelude.{◌<◌, IfOk, IsTrue};
 ghost use Rattle.fin_monitor.specs.Machines.{codes, states_of};
 ghost use Rattle.fin_monitor.specs.Seen.{machine_of};
-ghost use Rattle.fin_monitor.specs.Tables.{flag_at};
 ghost use Rattle.dominance.specs.Runs.{AreCodesOf};
-ghost use Rattle.dominance.specs.Telling.{IsRejectable, AreRejecting, MayStay, MayStayBy};
+ghost use Rattle.dominance.specs.Telling.{IsRejectable, AreRejecting, AreClosed, HasParts, MayStay, MayStayBy};
 
 use crate::rows::{row_codes, rows};
 use fin_monitor::Monitor;
@@ -52,8 +47,7 @@ pub(crate) fn is_rejectable<L: Ledger>(
 /// The parts of codes that the letters of a place give, each once.
 fn parts(alloc: Global, m: &Monitor, place: u8) -> M<NumList>
     requires { place < (machine_of m.now).variables }
-    ensures all { IfOk result (λ made. (letter : Letter)
-        → Contains made (part_of (machine_of m.now).atoms place letter)) }
+    ensures all { IfOk result (HasParts (machine_of m.now) place) }
     ensures below { IfOk result (λ made. AreCodesOf (machine_of m.now) made) }
 {
     // no atom has this variable
@@ -93,9 +87,8 @@ impl Moves<'_> {
         requires parts { AreCodesOf (machine_of self.now.monitor.now) self.now.parts.now }
         requires codes { AreCodesOf (machine_of self.now.monitor.now) self.now.codes.now }
         requires among { AreRejecting (machine_of self.now.monitor.now) among.now }
-        ensures { IsTrue result → (q : ℕ) → q < states_of (machine_of self.now.monitor.now)
-            → IsTrue (flag_at among.now q) → MayStay (machine_of self.now.monitor.now)
-            self.now.parts.now self.now.codes.now among.now q }
+        ensures { IsTrue result → AreClosed (machine_of self.now.monitor.now) self.now.parts.now
+            self.now.codes.now among.now }
     {
         for q in 0..self.monitor.states() {
             if *among.at(q as usize) && !self.may_stay(among, q, steps) {

@@ -16,7 +16,6 @@ use Rattle.fin_monitor.specs.Reductions.{LeaveAlike}
 use Rattle.fin_monitor.specs.Tables.{row_of, AreAllLefts, Puts, Follows, IsEntry, IsExplored, IsPutRefusal, IsTableRefusal}
 use Rattle.fin_monitor.specs.declared.monitor_error.MonitorError.{MonitorError}
 use Rattle.fin_monitor.specs.declared.monitor_error.MonitorError.TheVariants.{Limit, Memory}
-use Rattle.hy_base.specs.declared.limit.Kind.TheVariants as kind
 use Rattle.hy_base.proofs.Places.{last-of}
 use Rattle.fin_monitor.proofs.FamilySteps.{family-minimal, family-single, same-family}
 use Rattle.fin_monitor.proofs.Outdoing.{alike-both_ways, step-alike}
@@ -240,26 +239,9 @@ on-ok-map (Err e) a f = tt
 -- a residual that is too many where it is put is reached
 pub put-refusal : (nodes : List Node) (root : ℕ) (atoms : List IndexedAtom) (old : List (List Duty)) (r : List Duty) (table : List ℕ) (bits : ℕ) → 2 ^ bits ≡ row_of atoms → IsExplored nodes root atoms old table → IsFamily r → IsReached nodes root r
     → (e : MonitorError) → IsPutRefusal old r bits e → IsTableRefusal nodes root atoms e
-put-refusal nodes root atoms old r table bits same is family reach (Limit kind.Table) (new, n, puts, many) =
+put-refusal nodes root atoms old r table bits same is family reach (Limit kind) (past, new, n, puts, many) =
     let P : ℕ → Type 0 = λ w. 4194304 < length new * w in
-    (new, put-reached nodes root atoms old new r n table puts is family reach, subst P same many)
-put-refusal nodes root atoms old r table bits same is family reach (Limit kind.Bytes) h = absurd h
-put-refusal nodes root atoms old r table bits same is family reach (Limit kind.Specs) h = absurd h
-put-refusal nodes root atoms old r table bits same is family reach (Limit kind.Quantifiers) h = absurd h
-put-refusal nodes root atoms old r table bits same is family reach (Limit kind.Parens) h = absurd h
-put-refusal nodes root atoms old r table bits same is family reach (Limit kind.Height) h = absurd h
-put-refusal nodes root atoms old r table bits same is family reach (Limit kind.Names) h = absurd h
-put-refusal nodes root atoms old r table bits same is family reach (Limit kind.Instances) h = absurd h
-put-refusal nodes root atoms old r table bits same is family reach (Limit kind.Closure) h = absurd h
-put-refusal nodes root atoms old r table bits same is family reach (Limit kind.Joint) h = absurd h
-put-refusal nodes root atoms old r table bits same is family reach (Limit kind.Atoms) h = absurd h
-put-refusal nodes root atoms old r table bits same is family reach (Limit kind.Length) h = absurd h
-put-refusal nodes root atoms old r table bits same is family reach (Limit kind.Sessions) h = absurd h
-put-refusal nodes root atoms old r table bits same is family reach (Limit kind.Saves) h = absurd h
-put-refusal nodes root atoms old r table bits same is family reach (Limit kind.Variables) h = absurd h
-put-refusal nodes root atoms old r table bits same is family reach (Limit kind.CnfVariables) h = absurd h
-put-refusal nodes root atoms old r table bits same is family reach (Limit kind.CnfLiterals) h = absurd h
-put-refusal nodes root atoms old r table bits same is family reach (Limit kind.StrategyNames) h = absurd h
+    (past, new, put-reached nodes root atoms old new r n table puts is family reach, subst P same many)
 put-refusal nodes root atoms old r table bits same is family reach Memory h = tt
 
 -- ---- the rows of the table

@@ -154,8 +154,15 @@ alike-more f f' base xs ys a b =
     let P : List Duty → Type 0 = AreAlike f' in
     subst P (append_assoc base xs ys) (alike-through f' (f ++ ys) ((base ++ xs) ++ ys) b (alike-append f (base ++ xs) ys ys a (alike-itself ys)))
 
-pub alike-nothing : (f : List Duty) → AreAlike f (f ++ [])
+alike-nothing : (f : List Duty) → AreAlike f (f ++ [])
 alike-nothing f = let P : List Duty → Type 0 = AreAlike f in subst P (sym (append-nil f)) (alike-itself f)
+
+-- a family that is alike a list
+abbrev pub Stands : List Duty → List Duty → Type 0
+Stands family list = IsFamily family × AreAlike family list
+
+pub stands-start : (f : List Duty) → IsFamily f → Stands f (f ++ [])
+stands-start f is = (is, alike-nothing f)
 
 pub joined-append : (xs ys zs : List Duty) → joined (xs ++ ys) zs ≡ joined xs zs ++ joined ys zs
 joined-append [] ys zs = refl

@@ -1,5 +1,5 @@
 -- When a body has no monitor: its closure, its atoms or its table is too large.
-use Rattle.std.specs.Prelude.{ℕ, ◌*◌, ◌^◌, ◌<◌, ◌≤◌, List, length, true}
+use Rattle.std.specs.Prelude.{◌≡◌, ℕ, ◌*◌, ◌^◌, ◌<◌, ◌≤◌, List, length, true}
 use Rattle.hy_base.specs.declared.limit.Kind.TheVariants.{Closure, Atoms, Table}
 use Rattle.hy_formula.specs.Trees.{Tree}
 use Rattle.fin_monitor.specs.declared.monitor_error.MonitorError.{MonitorError}
@@ -52,12 +52,10 @@ pub record IsTaken (body : Tree) : Type 0 where
 
 -- why the atoms of a body were not collected
 abbrev pub IsAtomsRefusal : Tree → MonitorError → Type 0
-IsAtomsRefusal body (Limit Atoms) = HasManyAtoms body
-IsAtomsRefusal body (Limit _) = ⊥
+IsAtomsRefusal body (Limit kind) = (kind ≡ Atoms) × HasManyAtoms body
 IsAtomsRefusal body Memory = Unit {0}
 
 -- why the closure of a body was not made
 abbrev pub IsClosureRefusal : Tree → MonitorError → Type 0
-IsClosureRefusal body (Limit Closure) = HasLargeClosure body
-IsClosureRefusal body (Limit _) = ⊥
+IsClosureRefusal body (Limit kind) = (kind ≡ Closure) × HasLargeClosure body
 IsClosureRefusal body Memory = Unit {0}

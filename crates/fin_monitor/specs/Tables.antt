@@ -53,16 +53,14 @@ pub record Follows (nodes : List Node) (root : ℕ) (atoms : List IndexedAtom) (
 
 -- More residuals are reached, times the joint letters, than 4,194,304; or memory ran out.
 abbrev pub IsTableRefusal : List Node → ℕ → List IndexedAtom → MonitorError → Type 0
-IsTableRefusal nodes root atoms (Limit Table) =
-    (list : List (List Duty)) × SomeReached nodes root list × (4194304 < length list * row_of atoms)
-IsTableRefusal nodes root atoms (Limit _) = ⊥
+IsTableRefusal nodes root atoms (Limit kind) =
+    (kind ≡ Table) × (list : List (List Duty)) × SomeReached nodes root list × (4194304 < length list * row_of atoms)
 IsTableRefusal nodes root atoms Memory = Unit {0}
 
 -- The residual is too many where it is put; or memory ran out.
 abbrev pub IsPutRefusal : List (List Duty) → List Duty → ℕ → MonitorError → Type 0
-IsPutRefusal old r bits (Limit Table) =
-    (new : List (List Duty)) × (n : ℕ) × Puts old r new n × (4194304 < length new * 2 ^ bits)
-IsPutRefusal old r bits (Limit _) = ⊥
+IsPutRefusal old r bits (Limit kind) =
+    (kind ≡ Table) × (new : List (List Duty)) × (n : ℕ) × Puts old r new n × (4194304 < length new * 2 ^ bits)
 IsPutRefusal old r bits Memory = Unit {0}
 
 -- The automaton has all residuals that are reached.

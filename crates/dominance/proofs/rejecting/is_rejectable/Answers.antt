@@ -1,14 +1,9 @@
-use Rattle.std.proofs.Common.{◌<◌, ℕ, List, map, sym, ap, ◌∙◌, subst}
-use Rattle.std.specs.Prelude.{IsTrue}
-use Rattle.std.specs.List.{Contains}
-use Rattle.hy_bits.specs.Letter.{Letter}
-use Rattle.fin_monitor.specs.Codes.{part_of}
-use Rattle.fin_monitor.specs.Machines.{Machine, states_of}
+use Rattle.std.proofs.Common.{ℕ, List, map, sym, ap, ◌∙◌, subst}
+use Rattle.fin_monitor.specs.Machines.{Machine}
 use Rattle.fin_monitor.specs.Seen.{machine_of}
-use Rattle.fin_monitor.specs.Tables.{flag_at}
 use Rattle.fin_monitor.proofs.CodeBits.{code-lt}
 use Rattle.dominance.specs.Choices.{Row, row_code}
-use Rattle.dominance.specs.Telling.{MayStay}
+use Rattle.dominance.specs.Telling.{AreClosed, HasParts, MayStay}
 use Rattle.dominance.proofs.Meaning.{codes-below}
 use Rattle.dominance.proofs.Staying.{rejectable}
 use Rattle.dominance.proofs.rejecting.is_rejectable.Goals as goal
@@ -36,12 +31,10 @@ returns-then-are_closed g c = λ may.
     let m : Machine = machine_of c.args.m.now in
     let rows : List Row = c.in_ok-rows.rows in
     let parts : List ℕ = c.as_slice-2.result.now in
-    let P : List ℕ → Type 0 = λ made. (letter : Letter)
-    → Contains made (part_of m.atoms c.args.place letter) in
+    let P : List ℕ → Type 0 = HasParts m c.args.place in
     let codes_are = c.as_slice-3.ensures ∙ c.in_ok-codes.ensures
     ∙ ap (λ (l : List Row). map (row_code m) l) c.as_slice.ensures in
-    let Q : List ℕ → Type 0 = λ choices. (q : ℕ) → q < states_of m
-    → IsTrue (flag_at c.loop-pass.rejecting q) → MayStay m parts choices c.loop-pass.rejecting q in
+    let Q : List ℕ → Type 0 = λ choices. AreClosed m parts choices c.loop-pass.rejecting in
     let R : List ℕ → Type 0 = λ choices. MayStay m parts choices c.loop-pass.rejecting 0 in
     let S : ℕ → Type 0 = MayStay m parts c.as_slice-3.result.now c.loop-pass.rejecting in
     rejectable m c.args.place rows parts c.loop-pass.rejecting c.loop-pass.invariant

@@ -1,4 +1,4 @@
-use Rattle.std.proofs.Common.{Err, ap}
+use Rattle.std.proofs.Common.{Err, refl, ap}
 use Rattle.ltl_closure.specs.Jobs.{Rooted}
 use Rattle.fin_monitor.proofs.building.closure_of.Goals as goal
 
@@ -10,4 +10,4 @@ returns-in-Ok-clause-roots c = ap (λ (r : Rooted). r.roots) c.in-Ok.ensures.clo
 
 pub returns-in-Err-Limit-clause-refused : goal.returns-in-Err-Limit-clause-refused
 returns-in-Err-Limit-clause-refused c =
-    c.in-Err-Limit.ensures.limit (ap (λ e. Err e) c.in-Err-Limit.field-0-is)
+    (refl, c.in-Err-Limit.ensures.limit (ap (λ e. Err e) c.in-Err-Limit.field-0-is))

@@ -1,11 +1,7 @@
 use Rattle.std.proofs.Common.{take, ◌++◌, map}
-use Rattle.fin_monitor.specs.Duties.{both, AreAlike}
-use Rattle.fin_monitor.specs.Lefts.{IsFamily}
+use Rattle.fin_monitor.specs.Duties.{both}
+use Rattle.fin_monitor.proofs.FamilySteps.{Stands}
 use Rattle.fin_monitor.proofs.families.add_with.Given as goal
 
 abbrev pub invariant-loop-e : goal.invariant-loop-e
-invariant-loop-e g l =
-    record {
-      family : IsFamily l.family.items;
-      alike : AreAlike l.family.items (l.initial.family.items ++ map (both l.d) (take l.e-index l.list));
-    }
+invariant-loop-e g l = Stands l.family.items (l.initial.family.items ++ map (both l.d) (take l.e-index l.list))

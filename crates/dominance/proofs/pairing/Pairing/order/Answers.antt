@@ -10,14 +10,8 @@ loop-k-init g c =
     let s : Pairing = pairing_of c.args.self.now in
     record {
       linked = c.in_ok-reached.ensures.linked;
-      reached = c.in_ok-reached.ensures.reached (pairing_of c.args.self.now)
-          (record {
-            at = omega arith;
-            upper = c.start.ensures.within;
-            lower = c.start-2.ensures.within;
-          });
-      upper = c.in_ok-ends.ensures.upper;
-      lower = c.in_ok-ends.ensures.lower;
+      reached = c.in_ok-reached.ensures.reached (pairing_of c.args.self.now) c.start.ensures.inside;
+      ends = c.in_ok-ends.ensures;
       over = left-start s (Differ s) _ c.args.claimed.over;
       under = left-start s (Differ (exchanged s)) _ c.args.claimed.under;
     }
@@ -63,8 +57,7 @@ loop-k-preserved g c =
     record {
       linked = e.linked;
       reached = e.reached;
-      upper = c.order_there-order.ensures.upper;
-      lower = c.order_there-order.ensures.lower;
+      ends = c.order_there-order.ensures.ends;
       over = left-more s (Differ s) c.loop-k.reached.nodes.keys c.follow.new.reached.nodes.keys
           c.loop-k.reached.links inv.linked inv.reached e.grown c.loop-k.k
           c.in-Some.ensures.there e.followed c.args.claimed.over c.loop-k.order.over

@@ -1,7 +1,5 @@
-use Rattle.fin_monitor.specs.Seen.{machine_of}
-use Rattle.dominance.specs.LoneEnds.{AreLoneEnds}
 use Rattle.dominance.specs.Runs.{Differ, exchanged}
-use Rattle.dominance.specs.Seen.{pairing_of}
+use Rattle.dominance.specs.Seen.{AreEndsOf, pairing_of}
 use Rattle.dominance.specs.Trails.{AreLinked, AreReached}
 use Rattle.dominance.proofs.Searching.{IsLeftBy}
 use Rattle.dominance.proofs.pairing.Pairing.order.Given as goal
@@ -10,8 +8,7 @@ abbrev pub invariant-loop-k : goal.invariant-loop-k
 invariant-loop-k g l = record {
   linked : AreLinked l.reached.nodes.keys l.reached.links;
   reached : AreReached (pairing_of l.self) l.reached.nodes.keys l.reached.links;
-  upper : AreLoneEnds (machine_of l.self.monitor.now) l.self.upper.now l.ends.upper.ends;
-  lower : AreLoneEnds (machine_of l.self.monitor.now) l.self.lower.now l.ends.lower.ends;
+  ends : AreEndsOf (pairing_of l.self) l.ends;
   over : IsLeftBy (pairing_of l.self) (Differ (pairing_of l.self)) l.reached.nodes.keys l.k
       l.fn.claimed.over l.order.over;
   under : IsLeftBy (pairing_of l.self) (Differ (exchanged (pairing_of l.self)))

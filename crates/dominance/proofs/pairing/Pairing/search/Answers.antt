@@ -7,17 +7,10 @@ use Rattle.dominance.proofs.pairing.Pairing.search.Goals as goal
 
 pub loop-k-init : goal.loop-k-init
 loop-k-init g c =
-    let m = c.args.self.now.monitor.now in
     record {
       linked = c.in_ok-reached.ensures.linked;
-      reached = c.in_ok-reached.ensures.reached (pairing_of c.args.self.now)
-          (record {
-            at = omega arith;
-            upper = c.start.ensures.within;
-            lower = c.start-2.ensures.within;
-          });
-      upper = c.in_ok-ends.ensures.upper;
-      lower = c.in_ok-ends.ensures.lower;
+      reached = c.in_ok-reached.ensures.reached (pairing_of c.args.self.now) c.start.ensures.inside;
+      ends = c.in_ok-ends.ensures;
       done = λ j lt. absurd (omega arith);
     }
 
@@ -48,8 +41,7 @@ loop-k-preserved g c =
     record {
       linked = e.linked;
       reached = e.reached;
-      upper = c.if-differ.ensures.upper;
-      lower = c.if-differ.ensures.lower;
+      ends = c.if-differ.ensures.ends;
       done = done-more s (Differ s) c.loop-k.reached.nodes.keys c.follow.new.reached.nodes.keys e.grown
           c.loop-k.k inv.done c.in-Some.ensures.there e.followed
           (subst P c.in-Some.ensures.node c.if-differ.ensures.same);

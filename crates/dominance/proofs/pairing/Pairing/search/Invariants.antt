@@ -1,8 +1,6 @@
 use Rattle.std.proofs.Common.{ℕ, ◌<◌}
-use Rattle.fin_monitor.specs.Seen.{machine_of}
-use Rattle.dominance.specs.LoneEnds.{AreLoneEnds}
 use Rattle.dominance.specs.Runs.{Differ}
-use Rattle.dominance.specs.Seen.{pairing_of}
+use Rattle.dominance.specs.Seen.{AreEndsOf, pairing_of}
 use Rattle.dominance.specs.Trails.{AreLinked, AreReached}
 use Rattle.dominance.proofs.Searching.{IsDone}
 use Rattle.dominance.proofs.pairing.Pairing.search.Given as goal
@@ -11,7 +9,6 @@ abbrev pub invariant-loop-k : goal.invariant-loop-k
 invariant-loop-k g l = record {
   linked : AreLinked l.reached.nodes.keys l.reached.links;
   reached : AreReached (pairing_of l.self) l.reached.nodes.keys l.reached.links;
-  upper : AreLoneEnds (machine_of l.self.monitor.now) l.self.upper.now l.ends.upper.ends;
-  lower : AreLoneEnds (machine_of l.self.monitor.now) l.self.lower.now l.ends.lower.ends;
+  ends : AreEndsOf (pairing_of l.self) l.ends;
   done : (j : ℕ) → j < l.k → IsDone (pairing_of l.self) (Differ (pairing_of l.self)) l.reached.nodes.keys j;
 }
