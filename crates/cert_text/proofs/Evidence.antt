@@ -11,6 +11,12 @@ use Rattle.cert_text.specs.InductionLines.{SaysHead, SaysFact, SaysLogHead, Says
 use Rattle.cert_text.specs.Wants.{Many, FillInduction, FillLogs, FillProofs, logs_of}
 use Rattle.cert_text.proofs.Counted.{many_said, said_many}
 
+-- lines in three parts
+joined : (front middle rest : List Line) {lines behind : List Line} → lines ≡ front ++ behind
+    → behind ≡ middle ++ rest → lines ≡ (front ++ middle) ++ rest
+joined front middle rest parts more =
+    parts ∙ ap (λ l. front ++ l) more ∙ sym (append_assoc front middle rest)
+
 -- ---- logs
 
 -- So many logs, and lines of which Then holds behind them.
@@ -38,9 +44,7 @@ module _ (Then : List Line → Type 0) where
   logs_said (suc n) (line ∷ lines) (k, counts, fill) =
       let first = many_said SaysLearned (FillLogs n Then) k lines fill in
       let more = logs_said n first.rest first.behind in
-      let whole : lines ≡ (first.front ++ more.front) ++ more.rest =
-      first.parts ∙ ap (λ l. first.front ++ l) more.parts
-      ∙ sym (append_assoc first.front more.front more.rest) in
+      let whole = joined first.front more.front more.rest first.parts more.parts in
       record {
         front = line ∷ (first.front ++ more.front);
         rest = more.rest;
@@ -133,9 +137,7 @@ module _ (word : List ℕ) (clauses : Bool) (Then : List Line → Type 0) where
       let logs = logs_said Then (logs_of k f) facts.rest facts.behind in
       let split : logs_of k f ≡ (f + 63) / 64 + (suc k + 1) = omega arith in
       let dealt = deal ((f + 63) / 64) (suc k) logs.logs (logs.many ∙ split) in
-      let whole : lines ≡ (facts.front ++ logs.front) ++ logs.rest =
-      facts.parts ∙ ap (λ l. facts.front ++ l) logs.parts
-      ∙ sym (append_assoc facts.front logs.front logs.rest) in
+      let whole = joined facts.front logs.front logs.rest facts.parts logs.parts in
       record {
         front = line ∷ (facts.front ++ logs.front);
         rest = logs.rest;
@@ -205,9 +207,7 @@ ranks_said : (n b r : ℕ) (line : Line) (lines : List Line) → SaysRankHead li
 ranks_said n b r line lines counts fill =
     let branches = many_said SaysBranch (Many (Speaks SaysReason) r (FillProofs n)) b lines fill in
     let reasons = many_said SaysReason (FillProofs n) r branches.rest branches.behind in
-    let whole : lines ≡ (branches.front ++ reasons.front) ++ reasons.rest =
-    branches.parts ∙ ap (λ l. branches.front ++ l) reasons.parts
-    ∙ sym (append_assoc branches.front reasons.front reasons.rest) in
+    let whole = joined branches.front reasons.front reasons.rest branches.parts reasons.parts in
     let P : ℕ → Type 0 = λ m. SaysRankHead line m (length reasons.values) in
     record {
       front = line ∷ (branches.front ++ reasons.front);

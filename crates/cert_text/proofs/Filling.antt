@@ -16,8 +16,8 @@ use Rattle.cert_text.specs.RankLines.{SaysRankHead, SaysBranch, SaysReason}
 use Rattle.cert_text.specs.InductionLines.{SaysFact, SaysLogHead, SaysLearned}
 use Rattle.cert_text.specs.RunLines.{SaysRunsHead, SaysRun}
 use Rattle.cert_text.specs.Wants.{Ends, Many, FillLogs, FillProofs, FillShown, FillEvidence, FillSome, Fills}
-use Rattle.cert_text.proofs.Joining.{AreFree}
-use Rattle.cert_text.proofs.Verdicts.{IsSpelled, sat_opens, not_implied_opens, equivalent_opens, holds_opens}
+use Rattle.cert_text.proofs.Joining.{AreFree, IsFree}
+use Rattle.cert_text.proofs.Verdicts.{IsSpelled, Opens, sat_opens, not_implied_opens, equivalent_opens, holds_opens}
 
 -- Some lines without line feeds are as P says.
 pub record IsFilled (P : List Line → Type 0) : Type 0 where
@@ -119,29 +119,27 @@ fill_evidence = record {
 fill_some : IsFilled FillSome
 fill_some = record { lines = codes "|{}" ∷ []; free = (refl, tt); fills = (lasso, tt) }
 
+-- the lines behind an answer
+fill_behind : (question : Question) (word : Line) (Then : List Line → Type 0) → IsFree word
+    → Opens question word Then → IsFilled Then → IsFilled (IsSpelled question)
+fill_behind question word Then free opens filled = record {
+  lines = word ∷ filled.lines;
+  free = (free, filled.free);
+  fills = (opens filled.lines).1 filled.fills;
+}
+
 fill_verdict : (question : Question) → IsFilled (IsSpelled question)
-fill_verdict Formula = record {
-  lines = codes "sat" ∷ fill_some.lines;
-  free = (refl, fill_some.free);
-  fills = (sat_opens (codes "sat") refl fill_some.lines).1 fill_some.fills;
-}
-fill_verdict Implication = record {
-  lines = codes "not implied" ∷ fill_some.lines;
-  free = (refl, fill_some.free);
-  fills = (not_implied_opens (codes "not implied") refl fill_some.lines).1 fill_some.fills;
-}
+fill_verdict Formula =
+    fill_behind Formula (codes "sat") FillSome refl (sat_opens (codes "sat") refl) fill_some
+fill_verdict Implication =
+    fill_behind Implication (codes "not implied") FillSome refl
+    (not_implied_opens (codes "not implied") refl) fill_some
 fill_verdict Equivalence =
-    let proofs = fill_proofs 2 in
-    record {
-      lines = codes "equivalent" ∷ proofs.lines;
-      free = (refl, proofs.free);
-      fills = (equivalent_opens (codes "equivalent") refl proofs.lines).1 proofs.fills;
-    }
-fill_verdict Circuit = record {
-  lines = codes "holds" ∷ fill_evidence.lines;
-  free = (refl, fill_evidence.free);
-  fills = (holds_opens true (codes "holds") refl fill_evidence.lines).1 fill_evidence.fills;
-}
+    fill_behind Equivalence (codes "equivalent") (FillProofs 2) refl
+    (equivalent_opens (codes "equivalent") refl) (fill_proofs 2)
+fill_verdict Circuit =
+    fill_behind Circuit (codes "holds") FillEvidence refl (holds_opens true (codes "holds") refl)
+    fill_evidence
 
 pub fillable : (want : Want) → IsFilled (Fills want)
 fillable (Verdict question) = fill_verdict question

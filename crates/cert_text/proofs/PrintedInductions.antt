@@ -15,7 +15,7 @@ use Rattle.cnf_frames.specs.declared.inductions.InductionProof.{InductionProof}
 use Rattle.hy_formula.proofs.Each.{each-append}
 use Rattle.cert_text.specs.declared.question.Question.TheVariants.{Circuit}
 use Rattle.hy_text.specs.Numbers.{SaysNumber}
-use Rattle.cert_text.specs.Lines.{Line, Say}
+use Rattle.cert_text.specs.Lines.{Line, Say, words_of}
 use Rattle.cert_text.specs.Numbers.{SaysCount, SaysLiteral}
 use Rattle.cert_text.specs.InductionLines.{kind_word, SaysFact, SaysLearned, SayLogs, SayProofBy}
 use Rattle.cert_text.specs.Certificates.{induction, holds_line, proved}
@@ -27,12 +27,16 @@ use Rattle.cert_text.proofs.PrintedLines.{word_lacks, words_lack, joined_spaced,
 
 -- ---- facts
 
+-- behind the first word
+abbrev fact_rest : Fact → List (List ℕ)
+fact_rest (Zero a) = codes "0" ∷ decimal a ∷ []
+fact_rest (One a) = codes "1" ∷ decimal a ∷ []
+fact_rest (Same a b) = codes "=" ∷ decimal a ∷ decimal b ∷ []
+fact_rest (Differ a b) = codes "!" ∷ decimal a ∷ decimal b ∷ []
+fact_rest (AnyOf ls) = codes "|" ∷ map decimal ls
+
 abbrev fact_words : Fact → List (List ℕ)
-fact_words (Zero a) = codes "f" ∷ codes "0" ∷ decimal a ∷ []
-fact_words (One a) = codes "f" ∷ codes "1" ∷ decimal a ∷ []
-fact_words (Same a b) = codes "f" ∷ codes "=" ∷ decimal a ∷ decimal b ∷ []
-fact_words (Differ a b) = codes "f" ∷ codes "!" ∷ decimal a ∷ decimal b ∷ []
-fact_words (AnyOf ls) = codes "f" ∷ codes "|" ∷ map decimal ls
+fact_words fact = codes "f" ∷ fact_rest fact
 
 abbrev fact_line : Fact → Line
 fact_line fact = join_with_byte 32 (fact_words fact)
@@ -51,81 +55,50 @@ fact_ends (AnyOf ls) =
     ap (λ t. (codes "f |" ++ t) ++ 10 ∷ []) (sym (spaced_numbers ls))
     ∙ ap (λ t. t ++ 10 ∷ []) (sym (joined_spaced (codes "f") (codes "|" ∷ map decimal ls)))
 
+two_lack : (byte a b : ℕ) → byte < 33 → IsBelow a × IsBelow b
+    → EachLacks byte (decimal a ∷ decimal b ∷ [])
+two_lack byte a b low (one, two) =
+    let second = decimal_lacks byte b (omega arith) two in
+    (decimal_lacks byte a (omega arith) one, (second, tt))
+
+rest_lacks : (byte : ℕ) (fact : Fact) → byte < 33 → IsPrintableFact fact
+    → EachLacks byte (fact_rest fact)
+rest_lacks byte (Zero a) low is =
+    (word_lacks byte (codes "0") low refl, (decimal_lacks byte a (omega arith) is, tt))
+rest_lacks byte (One a) low is =
+    (word_lacks byte (codes "1") low refl, (decimal_lacks byte a (omega arith) is, tt))
+rest_lacks byte (Same a b) low both =
+    (word_lacks byte (codes "=") low refl, two_lack byte a b low both)
+rest_lacks byte (Differ a b) low both =
+    (word_lacks byte (codes "!") low refl, two_lack byte a b low both)
+rest_lacks byte (AnyOf ls) low (all, some) = (
+  word_lacks byte (codes "|") low refl,
+  words_lack decimal IsBelow byte (λ l below. decimal_lacks byte l (omega arith) below) ls all,
+)
+
 fact_lacks : (byte : ℕ) (fact : Fact) → byte < 33 → IsPrintableFact fact
     → EachLacks byte (fact_words fact)
-fact_lacks byte (Zero a) low is = (
-  word_lacks byte (codes "f") low refl,
-  (word_lacks byte (codes "0") low refl, (decimal_lacks byte a (omega arith) is, tt)),
-)
-fact_lacks byte (One a) low is = (
-  word_lacks byte (codes "f") low refl,
-  (word_lacks byte (codes "1") low refl, (decimal_lacks byte a (omega arith) is, tt)),
-)
-fact_lacks byte (Same a b) low (one, two) =
-    let second = decimal_lacks byte b (omega arith) two in (
-      word_lacks byte (codes "f") low refl,
-      (
-        word_lacks byte (codes "=") low refl,
-        (
-          decimal_lacks byte a (omega arith) one,
-          (second, tt),
-        ),
-      ),
-    )
-fact_lacks byte (Differ a b) low (one, two) =
-    let second = decimal_lacks byte b (omega arith) two in (
-      word_lacks byte (codes "f") low refl,
-      (
-        word_lacks byte (codes "!") low refl,
-        (
-          decimal_lacks byte a (omega arith) one,
-          (second, tt),
-        ),
-      ),
-    )
-fact_lacks byte (AnyOf ls) low (all, some) =
-    let literals = words_lack decimal IsBelow byte
-    (λ l below. decimal_lacks byte l (omega arith) below) ls all in
-    (word_lacks byte (codes "f") low refl, (word_lacks byte (codes "|") low refl, literals))
+fact_lacks byte fact low is = (word_lacks byte (codes "f") low refl, rest_lacks byte fact low is)
 
 fact_free : (fact : Fact) → IsPrintableFact fact → Lacks 10 (fact_line fact)
 fact_free fact is = free_words (fact_words fact) (fact_lacks 10 fact (omega arith) is)
 
+fact_cut : (fact : Fact) → IsPrintableFact fact → words_of (fact_line fact) ≡ fact_words fact
+fact_cut fact is = split_joined 32 (codes "f") (fact_rest fact) (fact_lacks 32 fact (omega arith) is)
+
 fact_says : (clauses : Bool) (fact : Fact) → (IsTrue (is_clause fact) → IsTrue clauses)
     → IsPrintableFact fact → SaysFact clauses (fact_line fact) fact
-fact_says clauses (Zero a) taken is = (
-  decimal a,
-  split_joined 32 (codes "f") (codes "0" ∷ decimal a ∷ []) (fact_lacks 32 (Zero a) (omega arith)
-      is),
-  spelled_number a is,
-)
-fact_says clauses (One a) taken is = (
-  decimal a,
-  split_joined 32 (codes "f") (codes "1" ∷ decimal a ∷ []) (fact_lacks 32 (One a) (omega arith) is),
-  spelled_number a is,
-)
-fact_says clauses (Same a b) taken (one, two) = (
-  decimal a,
-  decimal b,
-  split_joined 32 (codes "f") (codes "=" ∷ decimal a ∷ decimal b ∷ [])
-      (fact_lacks 32 (Same a b) (omega arith) (one, two)),
-  spelled_number a one,
-  spelled_number b two,
-)
-fact_says clauses (Differ a b) taken (one, two) = (
-  decimal a,
-  decimal b,
-  split_joined 32 (codes "f") (codes "!" ∷ decimal a ∷ decimal b ∷ [])
-      (fact_lacks 32 (Differ a b) (omega arith) (one, two)),
-  spelled_number a one,
-  spelled_number b two,
-)
+fact_says clauses (Zero a) taken is = (decimal a, fact_cut (Zero a) is, spelled_number a is)
+fact_says clauses (One a) taken is = (decimal a, fact_cut (One a) is, spelled_number a is)
+fact_says clauses (Same a b) taken is =
+    (decimal a, decimal b, fact_cut (Same a b) is, spelled_number a is.0, spelled_number b is.1)
+fact_says clauses (Differ a b) taken is =
+    (decimal a, decimal b, fact_cut (Differ a b) is, spelled_number a is.0, spelled_number b is.1)
 fact_says clauses (AnyOf ls) taken (all, some) = (
   taken refl,
   (
     map decimal ls,
-    split_joined 32 (codes "f") (codes "|" ∷ map decimal ls)
-        (fact_lacks 32 (AnyOf ls) (omega arith) (all, some)),
+    fact_cut (AnyOf ls) (all, some),
     say_lines_of decimal IsBelow SaysNumber spelled_number ls all,
     some,
   ),

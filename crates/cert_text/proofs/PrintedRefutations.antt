@@ -2,8 +2,9 @@
 use Rattle.std.proofs.Common.{◌≡◌, ℕ, true, List, ◌∷◌, ◌++◌, refl, sym, ◌∙◌, ap, subst, append_assoc}
 use Rattle.std.specs.Prelude.{codes}
 use Rattle.hy_formula.proofs.Each.{each-append}
+use Rattle.cert_text.specs.declared.question.Question.{Question}
 use Rattle.cert_text.specs.declared.question.Question.TheVariants.{Formula, Implication, Equivalence}
-use Rattle.cert_text.specs.Certificates.{Refutation, ranks, free, refuted, both, SayRefutation, unsatisfiable, implied, equivalent}
+use Rattle.cert_text.specs.Certificates.{Refutation, ranks, free, refuted, both, SayRefutation, Spells, unsatisfiable, implied, equivalent}
 use Rattle.cert_text.specs.InductionLines.{free_word}
 use Rattle.cert_text.specs.Lines.{Line}
 use Rattle.cert_text.specs.Printed.{IsPrintableRefutation}
@@ -33,23 +34,27 @@ refutation_said : (proof : Refutation) → IsPrintableRefutation proof
 refutation_said (ranks proof) is = proof_said proof is
 refutation_said (free proof) is = induction_said free_word proof refl is true (λ _. refl)
 
+refuted_text : (question : Question) (line : Line) (proof : Refutation) → IsFree line
+    → Spells (line ∷ refutation_lines proof) question (refuted proof)
+    → IsPrintableRefutation proof
+    → IsText question (line ++ codes "\n" ++ refutation_text proof) (refuted proof)
+refuted_text question line proof lacks spelled is =
+    let text = lines_text question (line ∷ refutation_lines proof) (refuted proof)
+    (lacks, refutation_free proof is) spelled in
+    let P : List ℕ → Type 0 = λ b. IsText question (line ++ codes "\n" ++ b) (refuted proof) in
+    subst P (sym (refutation_ends proof)) text
+
 pub printed_unsat : (proof : Refutation) → IsPrintableRefutation proof
     → IsText Formula (codes "unsat\n" ++ refutation_text proof) (refuted proof)
 printed_unsat proof is =
-    let lines = refutation_lines proof in
-    let text = lines_text Formula (codes "unsat" ∷ lines) (refuted proof)
-    (refl, refutation_free proof is) (unsatisfiable lines refl (refutation_said proof is)) in
-    let P : List ℕ → Type 0 = λ b. IsText Formula (codes "unsat\n" ++ b) (refuted proof) in
-    subst P (sym (refutation_ends proof)) text
+    refuted_text Formula (codes "unsat") proof refl
+    (unsatisfiable (refutation_lines proof) refl (refutation_said proof is)) is
 
 pub printed_implied : (proof : Refutation) → IsPrintableRefutation proof
     → IsText Implication (codes "implied\n" ++ refutation_text proof) (refuted proof)
 printed_implied proof is =
-    let lines = refutation_lines proof in
-    let text = lines_text Implication (codes "implied" ∷ lines) (refuted proof)
-    (refl, refutation_free proof is) (implied lines refl (refutation_said proof is)) in
-    let P : List ℕ → Type 0 = λ b. IsText Implication (codes "implied\n" ++ b) (refuted proof) in
-    subst P (sym (refutation_ends proof)) text
+    refuted_text Implication (codes "implied") proof refl
+    (implied (refutation_lines proof) refl (refutation_said proof is)) is
 
 pub printed_equivalent : (one two : Refutation) → IsPrintableRefutation one
     → IsPrintableRefutation two

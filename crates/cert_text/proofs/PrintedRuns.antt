@@ -1,5 +1,5 @@
 -- Lassos and runs that were printed are texts.
-use Rattle.std.proofs.Common.{◌≡◌, ◌≢◌, ℕ, suc, ◌<◌, Bool, true, false, List, [], ◌∷◌, ◌++◌, length, map, refl, sym, ◌∙◌, ap, subst, arith, append_assoc}
+use Rattle.std.proofs.Common.{◌≡◌, ◌≢◌, ℕ, suc, ◌<◌, Bool, true, false, List, [], ◌∷◌, ◌++◌, length, map, refl, sym, ◌∙◌, ap, subst, arith, append_assoc, ◌⊎◌, inl, inr}
 use Rattle.std.specs.Prelude.{decimal, codes}
 use Rattle.std.specs.List.{flat_map, join_with_byte}
 use Rattle.std.proofs.lemmas.List.{length-map}
@@ -53,29 +53,30 @@ text_lacks : (byte : ℕ) (rows : List (List Bool)) → IsApart byte → 59 ≢ 
 text_lacks byte rows apart joint = joined_lacks byte 59 (map row_text rows) joint (rows_lack byte
     rows apart)
 
-apart_from : (byte : ℕ) → 45 ≢ byte → 48 ≢ byte → 49 ≢ byte → IsApart byte
-apart_from byte dash zero_digit one_digit =
-    record { dash = dash; zero_digit = zero_digit; one_digit = one_digit }
+-- one below the dash, or above the digits
+apart_from : (byte : ℕ) → (byte < 45) ⊎ (49 < byte) → IsApart byte
+apart_from byte (inl below) = record {
+  dash = λ e. absurd (omega (arith, below, e));
+  zero_digit = λ e. absurd (omega (arith, below, e));
+  one_digit = λ e. absurd (omega (arith, below, e));
+}
+apart_from byte (inr above) = record {
+  dash = λ e. absurd (omega (arith, above, e));
+  zero_digit = λ e. absurd (omega (arith, above, e));
+  one_digit = λ e. absurd (omega (arith, above, e));
+}
 
 space_apart : IsApart 32
-space_apart =
-    apart_from 32 (λ e. absurd (omega (arith, e))) (λ e. absurd (omega (arith, e)))
-    (λ e. absurd (omega (arith, e)))
+space_apart = apart_from 32 (inl (omega arith))
 
 feed_apart : IsApart 10
-feed_apart =
-    apart_from 10 (λ e. absurd (omega (arith, e))) (λ e. absurd (omega (arith, e)))
-    (λ e. absurd (omega (arith, e)))
+feed_apart = apart_from 10 (inl (omega arith))
 
 bar_apart : IsApart 124
-bar_apart =
-    apart_from 124 (λ e. absurd (omega (arith, e))) (λ e. absurd (omega (arith, e)))
-    (λ e. absurd (omega (arith, e)))
+bar_apart = apart_from 124 (inr (omega arith))
 
 joint_apart : IsApart 59
-joint_apart =
-    apart_from 59 (λ e. absurd (omega (arith, e))) (λ e. absurd (omega (arith, e)))
-    (λ e. absurd (omega (arith, e)))
+joint_apart = apart_from 59 (inr (omega arith))
 
 rows_say : (rows : List (List Bool)) → Say SaysRow (map row_text rows) rows
 rows_say [] = tt

@@ -43,22 +43,24 @@ module _ (seen : Seen) (none : seen.others ≡ []) where
       subst A (both-apart all f g) (subst M (sym e) (those-less (Stands seen) (all ++ f ∷ [])
       some g (those-less (Stands seen) all some f those fails) never))
 
+  at-next : (j : ℕ) (more : List Fact) → AreThose (Stands seen) (single_facts (suc j)) more →
+      AreThose (Stands seen) (single_facts (j + 1)) more
+  at-next j more those =
+      let A : ℕ → Type 0 = λ n. AreThose (Stands seen) (single_facts n) more in
+      let next : suc j ≡ j + 1 = omega arith in subst A next those
+
   pub zero-left : (j : ℕ) (some more : List Fact) → row seen.ones j ≡ false →
       AreThose (Stands seen) (single_facts j) some → more ≡ some ++ Zero j ∷ [] →
       AreThose (Stands seen) (single_facts (j + 1)) more
   zero-left j some more stands those e =
-      let A : ℕ → Type 0 = λ n. AreThose (Stands seen) (single_facts n) more in
-      let next : suc j ≡ j + 1 = omega arith in
-      subst A next
+      at-next j more
       (first-left (single_facts j) some more (Zero j) (One j) stands (no-other (One j)) those e)
 
   pub zero-gone : (j : ℕ) (some more : List Fact) → row seen.ones j ≢ false →
       AreThose (Stands seen) (single_facts j) some → more ≡ some →
       AreThose (Stands seen) (single_facts (j + 1)) more
   zero-gone j some more fails those e =
-      let A : ℕ → Type 0 = λ n. AreThose (Stands seen) (single_facts n) more in
-      let next : suc j ≡ j + 1 = omega arith in
-      subst A next
+      at-next j more
       (none-left (single_facts j) some more (Zero j) (One j) fails (no-other (One j)) those e)
 
   -- where the pair of latch i is settled whatever comes before

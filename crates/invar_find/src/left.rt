@@ -23,6 +23,15 @@ pub fn count_latches(safe: &SafeNet) -> u32
     safe.net.latches().len() as u32
 }
 
+/// The variable of the first latch, behind the constant and the inputs.
+fn first_latch(safe: &SafeNet) -> usize
+    ensures first { result ≡ 1 + safe.now.net.inputs }
+    ensures room { result + length safe.now.net.latches ≤ variables safe.now.net }
+{
+    safe.net.variables(); // what each net keeps
+    1 + safe.net.inputs() as usize
+}
+
 /// The latch values after the step of an assignment.
 pub fn state_after<'a>(safe: &SafeNet, values: &'a [bool]) -> &'a [bool]
     requires { 2 * variables safe.now.net ≤ length values.now }
@@ -30,7 +39,7 @@ pub fn state_after<'a>(safe: &SafeNet, values: &'a [bool]) -> &'a [bool]
     ensures state { (j : ℕ) → j < length safe.now.net.latches →
         row result.now j ≡ word_of safe.now values.now 1 (latch_variable safe.now.net j) }
 {
-    let first = safe.net.variables() as usize + 1 + safe.net.inputs() as usize;
+    let first = safe.net.variables() as usize + first_latch(safe);
     &values[first..first + safe.net.latches().len()]
 }
 
@@ -41,8 +50,7 @@ pub fn state_before<'a>(safe: &SafeNet, values: &'a [bool]) -> &'a [bool]
     ensures state { (j : ℕ) → j < length safe.now.net.latches →
         row result.now j ≡ word_of safe.now values.now 0 (latch_variable safe.now.net j) }
 {
-    safe.net.variables(); // what each net keeps
-    let first = 1 + safe.net.inputs() as usize;
+    let first = first_latch(safe);
     &values[first..first + safe.net.latches().len()]
 }
 
@@ -51,8 +59,7 @@ pub fn inputs_of<'a>(safe: &SafeNet, values: &'a [bool]) -> &'a [bool]
     requires { 2 * variables safe.now.net ≤ length values.now }
     ensures { length result.now ≡ safe.now.net.inputs }
 {
-    safe.net.variables(); // what each net keeps
-    &values[1..1 + safe.net.inputs() as usize]
+    &values[1..first_latch(safe)]
 }
 
 /// Whether a literal of latches is true in a state.

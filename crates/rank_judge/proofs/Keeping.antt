@@ -1,11 +1,13 @@
 -- What is kept of branches and reasons, one more of them at a time.
-use Rattle.std.proofs.Common.{◌≡◌, ◌↔◌, ◌⊎◌, ℕ, Bool, IsTrue, List, [], ◌∷◌, ◌++◌, map, length, Option, Some, None, inl, inr, sym, ◌∙◌, ap, subst}
+use Rattle.std.proofs.Common.{◌≡◌, ◌↔◌, ◌⊎◌, ℕ, Bool, IsTrue, List, [], ◌∷◌, ◌++◌, map, length, Option, Some, None, inl, inr, sym, ◌∙◌, ap, subst, ◌≤◌, true, false, true≢false, refl, IfSome}
 use Rattle.std.specs.List.{All, Contains}
 use Rattle.std.specs.Option.{ForSome}
 use Rattle.std.proofs.lemmas.List.{map-append}
 use Rattle.std.proofs.lemmas.List.Elements.{All-contains, Contains-push, Contains-append_left, Contains-append_right, Contains-push_cases}
 use Rattle.hy_base.proofs.Members.{contains-here, contains-none, map-of}
+use Rattle.std.specs.Bool.{then_some}
 use denote.Ref.{Bor}
+use Rattle.hy_text.specs.Lines.{lines_of}
 use Rattle.ltl_closure.specs.Nodes.{Node}
 use Rattle.ltl_tableau.specs.Branches.{Members}
 use Rattle.ltl_tableau.specs.Ranks.{Ranked, RankProof as Plain, IsUntilNode, IsRankProof}
@@ -17,6 +19,7 @@ use Rattle.rank_proofs.proofs.Same.{same-entries}
 use Rattle.cert_text.specs.Lines.{Line}
 use Rattle.cert_text.specs.RankLines.{SaysBranch, SaysReason}
 use Rattle.cert_text.proofs.OneReading.{one_branch, one_reason}
+use Rattle.rank_judge.specs.Judged.{IsJudgedAt}
 use Rattle.rank_judge.specs.Kept.{AreOf, AreReasonsRead, IsKept, IsProofRead}
 
 -- ---- entries
@@ -113,13 +116,33 @@ kept_same nodes roots said proof kept = (
 )
 
 -- a test of what is kept, by the same roots
-pub judged_so : (nodes : List Node) (roots tops : Members) (said : RankProof) (proof : Plain)
+judged_so : (nodes : List Node) (roots tops : Members) (said : RankProof) (proof : Plain)
     (b : Bool) → IsKept said proof → roots ≡ tops → IsTrue b ↔ IsRankProof nodes roots proof
     → IsTrue b ↔ IsRankProof nodes tops (plain_proof said)
 judged_so nodes roots tops said proof b kept same is =
     let (to, back) = kept_same nodes roots said proof kept in
     let P : Members → Type 0 = λ r. IsTrue b ↔ IsRankProof nodes r (plain_proof said) in
     subst P same (λ yes. to (is.0 yes), λ so. is.1 (back so))
+
+-- the same of a proof that was read, and what is left of the text
+pub judged_left : (nodes : List Node) (roots tops : Members) (said : RankProof) (rest : List Line)
+    (proof : Plain) (end : Option (Bor (List ℕ))) (left : Bor (List ℕ)) (b : Bool)
+    → IsProofRead nodes said rest proof end → end ≡ Some left → roots ≡ tops
+    → IsTrue b ↔ IsRankProof nodes roots proof → IsJudgedAt nodes tops said rest (then_some b left)
+judged_left nodes roots tops said rest proof end left b read is same exactly =
+    let P : Option (Bor (List ℕ)) → Type 0 = IsProofRead nodes said rest proof in
+    let (kept, lines) = subst P is read in
+    at b (judged_so nodes roots tops said proof b kept same exactly) lines
+  where
+    at : (b : Bool) → IsTrue b ↔ IsRankProof nodes tops (plain_proof said)
+        → lines_of left.now ≡ rest → IsJudgedAt nodes tops said rest (then_some b left)
+    at true is lines = (is.0 refl, lines)
+    at false is lines = λ so. true≢false (sym (is.1 so))
+
+pub left_shorter : (b : Bool) (left : Bor (List ℕ)) (n : ℕ) → length left.now ≤ n
+    → IfSome (then_some b left) (λ left. length left.now ≤ n)
+left_shorter true left n shorter = shorter
+left_shorter false left n shorter = tt
 
 -- Where an entry may be none, or a reason names no until, there is no rank proof.
 pub no_proof_entries : (nodes : List Node) (n : ℕ) (said : RankProof) → length said.reasons ≡ n

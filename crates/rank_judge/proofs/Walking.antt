@@ -1,5 +1,7 @@
 -- A walk along the lines at the front of a text, each of which says a value.
 use Rattle.std.proofs.Common.{◌≡◌, ◌≢◌, ℕ, ◌+◌, ◌<◌, ◌≤◌, List, [], ◌∷◌, ◌++◌, length, Option, Some, None, refl, sym, ◌∙◌, ap, subst, arith, append_assoc, append-nil, length-append}
+use Rattle.std.specs.Option.{option_copied}
+use denote.Ref.{Bor}
 use Rattle.hy_text.specs.Lines.{lines_of, left_lines}
 use Rattle.cert_text.specs.Lines.{Line, Say}
 use Rattle.rank_judge.specs.Fronts.{AreFirst}
@@ -80,6 +82,15 @@ module _ {A : Type 0} (Says : Line → A → Type 0) where
   walk_next Done values rest i left line behind walked lt cut =
       line-first Done values rest i line behind walked.front walked.back walked.first.lines
       walked.parts walked.many walked.done lt (sym cut ∙ walked.first.parts) walked.first.said
+
+  -- the same as the line is cut off what is left
+  pub walk_cut : {Done : List A → Type 0} {values : List A} {rest : List Line} {n i : ℕ}
+      {left : List ℕ} {line : Line} {end behind : Option (Bor (List ℕ))} → length values ≡ n → i < n
+      → IsWalked Says Done values rest i left → lines_of left ≡ line ∷ left_lines (option_copied end)
+      → end ≡ behind → IsNext Says Done values rest i line (option_copied behind)
+  walk_cut {line = line} many lt walked cut is =
+      walk_next _ _ _ _ _ _ _ walked (omega (arith, many, lt))
+      (cut ∙ ap (λ o. line ∷ left_lines (option_copied o)) is)
 
   -- There is a text behind the line.
   pub next_ends : (Done : List A → Type 0) (values : List A) (rest : List Line) (i : ℕ)

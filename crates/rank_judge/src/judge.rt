@@ -69,31 +69,10 @@ fn judge_wide<'a, const W: usize>(alloc: Global, c: &Closure, text: &'a [u8]) ->
         (λ left. IfSome left (λ left. length left.now ≤ length text.now)) }
 {
     let mut proof = RowProof::<W>::new(alloc);
-    judge_read(alloc, c, text, &mut proof)
-}
-
-/// The same with an empty proof that is lent, to be read into.
-fn judge_read<'a, const W: usize>(
-    alloc: Global,
-    c: &Closure,
-    text: &'a [u8],
-    proof: &mut RowProof<W>,
-) -> M<Option<&'a [u8]>>
-    requires width { W ≤ 16 }
-    requires members { length c.now.nodes ≤ 64 * W }
-    requires short { length text.now ≤ BYTES_LIMIT }
-    requires entries { proof.old.entries ≡ [] }
-    requires reasons { proof.old.reasons ≡ [] }
-    ensures judged { IfOk result (λ left. (said : RankProof) (rest : List Line) → rest ≢ []
-        → IsFirst text.now said rest
-        → IsJudgedAt c.now.nodes (set_of c.now.roots) said rest left) }
-    ensures shorter { IfOk result
-        (λ left. IfSome left (λ left. length left.now ≤ length text.now)) }
-{
-    let Some(left) = read_proof(alloc, c, text, proof)? else {
+    let Some(left) = read_proof(alloc, c, text, &mut proof)? else {
         return Ok(None);
     };
     let roots = root_set(c);
-    let is_proof = check_rank_proof(alloc, c, &roots, proof)?;
-    if is_proof { Ok(Some(left)) } else { Ok(None) }
+    let is_proof = check_rank_proof(alloc, c, &roots, &proof)?;
+    Ok(is_proof.then_some(left))
 }

@@ -22,9 +22,10 @@ pub walked-requires-clause-inside : goal.walked-requires-clause-inside
 walked-requires-clause-inside c =
     c.requires.searching.starting.inside
 
-pub returns-in-Satisfied-clause-searching : goal.returns-in-Satisfied-clause-searching
-returns-in-Satisfied-clause-searching c =
-    (satisfied-left c.args.trial.now.safe.now c.args.trial.now.candidates.now c.args.trial.now.conflicts c.args.group c.args.facts.now _
+pub returns-in-Satisfied : goal.returns-in-Satisfied
+returns-in-Satisfied c =
+    let (searching, fewer) =
+    satisfied-left c.args.trial.now.safe.now c.args.trial.now.candidates.now c.args.trial.now.conflicts c.args.group c.args.facts.now _
     c.args.spent.now c.state_after-after.result.now c.in-Satisfied.values c.in_ok-cnf.cnf
     c.requires.safe c.requires.searching c.in_ok-cnf.ensures.query
     (let P : Outcome → Type 0 = IsOutcome c.in_ok-cnf.cnf.variables
@@ -33,24 +34,13 @@ returns-in-Satisfied-clause-searching c =
     (λ j lt. c.state_after-after.ensures.state j lt
     ∙ ap (λ values. word_of c.args.trial.now.safe.now values 1 (latch_variable c.args.trial.now.safe.now.net j))
     c.as_slice.ensures)
-    c.in_ok-facts-in-Satisfied.ensures).0
+    c.in_ok-facts-in-Satisfied.ensures in
+    record { searching = searching; reply = fewer; refused = tt }
 
-pub returns-in-Satisfied-clause-reply : goal.returns-in-Satisfied-clause-reply
-returns-in-Satisfied-clause-reply c =
-    (satisfied-left c.args.trial.now.safe.now c.args.trial.now.candidates.now c.args.trial.now.conflicts c.args.group c.args.facts.now _
-    c.args.spent.now c.state_after-after.result.now c.in-Satisfied.values c.in_ok-cnf.cnf
-    c.requires.safe c.requires.searching c.in_ok-cnf.ensures.query
-    (let P : Outcome → Type 0 = IsOutcome c.in_ok-cnf.cnf.variables
-    c.in_ok-cnf.cnf.clauses c.args.trial.now.conflicts in
-    subst P c.in-Satisfied.is c.in_ok-log.ensures)
-    (λ j lt. c.state_after-after.ensures.state j lt
-    ∙ ap (λ values. word_of c.args.trial.now.safe.now values 1 (latch_variable c.args.trial.now.safe.now.net j))
-    c.as_slice.ensures)
-    c.in_ok-facts-in-Satisfied.ensures).1
-
-pub returns-clause-searching : goal.returns-clause-searching
-returns-clause-searching c =
-    (spent-pushed c.args.trial.now.safe.now c.args.trial.now.candidates.now c.args.trial.now.conflicts c.args.group c.args.facts.now
+pub returns : goal.returns
+returns c =
+    let (searching, fewer) =
+    spent-pushed c.args.trial.now.safe.now c.args.trial.now.candidates.now c.args.trial.now.conflicts c.args.group c.args.facts.now
     c.replace-asked.result c.in_ok-left-in-Spent.left c.replace-asked.new.dest c.args.spent.now
     c.push.new.self c.in-Spent.log c.in_ok-cnf.cnf c.requires.searching c.requires.group
     c.in_ok-cnf.ensures.query
@@ -58,16 +48,5 @@ returns-clause-searching c =
     c.in_ok-cnf.cnf.clauses c.args.trial.now.conflicts in
     subst P c.in-Spent.is c.in_ok-log.ensures)
     c.in_ok-left-in-Spent.ensures c.replace-asked.ensures.value c.replace-asked.ensures.after
-    c.in_ok-push-in-Spent.ensures.added).0
-
-pub returns-clause-reply : goal.returns-clause-reply
-returns-clause-reply c =
-    (spent-pushed c.args.trial.now.safe.now c.args.trial.now.candidates.now c.args.trial.now.conflicts c.args.group c.args.facts.now
-    c.replace-asked.result c.in_ok-left-in-Spent.left c.replace-asked.new.dest c.args.spent.now
-    c.push.new.self c.in-Spent.log c.in_ok-cnf.cnf c.requires.searching c.requires.group
-    c.in_ok-cnf.ensures.query
-    (let P : Outcome → Type 0 = IsOutcome c.in_ok-cnf.cnf.variables
-    c.in_ok-cnf.cnf.clauses c.args.trial.now.conflicts in
-    subst P c.in-Spent.is c.in_ok-log.ensures)
-    c.in_ok-left-in-Spent.ensures c.replace-asked.ensures.value c.replace-asked.ensures.after
-    c.in_ok-push-in-Spent.ensures.added).1
+    c.in_ok-push-in-Spent.ensures.added in
+    record { searching = searching; reply = fewer; refused = tt }

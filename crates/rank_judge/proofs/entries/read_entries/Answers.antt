@@ -1,12 +1,12 @@
-use Rattle.std.proofs.Common.{◌<◌, ◌∷◌, ◌∙◌, Some, None, length, refl, ap, subst, arith}
+use Rattle.std.proofs.Common.{◌∙◌, refl, ap, subst, arith}
 use Rattle.std.specs.Option.{option_copied}
-use Rattle.hy_text.specs.Lines.{left_lines, left_len}
+use Rattle.hy_text.specs.Lines.{left_len}
 use Rattle.rank_proofs.specs.Proofs.{ranked_of}
 use Rattle.rank_proofs.specs.Readings.{MayBeEntry, IsEntryRead}
 use Rattle.cert_text.specs.RankLines.{SaysBranch}
 use Rattle.rank_judge.specs.Kept.{AreOf}
 use Rattle.rank_judge.proofs.Keeping.{no_entries, entry_is, more_entries, not_all}
-use Rattle.rank_judge.proofs.Walking.{walk_begins, walk_next, next_ends, walk_more, walk_ends}
+use Rattle.rank_judge.proofs.Walking.{walk_begins, walk_cut, next_ends, walk_more, walk_ends}
 use Rattle.rank_judge.proofs.entries.read_entries.Goals as goal
 
 pub loop-branch-init : goal.loop-branch-init
@@ -20,25 +20,15 @@ loop-branch-init g c = record {
 
 pub returns-in_default-clause-entries : goal.returns-in_default-clause-entries
 returns-in_default-clause-entries g c branches rest many some first =
-    let cut = c.split_line.ensures.lines
-    ∙ ap (λ o. c.split_line.result.0.now ∷ left_lines (option_copied o)) c.in_default.is in
-    let walked = c.loop-branch.invariant.read branches rest many some first in
-    let lt : c.loop-branch._branch < length branches =
-    omega (arith, many, c.loop-branch-test.true) in
     absurd (next_ends SaysBranch _ branches rest _ c.split_line.result.0.now some
-    (walk_next SaysBranch _ branches rest _ c.loop-branch.left.now c.split_line.result.0.now None
-    walked lt cut))
+    (walk_cut SaysBranch many c.loop-branch-test.true (c.loop-branch.invariant.read branches rest many some first)
+    c.split_line.ensures.lines c.in_default.is))
 
 pub returns-in_default-2-clause-entries : goal.returns-in_default-2-clause-entries
 returns-in_default-2-clause-entries g c branches rest many some first =
-    let cut = c.split_line.ensures.lines
-    ∙ ap (λ o. c.split_line.result.0.now ∷ left_lines (option_copied o)) c.in-Some.is in
-    let walked = c.loop-branch.invariant.read branches rest many some first in
-    let lt : c.loop-branch._branch < length branches =
-    omega (arith, many, c.loop-branch-test.true) in
     let next =
-    walk_next SaysBranch _ branches rest _ c.loop-branch.left.now c.split_line.result.0.now
-    (Some c.in-Some.behind.now) walked lt cut in
+    walk_cut SaysBranch many c.loop-branch-test.true (c.loop-branch.invariant.read branches rest many some first)
+    c.split_line.ensures.lines c.in-Some.is in
     not_all (MayBeEntry c.args.c.now.nodes c.args.ranks) ranked_of branches next.front next.back
     next.value next.parts
     (subst (IsEntryRead c.args.c.now.nodes c.args.ranks next.value) c.in_default-2.is
@@ -47,14 +37,9 @@ returns-in_default-2-clause-entries g c branches rest many some first =
 pub loop-branch-preserved : goal.loop-branch-preserved
 loop-branch-preserved g c = record {
   read = λ branches rest many some first.
-      let cut = c.split_line.ensures.lines
-      ∙ ap (λ o. c.split_line.result.0.now ∷ left_lines (option_copied o)) c.in-Some.is in
-      let walked = c.loop-branch.invariant.read branches rest many some first in
-      let lt : c.loop-branch._branch < length branches =
-      omega (arith, many, c.loop-branch-test.true) in
       let next =
-      walk_next SaysBranch _ branches rest _ c.loop-branch.left.now c.split_line.result.0.now
-      (Some c.in-Some.behind.now) walked lt cut in
+      walk_cut SaysBranch many c.loop-branch-test.true (c.loop-branch.invariant.read branches rest many some first)
+      c.split_line.ensures.lines c.in-Some.is in
       walk_more SaysBranch _ _ branches rest _ c.split_line.result.0.now c.in-Some.behind.now next
       (more_entries next.front next.value c.loop-branch.proof.entries c.add.new.self.entries
       c.in-Some-2.entry next.done
