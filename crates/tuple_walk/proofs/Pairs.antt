@@ -1,5 +1,5 @@
 -- Pairs of traces, one of which is given: before and behind one step.
-use Rattle.std.proofs.Common.{◌≡◌, ◌⊎◌, ℕ, zero, suc, ◌+◌, ◌-◌, ◌<◌, ◌≤◌, Bool, true, false, cond, List, [], ◌∷◌, length, map, take, set, slice_get, get_or, bit_or, nat_eq, Option, Some, None, IfSome, IfNone, not, ◌||◌, ◌&&◌, is_some, inl, inr, refl, sym, ap, ◌∙◌, subst, arith}
+use Rattle.std.proofs.Common.{◌≡◌, ◌⊎◌, ℕ, zero, suc, ◌+◌, ◌-◌, ◌<◌, ◌≤◌, Bool, true, false, cond, List, [], ◌∷◌, length, map, take, set, slice_get, get_or, bit_or, nat_eq, Option, Some, None, IfSome, IfNone, not, ◌&&◌, is_some, inl, inr, refl, sym, ap, ◌∙◌, subst, arith}
 use denote.Ref.{Bor}
 use Rattle.std.specs.List.{Contains, list_any}
 use Rattle.std.specs.FinSet.{empty}
@@ -26,7 +26,7 @@ use Rattle.tuple_walk.specs.Finds.{numbers_of, traces_of}
 use Rattle.tuple_walk.specs.JointPrefixes.{entry}
 use Rattle.tuple_walk.specs.Pairs.{pair_of, beside, found, stops_of, over_of, MayGoOn}
 use Rattle.tuple_walk.specs.Places.{whole_of, taken_of, letter_or, is_letter, taken_entry, HasEnded, HasNoGap, IsMoved, IsWay, AreSome, starts}
-use Rattle.tuple_walk.specs.Searches.{IsTupleOf, IsRejected, IsAccepted, AreRejected, AreAccepted, AreAcceptedBy, IsSearch, IsSearchBy, CanStop, AreEnded, AreSteps, AreStepsBy}
+use Rattle.tuple_walk.specs.Searches.{IsTupleOf, IsRejected, IsAccepted, AreRejected, AreAccepted, AreAcceptedBy, IsSearch, CanStop, AreEnded, AreSteps, AreStepsBy}
 use Rattle.tuple_walk.proofs.Choosing.{tuple-at, rejected-part, accepted-way, accepted-more, accepted-all, none-gaps, steps-more, steps-gap}
 use Rattle.tuple_walk.proofs.Ending.{from-none, stop-rejected, goes-on}
 use Rattle.tuple_walk.proofs.Following.{two-letters, ones-accepted, ones-steps}
@@ -142,6 +142,17 @@ pair-code m false number t left a child =
     ∙ ap (λ (b : NameSet). code_of (joint_letter (a ∷ b ∷ [])) m.atoms) (sym (given-letter t))
 
 -- ---- one letter of the other trace
+
+pub next-pair : (m : Machine) (q next : ℕ) (first : Bool) (t : Trace) (a l : NameSet)
+    (own other part more : ℕ) → own ≡ cond first 0 1 → other ≡ other_place first
+    → l ≡ get_or t 0 empty → part ≡ part_of m.atoms own l → more ≡ part_of m.atoms other a
+    → next ≡ next_state m q (bit_or part more)
+    → next ≡ next_state m q (bit_or (part_of m.atoms (cond first 0 1) (get_or t 0 empty))
+    (part_of m.atoms (other_place first) a))
+next-pair m q next first t a l own other part more e f g h k is =
+    is
+    ∙ (λ j. next_state m q (bit_or (h j) (k j)))
+    ∙ (λ j. next_state m q (bit_or (part_of m.atoms (e j) (g j)) (part_of m.atoms (f j) a)))
 
 pub some-under : (rests : List Numbered) (letters : List NameSet) → AreLetters letters rests
     → (k : ℕ) (a : NameSet) → slice_get letters k ≡ Some a → 0 < length (under a rests)
@@ -481,36 +492,38 @@ module _ (lengths : Lengths) (first : Bool) (number : ℕ) (t : Trace) (rests : 
       at Pad false f b g e can = apart f (stops-both first number t rests can).0
 
   -- what is known where nothing is rejected here, and where something is
-  pub pair-here : (m : Machine) (q : ℕ) (b : Bool)
-      → b ≡ (not (is_accepting m q)
-      && stops_of lengths (nat_eq (length t) 0) (is_some r))
-      → b ≡ false → (ts : List Trace) → IsTupleOf (beside first (number, t) rests) ts
-      → judged lengths ts ≡ 0 → is_accepting m q ≡ true
-  pair-here m q b is e ts h zero_judged = at (is_accepting m q) refl (sym is ∙ e)
-    where
-      two : 0 < length (beside first (number, t) rests)
-      two = omega (arith, other-within first (number, t) rests)
+  module _ (m : Machine) (q : ℕ) (ended other b : Bool) (is_ended : ended ≡ nat_eq (length t) 0)
+      (is_other : other ≡ is_some r)
+      (is : b ≡ (not (is_accepting m q) && stops_of lengths ended other)) where
+    seen : b ≡ (not (is_accepting m q) && stops_of lengths (nat_eq (length t) 0) (is_some r))
+    seen =
+        is ∙ (λ j. not (is_accepting m q) && stops_of lengths (is_ended j) (is_other j))
 
-      at : (a : Bool) → is_accepting m q ≡ a
-          → (not a && stops_of lengths (nat_eq (length t) 0) (is_some r)) ≡ false
-          → is_accepting m q ≡ true
-      at true f g = f
-      at false f g =
-          absurd (goes-on lengths (beside first (number, t) rests) two (pair-goes g) ts h
-          zero_judged)
+    pub pair-here : b ≡ false → (ts : List Trace)
+        → IsTupleOf (beside first (number, t) rests) ts → judged lengths ts ≡ 0
+        → is_accepting m q ≡ true
+    pair-here e ts h zero_judged = at (is_accepting m q) refl (sym seen ∙ e)
+      where
+        two : 0 < length (beside first (number, t) rests)
+        two = omega (arith, other-within first (number, t) rests)
 
-  pub pair-rejects : (m : Machine) (q : ℕ) (b : Bool)
-      → b ≡ (not (is_accepting m q)
-      && stops_of lengths (nat_eq (length t) 0) (is_some r))
-      → b ≡ true → CanStop lengths (beside first (number, t) rests)
-      × (is_accepting m q ≡ false)
-  pair-rejects m q b is e = at (is_accepting m q) refl (sym is ∙ e)
-    where
-      at : (a : Bool) → is_accepting m q ≡ a
-          → (not a && stops_of lengths (nat_eq (length t) 0) (is_some r)) ≡ true
-          → CanStop lengths (beside first (number, t) rests) × (is_accepting m q ≡ false)
-      at true f g = absurd (cc)
-      at false f g = (pair-stops g, f)
+        at : (a : Bool) → is_accepting m q ≡ a
+            → (not a && stops_of lengths (nat_eq (length t) 0) (is_some r)) ≡ false
+            → is_accepting m q ≡ true
+        at true f g = f
+        at false f g =
+            absurd (goes-on lengths (beside first (number, t) rests) two (pair-goes g) ts h
+            zero_judged)
+
+    pub pair-rejects : b ≡ true → CanStop lengths (beside first (number, t) rests)
+        × (is_accepting m q ≡ false)
+    pair-rejects e = at (is_accepting m q) refl (sym seen ∙ e)
+      where
+        at : (a : Bool) → is_accepting m q ≡ a
+            → (not a && stops_of lengths (nat_eq (length t) 0) (is_some r)) ≡ true
+            → CanStop lengths (beside first (number, t) rests) × (is_accepting m q ≡ false)
+        at true f g = absurd (cc)
+        at false f g = (pair-stops g, f)
 
 -- where none of the pairs has a position left, and where the given trace may go on
 pub over-accepted : (m : Machine) (lengths : Lengths) (q : ℕ) (first : Bool) (number : ℕ)
