@@ -1,5 +1,5 @@
 -- Pairs of traces, one of which is given: before and behind one step.
-use Rattle.std.proofs.Common.{◌≡◌, ◌⊎◌, ℕ, zero, suc, ◌+◌, ◌-◌, ◌<◌, ◌≤◌, Bool, true, false, cond, List, [], ◌∷◌, length, map, take, set, slice_get, get_or, bit_or, nat_eq, Option, Some, None, IfSome, IfNone, not, ◌&&◌, is_some, inl, inr, refl, sym, ap, ◌∙◌, subst, arith}
+use Rattle.std.proofs.Common.{◌≡◌, ◌⊎◌, ℕ, zero, suc, ◌+◌, ◌<◌, ◌≤◌, Bool, true, false, cond, List, [], ◌∷◌, length, map, take, set, slice_get, get_or, bit_or, nat_eq, Option, Some, None, IfSome, IfNone, not, ◌&&◌, is_some, inl, inr, refl, sym, ap, ◌∙◌, subst, arith}
 use denote.Ref.{Bor}
 use Rattle.std.specs.List.{Contains, list_any}
 use Rattle.std.specs.FinSet.{empty}
