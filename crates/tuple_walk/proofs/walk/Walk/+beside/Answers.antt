@@ -13,7 +13,8 @@ use Rattle.tuple_walk.specs.Walks.{machine_in}
 use Rattle.tuple_walk.proofs.Choosing.{no-steps_by, steps-letters}
 use Rattle.tuple_walk.proofs.Ending.{settled-accepted, from-none}
 use Rattle.tuple_walk.proofs.Longest.{longest_in}
-use Rattle.tuple_walk.proofs.Pairs.{letter-rejected, letter-accepted, letter-steps, next-pair, longest-under, some-under, node-accepted, end-search, end-steps, stop-search, pair-here, pair-rejects, over-accepted, may-go-on, pair-within}
+use Rattle.tuple_walk.proofs.PairEnds.{node-accepted, end-search, end-steps, stop-search, pair-here, pair-rejects, over-accepted, may-go-on}
+use Rattle.tuple_walk.proofs.Pairs.{letter-rejected, letter-accepted, letter-steps, next-pair, longest-under, some-under, pair-within}
 use Rattle.tuple_walk.proofs.walk.Walk.+beside.Goals as goal
 
 -- ---- search_beside
