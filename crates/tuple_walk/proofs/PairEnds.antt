@@ -11,7 +11,7 @@ use Rattle.hy_finite.specs.declared.lengths.Lengths.TheVariants.{Min, Pad}
 use Rattle.hy_finite.specs.Traces.{Trace, judged}
 use Rattle.fin_monitor.specs.Machines.{Machine, is_accepting}
 use Rattle.trace_trie.specs.Cursors.{AreLetters}
-use Rattle.trace_trie.specs.Numbered.{Numbered, under}
+use Rattle.trace_trie.specs.Numbered.{Numbered}
 use Rattle.tuple_walk.specs.Finds.{numbers_of, traces_of}
 use Rattle.tuple_walk.specs.JointPrefixes.{entry}
 use Rattle.tuple_walk.specs.Pairs.{pair_of, beside, found, stops_of, over_of, MayGoOn}
