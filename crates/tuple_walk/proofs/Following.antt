@@ -21,10 +21,12 @@ use Rattle.tuple_walk.specs.Finds.{numbers_of, traces_of}
 use Rattle.tuple_walk.specs.JointPrefixes.{Row, rows_of}
 use Rattle.tuple_walk.specs.Places.{AreSome}
 use Rattle.tuple_walk.specs.Searches.{state_over, AreFrom, IsTupleOf, IsAccepted, IsRejected, AreAccepted, IsSearch, AreEnded, AreApart, IsPrefixIn, AreSteps}
+use Rattle.tuple_walk.specs.declared.place.Place.{Place}
 use Rattle.tuple_walk.proofs.Ending.{ended-from}
+use Rattle.tuple_walk.proofs.Nexts.{long-places}
 use Rattle.tuple_walk.proofs.Scanning.{code-more, code-none}
 use Rattle.tuple_walk.proofs.Starting.{over-next}
-use Rattle.tuple_walk.proofs.Stepping.{pairs-tuple, tuple-pairs}
+use Rattle.tuple_walk.proofs.Stepping.{left_at, pairs-tuple, tuple-pairs}
 
 -- ---- lists of one member each
 
@@ -55,7 +57,7 @@ ones-more [] p = refl
 ones-more (q ∷ ps) p = ap (λ ls. (q ∷ []) ∷ ls) (ones-more ps p)
 
 -- where all lists have been looked at
-pub all-ones : (ls : List (List Numbered)) (rests : List (Bor Trace)) (ps : List Numbered)
+all-ones : (ls : List (List Numbered)) (rests : List (Bor Trace)) (ps : List Numbered)
     (i k : ℕ) → length ls ≤ i → k ≡ i → take i ls ≡ ones ps → traces_of ps ≡ left_of (take i rests)
     → (ls ≡ ones ps) × (left_of (take k rests) ≡ traces_of ps)
 all-ones ls rests ps i k le same is traces = (
@@ -146,6 +148,40 @@ module _ (lengths : Lengths) (ps : List Numbered) (ls : List (List Numbered))
     inside = each-prefix made le;
     many = omega (arith, many-prefixes (traces_of ps) made);
   }
+
+-- what is known of places where all have been looked at
+module _ (n : ℕ) (places : List Place) (few : n ≤ length places) (rests : List (Bor Trace))
+    (i k : ℕ) (done : n ≤ i) (same : k ≡ i)
+    (looked : (ps : List Numbered) × (take i (map left_at (take n places)) ≡ ones ps)
+    × (traces_of ps ≡ left_of (take i rests))) where
+  abbrev lists : List (List Numbered)
+  lists = map left_at (take n places)
+
+  are-ones : (lists ≡ ones looked.0) × (left_of (take k rests) ≡ traces_of looked.0)
+  are-ones =
+      all-ones lists rests looked.0 i k (omega (arith, done, long-places n left_at places few))
+      same looked.1 looked.2
+
+  pub left-counted : (lengths : Lengths) (made : ℕ)
+      → made ≤ judged lengths (left_of (take k rests)) → AreSteps lengths lists made
+  left-counted lengths made le =
+      ones-steps lengths looked.0 lists are-ones.0 made
+      (omega (arith, le, ap (judged lengths) are-ones.1))
+
+  module _ (m : Machine) (lengths : Lengths) (q : ℕ) where
+    pub left-accepted : IsAccepted m lengths q (left_of (take k rests))
+        → AreAccepted m lengths q 0 lists
+    left-accepted e =
+        ones-accepted m lengths q looked.0 lists are-ones.0
+        (subst (IsAccepted m lengths q) are-ones.1 e)
+
+    pub left-rejected : IsRejected m lengths q (left_of (take k rests)) → (r : Option (List ℕ))
+        → IfSome r (λ numbers. (qs : List Numbered) × AreEnded lists qs
+        × (numbers_of qs ≡ numbers))
+        → IfNone r (¬ AreSome lists) → AreSome lists → IsSearch m lengths q 0 lists r
+    left-rejected e =
+        ones-rejected m lengths q looked.0 lists are-ones.0
+        (subst (IsRejected m lengths q) are-ones.1 e)
 
 -- ---- the length on which a tuple is judged
 

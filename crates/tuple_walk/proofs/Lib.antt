@@ -4,6 +4,7 @@ pub mod Following
 pub mod Lists
 pub mod Longest
 pub mod Nexts
+pub mod PairEnds
 pub mod Pairs
 pub mod Placing
 pub mod Scanning

@@ -1,11 +1,10 @@
 -- Pairs of traces, one of which is given: before and behind one step.
-use Rattle.std.proofs.Common.{◌≡◌, ◌⊎◌, ℕ, zero, suc, ◌+◌, ◌-◌, ◌<◌, ◌≤◌, Bool, true, false, cond, List, [], ◌∷◌, length, map, take, set, slice_get, get_or, bit_or, nat_eq, Option, Some, None, IfSome, IfNone, not, ◌||◌, ◌&&◌, is_some, inl, inr, refl, sym, ap, ◌∙◌, subst, arith}
+use Rattle.std.proofs.Common.{◌≡◌, ℕ, zero, suc, ◌+◌, ◌<◌, ◌≤◌, Bool, true, false, cond, List, [], ◌∷◌, length, map, take, set, slice_get, get_or, bit_or, nat_eq, Option, Some, None, refl, sym, ap, ◌∙◌, subst, arith}
 use denote.Ref.{Bor}
-use Rattle.std.specs.List.{Contains, list_any}
+use Rattle.std.specs.List.{list_any}
 use Rattle.std.specs.FinSet.{empty}
-use Rattle.std.proofs.lemmas.Bool.{eqb-true}
 use Rattle.std.proofs.lemmas.Nat.{or_comm}
-use Rattle.hy_base.proofs.Members.{contains-here, contains-later, contains-cases, contains-one}
+use Rattle.hy_base.proofs.Members.{contains-here}
 use Rattle.hy_bits.specs.Letter.{Letter as NameSet}
 use Rattle.hy_formula.specs.Quantifiers.{Each}
 use Rattle.hy_formula.proofs.Each.{each-at}
@@ -13,7 +12,7 @@ use Rattle.hy_finite.specs.declared.lengths.Lengths.{Lengths}
 use Rattle.hy_finite.specs.declared.lengths.Lengths.TheVariants.{Min, Pad}
 use Rattle.hy_finite.specs.Traces.{Trace, judged}
 use Rattle.fin_monitor.specs.Codes.{code_of, part_of, joint_letter}
-use Rattle.fin_monitor.specs.Machines.{Machine, next_state, is_accepting, codes}
+use Rattle.fin_monitor.specs.Machines.{Machine, next_state, codes}
 use Rattle.fin_monitor.proofs.CodeBits.{code-lt}
 use Rattle.trace_trie.specs.Cursors.{AreLetters, rests_at}
 use Rattle.trace_trie.specs.Numbered.{Numbered, tail, under, led_by}
@@ -22,19 +21,16 @@ use Rattle.tuple_walk.specs.declared.spot.Spot.TheVariants.{Alone, Node}
 use Rattle.tuple_walk.specs.declared.place.Taken.{Taken}
 use Rattle.tuple_walk.specs.declared.place.Taken.TheVariants.{Letter, Gap}
 use Rattle.tuple_walk.specs.declared.place.Place.{Place}
-use Rattle.tuple_walk.specs.Finds.{numbers_of, traces_of}
-use Rattle.tuple_walk.specs.JointPrefixes.{entry}
-use Rattle.tuple_walk.specs.Pairs.{pair_of, beside, found, stops_of, over_of, MayGoOn}
-use Rattle.tuple_walk.specs.Places.{whole_of, taken_of, letter_or, is_letter, taken_entry, HasEnded, HasNoGap, IsMoved, IsWay, AreSome, starts}
-use Rattle.tuple_walk.specs.Searches.{IsTupleOf, IsRejected, IsAccepted, AreRejected, AreAccepted, AreAcceptedBy, IsSearch, IsSearchBy, CanStop, AreEnded, AreSteps, AreStepsBy}
-use Rattle.tuple_walk.proofs.Choosing.{tuple-at, rejected-part, accepted-way, accepted-more, accepted-all, none-gaps, steps-more, steps-gap}
-use Rattle.tuple_walk.proofs.Ending.{from-none, stop-rejected, goes-on}
+use Rattle.tuple_walk.specs.Pairs.{pair_of, beside, MayGoOn}
+use Rattle.tuple_walk.specs.Places.{whole_of, taken_of, letter_or, is_letter, taken_entry, IsMoved, IsWay, AreSome, starts}
+use Rattle.tuple_walk.specs.Searches.{IsRejected, IsAccepted, AreRejected, AreAccepted, AreAcceptedBy, IsSearch, AreSteps, AreStepsBy}
+use Rattle.tuple_walk.proofs.Choosing.{rejected-part, accepted-more, steps-more}
 use Rattle.tuple_walk.proofs.Following.{two-letters, ones-accepted, ones-steps}
 use Rattle.tuple_walk.proofs.Lists.{get-contains}
 use Rattle.tuple_walk.proofs.Longest.{longest_in, in-most, in-least}
 use Rattle.tuple_walk.proofs.Nexts.{step-search}
 use Rattle.tuple_walk.proofs.Stepping.{left_at, step-steps, taken-code}
-use Rattle.tuple_walk.proofs.Ways.{long-led, letter-way, gap-way}
+use Rattle.tuple_walk.proofs.Ways.{long-led, letter-way}
 
 -- ---- two of a kind
 
@@ -43,7 +39,7 @@ map-pair : {A B : Type 0} (f : A → B) (first : Bool) (x y : A)
 map-pair f true x y = refl
 map-pair f false x y = refl
 
-each-pair : {A : Type 0} (P : A → Type 0) (first : Bool) (x y : A) → P x → P y
+pub each-pair : {A : Type 0} (P : A → Type 0) (first : Bool) (x y : A) → P x → P y
     → Each P (pair_of first x y)
 each-pair P true x y p q = (p, (q, tt))
 each-pair P false x y p q = (q, (p, tt))
@@ -52,27 +48,27 @@ each-pair P false x y p q = (q, (p, tt))
 abbrev pub other_place : Bool → ℕ
 other_place first = cond first 1 0
 
-other-here : (first : Bool) (x : Numbered) (rests : List Numbered)
+pub other-here : (first : Bool) (x : Numbered) (rests : List Numbered)
     → get_or (beside first x rests) (other_place first) [] ≡ rests
 other-here true x rests = refl
 other-here false x rests = refl
 
-other-set : (first : Bool) (x : Numbered) (rests way : List Numbered)
+pub other-set : (first : Bool) (x : Numbered) (rests way : List Numbered)
     → set (beside first x rests) (other_place first) way ≡ beside first x way
 other-set true x rests way = refl
 other-set false x rests way = refl
 
-other-within : (first : Bool) (x : Numbered) (rests : List Numbered)
+pub other-within : (first : Bool) (x : Numbered) (rests : List Numbered)
     → other_place first < length (beside first x rests)
 other-within true x rests = omega arith
 other-within false x rests = omega arith
 
-given-here : (first : Bool) (x : Numbered) (rests : List Numbered)
+pub given-here : (first : Bool) (x : Numbered) (rests : List Numbered)
     → get_or (beside first x rests) (cond first 0 1) [] ≡ x ∷ []
 given-here true x rests = refl
 given-here false x rests = refl
 
-given-within : (first : Bool) (x : Numbered) (rests : List Numbered)
+pub given-within : (first : Bool) (x : Numbered) (rests : List Numbered)
     → cond first 0 1 < length (beside first x rests)
 given-within true x rests = omega arith
 given-within false x rests = omega arith
@@ -142,6 +138,17 @@ pair-code m false number t left a child =
     ∙ ap (λ (b : NameSet). code_of (joint_letter (a ∷ b ∷ [])) m.atoms) (sym (given-letter t))
 
 -- ---- one letter of the other trace
+
+pub next-pair : (m : Machine) (q next : ℕ) (first : Bool) (t : Trace) (a l : NameSet)
+    (own other part more : ℕ) → own ≡ cond first 0 1 → other ≡ other_place first
+    → l ≡ get_or t 0 empty → part ≡ part_of m.atoms own l → more ≡ part_of m.atoms other a
+    → next ≡ next_state m q (bit_or part more)
+    → next ≡ next_state m q (bit_or (part_of m.atoms (cond first 0 1) (get_or t 0 empty))
+    (part_of m.atoms (other_place first) a))
+next-pair m q next first t a l own other part more e f g h k is =
+    is
+    ∙ (λ j. next_state m q (bit_or (h j) (k j)))
+    ∙ (λ j. next_state m q (bit_or (part_of m.atoms (e j) (g j)) (part_of m.atoms (f j) a)))
 
 pub some-under : (rests : List Numbered) (letters : List NameSet) → AreLetters letters rests
     → (k : ℕ) (a : NameSet) → slice_get letters k ≡ Some a → 0 < length (under a rests)
@@ -254,276 +261,6 @@ longest-under rests letters are k a there =
       in-least (led_by a (under a rests)) (longest_in rests)
           (λ p c. in-most rests p (way.part p c)),
     )
-
--- ---- where the node is done
-
--- none of a pair is past an end under the least length
-pub ended-accepted : (m : Machine) (q : ℕ) (first : Bool) (number : ℕ) (t : Trace)
-    (rests : List Numbered) → t ≡ []
-    → AreAccepted m Min q 1 (beside first (number, t) rests)
-ended-accepted m q first number t rests e = λ tuple h some.
-    let ls = beside first (number, t) rests in
-    let i = cond first 0 1 in
-    let lt = given-within first (number, t) rests in
-    let P : List Numbered → Type 0 = λ l. Contains (traces_of l) (get_or tuple i []) in
-    let is : t ≡ get_or tuple i [] =
-    contains-one t (get_or tuple i [])
-    (subst P (given-here first (number, t) rests) (tuple-at ls i tuple lt h)) in
-    absurd (none-gaps Min ls i lt tt tuple h some (ap entry (sym is ∙ e)))
-
-module _ (m : Machine) (lengths : Lengths) (q : ℕ) (first : Bool) (number : ℕ) (t : Trace)
-    (rests : List Numbered) (letters : List NameSet) (are : AreLetters letters rests)
-    (here : (ts : List Trace) → IsTupleOf (beside first (number, t) rests) ts
-    → judged lengths ts ≡ 0 → is_accepting m q ≡ true) where
-  abbrev lists : List (List Numbered)
-  lists = beside first (number, t) rests
-
-  letters-here : AreLetters letters (get_or lists (other_place first) [])
-  letters-here =
-      let P : List Numbered → Type 0 = AreLetters letters in
-      subst P (sym (other-here first (number, t) rests)) are
-
-  -- no trace ends where tuples are judged past an end
-  pub node-accepted : HasNoGap lengths rests
-      → AreAcceptedBy m lengths q (other_place first) letters lists
-      → AreAccepted m lengths q 0 lists
-  node-accepted none by_letter =
-      let P : List Numbered → Type 0 = HasNoGap lengths in
-      let gap = subst P (sym (other-here first (number, t) rests)) none in
-      let lt = other-within first (number, t) rests in
-      from-none m lengths q lists
-      (accepted-all m lengths q lists (other_place first) letters lt letters-here by_letter
-      (λ tuple h some e.
-      absurd (none-gaps lengths lists (other_place first) lt gap tuple h some e))) here
-
-  module _ (ended : ℕ) (among : Contains rests (ended, [])) where
-    gap-here : IsWay (get_or lists (other_place first) []) None ((ended, []) ∷ [])
-    gap-here =
-        let P : List Numbered → Type 0 = λ l. IsWay l None ((ended, []) ∷ []) in
-        subst P (sym (other-here first (number, t) rests)) (gap-way ended rests among)
-
-    pub end-search : AreAcceptedBy m lengths q (other_place first) letters lists
-        → (r : Option ℕ)
-        → IsSearch m lengths q 0 (beside first (number, t) ((ended, []) ∷ []))
-        (found first number r)
-        → IsSearch m lengths q 0 lists (found first number r)
-    end-search by_letter (Some other) s =
-        let P : List (List Numbered) → Type 0 = λ ls.
-        AreRejected m lengths q ls (pair_of first number other) in
-        rejected-part m lengths q lists (other_place first) None ((ended, []) ∷ [])
-        (pair_of first number other) gap-here
-        (subst P (sym (other-set first (number, t) rests ((ended, []) ∷ []))) s)
-    end-search by_letter None s =
-        let P : List (List Numbered) → Type 0 = AreAccepted m lengths q 1 in
-        let lt = other-within first (number, t) rests in
-        from-none m lengths q lists
-        (accepted-all m lengths q lists (other_place first) letters lt letters-here by_letter
-        (accepted-way m lengths q lists (other_place first) None ((ended, []) ∷ []) lt gap-here
-        (subst P (sym (other-set first (number, t) rests ((ended, []) ∷ [])))
-        (λ tuple h some. s tuple h (omega arith))))) here
-
-    pub end-steps : (before more made : ℕ) → before + more ≡ made
-        → AreStepsBy lengths (other_place first) letters lists before
-        → AreSteps lengths (beside first (number, t) ((ended, []) ∷ [])) more
-        → AreSteps lengths lists made
-    end-steps before more made sum s u =
-        let P : List (List Numbered) → Type 0 = λ ls. AreSteps lengths ls more in
-        let Q : ℕ → Type 0 = AreSteps lengths lists in
-        subst Q sum (steps-gap lengths lists (other_place first) letters ((ended, []) ∷ [])
-        (other-within first (number, t) rests) gap-here before more s
-        (subst P (sym (other-set first (number, t) rests ((ended, []) ∷ []))) u))
-
--- ---- where a tuple has no position left
-
-given-ended : (number : ℕ) (t : Trace) → HasEnded ((number, t) ∷ []) → t ≡ []
-given-ended number t (n, c) =
-    ap (λ (p : Numbered). p.1) (contains-one (number, t) (n, []) c)
-
-ended-given : (number : ℕ) (t : Trace) → t ≡ [] → HasEnded ((number, t) ∷ [])
-ended-given number t e =
-    let P : Trace → Type 0 = λ u. Contains {X = Numbered} ((number, t) ∷ []) (number, u) in
-    (number, subst P e (contains-here (number, t) []))
-
-pub stop-search : (m : Machine) (lengths : Lengths) (q : ℕ) (first : Bool) (number : ℕ)
-    (t : Trace) (rests : List Numbered) → 0 < length rests → (r : Option ℕ)
-    → IfSome r (λ n. (u : Trace) × Contains rests (n, u) × (HasEnded rests → u ≡ []))
-    → IfNone r (rests ≡ []) → CanStop lengths (beside first (number, t) rests)
-    → is_accepting m q ≡ false
-    → IsSearch m lengths q 0 (beside first (number, t) rests) (found first number r)
-stop-search m lengths q first number t rests some None any none can rejects =
-    absurd (omega (arith, some, ap (λ (l : List Numbered). length l) none))
-stop-search m lengths q first number t rests some (Some other) (u, c, ended) none can rejects =
-    stop-rejected m lengths q (beside first (number, t) rests) (pair_of first number other) can
-    rejects (pair_of first (number, t) (other, u), both first, same first)
-  where
-    here : Contains {X = Numbered} ((number, t) ∷ []) (number, t)
-    here = contains-here (number, t) []
-
-    both : (first : Bool)
-        → AreEnded (beside first (number, t) rests) (pair_of first (number, t) (other, u))
-    both true = (here, given-ended number t, (c, ended, tt))
-    both false = (c, ended, (here, given-ended number t, tt))
-
-    same : (first : Bool) → numbers_of (pair_of first (number, t) (other, u))
-        ≡ pair_of first number other
-    same true = refl
-    same false = refl
-
-given-stops : (first : Bool) (number : ℕ) (t : Trace) (rests : List Numbered) → t ≡ []
-    → CanStop Min (beside first (number, t) rests)
-given-stops true number t rests e =
-    ((number, t) ∷ [], contains-here ((number, t) ∷ []) (rests ∷ []), ended-given number t e)
-given-stops false number t rests e = (
-  (number, t) ∷ [],
-  contains-later rests ((number, t) ∷ []) (((number, t) ∷ []) ∷ [])
-      (contains-here ((number, t) ∷ []) []),
-  ended-given number t e,
-)
-
-other-stops : (first : Bool) (number : ℕ) (t : Trace) (rests : List Numbered)
-    → HasEnded rests → CanStop Min (beside first (number, t) rests)
-other-stops true number t rests e = (
-  rests,
-  contains-later ((number, t) ∷ []) rests (rests ∷ []) (contains-here rests []),
-  e,
-)
-other-stops false number t rests e =
-    (rests, contains-here rests (((number, t) ∷ []) ∷ []), e)
-
-both-stop : (first : Bool) (number : ℕ) (t : Trace) (rests : List Numbered) → t ≡ []
-    → HasEnded rests → CanStop Pad (beside first (number, t) rests)
-both-stop first number t rests e h =
-    each-pair HasEnded first ((number, t) ∷ []) rests (ended-given number t e) h
-
-one-stops : (first : Bool) (number : ℕ) (t : Trace) (rests : List Numbered)
-    → CanStop Min (beside first (number, t) rests) → (t ≡ []) ⊎ HasEnded rests
-one-stops true number t rests (l, c, e) =
-    elim (contains-cases ((number, t) ∷ []) l (rests ∷ []) c) [
-      | inl is ↦ inl (given-ended number t (subst HasEnded (sym is) e))
-      | inr later ↦ inr (subst HasEnded (sym (contains-one rests l later)) e)
-    ]
-one-stops false number t rests (l, c, e) =
-    elim (contains-cases rests l (((number, t) ∷ []) ∷ []) c) [
-      | inl is ↦ inr (subst HasEnded (sym is) e)
-      | inr later ↦
-          inl (given-ended number t (subst HasEnded (sym (contains-one ((number, t) ∷ []) l later)) e))
-    ]
-
-none-stops : (first : Bool) (number : ℕ) (t : Trace) (rests : List Numbered) → ¬ (t ≡ [])
-    → (¬ HasEnded rests) → ¬ CanStop Min (beside first (number, t) rests)
-none-stops first number t rests some none can = elim (one-stops first number t rests can) [
-  | inl e ↦ some e
-  | inr e ↦ none e
-]
-
-stops-both : (first : Bool) (number : ℕ) (t : Trace) (rests : List Numbered)
-    → CanStop Pad (beside first (number, t) rests) → (t ≡ []) × HasEnded rests
-stops-both true number t rests can = (given-ended number t can.0, can.1.0)
-stops-both false number t rests can = (given-ended number t can.1.0, can.0)
-
-no-letters : (t : Trace) → nat_eq (length t) 0 ≡ true → t ≡ []
-no-letters [] e = refl
-no-letters (a ∷ t) e = absurd (omega (arith, eqb-true (length (a ∷ t)) 0 e))
-
-some-letters : (t : Trace) → nat_eq (length t) 0 ≡ false → 0 < length t
-some-letters [] e = absurd (cc)
-some-letters (a ∷ t) e = omega arith
-
--- what is found of a trace that ends
-module _ (rests : List Numbered) where
-  ended-some : (r : Option ℕ) → IfSome r (λ n. Contains rests (n, [])) → is_some r ≡ true
-      → HasEnded rests
-  ended-some None h e = absurd (cc)
-  ended-some (Some n) h e = (n, h)
-
-  ended-none : (r : Option ℕ) → IfNone r (Each (λ (p : Numbered). 0 < length p.1) rests)
-      → is_some r ≡ false → ¬ HasEnded rests
-  ended-none None h e (n, c) =
-      let long : 0 < length {A = NameSet} [] = each-at (λ (p : Numbered). 0 < length p.1) rests (n, []) h c in
-      omega (arith, long)
-  ended-none (Some n) h e ended = absurd (cc)
-
-module _ (lengths : Lengths) (first : Bool) (number : ℕ) (t : Trace) (rests : List Numbered)
-    (r : Option ℕ) (some : IfSome r (λ n. Contains rests (n, [])))
-    (none : IfNone r (Each (λ (p : Numbered). 0 < length p.1) rests)) where
-  pub pair-stops : stops_of lengths (nat_eq (length t) 0) (is_some r) ≡ true
-      → CanStop lengths (beside first (number, t) rests)
-  pair-stops e = at lengths (nat_eq (length t) 0) refl (is_some r) refl e
-    where
-      at : (lengths : Lengths) (a : Bool) → nat_eq (length t) 0 ≡ a → (b : Bool)
-          → is_some r ≡ b → stops_of lengths a b ≡ true
-          → CanStop lengths (beside first (number, t) rests)
-      at Min true f b g e = given-stops first number t rests (no-letters t f)
-      at Min false f true g e = other-stops first number t rests (ended-some rests r some g)
-      at Min false f false g e = absurd (cc)
-      at Pad true f true g e =
-          both-stop first number t rests (no-letters t f) (ended-some rests r some g)
-      at Pad true f false g e = absurd (cc)
-      at Pad false f b g e = absurd (cc)
-
-  pub pair-goes : stops_of lengths (nat_eq (length t) 0) (is_some r) ≡ false
-      → ¬ CanStop lengths (beside first (number, t) rests)
-  pair-goes e = at lengths (nat_eq (length t) 0) refl (is_some r) refl e
-    where
-      apart : nat_eq (length t) 0 ≡ false → ¬ (t ≡ [])
-      apart f e = let long = some-letters t f in omega (arith, long, ap (λ (u : Trace). length u) e)
-
-      at : (lengths : Lengths) (a : Bool) → nat_eq (length t) 0 ≡ a → (b : Bool)
-          → is_some r ≡ b → stops_of lengths a b ≡ false
-          → ¬ CanStop lengths (beside first (number, t) rests)
-      at Min true f b g e can = absurd (cc)
-      at Min false f true g e can = absurd (cc)
-      at Min false f false g e can =
-          none-stops first number t rests (apart f) (ended-none rests r none g) can
-      at Pad true f true g e can = absurd (cc)
-      at Pad true f false g e can =
-          ended-none rests r none g (stops-both first number t rests can).1
-      at Pad false f b g e can = apart f (stops-both first number t rests can).0
-
-  -- what is known where nothing is rejected here, and where something is
-  pub pair-here : (m : Machine) (q : ℕ) (b : Bool)
-      → b ≡ (not (is_accepting m q)
-      && stops_of lengths (nat_eq (length t) 0) (is_some r))
-      → b ≡ false → (ts : List Trace) → IsTupleOf (beside first (number, t) rests) ts
-      → judged lengths ts ≡ 0 → is_accepting m q ≡ true
-  pair-here m q b is e ts h zero_judged = at (is_accepting m q) refl (sym is ∙ e)
-    where
-      two : 0 < length (beside first (number, t) rests)
-      two = omega (arith, other-within first (number, t) rests)
-
-      at : (a : Bool) → is_accepting m q ≡ a
-          → (not a && stops_of lengths (nat_eq (length t) 0) (is_some r)) ≡ false
-          → is_accepting m q ≡ true
-      at true f g = f
-      at false f g =
-          absurd (goes-on lengths (beside first (number, t) rests) two (pair-goes g) ts h
-          zero_judged)
-
-  pub pair-rejects : (m : Machine) (q : ℕ) (b : Bool)
-      → b ≡ (not (is_accepting m q)
-      && stops_of lengths (nat_eq (length t) 0) (is_some r))
-      → b ≡ true → CanStop lengths (beside first (number, t) rests)
-      × (is_accepting m q ≡ false)
-  pair-rejects m q b is e = at (is_accepting m q) refl (sym is ∙ e)
-    where
-      at : (a : Bool) → is_accepting m q ≡ a
-          → (not a && stops_of lengths (nat_eq (length t) 0) (is_some r)) ≡ true
-          → CanStop lengths (beside first (number, t) rests) × (is_accepting m q ≡ false)
-      at true f g = absurd (cc)
-      at false f g = (pair-stops g, f)
-
--- where none of the pairs has a position left, and where the given trace may go on
-pub over-accepted : (m : Machine) (lengths : Lengths) (q : ℕ) (first : Bool) (number : ℕ)
-    (t : Trace) (rests : List Numbered) → over_of lengths (nat_eq (length t) 0) ≡ true
-    → AreAccepted m lengths q 1 (beside first (number, t) rests)
-over-accepted m Min q first number t rests e =
-    ended-accepted m q first number t rests (no-letters t e)
-over-accepted m Pad q first number t rests e = absurd (cc)
-
-pub may-go-on : (lengths : Lengths) (t : Trace)
-    → over_of lengths (nat_eq (length t) 0) ≡ false → MayGoOn lengths t
-may-go-on Min t e = some-letters t e
-may-go-on Pad t e = tt
 
 -- ---- one trace alone beside the given
 

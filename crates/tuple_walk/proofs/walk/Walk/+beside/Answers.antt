@@ -1,19 +1,20 @@
-use Rattle.std.proofs.Common.{◌≡◌, ◌+◌, ◌-◌, ◌<◌, ◌≤◌, ℕ, cond, [], ◌∷◌, length, take, get_or, bit_or, not, ◌&&◌, List, sym, ap, ◌∙◌, subst, arith}
+use Rattle.std.proofs.Common.{◌≡◌, ◌+◌, ◌-◌, ◌<◌, ℕ, cond, [], length, get_or, bit_or, List, sym, ap, ◌∙◌, subst, arith}
 use Rattle.std.specs.FinSet.{empty}
 use Rattle.std.proofs.lemmas.Bool.{eqb-true}
 use Rattle.std.proofs.lemmas.List.{take_all}
 use Rattle.hy_base.proofs.Members.{contains-none}
 use Rattle.hy_bits.specs.Letter.{Letter}
 use Rattle.fin_monitor.specs.Codes.{part_of}
-use Rattle.fin_monitor.specs.Machines.{next_state, is_accepting, settled_state, codes}
+use Rattle.fin_monitor.specs.Machines.{settled_state, codes}
 use Rattle.trace_trie.specs.Cursors.{letters_of, rests_at, AreLetters}
-use Rattle.tuple_walk.specs.Pairs.{pair_of, beside, stops_of, over_of}
+use Rattle.tuple_walk.specs.Pairs.{pair_of, beside, over_of}
 use Rattle.tuple_walk.specs.Searches.{AreAcceptedBy, AreStepsBy}
 use Rattle.tuple_walk.specs.Walks.{machine_in}
 use Rattle.tuple_walk.proofs.Choosing.{no-steps_by, steps-letters}
 use Rattle.tuple_walk.proofs.Ending.{settled-accepted, from-none}
 use Rattle.tuple_walk.proofs.Longest.{longest_in}
-use Rattle.tuple_walk.proofs.Pairs.{letter-rejected, letter-accepted, letter-steps, longest-under, some-under, node-accepted, end-search, end-steps, stop-search, pair-here, pair-rejects, over-accepted, may-go-on, pair-within}
+use Rattle.tuple_walk.proofs.PairEnds.{node-accepted, end-search, end-steps, stop-search, pair-here, pair-rejects, over-accepted, may-go-on}
+use Rattle.tuple_walk.proofs.Pairs.{letter-rejected, letter-accepted, letter-steps, next-pair, longest-under, some-under, pair-within}
 use Rattle.tuple_walk.proofs.walk.Walk.+beside.Goals as goal
 
 -- ---- search_beside
@@ -84,21 +85,17 @@ pub search_letters-returns-in-Some-clause-searched :
 search_letters-returns-in-Some-clause-searched g t c = λ number.
     let w = c.args.self.now in
     let m = machine_in w in
+    let first = c.args.first in
     let t = c.args.given.now in
     let rests = rests_at c.args.node.now in
     let letters = letters_of c.args.node.now in
-    let are : AreLetters letters rests = c.letters_differ.ensures in
     let a = c.at-letter.result.0 in
-    let first = c.args.first in
-    let own : c.part-part.result ≡ part_of m.atoms (cond first 0 1) (get_or t 0 empty) =
-    c.part-part.ensures.part
-    ∙ (λ j. part_of m.atoms (c.places_of-own.ensures.given j) (c.letter_at.ensures j)) in
-    let other : c.part.result ≡ part_of m.atoms (cond first 1 0) a =
-    c.part.ensures.part ∙ (λ j. part_of m.atoms (c.places_of-own.ensures.other j) a) in
-    let next = c.step-next.ensures.next
-    ∙ (λ j. next_state m c.args.q (bit_or (own j) (other j))) in
+    let next = next-pair m c.args.q c.step-next.result first t a c.letter_at.result
+    c.places_of-own.result.0 c.places_of-own.result.1 c.part-part.result c.part.result
+    c.places_of-own.ensures.given c.places_of-own.ensures.other c.letter_at.ensures
+    c.part-part.ensures.part c.part.ensures.part c.step-next.ensures.next in
     letter-rejected m w.lengths c.args.q c.step-next.result first number t
-    c.behind_first-left.result c.behind_first-left.ensures c.requires.goes rests letters are
+    c.behind_first-left.result c.behind_first-left.ensures c.requires.goes rests letters c.letters_differ.ensures
     c.loop-k.k a c.at-letter.ensures.letter c.at-letter.result.1 c.at-letter.ensures.child next
     (pair_of first number c.in-Some.number) (c.in-Some.ensures.searched number)
 
@@ -116,23 +113,19 @@ pub search_letters-returns-in-Some-clause-counted :
 search_letters-returns-in-Some-clause-counted g t c = λ number.
     let w = c.args.self.now in
     let m = machine_in w in
+    let first = c.args.first in
     let t = c.args.given.now in
     let rests = rests_at c.args.node.now in
     let letters = letters_of c.args.node.now in
-    let are : AreLetters letters rests = c.letters_differ.ensures in
     let a = c.at-letter.result.0 in
-    let first = c.args.first in
-    let own : c.part-part.result ≡ part_of m.atoms (cond first 0 1) (get_or t 0 empty) =
-    c.part-part.ensures.part
-    ∙ (λ j. part_of m.atoms (c.places_of-own.ensures.given j) (c.letter_at.ensures j)) in
-    let other : c.part.result ≡ part_of m.atoms (cond first 1 0) a =
-    c.part.ensures.part ∙ (λ j. part_of m.atoms (c.places_of-own.ensures.other j) a) in
-    let next = c.step-next.ensures.next
-    ∙ (λ j. next_state m c.args.q (bit_or (own j) (other j))) in
+    let next = next-pair m c.args.q c.step-next.result first t a c.letter_at.result
+    c.places_of-own.result.0 c.places_of-own.result.1 c.part-part.result c.part.result
+    c.places_of-own.ensures.given c.places_of-own.ensures.other c.letter_at.ensures
+    c.part-part.ensures.part c.part.ensures.part c.step-next.ensures.next in
     steps-letters w.lengths (beside first (number, t) rests) (cond first 1 0) letters
     (c.loop-k.k + 1) (c.search_beside.new.steps - c.args.steps.now)
     (letter-steps m w.lengths c.args.q c.step-next.result first number t
-    c.behind_first-left.result c.behind_first-left.ensures c.requires.goes rests letters are
+    c.behind_first-left.result c.behind_first-left.ensures c.requires.goes rests letters c.letters_differ.ensures
     c.loop-k.k a c.at-letter.ensures.letter c.at-letter.result.1 c.at-letter.ensures.child next
     (c.loop-k.steps - c.args.steps.now) (c.search_beside.new.steps - c.step-next.new.steps)
     (c.search_beside.new.steps - c.args.steps.now)
@@ -148,22 +141,18 @@ pub search_letters-loop-k-preserved : goal.search_letters-loop-k-preserved
 search_letters-loop-k-preserved g t c =
     let w = c.args.self.now in
     let m = machine_in w in
+    let first = c.args.first in
     let t = c.args.given.now in
     let rests = rests_at c.args.node.now in
     let letters = letters_of c.args.node.now in
-    let are : AreLetters letters rests = c.letters_differ.ensures in
     let a = c.at-letter.result.0 in
-    let first = c.args.first in
-    let own : c.part-part.result ≡ part_of m.atoms (cond first 0 1) (get_or t 0 empty) =
-    c.part-part.ensures.part
-    ∙ (λ j. part_of m.atoms (c.places_of-own.ensures.given j) (c.letter_at.ensures j)) in
-    let other : c.part.result ≡ part_of m.atoms (cond first 1 0) a =
-    c.part.ensures.part ∙ (λ j. part_of m.atoms (c.places_of-own.ensures.other j) a) in
-    let next = c.step-next.ensures.next
-    ∙ (λ j. next_state m c.args.q (bit_or (own j) (other j))) in
+    let next = next-pair m c.args.q c.step-next.result first t a c.letter_at.result
+    c.places_of-own.result.0 c.places_of-own.result.1 c.part-part.result c.part.result
+    c.places_of-own.ensures.given c.places_of-own.ensures.other c.letter_at.ensures
+    c.part-part.ensures.part c.part.ensures.part c.step-next.ensures.next in
     record {
       accepted = λ number. letter-accepted m w.lengths c.args.q c.step-next.result first number t
-          c.behind_first-left.result c.behind_first-left.ensures c.requires.goes rests letters are
+          c.behind_first-left.result c.behind_first-left.ensures c.requires.goes rests letters c.letters_differ.ensures
           c.loop-k.k a c.at-letter.ensures.letter c.at-letter.result.1 c.at-letter.ensures.child next
           (c.loop-k.invariant.accepted number) (c.in-None.ensures.searched number);
       steps = omega (
@@ -173,7 +162,7 @@ search_letters-loop-k-preserved g t c =
         c.search_beside.ensures.steps,
       );
       counted = λ number. letter-steps m w.lengths c.args.q c.step-next.result first number t
-          c.behind_first-left.result c.behind_first-left.ensures c.requires.goes rests letters are
+          c.behind_first-left.result c.behind_first-left.ensures c.requires.goes rests letters c.letters_differ.ensures
           c.loop-k.k a c.at-letter.ensures.letter c.at-letter.result.1 c.at-letter.ensures.child next
           (c.loop-k.steps - c.args.steps.now) (c.search_beside.new.steps - c.step-next.new.steps)
           (c.search_beside.new.steps - c.args.steps.now)
@@ -214,12 +203,10 @@ search_node-returns-then-rejects_beside-clause-searched g t c = λ number.
     let w = c.args.self.now in
     let given = c.args.given.now in
     let rests = rests_at c.args.node.now in
-    let is = c.rejects_beside.ensures
-    ∙ (λ j. not (is_accepting (machine_in w) c.args.q)
-    && stops_of w.lengths (c.is_empty-ended.ensures j) (c.is_some.ensures j)) in
     let (can, rejects) = pair-rejects w.lengths c.args.first number given rests c.first.result
-    c.first.ensures.some c.first.ensures.none (machine_in w) c.args.q c.rejects_beside.result is
-    c.if-rejects_beside.true in
+    c.first.ensures.some c.first.ensures.none (machine_in w) c.args.q
+    c.is_empty-ended.result c.is_some.result c.rejects_beside.result c.is_empty-ended.ensures
+    c.is_some.ensures c.rejects_beside.ensures c.if-rejects_beside.true in
     stop-search (machine_in w) w.lengths c.args.q c.args.first number given rests c.requires.some
     c.any.result c.any.ensures.some c.any.ensures.none can rejects
 
@@ -229,12 +216,10 @@ search_node-returns-then-is_over-clause-searched g t c = λ number.
     let w = c.args.self.now in
     let given = c.args.given.now in
     let rests = rests_at c.args.node.now in
-    let is = c.rejects_beside.ensures
-    ∙ (λ j. not (is_accepting (machine_in w) c.args.q)
-    && stops_of w.lengths (c.is_empty-ended.ensures j) (c.is_some.ensures j)) in
     let here = pair-here w.lengths c.args.first number given rests c.first.result
-    c.first.ensures.some c.first.ensures.none (machine_in w) c.args.q c.rejects_beside.result is
-    c.if-rejects_beside.false in
+    c.first.ensures.some c.first.ensures.none (machine_in w) c.args.q
+    c.is_empty-ended.result c.is_some.result c.rejects_beside.result c.is_empty-ended.ensures
+    c.is_some.ensures c.rejects_beside.ensures c.if-rejects_beside.false in
     from-none (machine_in w) w.lengths c.args.q (beside c.args.first (number, given) rests)
     (over-accepted (machine_in w) w.lengths c.args.q c.args.first number given rests
     (sym (c.is_over.ensures ∙ ap (over_of w.lengths) c.is_empty-ended.ensures)
@@ -264,12 +249,10 @@ search_node-returns-in-Some-past_end-clause-searched g t c = λ number.
     let w = c.args.self.now in
     let given = c.args.given.now in
     let rests = rests_at c.args.node.now in
-    let is = c.rejects_beside.ensures
-    ∙ (λ j. not (is_accepting (machine_in w) c.args.q)
-    && stops_of w.lengths (c.is_empty-ended.ensures j) (c.is_some.ensures j)) in
     let here = pair-here w.lengths c.args.first number given rests c.first.result
-    c.first.ensures.some c.first.ensures.none (machine_in w) c.args.q c.rejects_beside.result is
-    c.if-rejects_beside.false in
+    c.first.ensures.some c.first.ensures.none (machine_in w) c.args.q
+    c.is_empty-ended.result c.is_some.result c.rejects_beside.result c.is_empty-ended.ensures
+    c.is_some.ensures c.rejects_beside.ensures c.if-rejects_beside.false in
     end-search (machine_in w) w.lengths c.args.q c.args.first number given rests
     (letters_of c.args.node.now) c.letters_differ.ensures here c.in-Some-past_end.number
     c.in-Some-past_end.ensures.some (c.in-None.ensures.searched number) c.follow_pair.result
@@ -281,12 +264,10 @@ search_node-returns-in-Some-past_end-clause-counted g t c = λ number.
     let w = c.args.self.now in
     let given = c.args.given.now in
     let rests = rests_at c.args.node.now in
-    let is = c.rejects_beside.ensures
-    ∙ (λ j. not (is_accepting (machine_in w) c.args.q)
-    && stops_of w.lengths (c.is_empty-ended.ensures j) (c.is_some.ensures j)) in
     let here = pair-here w.lengths c.args.first number given rests c.first.result
-    c.first.ensures.some c.first.ensures.none (machine_in w) c.args.q c.rejects_beside.result is
-    c.if-rejects_beside.false in
+    c.first.ensures.some c.first.ensures.none (machine_in w) c.args.q
+    c.is_empty-ended.result c.is_some.result c.rejects_beside.result c.is_empty-ended.ensures
+    c.is_some.ensures c.rejects_beside.ensures c.if-rejects_beside.false in
     end-steps (machine_in w) w.lengths c.args.q c.args.first number given rests
     (letters_of c.args.node.now) c.letters_differ.ensures here c.in-Some-past_end.number
     c.in-Some-past_end.ensures.some (c.search_letters.new.steps - c.args.steps.now)
@@ -301,12 +282,10 @@ search_node-returns-in-None-past_end-clause-searched g t c = λ number.
     let w = c.args.self.now in
     let given = c.args.given.now in
     let rests = rests_at c.args.node.now in
-    let is = c.rejects_beside.ensures
-    ∙ (λ j. not (is_accepting (machine_in w) c.args.q)
-    && stops_of w.lengths (c.is_empty-ended.ensures j) (c.is_some.ensures j)) in
     let here = pair-here w.lengths c.args.first number given rests c.first.result
-    c.first.ensures.some c.first.ensures.none (machine_in w) c.args.q c.rejects_beside.result is
-    c.if-rejects_beside.false in
+    c.first.ensures.some c.first.ensures.none (machine_in w) c.args.q
+    c.is_empty-ended.result c.is_some.result c.rejects_beside.result c.is_empty-ended.ensures
+    c.is_some.ensures c.rejects_beside.ensures c.if-rejects_beside.false in
     node-accepted (machine_in w) w.lengths c.args.q c.args.first number given rests
     (letters_of c.args.node.now) c.letters_differ.ensures here c.in-None-past_end.ensures.none
     (c.in-None.ensures.searched number)

@@ -1,4 +1,4 @@
-use Rattle.std.proofs.Common.{◌≡◌, ◌+◌, ◌*◌, ◌-◌, ◌≤◌, ℕ, cond, take}
+use Rattle.std.proofs.Common.{◌+◌, ◌*◌, ◌-◌, ◌≤◌, ℕ, cond, take}
 use Rattle.trace_trie.specs.Cursors.{letters_of, rests_at}
 use Rattle.tuple_walk.specs.Pairs.{beside}
 use Rattle.tuple_walk.specs.Searches.{AreAcceptedBy, AreStepsBy}

@@ -3,16 +3,14 @@ use Rattle.std.specs.Borrow.{Bor}
 use Rattle.std.proofs.Math.Seq.{take-suc-set}
 use Rattle.std.proofs.lemmas.Bool.{OnTrue_at, OnFalse_at}
 use Rattle.std.proofs.lemmas.List.{map_push}
-use Rattle.hy_finite.specs.Traces.{Trace, judged}
+use Rattle.hy_finite.specs.Traces.{Trace}
 use Rattle.trace_trie.specs.Numbered.{Numbered}
 use Rattle.tuple_walk.specs.Alone.{IsAlone, left_of}
 use Rattle.tuple_walk.specs.Finds.{traces_of}
 use Rattle.tuple_walk.specs.Four.{four}
-use Rattle.tuple_walk.specs.Searches.{IsAccepted, IsRejected}
 use Rattle.tuple_walk.specs.Walks.{machine_in, rests_in}
-use Rattle.tuple_walk.proofs.Following.{ones, ones-more, all-ones, ones-accepted, ones-rejected, ones-steps}
+use Rattle.tuple_walk.proofs.Following.{ones, ones-more, left-counted, left-accepted, left-rejected}
 use Rattle.tuple_walk.proofs.Lists.{take-more, each-get}
-use Rattle.tuple_walk.proofs.Nexts.{long-places}
 use Rattle.tuple_walk.proofs.Scanning.{get-map}
 use Rattle.tuple_walk.proofs.Stepping.{left_at}
 use Rattle.tuple_walk.proofs.walk.Walk.follow.Goals as goal
@@ -55,50 +53,32 @@ loop-i-preserved g c =
 pub returns-then-rejects_rests-clause-searched : goal.returns-then-rejects_rests-clause-searched
 returns-then-rejects_rests-clause-searched g c =
     let w = c.args.self.now in
-    let rests = rests_in w c.args.places.now in
-    let lists = long-places (machine_in w).variables left_at (four c.args.places.now)
-    w.monitor.monitor.now.right.few in
-    let (long, (ps, same, traces)) = c.loop-i.invariant in
-    let (is, lefts) = all-ones rests c.loop-i.rests ps c.loop-i.i c.vars-count.result
-    (omega (arith, c.vars-count.ensures.vars, lists)) (omega arith) same traces in
-    ones-rejected (machine_in w) w.lengths c.args.q ps rests is
-    (subst (IsRejected (machine_in w) w.lengths c.args.q) lefts
-    (OnTrue_at c.if-rejects_rests.true c.rejects_rests.ensures.rejected))
-    c.tuple_of.result c.tuple_of.ensures.some c.tuple_of.ensures.none c.requires.members
+    left-rejected (machine_in w).variables (four c.args.places.now) w.monitor.monitor.now.right.few
+    c.loop-i.rests c.loop-i.i c.vars-count.result (omega (arith, c.vars-count.ensures.vars))
+    (omega arith) c.loop-i.invariant.1 (machine_in w) w.lengths c.args.q
+    (OnTrue_at c.if-rejects_rests.true c.rejects_rests.ensures.rejected) c.tuple_of.result
+    c.tuple_of.ensures.some c.tuple_of.ensures.none c.requires.members
 
 pub returns-then-rejects_rests-clause-counted : goal.returns-then-rejects_rests-clause-counted
 returns-then-rejects_rests-clause-counted g c =
     let w = c.args.self.now in
-    let rests = rests_in w c.args.places.now in
-    let lists = long-places (machine_in w).variables left_at (four c.args.places.now)
-    w.monitor.monitor.now.right.few in
-    let (long, (ps, same, traces)) = c.loop-i.invariant in
-    let (is, lefts) = all-ones rests c.loop-i.rests ps c.loop-i.i c.vars-count.result
-    (omega (arith, c.vars-count.ensures.vars, lists)) (omega arith) same traces in
-    ones-steps w.lengths ps rests is (c.rejects_rests.new.steps - c.args.steps.now)
-    (omega (arith, c.rejects_rests.ensures.counted, ap (judged w.lengths) lefts))
+    left-counted (machine_in w).variables (four c.args.places.now) w.monitor.monitor.now.right.few
+    c.loop-i.rests c.loop-i.i c.vars-count.result (omega (arith, c.vars-count.ensures.vars))
+    (omega arith) c.loop-i.invariant.1 w.lengths (c.rejects_rests.new.steps - c.args.steps.now)
+    c.rejects_rests.ensures.counted
 
 pub returns-else-rejects_rests-clause-searched : goal.returns-else-rejects_rests-clause-searched
 returns-else-rejects_rests-clause-searched g c =
     let w = c.args.self.now in
-    let rests = rests_in w c.args.places.now in
-    let lists = long-places (machine_in w).variables left_at (four c.args.places.now)
-    w.monitor.monitor.now.right.few in
-    let (long, (ps, same, traces)) = c.loop-i.invariant in
-    let (is, lefts) = all-ones rests c.loop-i.rests ps c.loop-i.i c.vars-count.result
-    (omega (arith, c.vars-count.ensures.vars, lists)) (omega arith) same traces in
-    ones-accepted (machine_in w) w.lengths c.args.q ps rests is
-    (subst (IsAccepted (machine_in w) w.lengths c.args.q) lefts
-    (OnFalse_at c.if-rejects_rests.false c.rejects_rests.ensures.accepted))
+    left-accepted (machine_in w).variables (four c.args.places.now) w.monitor.monitor.now.right.few
+    c.loop-i.rests c.loop-i.i c.vars-count.result (omega (arith, c.vars-count.ensures.vars))
+    (omega arith) c.loop-i.invariant.1 (machine_in w) w.lengths c.args.q
+    (OnFalse_at c.if-rejects_rests.false c.rejects_rests.ensures.accepted)
 
 pub returns-else-rejects_rests-clause-counted : goal.returns-else-rejects_rests-clause-counted
 returns-else-rejects_rests-clause-counted g c =
     let w = c.args.self.now in
-    let rests = rests_in w c.args.places.now in
-    let lists = long-places (machine_in w).variables left_at (four c.args.places.now)
-    w.monitor.monitor.now.right.few in
-    let (long, (ps, same, traces)) = c.loop-i.invariant in
-    let (is, lefts) = all-ones rests c.loop-i.rests ps c.loop-i.i c.vars-count.result
-    (omega (arith, c.vars-count.ensures.vars, lists)) (omega arith) same traces in
-    ones-steps w.lengths ps rests is (c.rejects_rests.new.steps - c.args.steps.now)
-    (omega (arith, c.rejects_rests.ensures.counted, ap (judged w.lengths) lefts))
+    left-counted (machine_in w).variables (four c.args.places.now) w.monitor.monitor.now.right.few
+    c.loop-i.rests c.loop-i.i c.vars-count.result (omega (arith, c.vars-count.ensures.vars))
+    (omega arith) c.loop-i.invariant.1 w.lengths (c.rejects_rests.new.steps - c.args.steps.now)
+    c.rejects_rests.ensures.counted
