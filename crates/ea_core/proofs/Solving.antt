@@ -10,7 +10,7 @@ use Rattle.fair_search.specs.declared.found.Found.{Found}
 use Rattle.fair_search.specs.declared.found.Found.TheVariants as found
 use Rattle.fair_search.specs.declared.found.FairLasso.{FairLasso}
 use Rattle.fair_search.specs.Answers.{Answers}
-use Rattle.ltl_closure.specs.Jobs.{Rooted, closure_of, AreMappedBelow}
+use Rattle.ltl_closure.specs.Jobs.{Rooted, Task, closure_of, tasks_of, AreMappedBelow}
 use Rattle.ltl_tableau.specs.Branches.{Branch}
 use Rattle.ltl_tableau.specs.Reached.{IsTableau}
 use Rattle.ltl_tableau.specs.Tasks.{set_of}
@@ -18,8 +18,10 @@ use Rattle.ltl_tableau.specs.WalkWords.{VariablesBelow}
 use Rattle.ltl_tableau.proofs.Bounded.{variables-below}
 use Rattle.ltl_tableau.proofs.GraphWalking.{each-ranked}
 use Rattle.ea_reduce.specs.declared.joint.Joint.{Joint}
-use Rattle.ea_reduce.specs.Plans.{PlainPlan, plan_tasks}
+use Rattle.ea_reduce.specs.declared.plan.Plan.{Plan}
+use Rattle.ea_reduce.specs.Plans.{PlainPlan, plain_plan, plan_tasks}
 use Rattle.ea_reduce.specs.Joints.{lassos_from, IsJoint, AreShortened}
+use Rattle.ea_reduce.proofs.Jobs.{plain-tasks}
 use Rattle.rank_proofs.specs.declared.rank_proof.RankProof.{RankProof}
 use Rattle.rank_proofs.specs.Proofs.{plan_nodes, plan_roots}
 use Rattle.ea_core.specs.declared.decision.Decision.TheVariants.{Sat, Unsat}
@@ -29,6 +31,12 @@ use Rattle.ea_core.specs.Undecided.{HasFewBranches}
 use Rattle.ea_core.proofs.Proving.{unsat-solves}
 use Rattle.ea_core.proofs.Satisfying.{stem-there, cycle-there, is-joint, sat-solves}
 use Rattle.ea_core.proofs.Searching.{few-branches}
+
+-- the tasks of a plan, which lead to its lassos
+pub plain-below : (plan : Plan) → AreMappedBelow plan.vars (tasks_of plan.jobs) →
+    AreMappedBelow plan.vars (plan_tasks (plain_plan plan))
+plain-below plan below =
+    let P : List Task → Type 0 = AreMappedBelow plan.vars in subst P (plain-tasks plan.jobs) below
 
 -- which of both was found
 pub found-walk : (g h : Shape) (f : Found) (walk : FairLasso) → Answers g f → f ≡ found.Lasso walk → g ≡ h → Answers h (found.Lasso walk)

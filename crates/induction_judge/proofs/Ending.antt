@@ -150,11 +150,11 @@ going_on variables given text n left next line k m known now Last Now kept numbe
     (more, behind, two_ways same (subst S (sym parts) (subst R known_now step)))
 
 -- What was tried of the lists that were read.
-pub as_tried : (n variables : ℕ) (known : List Clause) (clause kept : List ℤ)
-    (chain numbers : List ℕ) (right : Bool) → n ≡ variables → clause ≡ kept → chain ≡ numbers
+pub as_tried : {n variables : ℕ} {known : List Clause} {clause kept : List ℤ}
+    {chain numbers : List ℕ} {right : Bool} → n ≡ variables → clause ≡ kept → chain ≡ numbers
     → IsTrue right ↔ Follows n known clause chain
     → IsTrue right ↔ Follows variables known kept numbers
-as_tried n variables known clause kept chain numbers right few same also tried =
+as_tried {variables = variables} {known = known} {clause = clause} {kept = kept} {chain = chain} {right = right} few same also tried =
     let P : ℕ → Type 0 = λ m. IsTrue right ↔ Follows m known clause chain in
     let Q : List ℤ → Type 0 = λ c. IsTrue right ↔ Follows variables known c chain in
     let R : List ℕ → Type 0 = λ ks. IsTrue right ↔ Follows variables known kept ks in

@@ -1,6 +1,7 @@
 -- Literals of latches, read word by word.
-use Rattle.std.proofs.Common.{◌≡◌, ℕ, false, true, List, [], ◌∷◌, ◌++◌, refl, sym, ◌∙◌, ap, subst, append_assoc, None, Some}
-use Rattle.std.specs.Prelude.{IsTrue, codes}
+use Rattle.std.proofs.Common.{◌≡◌, ℕ, false, true, List, [], ◌∷◌, ◌++◌, refl, sym, ◌∙◌, ap, subst, append_assoc, None, Some, Bool}
+use Rattle.std.specs.Prelude.{codes}
+use Rattle.std.specs.Bool.{then_some}
 use Rattle.std.specs.List.{All}
 use Rattle.std.proofs.lemmas.List.Elements.{All-nil, All-cons, All-head, All-tail}
 use Rattle.aig_net.specs.Nets.{Below}
@@ -91,20 +92,17 @@ pub no_latches : (latches : ℕ) (line rest : Line)
 no_latches latches line rest cut none = λ ls says ((some, all), holds).
     none (ls, joined latches (words_of rest) ls (behind_sign line rest ls cut says) all)
 
-pub clause_start : (latches : ℕ) (line rest : Line) (ls : List ℕ)
+-- where some literal is true at the start, and where none is
+pub clause_taken : (latches : ℕ) (line rest : Line) (ls : List ℕ) (starts : Bool)
     → words_of line ≡ codes "f" ∷ codes "|" ∷ words_of rest → SaysLatches latches rest ls
-    → IsTrue (any_true (λ _. false) ls) → IsClauseTaken latches line (Some (AnyOf ls))
-clause_start latches line rest ls cut said holds =
+    → starts ≡ any_true (λ _. false) ls
+    → IsClauseTaken latches line (then_some starts (AnyOf ls))
+clause_taken latches line rest ls true cut said is =
     let (numbers, all) = split latches (words_of rest) ls said in
     let (words, parts, also, some) = with_sign line rest ls cut numbers in
-    (ls, refl, (words, parts, also, some), ((some, all), holds))
-
--- no literal is true at the start
-pub clause_no_start : (latches : ℕ) (line rest : Line) (ls : List ℕ)
-    → words_of line ≡ codes "f" ∷ codes "|" ∷ words_of rest → SaysLatches latches rest ls
-    → any_true (λ _. false) ls ≡ false → IsClauseTaken latches line None
-clause_no_start latches line rest ls cut said off = λ ms says (inside, holds).
+    (ls, refl, (words, parts, also, some), ((some, all), sym is))
+clause_taken latches line rest ls false cut said is = λ ms says (inside, holds).
     let (numbers, all) = split latches (words_of rest) ls said in
     let same : ls ≡ ms = say_once SaysNumber same_number (words_of rest) ls ms numbers
     (behind_sign line rest ms cut says) in
-    let clash : false ≡ true = sym off ∙ ap (any_true (λ _. false)) same ∙ holds in absurd (cc)
+    let clash : false ≡ true = is ∙ ap (any_true (λ _. false)) same ∙ holds in absurd (cc)

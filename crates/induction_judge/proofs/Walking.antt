@@ -1,9 +1,17 @@
 -- Lines that say values, one after another.
-use Rattle.std.proofs.Common.{◌≡◌, ℕ, ◌+◌, ◌<◌, List, [], ◌∷◌, ◌++◌, length, refl, sym, ◌∙◌, ap, subst, arith, append_assoc, length-append}
-use Rattle.hy_text.specs.Lines.{lines_of}
+use Rattle.std.proofs.Common.{◌≡◌, ℕ, ◌+◌, ◌<◌, List, [], ◌∷◌, ◌++◌, length, refl, sym, ◌∙◌, ap, subst, arith, append_assoc, length-append, Option}
+use Rattle.std.specs.Option.{option_copied}
+use denote.Ref.{Bor}
+use Rattle.hy_text.specs.Lines.{left_lines, lines_of}
 use Rattle.cert_text.specs.Lines.{Line, Say}
 use Rattle.cert_text.proofs.Lists.{heads, tails}
 use Rattle.induction_judge.specs.Reading.{AreLines, AreSaid}
+
+-- A line is cut off what is left.
+pub cut_line : {lines : List Line} {line : Line} {end behind : Option (Bor (List ℕ))}
+    → lines ≡ line ∷ left_lines (option_copied end) → end ≡ behind
+    → lines ≡ line ∷ left_lines (option_copied behind)
+cut_line {line = line} cut is = cut ∙ ap (λ o. line ∷ left_lines (option_copied o)) is
 
 -- The line says the first value, and the lines of the text behind it the others.
 pub record IsStepped {A : Type 0} (Says : Line → A → Type 0) (line : Line) (text : List ℕ) (n : ℕ)

@@ -1,6 +1,6 @@
 -- A text of a proof by induction as a whole.
 use Rattle.std.proofs.Common.{◌≡◌, ℕ, ◌<◌, ◌≤◌, ◌↔◌, Bool, true, List, [], ◌∷◌, ◌++◌, length, sym, ◌∙◌, ap, subst, arith, append_assoc, append-nil, true≢false, Option, Some, None}
-use Rattle.std.specs.Prelude.{IsTrue, codes, is_some}
+use Rattle.std.specs.Prelude.{IsTrue, codes, is_some, IfSome}
 use denote.Ref.{Bor}
 use Rattle.hy_text.specs.Lines.{lines_of}
 use Rattle.chain_check.specs.declared.logs.Learned.{Learned}
@@ -16,7 +16,7 @@ use Rattle.cert_text.proofs.Stepping.{same_head, same_two}
 use Rattle.induction_judge.specs.Asking.{places, AreRefuted}
 use Rattle.induction_judge.specs.Good.{most_depth, IsGoodInduction, IsRefusedOf}
 use Rattle.induction_judge.specs.Judged.{AreLogsJudged, IsBody, IsJudged}
-use Rattle.induction_judge.specs.Reading.{AreLines, AreSaid, AreStartFacts, AreLogs}
+use Rattle.induction_judge.specs.Reading.{AreFactsTaken, AreLines, AreSaid, AreStartFacts, AreLogs}
 use Rattle.induction_judge.proofs.Places.{many, dealt, gathered}
 use Rattle.induction_judge.proofs.Starting.{facts_start, start_facts}
 
@@ -143,14 +143,16 @@ pub record IsReadSo (clauses : Bool) (safe : SafeNet) (text left : List ℕ) (de
   pub read : (facts : List Fact) (rest : List Line) → AreSaid (SaysFact clauses) text count facts rest
       → (taken ≡ facts) × AreLines left rest
 
-pub read_so : (clauses : Bool) (safe : SafeNet) (latches : ℕ) (text left : List ℕ) (depth count : ℕ)
-    (taken : List Fact) → IsSafe safe → latches ≡ length safe.net.latches → depth ≤ most_depth
-    → AreStartFacts latches taken
-    → ((facts : List Fact) (rest : List Line) → AreSaid (SaysFact clauses) text count facts rest
-    → (taken ≡ facts) × AreLines left rest) → IsReadSo clauses safe text left depth count taken
-read_so clauses safe latches text left depth count taken is many few starts read =
+pub read_so : (clauses : Bool) (safe : SafeNet) (latches : ℕ) (text : List ℕ)
+    (left : Bor (List ℕ)) (depth count : ℕ) (taken : List Fact) (end : Option (Bor (List ℕ)))
+    → IsSafe safe → latches ≡ length safe.net.latches → depth ≤ most_depth
+    → AreStartFacts latches taken → AreFactsTaken clauses latches text count end taken
+    → end ≡ Some left → IsReadSo clauses safe text left.now depth count taken
+read_so clauses safe latches text left depth count taken end is many few starts took same =
     let P : ℕ → Type 0 = λ n. AreStartFacts n taken in
-    record { is = is; few = few; starts = subst P many starts; read = read }
+    let Q : Option (Bor (List ℕ)) → Type 0 =
+    λ o. AreFactsTaken clauses latches text count o taken in
+    record { is = is; few = few; starts = subst P many starts; read = subst Q same took }
 
 -- What is said of the proof at the front of a text behind its head.
 abbrev pub Judges : Bool → SafeNet → List ℕ → ℕ → ℕ → Option (Bor (List ℕ)) → Type 0
@@ -239,3 +241,11 @@ module _ (clauses : Bool) (safe : SafeNet) (text left : List ℕ) (depth count :
       let P : List Fact → Type 0 = λ fs. IsRefusedOf safe fs depth e in
       let Q : ℕ → Type 0 = λ d. IsRefusedOf safe proof.inv d e in
       subst Q body.depth_is (subst P (facts_same proof rest body) is)
+
+-- ---- what is left of a text
+
+pub no_longer : (left : Option (Bor (List ℕ))) (middle text : List ℕ) → length middle ≤ length text
+    → IfSome left (λ left. length left.now ≤ length middle)
+    → IfSome left (λ left. length left.now ≤ length text)
+no_longer None middle text less shorter = tt
+no_longer (Some left) middle text less shorter = omega (arith, less, shorter)

@@ -24,11 +24,8 @@ pub fn start_clause(alloc: Global, latches: u32, line: &[u8]) -> M<Option<Fact>>
     let Some(literals) = latch_literals(alloc, latches, words)? else {
         return Ok(None);
     };
-    if is_any_at_start(literals.as_slice()) {
-        Ok(Some(Fact::AnyOf(literals)))
-    } else {
-        Ok(None)
-    }
+    let starts = is_any_at_start(literals.as_slice());
+    Ok(starts.then_some(Fact::AnyOf(literals)))
 }
 
 /// The literals that the words of the text say, where each is one of a latch.

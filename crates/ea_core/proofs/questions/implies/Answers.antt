@@ -1,21 +1,17 @@
-use Rattle.std.proofs.Common.{IsTrue, length, rules, subst, List}
-use Rattle.hy_formula.specs.Trees.{tree_of, vars_below}
-use Rattle.ltl_closure.specs.Jobs.{Task, AreMappedBelow}
-use Rattle.ea_reduce.proofs.Jobs.{plain-tasks}
+use Rattle.std.proofs.Common.{rules}
+use Rattle.hy_formula.specs.Trees.{tree_of}
+use Rattle.ea_core.proofs.Solving.{plain-below}
 use Rattle.ea_core.proofs.Refusing.{within-implication, refused-implication}
 use Rattle.ea_core.proofs.Searching.{implication-result}
 use Rattle.ea_core.proofs.questions.implies.Goals as goal
 
 pub solve-requires-clause-below : goal.solve-requires-clause-below
 solve-requires-clause-below c =
-    let P : List Task → Type 0 = AreMappedBelow c.in_ok-plan.plan.vars in
-    subst P (plain-tasks c.in_ok-plan.plan.jobs) c.in_ok-plan.ensures.below
+    plain-below c.in_ok-plan.plan c.in_ok-plan.ensures.below
 
 pub returns-clause-decision : goal.returns-clause-decision
 returns-clause-decision c =
-    let bound : IsTrue (vars_below (length c.args.a.now.prefix) (tree_of c.args.a.now.body)) = search rules in
-    let below : IsTrue (vars_below (length c.args.b.now.prefix) (tree_of c.args.b.now.body)) = search rules in
-    implication-result c.args.a.now.prefix (tree_of c.args.a.now.body) c.args.b.now.prefix (tree_of c.args.b.now.body) bound below
+    implication-result c.args.a.now.prefix (tree_of c.args.a.now.body) c.args.b.now.prefix (tree_of c.args.b.now.body) (search rules) (search rules)
     c.in_ok-plan.ensures.first c.in_ok-plan.ensures.second _ c.in_ok-plan.ensures.plan c.solve.result c.solve.ensures.solves
 
 pub returns-clause-within : goal.returns-clause-within

@@ -1,8 +1,9 @@
 use Rattle.std.proofs.Common.{ℕ, false, List, sym, ◌∙◌, ap, subst, Option}
+use Rattle.cnf_frames.specs.declared.facts.Fact.{Fact}
 use Rattle.cnf_frames.specs.Facts.{any_true}
 use Rattle.cert_text.specs.Lines.{IsSaid}
-use Rattle.induction_judge.specs.Reading.{SaysLatches}
-use Rattle.induction_judge.proofs.Latches.{no_latches, clause_start, clause_no_start}
+use Rattle.induction_judge.specs.Reading.{IsClauseTaken, SaysLatches}
+use Rattle.induction_judge.proofs.Latches.{clause_taken, no_latches}
 use Rattle.induction_judge.proofs.clauses.start_clause.Goals as goal
 
 pub returns-in_default : goal.returns-in_default
@@ -14,18 +15,12 @@ returns-in_default-2 c =
     no_latches c.args.latches c.args.line.now c.in-Some.words.now c.in-Some.ensures
     (subst P c.in_default-2.is c.in_ok-literals.ensures)
 
-pub returns-then-is_any_at_start : goal.returns-then-is_any_at_start
-returns-then-is_any_at_start c =
+pub returns : goal.returns
+returns c =
     let P : Option (List ℕ) → Type 0 = IsSaid (SaysLatches c.args.latches) c.in-Some.words.now in
-    clause_start c.args.latches c.args.line.now c.in-Some.words.now c.in-Some-2.literals
-    c.in-Some.ensures (subst P c.in-Some-2.is c.in_ok-literals.ensures)
-    (ap (any_true (λ _. false)) (sym c.as_slice.ensures) ∙ sym c.is_any_at_start.ensures
-    ∙ c.if-is_any_at_start.true)
-
-pub returns-else-is_any_at_start : goal.returns-else-is_any_at_start
-returns-else-is_any_at_start c =
-    let P : Option (List ℕ) → Type 0 = IsSaid (SaysLatches c.args.latches) c.in-Some.words.now in
-    clause_no_start c.args.latches c.args.line.now c.in-Some.words.now c.in-Some-2.literals
-    c.in-Some.ensures (subst P c.in-Some-2.is c.in_ok-literals.ensures)
-    (ap (any_true (λ _. false)) (sym c.as_slice.ensures) ∙ sym c.is_any_at_start.ensures
-    ∙ c.if-is_any_at_start.false)
+    let Q : Option Fact → Type 0 = IsClauseTaken c.args.latches c.args.line.now in
+    subst Q (sym c.then_some.ensures)
+    (clause_taken c.args.latches c.args.line.now c.in-Some.words.now c.in-Some-2.literals
+    c.is_any_at_start-starts.result c.in-Some.ensures
+    (subst P c.in-Some-2.is c.in_ok-literals.ensures)
+    (c.is_any_at_start-starts.ensures ∙ ap (any_true (λ _. false)) c.as_slice.ensures))

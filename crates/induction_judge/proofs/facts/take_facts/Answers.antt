@@ -1,12 +1,12 @@
-use Rattle.std.proofs.Common.{◌+◌, ◌-◌, [], ◌∷◌, length, ◌∙◌, ap, subst, arith, length-append, Option}
+use Rattle.std.proofs.Common.{◌+◌, ◌-◌, [], ◌∷◌, length, ap, subst, arith, length-append, Option}
 use Rattle.std.specs.Option.{option_copied}
-use Rattle.hy_text.specs.Lines.{left_lines, left_len}
+use Rattle.hy_text.specs.Lines.{left_len}
 use Rattle.cnf_frames.specs.declared.facts.Fact.{Fact}
 use Rattle.cert_text.specs.InductionLines.{SaysFact}
 use Rattle.cert_text.proofs.OneReading.{one_fact}
 use Rattle.induction_judge.specs.Reading.{IsFactTaken}
 use Rattle.induction_judge.proofs.Starting.{all_taken, bad_fact, no_more_lines, one_start}
-use Rattle.induction_judge.proofs.Walking.{one_taken}
+use Rattle.induction_judge.proofs.Walking.{one_taken, cut_line}
 use Rattle.induction_judge.proofs.facts.take_facts.Goals as goal
 
 pub returns-in_default-clause-taken : goal.returns-in_default-clause-taken
@@ -14,9 +14,7 @@ returns-in_default-clause-taken c = λ facts rest said start.
     no_more_lines c.args.clauses c.args.text.now c.loop-i.left.now c.split_line.result.0.now c.args.count
     (c.args.count - c.loop-i._i) c.loop-i.facts (omega (arith, c.loop-i-test.true))
     c.loop-i.invariant.left
-    (c.split_line.ensures.lines
-    ∙ ap (λ o. c.split_line.result.0.now ∷ left_lines (option_copied o)) c.in_default.is)
-    facts rest said
+    (cut_line c.split_line.ensures.lines c.in_default.is) facts rest said
 
 pub returns-in_default-2-clause-taken : goal.returns-in_default-2-clause-taken
 returns-in_default-2-clause-taken c =
@@ -26,9 +24,7 @@ returns-in_default-2-clause-taken c =
     c.split_line.result.0.now c.args.count (c.args.count - c.loop-i._i)
     (c.args.count - (c.loop-i._i + 1)) c.loop-i.facts (omega (arith, c.loop-i-test.true))
     c.loop-i.invariant.left
-    (c.split_line.ensures.lines
-    ∙ ap (λ o. c.split_line.result.0.now ∷ left_lines (option_copied o)) c.in-Some.is)
-    (subst P c.in_default-2.is c.in_ok-fact.ensures)
+    (cut_line c.split_line.ensures.lines c.in-Some.is) (subst P c.in_default-2.is c.in_ok-fact.ensures)
 
 pub loop-i-preserved : goal.loop-i-preserved
 loop-i-preserved c =
@@ -43,9 +39,7 @@ loop-i-preserved c =
           c.split_line.result.0.now c.args.count (c.args.count - c.loop-i._i)
           (c.args.count - (c.loop-i._i + 1)) c.loop-i.facts c.push.new.self
           c.in-Some-2.fact (omega (arith, c.loop-i-test.true)) c.loop-i.invariant.left
-          (c.split_line.ensures.lines
-          ∙ ap (λ o. c.split_line.result.0.now ∷ left_lines (option_copied o)) c.in-Some.is)
-          says added;
+          (cut_line c.split_line.ensures.lines c.in-Some.is) says added;
       starts =
           one_start c.args.latches c.loop-i.facts c.push.new.self c.in-Some-2.fact
           c.loop-i.invariant.starts start added;

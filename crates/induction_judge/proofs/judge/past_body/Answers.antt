@@ -1,11 +1,11 @@
-use Rattle.std.proofs.Common.{ℕ, List, refl, subst, arith, Option}
+use Rattle.std.proofs.Common.{ℕ, List, refl, subst, arith, Option, ◌≤◌, length, IfSome}
 use denote.Ref.{Bor}
 use Rattle.std.proofs.lemmas.Result.{IfOk-weaker, IfErr-weaker, err_from_is_err_and}
 use Rattle.cnf_frames.specs.declared.queries.Asked.TheVariants.{Step}
 use Rattle.induction_judge.specs.Good.{IsRefusedOf}
 use Rattle.induction_judge.specs.Judged.{AreLogsJudged}
 use Rattle.induction_judge.specs.Reading.{AreFactsTaken}
-use Rattle.induction_judge.proofs.Whole.{Judges, Refuses, bad_facts, judged, read_so, refused, too_deep}
+use Rattle.induction_judge.proofs.Whole.{Judges, Refuses, bad_facts, judged, read_so, refused, too_deep, no_longer}
 use Rattle.induction_judge.proofs.judge.past_body.Goals as goal
 
 pub returns-then-depth-gt-MOST_DEPTH-clause-judged :
@@ -28,34 +28,32 @@ returns-in_default-clause-judged c = λ proof rest body good.
     c.latches_of-latches.result c.requires.safe c.latches_of-latches.ensures.count
     (subst P c.in_default.is c.in_ok-logs.ensures.taken) good
 
-pub returns-clause-judged : goal.returns-clause-judged
-returns-clause-judged c =
-    let P : Option (Bor (List ℕ)) → Type 0 =
-    λ o. AreFactsTaken c.args.head.0 c.latches_of-latches.result c.args.text.now c.args.head.2 o
-    c.take_facts.new.facts in
+pub returns : goal.returns
+returns c =
     let so = read_so c.args.head.0 c.args.safe.now c.latches_of-latches.result c.args.text.now
-    c.in-Some.logs.now c.args.head.1 c.args.head.2 c.take_facts.new.facts c.requires.safe
-    c.latches_of-latches.ensures.count (omega (arith, c.if-depth-gt-MOST_DEPTH.false))
-    c.in_ok-logs.ensures.starts (subst P c.in-Some.is c.in_ok-logs.ensures.taken) in
-    IfOk-weaker c.past_logs.result
-    (AreLogsJudged c.args.safe.now c.take_facts.new.facts c.args.head.1 c.in-Some.logs.now)
-    (Judges c.args.head.0 c.args.safe.now c.args.text.now c.args.head.1 c.args.head.2)
-    (judged c.args.head.0 c.args.safe.now c.args.text.now c.in-Some.logs.now c.args.head.1
-    c.args.head.2 c.take_facts.new.facts so)
-    c.past_logs.ensures.judged
-
-pub returns-clause-refused : goal.returns-clause-refused
-returns-clause-refused c =
-    let P : Option (Bor (List ℕ)) → Type 0 =
-    λ o. AreFactsTaken c.args.head.0 c.latches_of-latches.result c.args.text.now c.args.head.2 o
-    c.take_facts.new.facts in
-    let so = read_so c.args.head.0 c.args.safe.now c.latches_of-latches.result c.args.text.now
-    c.in-Some.logs.now c.args.head.1 c.args.head.2 c.take_facts.new.facts c.requires.safe
-    c.latches_of-latches.ensures.count (omega (arith, c.if-depth-gt-MOST_DEPTH.false))
-    c.in_ok-logs.ensures.starts (subst P c.in-Some.is c.in_ok-logs.ensures.taken) in
-    IfErr-weaker c.past_logs.result
-    (IsRefusedOf c.args.safe.now c.take_facts.new.facts c.args.head.1)
-    (Refuses c.args.head.0 c.args.safe.now c.args.text.now c.args.head.1 c.args.head.2)
-    (refused c.args.head.0 c.args.safe.now c.args.text.now c.in-Some.logs.now c.args.head.1
-    c.args.head.2 c.take_facts.new.facts so)
-    c.past_logs.ensures.refused
+    c.in-Some.logs c.args.head.1 c.args.head.2 c.take_facts.new.facts c.in_ok-logs.field-0
+    c.requires.safe c.latches_of-latches.ensures.count
+    (omega (arith, c.if-depth-gt-MOST_DEPTH.false)) c.in_ok-logs.ensures.starts
+    c.in_ok-logs.ensures.taken c.in-Some.is in
+    record {
+      judged =
+          IfOk-weaker c.past_logs.result
+          (AreLogsJudged c.args.safe.now c.take_facts.new.facts c.args.head.1 c.in-Some.logs.now)
+          (Judges c.args.head.0 c.args.safe.now c.args.text.now c.args.head.1 c.args.head.2)
+          (judged c.args.head.0 c.args.safe.now c.args.text.now c.in-Some.logs.now c.args.head.1
+          c.args.head.2 c.take_facts.new.facts so)
+          c.past_logs.ensures.judged;
+      refused =
+          IfErr-weaker c.past_logs.result
+          (IsRefusedOf c.args.safe.now c.take_facts.new.facts c.args.head.1)
+          (Refuses c.args.head.0 c.args.safe.now c.args.text.now c.args.head.1 c.args.head.2)
+          (refused c.args.head.0 c.args.safe.now c.args.text.now c.in-Some.logs.now c.args.head.1
+          c.args.head.2 c.take_facts.new.facts so)
+          c.past_logs.ensures.refused;
+      shorter =
+          let Q : Option (Bor (List ℕ)) → Type 0 =
+          λ o. IfSome o (λ left. length left.now ≤ length c.args.text.now) in
+          let behind = subst Q c.in-Some.is c.in_ok-logs.ensures.shorter in
+          IfOk-weaker c.past_logs.result _ _ (λ left. no_longer left
+          c.in-Some.logs.now c.args.text.now behind) c.past_logs.ensures.shorter;
+    }

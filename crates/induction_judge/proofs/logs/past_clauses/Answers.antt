@@ -2,8 +2,9 @@ use Rattle.std.proofs.Common.{◌≡◌, ℕ, ◌+◌, ◌-◌, ◌<◌, Bool, t
 use Rattle.std.specs.Option.{option_copied}
 use Rattle.chain_check.specs.Clauses.{Clause}
 use Rattle.chain_check.specs.Known.{Known}
-use Rattle.hy_text.specs.Lines.{left_lines, left_len}
+use Rattle.hy_text.specs.Lines.{left_len}
 use Rattle.cert_text.specs.Shortened.{IsLearnedRead}
+use Rattle.induction_judge.proofs.Walking.{cut_line}
 use Rattle.induction_judge.proofs.Ending.{going_first, going_on, cut_short, says_nothing, not_following, as_tried, at_end}
 use Rattle.induction_judge.proofs.logs.past_clauses.Goals as goal
 
@@ -24,9 +25,7 @@ returns-in_default-clause-judged c = λ log rest said refutes.
     c.loop-i.left.now c.split_line.result.0.now (c.args.count - c.loop-i._i)
     c.loop-i.checker.clauses ((0 < c.loop-i._i) × (c.loop-i.clause ≡ []))
     (omega (arith, c.loop-i-test.true))
-    (c.split_line.ensures.lines
-    ∙ ap (λ o. c.split_line.result.0.now ∷ left_lines (option_copied o)) c.in_default.is)
-    c.loop-i.invariant.going log rest said
+    (cut_line c.split_line.ensures.lines c.in_default.is) c.loop-i.invariant.going log rest said
 
 pub returns-then-not-branch-clause-judged : goal.returns-then-not-branch-clause-judged
 returns-then-not-branch-clause-judged c = λ log rest said refutes.
@@ -36,19 +35,14 @@ returns-then-not-branch-clause-judged c = λ log rest said refutes.
     c.loop-i.left.now c.in-Some.rest.now c.split_line.result.0.now (c.args.count - c.loop-i._i)
     (c.args.count - (c.loop-i._i + 1)) c.loop-i.checker.clauses
     ((0 < c.loop-i._i) × (c.loop-i.clause ≡ [])) (omega (arith, c.loop-i-test.true))
-    (c.split_line.ensures.lines
-    ∙ ap (λ o. c.split_line.result.0.now ∷ left_lines (option_copied o)) c.in-Some.is)
-    (subst P c.if-not-branch.true c.in_ok-read_learned.ensures)
+    (cut_line c.split_line.ensures.lines c.in-Some.is) (subst P c.if-not-branch.true c.in_ok-read_learned.ensures)
     c.loop-i.invariant.going log rest said
 
 pub returns-then-not-branch-2-clause-judged : goal.returns-then-not-branch-2-clause-judged
 returns-then-not-branch-2-clause-judged c =
     let P : Bool → Type 0 = λ b.
     IsLearnedRead c.split_line.result.0.now b c.read_learned.new.clause c.read_learned.new.chain in
-    let tried = as_tried c.loop-i.checker.variables c.args.checker.now.variables
-    c.loop-i.checker.clauses c.as_slice.result.now c.read_learned.new.clause
-    c.as_slice-in-loop-i.result.now c.read_learned.new.chain c.in_ok-next.field-0
-    c.loop-i.invariant.same c.as_slice.ensures c.as_slice-in-loop-i.ensures
+    let tried = as_tried c.loop-i.invariant.same c.as_slice.ensures c.as_slice-in-loop-i.ensures
     c.in_ok-next.ensures.exact in
     not_following c.args.checker.now.variables c.args.checker.now.clauses c.args.text.now c.args.count
     c.loop-i.left.now c.in-Some.rest.now c.split_line.result.0.now (c.args.count - c.loop-i._i)
@@ -57,9 +51,7 @@ returns-then-not-branch-2-clause-judged c =
     c.read_learned.new.chain c.requires.variables
     (omega (arith, c.loop-i.invariant.few, c.requires.few, c.requires.short))
     (omega (arith, c.loop-i-test.true))
-    (c.split_line.ensures.lines
-    ∙ ap (λ o. c.split_line.result.0.now ∷ left_lines (option_copied o)) c.in-Some.is)
-    (subst P c.if-not-branch.false c.in_ok-read_learned.ensures)
+    (cut_line c.split_line.ensures.lines c.in-Some.is) (subst P c.if-not-branch.false c.in_ok-read_learned.ensures)
     (λ follows.
     let clash : false ≡ true = sym c.if-not-branch-2.true ∙ tried.1 follows in absurd (cc))
     c.loop-i.invariant.going
@@ -68,10 +60,7 @@ pub loop-i-preserved : goal.loop-i-preserved
 loop-i-preserved c =
     let P : Bool → Type 0 = λ b.
     IsLearnedRead c.split_line.result.0.now b c.read_learned.new.clause c.read_learned.new.chain in
-    let tried = as_tried c.loop-i.checker.variables c.args.checker.now.variables
-    c.loop-i.checker.clauses c.as_slice.result.now c.read_learned.new.clause
-    c.as_slice-in-loop-i.result.now c.read_learned.new.chain c.in_ok-next.field-0
-    c.loop-i.invariant.same c.as_slice.ensures c.as_slice-in-loop-i.ensures
+    let tried = as_tried c.loop-i.invariant.same c.as_slice.ensures c.as_slice-in-loop-i.ensures
     c.in_ok-next.ensures.exact in
     let V : Known → ℕ = λ k. k.variables in
     let K : Known → List Clause = λ k. k.clauses in
@@ -103,9 +92,7 @@ loop-i-preserved c =
           c.read_learned.new.chain c.requires.variables
           (omega (arith, c.loop-i.invariant.few, c.requires.few, c.requires.short))
           (omega (arith, c.loop-i-test.true))
-          (c.split_line.ensures.lines
-          ∙ ap (λ o. c.split_line.result.0.now ∷ left_lines (option_copied o)) c.in-Some.is)
-          (subst P c.if-not-branch.false c.in_ok-read_learned.ensures)
+          (cut_line c.split_line.ensures.lines c.in-Some.is) (subst P c.if-not-branch.false c.in_ok-read_learned.ensures)
           (tried.0 c.if-not-branch-2.false) known (λ e. (omega arith, e), λ (_, e). e)
           c.loop-i.invariant.going;
     }

@@ -1,17 +1,13 @@
-use Rattle.std.proofs.Common.{◌∷◌, ◌∙◌, ap}
-use Rattle.std.specs.Option.{option_copied}
 use Rattle.std.proofs.lemmas.Result.{IfOk-weaker}
-use Rattle.hy_text.specs.Lines.{left_lines}
 use Rattle.induction_judge.specs.Reading.{AreClausesJudged, IsLogJudged}
+use Rattle.induction_judge.proofs.Walking.{cut_line}
 use Rattle.induction_judge.proofs.Ending.{log_judged, no_count}
 use Rattle.induction_judge.proofs.logs.past_log.Goals as goal
 
 pub returns-in_default-log_head-clause-judged : goal.returns-in_default-log_head-clause-judged
 returns-in_default-log_head-clause-judged c = λ log rest at refutes.
     no_count c.args.text.now c.in-Some.rest.now c.split_line.result.0.now log rest
-    (c.split_line.ensures.lines
-    ∙ ap (λ o. c.split_line.result.0.now ∷ left_lines (option_copied o)) c.in-Some.is)
-    c.in_default-log_head.ensures at
+    (cut_line c.split_line.ensures.lines c.in-Some.is) c.in_default-log_head.ensures at
 
 pub returns-clause-judged : goal.returns-clause-judged
 returns-clause-judged c =
@@ -21,7 +17,5 @@ returns-clause-judged c =
     (IsLogJudged c.args.checker.now.variables c.args.checker.now.clauses c.args.text.now)
     (log_judged c.args.checker.now.variables c.args.checker.now.clauses c.args.text.now
     c.in-Some.rest.now c.split_line.result.0.now c.in-Some-log_head.count
-    (c.split_line.ensures.lines
-    ∙ ap (λ o. c.split_line.result.0.now ∷ left_lines (option_copied o)) c.in-Some.is)
-    c.in-Some-log_head.ensures)
+    (cut_line c.split_line.ensures.lines c.in-Some.is) c.in-Some-log_head.ensures)
     c.past_clauses.ensures.judged
