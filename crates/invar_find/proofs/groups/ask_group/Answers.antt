@@ -22,8 +22,8 @@ pub walked-requires-clause-inside : goal.walked-requires-clause-inside
 walked-requires-clause-inside c =
     c.requires.searching.starting.inside
 
-pub returns-in-Satisfied-clause-searching : goal.returns-in-Satisfied-clause-searching
-returns-in-Satisfied-clause-searching c =
+pub returns-in_ok-facts-in-Satisfied-clause-searching : goal.returns-in_ok-facts-in-Satisfied-clause-searching
+returns-in_ok-facts-in-Satisfied-clause-searching c =
     (satisfied-left c.args.trial.now.safe.now c.args.trial.now.candidates.now c.args.trial.now.conflicts c.args.group c.args.facts.now _
     c.args.spent.now c.state_after-after.result.now c.in-Satisfied.values c.in_ok-cnf.cnf
     c.requires.safe c.requires.searching c.in_ok-cnf.ensures.query
@@ -35,8 +35,8 @@ returns-in-Satisfied-clause-searching c =
     c.as_slice.ensures)
     c.in_ok-facts-in-Satisfied.ensures).0
 
-pub returns-in-Satisfied-clause-reply : goal.returns-in-Satisfied-clause-reply
-returns-in-Satisfied-clause-reply c =
+pub returns-in_ok-facts-in-Satisfied-clause-reply : goal.returns-in_ok-facts-in-Satisfied-clause-reply
+returns-in_ok-facts-in-Satisfied-clause-reply c =
     (satisfied-left c.args.trial.now.safe.now c.args.trial.now.candidates.now c.args.trial.now.conflicts c.args.group c.args.facts.now _
     c.args.spent.now c.state_after-after.result.now c.in-Satisfied.values c.in_ok-cnf.cnf
     c.requires.safe c.requires.searching c.in_ok-cnf.ensures.query
@@ -48,8 +48,8 @@ returns-in-Satisfied-clause-reply c =
     c.as_slice.ensures)
     c.in_ok-facts-in-Satisfied.ensures).1
 
-pub returns-clause-searching : goal.returns-clause-searching
-returns-clause-searching c =
+pub returns-in_ok-push-in-Spent-clause-searching : goal.returns-in_ok-push-in-Spent-clause-searching
+returns-in_ok-push-in-Spent-clause-searching c =
     (spent-pushed c.args.trial.now.safe.now c.args.trial.now.candidates.now c.args.trial.now.conflicts c.args.group c.args.facts.now
     c.replace-asked.result c.in_ok-left-in-Spent.left c.replace-asked.new.dest c.args.spent.now
     c.push.new.self c.in-Spent.log c.in_ok-cnf.cnf c.requires.searching c.requires.group
@@ -60,8 +60,8 @@ returns-clause-searching c =
     c.in_ok-left-in-Spent.ensures c.replace-asked.ensures.value c.replace-asked.ensures.after
     c.in_ok-push-in-Spent.ensures.added).0
 
-pub returns-clause-reply : goal.returns-clause-reply
-returns-clause-reply c =
+pub returns-in_ok-push-in-Spent-clause-reply : goal.returns-in_ok-push-in-Spent-clause-reply
+returns-in_ok-push-in-Spent-clause-reply c =
     (spent-pushed c.args.trial.now.safe.now c.args.trial.now.candidates.now c.args.trial.now.conflicts c.args.group c.args.facts.now
     c.replace-asked.result c.in_ok-left-in-Spent.left c.replace-asked.new.dest c.args.spent.now
     c.push.new.self c.in-Spent.log c.in_ok-cnf.cnf c.requires.searching c.requires.group
