@@ -1,36 +1,35 @@
 //! The path that an assignment of a query stands for.
 
-ghost use Rattle.std.specs.Prelude.{◌≡◌, ◌+◌, ◌<◌, ◌^◌, false, length, slice_index_or, IfOk};
+ghost use Rattle.std.specs.Prelude.{◌≡◌, ◌+◌, ◌<◌, ◌≤◌, ◌^◌, false, length, slice_index_or, IfOk};
 ghost use Rattle.aig_net.specs.Executions.{Word};
 ghost use Rattle.hy_base.specs.Rows.{listed};
 ghost use Rattle.chain_check.specs.Clauses.{SatisfiesAll};
 ghost use Rattle.cnf_frames.specs.Facts.{IsSafe};
-ghost use Rattle.cnf_frames.specs.Queries.{IsQuery};
+ghost use Rattle.cnf_frames.specs.Queries.{clauses_of};
 ghost use Rattle.cnf_frames.specs.QueryPaths.{Answers, Shows, steps_of};
 
-use crate::queries::{Asked, Query};
+use crate::queries::Asked;
 use aig_net::Row;
 use hy_base::{List, M};
 use live_safe::{Path, SafeNet};
 use std::alloc::Global;
 
-impl Query {
+impl Asked {
     /// The path of an assignment that makes all clauses true: its first state, and the inputs of
     /// each step. A variable past the end of `values` is false. In time linear in the path.
     pub fn path(&self, alloc: Global, safe: &SafeNet, values: &List<bool>) -> M<Path>
         requires safe { IsSafe safe.now }
-        requires query { IsQuery safe.now self.now.asked self.now }
-        requires values { SatisfiesAll values.now self.now.cnf.clauses }
+        requires values { SatisfiesAll values.now (clauses_of safe.now self.now) }
         ensures path { IfOk result (λ path.
-            (word : Word) × Answers safe.now self.now.asked word × Shows safe.now path word) }
-        ensures steps { IfOk result (λ path. length path.inputs ≡ steps_of self.now.asked) }
+            (word : Word) × Answers safe.now self.now word × Shows safe.now path word) }
+        ensures steps { IfOk result (λ path. length path.inputs ≡ steps_of self.now) }
     {
         let net = &safe.net;
         let variables = net.variables() as usize;
         let inputs = net.inputs() as usize;
         let first = row_of(alloc, values.as_slice(), 1 + inputs, net.latches().len())?;
         let mut rows = List::new(alloc);
-        for i in 0..steps_asked(&self.asked) {
+        for i in 0..steps_asked(self) {
             rows.push(row_of(alloc, values.as_slice(), i * variables + 1, inputs)?)?;
         }
         Ok(Path {
@@ -42,7 +41,8 @@ impl Query {
 
 /// How many steps the paths have that answer.
 fn steps_asked(asked: &Asked) -> usize
-    ensures { result ≡ steps_of asked.now }
+    ensures steps { result ≡ steps_of asked.now }
+    ensures few { result ≤ 2 ^ 32 }
 {
     match asked {
         Asked::Base { k } => *k as usize,

@@ -49,7 +49,7 @@ impl Asker {
         let mut cnf = Cnf::new(alloc, variables)?;
         add_frames(&mut cnf, &safe.net, 1)?;
         add_facts(alloc, &mut cnf, &safe.net, 0, facts.as_slice())?;
-        let session = Session::new(alloc, &cnf)?;
+        let session = Session::owning(alloc, cnf)?;
         Ok(Asker {
             session,
             variables,

@@ -17,7 +17,7 @@ use chain_check::{Clauses, Cnf, Literal, Log};
 use cnf_frames::{FrameError, Inv, KeepFront, keep_front, keep_rest};
 use hy_base::M;
 use live_safe::SafeNet;
-use sat_core::{Outcome, solve};
+use sat_core::{Outcome, solve_owned};
 use std::alloc::Global;
 use std::mem;
 
@@ -115,7 +115,7 @@ pub fn ask_group(
     ensures refused { IfErr result (IsStoppedAt trial.now.safe.now trial.now.candidates.now) }
 {
     let cnf = keep_clauses(alloc, trial.safe, facts, front, group)?;
-    match solve(alloc, &cnf, trial.conflicts)? {
+    match solve_owned(alloc, cnf, trial.conflicts)? {
         Outcome::Refuted(log) => Ok(Some(log)),
         Outcome::Satisfied(values) => {
             let after = state_after(trial.safe, values.as_slice());

@@ -11,7 +11,7 @@ use chain_check::Log;
 use cnf_frames::{FrameError, Query, base_query};
 use hy_base::M;
 use live_safe::{Path, SafeNet};
-use sat_core::{Outcome, solve};
+use sat_core::{Outcome, solve_owned};
 use std::alloc::Global;
 
 /// What a query came to.
@@ -25,17 +25,17 @@ pub enum Reply {
     Spent(Log),
 }
 
-/// Asks a query, learning at most `conflicts` clauses.
-pub fn ask(alloc: Global, safe: &SafeNet, query: &Query, conflicts: u32) -> M<Reply>
+/// Asks a query, and takes up its clauses, learning at most `conflicts` clauses.
+pub fn ask(alloc: Global, safe: &SafeNet, query: Query, conflicts: u32) -> M<Reply>
     requires safe { IsSafe safe.now }
-    requires can_ask { CanAsk safe.now query.now.asked }
-    requires query { IsQuery safe.now query.now.asked query.now }
+    requires can_ask { CanAsk safe.now query.asked }
+    requires query { IsQuery safe.now query.asked query }
     requires conflicts { conflicts < 2 ^ 31 }
-    ensures { IfOk result (IsReply safe.now query.now.asked conflicts) }
+    ensures { IfOk result (IsReply safe.now query.asked conflicts) }
 {
-    match solve(alloc, &query.cnf, conflicts)? {
+    match solve_owned(alloc, query.cnf, conflicts)? {
         Outcome::Refuted(log) => Ok(Reply::Refuted(log)),
-        Outcome::Satisfied(values) => Ok(Reply::Answered(query.path(alloc, safe, &values)?)),
+        Outcome::Satisfied(values) => Ok(Reply::Answered(query.asked.path(alloc, safe, &values)?)),
         Outcome::Spent(log) => Ok(Reply::Spent(log)),
     }
 }
@@ -53,5 +53,5 @@ pub fn ask_base(alloc: Global, safe: &SafeNet, k: u32, conflicts: u32) -> Result
     ensures refused { IfErr result (IsRefusal safe.now (Base k)) }
 {
     let query = base_query(alloc, safe, k)?;
-    Ok(ask(alloc, safe, &query, conflicts)?)
+    Ok(ask(alloc, safe, query, conflicts)?)
 }

@@ -29,7 +29,7 @@ fn ask_step(
     ensures refused { IfErr result (IsRefusal safe.now (Step inv.now k)) }
 {
     let query = step_query(alloc, safe, inv, k)?;
-    Ok(ask(alloc, safe, &query, conflicts)?)
+    Ok(ask(alloc, safe, query, conflicts)?)
 }
 
 /// Asks, for each number of steps from 0 on, first whether a path of so many from the start reaches

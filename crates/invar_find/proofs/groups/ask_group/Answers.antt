@@ -22,8 +22,8 @@ pub walked-requires-clause-inside : goal.walked-requires-clause-inside
 walked-requires-clause-inside c =
     c.requires.searching.starting.inside
 
-pub returns-in-Satisfied : goal.returns-in-Satisfied
-returns-in-Satisfied c =
+pub returns-in_ok-facts-in-Satisfied : goal.returns-in_ok-facts-in-Satisfied
+returns-in_ok-facts-in-Satisfied c =
     let (searching, fewer) =
     satisfied-left c.args.trial.now.safe.now c.args.trial.now.candidates.now c.args.trial.now.conflicts c.args.group c.args.facts.now _
     c.args.spent.now c.state_after-after.result.now c.in-Satisfied.values c.in_ok-cnf.cnf
@@ -37,8 +37,8 @@ returns-in-Satisfied c =
     c.in_ok-facts-in-Satisfied.ensures in
     record { searching = searching; reply = fewer; refused = tt }
 
-pub returns : goal.returns
-returns c =
+pub returns-in_ok-push-in-Spent : goal.returns-in_ok-push-in-Spent
+returns-in_ok-push-in-Spent c =
     let (searching, fewer) =
     spent-pushed c.args.trial.now.safe.now c.args.trial.now.candidates.now c.args.trial.now.conflicts c.args.group c.args.facts.now
     c.replace-asked.result c.in_ok-left-in-Spent.left c.replace-asked.new.dest c.args.spent.now

@@ -2,7 +2,7 @@ use Rattle.std.proofs.Common.{◌≡◌, ◌+◌, ◌*◌}
 use Rattle.aig_net.specs.Nets.{variables}
 use Rattle.hy_base.specs.Rows.{listed}
 use Rattle.cnf_frames.proofs.Rows.{values_from}
-use Rattle.cnf_frames.proofs.queries.Query.path.Given as goal
+use Rattle.cnf_frames.proofs.queries.Asked.path.Given as goal
 
 -- the rows of the steps so far
 abbrev pub invariant-loop-i : goal.invariant-loop-i

@@ -1,11 +1,10 @@
-use Rattle.std.proofs.Common.{◌≡◌, ◌+◌, ◌*◌, List, length, ap, ◌∙◌, subst, arith}
+use Rattle.std.proofs.Common.{◌≡◌, ◌+◌, ◌*◌, length, ap, ◌∙◌, arith}
 use Rattle.aig_net.specs.Nets.{variables}
 use Rattle.hy_base.proofs.Listed.{length-listed}
-use Rattle.chain_check.specs.Clauses.{Clause, SatisfiesAll}
 use Rattle.cnf_frames.specs.QueryPaths.{word_of}
 use Rattle.cnf_frames.proofs.Answering.{answered}
 use Rattle.cnf_frames.proofs.Rows.{row_more, row-as, shown, values_from}
-use Rattle.cnf_frames.proofs.queries.Query.path.Goals as goal
+use Rattle.cnf_frames.proofs.queries.Asked.path.Goals as goal
 
 pub loop-i-preserved : goal.loop-i-preserved
 loop-i-preserved c =
@@ -20,23 +19,22 @@ loop-i-preserved c =
     c.in_ok-push.ensures.added
 
 pub returns-clause-path : goal.returns-clause-path
-returns-clause-path c =
-    let P : List Clause → Type 0 = SatisfiesAll c.args.values.now in (
-      word_of c.args.safe.now c.args.values.now,
-      answered c.args.safe.now c.args.self.now.asked c.args.values.now c.requires.safe
-          (subst P c.requires.query.clauses c.requires.values),
-      shown c.args.safe.now c.args.values.now _ c.loop-i.i
-          (row-as c.args.values.now c.as_slice.result.now (1 + c.inputs-inputs.result)
-          (1 + c.args.safe.now.net.inputs) c.len.result (length c.args.safe.now.net.latches)
-          c.in_ok-first.first c.in_ok-first.ensures c.as_slice.ensures
-          (ap (λ n. 1 + n) c.inputs-inputs.ensures)
-          (c.len.ensures ∙ ap length c.latches.ensures))
-          c.loop-i.invariant,
-    )
+returns-clause-path c = (
+  word_of c.args.safe.now c.args.values.now,
+  answered c.args.safe.now c.args.self.now c.args.values.now c.requires.safe
+      c.requires.values,
+  shown c.args.safe.now c.args.values.now _ c.loop-i.i
+      (row-as c.args.values.now c.as_slice.result.now (1 + c.inputs-inputs.result)
+      (1 + c.args.safe.now.net.inputs) c.len.result (length c.args.safe.now.net.latches)
+      c.in_ok-first.first c.in_ok-first.ensures c.as_slice.ensures
+      (ap (λ n. 1 + n) c.inputs-inputs.ensures)
+      (c.len.ensures ∙ ap length c.latches.ensures))
+      c.loop-i.invariant,
+)
 
 pub returns-clause-steps : goal.returns-clause-steps
 returns-clause-steps c =
     let long = length-listed 0 c.loop-i.i (λ i. values_from c.args.values.now
     (i * variables c.args.safe.now.net + 1) c.args.safe.now.net.inputs) in
     let all : c.loop-i.i ≡ c.steps_asked-i-end.result = omega arith in
-    ap length c.loop-i.invariant ∙ long ∙ all ∙ c.steps_asked-i-end.ensures
+    ap length c.loop-i.invariant ∙ long ∙ all ∙ c.steps_asked-i-end.ensures.steps
