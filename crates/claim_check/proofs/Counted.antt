@@ -6,17 +6,18 @@ use Rattle.hy_formula.specs.Formulas.{Plain}
 use Rattle.hy_formula.specs.Lassos.{Lasso}
 use Rattle.hy_formula.specs.Quantifiers.{Each}
 use Rattle.hy_formula.specs.declared.prefix.Quant.{Quant}
+use Rattle.hy_formula.specs.declared.classes.Class.{Class}
 use Rattle.hy_lasso.specs.Joint.{IsJudged}
 use Rattle.hy_lasso.specs.Limits.{joint_limit}
 use Rattle.ltl_closure.specs.declared.closure_error.ClosureError.{ClosureError}
 use Rattle.ltl_closure.specs.declared.closure_error.ClosureError.TheVariants as closures
 use Rattle.ea_reduce.specs.Fulfilled.{IsOfOneKind}
 use Rattle.ea_reduce.specs.Refused as plans
-use Rattle.ea_reduce.specs.Refused.{HasFewMaps, RefusesImplication, RefusesReduction, instances_limit}
+use Rattle.ea_reduce.specs.Refused.{HasFewMaps, RefusesImplication, RefusesReduction}
 use Rattle.ea_reduce.specs.declared.reduce_error.ReduceError.{ReduceError}
 use Rattle.ea_reduce.specs.declared.reduce_error.ReduceError.TheVariants.{Prefix as OfPrefix, Limit as OfLimit, Memory as OfMemory}
 use Rattle.ea_reduce.specs.Plans.{PlainPlan}
-use Rattle.rank_proofs.specs.Counts.{HasManyMembers, RefusesClosure}
+use Rattle.rank_proofs.specs.Counts.{HasFewMembers, HasManyMembers, RefusesClosure}
 use Rattle.aig_net.specs.Nets.{Net}
 use Rattle.net_names.specs.Names.{IsNameRefusal}
 use Rattle.net_names.specs.declared.name_error.NameError.{NameError}
@@ -24,14 +25,29 @@ use Rattle.net_names.specs.declared.name_error.NameError.TheVariants as bad_name
 use Rattle.cert_text.specs.Certificates.{Certificate}
 use Rattle.claim_check.specs.declared.error.CertError.{CertError}
 use Rattle.claim_check.specs.declared.error.CertError.TheVariants.{Prefix, Limit, Name, Text, Memory}
-use Rattle.claim_check.specs.Claims.{Claim, formula, implication, equivalence, circuit}
-use Rattle.claim_check.specs.Counting.{IsPast, IsWeighed, IsWithin, Stops, many_instances, many_members, many_positions}
+use Rattle.claim_check.specs.Claims.{Claim, formula, equivalence, circuit}
+use Rattle.claim_check.specs.Counting.{IsPast, IsWeighed, IsWithin, Stops, StopsPlan, many_instances, many_members, many_positions}
 use Rattle.claim_check.specs.Errors.{of_closure, of_names, of_plan}
 use Rattle.claim_check.specs.Good.{lassos_over, plan_against, reduction}
+use Rattle.claim_check.specs.Refuting.{HasFreeNet}
 use Rattle.claim_check.specs.Verdicts as verdicts
 use Rattle.claim_check.specs.Verdicts.{AnyOf, AreNamed, AreTaken, IsCounted, IsJudgement, IsLarge, IsSmall, PassesLimit, closures_of, large_query, plans_of, spelled_in}
 
 -- ---- plans
+
+-- plans of formulas within their limit have nets
+pub formula_net : (f : Plain) (plan : PlainPlan) → plan ≡ reduction f → HasFewMaps (reduction f)
+    → HasFreeNet plan
+formula_net f plan is few =
+    let P : PlainPlan → Type 0 = HasFreeNet in
+    subst P (sym is) (record { formulas = inl (f.prefix, f.body, refl); few = few })
+
+pub against_net : (f g : Plain) (plan : PlainPlan) → plan ≡ plan_against f g
+    → HasFewMaps (plan_against f g) → HasFreeNet plan
+against_net f g plan is few =
+    let P : PlainPlan → Type 0 = HasFreeNet in
+    subst P (sym is)
+    (record { formulas = inr (f.prefix, f.body, g.prefix, g.body, refl); few = few })
 
 pub reduction_stops : (names : List (List ℕ)) (f : Plain) (list : List (Lasso Letter))
     (e : ReduceError) → RefusesReduction f.prefix (reduction f) e
@@ -42,25 +58,22 @@ reduction_stops names f list (OfLimit limit) (taken, is, many) =
     subst P (sym is) (many_instances taken (inl many))
 reduction_stops names f list OfMemory refused = tt
 
-pub implication_stops : (names : List (List ℕ)) (f g : Plain) (list : List (Lasso Letter))
-    (e : ReduceError) → RefusesImplication f.prefix g.prefix (plan_against f g) e
-    → Stops names (implication f g) list (of_plan e)
-implication_stops names f g list (OfPrefix second found) refused = refused
-implication_stops names f g list (OfLimit limit) (one, two, is, many) =
-    let P : Past → Type 0 = λ l. IsPast (implication f g) list l in
-    subst P (sym is) (many_instances (one, two) (inl many))
-implication_stops names f g list OfMemory refused = tt
+-- the plan of one formula against another is one of the claim's
+module _ (names : List (List ℕ)) (claim : Claim) (list : List (Lasso Letter)) (f g : Plain)
+    (among : plans.HasManyMaps (plan_against f g) → AnyOf plans.HasManyMaps (plans_of claim)) where
+  pub implication_stops : (e : ReduceError)
+      → ((second : Bool) (found : Class) → plans.RefusesClass f.prefix g.prefix second found
+      → verdicts.RefusesClass claim second found)
+      → (IsOfOneKind f.prefix → IsOfOneKind g.prefix → AreTaken claim)
+      → RefusesImplication f.prefix g.prefix (plan_against f g) e
+      → Stops names claim list (of_plan e)
+  implication_stops (OfPrefix second found) class taken refused = class second found refused
+  implication_stops (OfLimit limit) class taken (one, two, is, many) =
+      let P : Past → Type 0 = λ l. IsPast claim list l in
+      subst P (sym is) (many_instances (taken one two) (among many))
+  implication_stops OfMemory class taken refused = tt
 
-pub there_stops : (names : List (List ℕ)) (f g : Plain) (list : List (Lasso Letter))
-    (e : ReduceError) → RefusesImplication f.prefix g.prefix (plan_against f g) e
-    → Stops names (equivalence f g) list (of_plan e)
-there_stops names f g list (OfPrefix second found) refused = refused
-there_stops names f g list (OfLimit limit) (one, two, is, many) =
-    let P : Past → Type 0 = λ l. IsPast (equivalence f g) list l in
-    subst P (sym is) (many_instances (one, two) (inl many))
-there_stops names f g list OfMemory refused = tt
-
-both-taken : (p q : List Quant) (which : Bool) (found : _) → IsOfOneKind p → IsOfOneKind q
+both-taken : (p q : List Quant) (which : Bool) (found : Class) → IsOfOneKind p → IsOfOneKind q
     → ¬ plans.RefusesClass p q which found
 both-taken p q false found one two (is, none) = none one
 both-taken p q true found one two (also, is, none) = none two
@@ -69,12 +82,10 @@ pub back_stops : (names : List (List ℕ)) (f g : Plain) (list : List (Lasso Let
     (e : ReduceError) → IsOfOneKind f.prefix → IsOfOneKind g.prefix
     → RefusesImplication g.prefix f.prefix (plan_against g f) e
     → Stops names (equivalence f g) list (of_plan e)
-back_stops names f g list (OfPrefix second found) one two refused =
-    absurd (both-taken g.prefix f.prefix second found two one refused)
-back_stops names f g list (OfLimit limit) one two (also, again, is, many) =
-    let P : Past → Type 0 = λ l. IsPast (equivalence f g) list l in
-    subst P (sym is) (many_instances (one, two) (inr (inl many)))
-back_stops names f g list OfMemory one two refused = tt
+back_stops names f g list e one two refused =
+    implication_stops names (equivalence f g) list g f (λ many. inr (inl many)) e
+    (λ second found bad. absurd (both-taken g.prefix f.prefix second found two one bad))
+    (λ _ _. (one, two)) refused
 
 -- ---- closures
 
@@ -85,23 +96,50 @@ pub closure_stops : (names : List (List ℕ)) (claim : Claim) (list : List (Lass
 closure_stops names claim list closures.Limit taken few large = many_members taken few (large refl)
 closure_stops names claim list closures.Memory taken few large = tt
 
--- the closure of a plan that is one of the claim's
-pub planned_stops : (names : List (List ℕ)) (claim : Claim) (list : List (Lasso Letter))
-    (plan : PlainPlan) (e : ClosureError) → AreTaken claim → Each HasFewMaps (plans_of claim)
-    → (HasManyMembers plan → AnyOf IsLarge (closures_of claim)) → RefusesClosure plan e
-    → Stops names claim list (of_closure e)
-planned_stops names claim list plan closures.Limit taken few large many =
-    many_members taken few (large many)
-planned_stops names claim list plan closures.Memory taken few large refused = tt
+-- the closure of a plan that is one of the claim's, and lassos
+module _ (names : List (List ℕ)) (claim : Claim) (list : List (Lasso Letter)) (plan : PlainPlan)
+    (taken : AreTaken claim) (few : Each HasFewMaps (plans_of claim))
+    (large : HasManyMembers plan → AnyOf IsLarge (closures_of claim)) where
+  pub planned_stops : (e : ClosureError) → RefusesClosure plan e → Stops names claim list (of_closure e)
+  planned_stops closures.Limit many = many_members taken few (large many)
+  planned_stops closures.Memory refused = tt
+
+  pub plan_stops : (HasFewMembers plan → Each IsSmall (closures_of claim)) → (e : CertError)
+      → StopsPlan plan list e → Stops names claim list e
+  plan_stops small (Prefix second found) stops = absurd stops
+  plan_stops small (Limit limit) stops =
+      let P : Past → Type 0 = λ l. IsPast claim list l in
+      elim stops [
+        | inl (many, is) ↦ subst P (sym is) (many_members taken few (large many))
+        | inr (members, none, is) ↦ subst P (sym is) (many_positions taken few (small members) none)
+      ]
+  plan_stops small (Name name twice) stops = absurd stops
+  plan_stops small (Text line) stops = absurd stops
+  plan_stops small Memory stops = tt
+
+pub closure_stops_plan : (plan : PlainPlan) (list : List (Lasso Letter)) (e : ClosureError)
+    → RefusesClosure plan e → StopsPlan plan list (of_closure e)
+closure_stops_plan plan list closures.Limit many = inl (many, refl)
+closure_stops_plan plan list closures.Memory refused = tt
 
 -- ---- lassos and names
+
+not_judged : (list : List (Lasso Letter)) (judged : Bool) → IsTrue judged ↔ IsJudged list
+    → judged ≡ false → ¬ IsJudged list
+not_judged list judged exactly none is = true≢false (sym (exactly.1 is) ∙ none)
+
+pub lassos_stop_plan : (plan : PlainPlan) (list : List (Lasso Letter)) (judged : Bool)
+    → HasFewMembers plan → IsTrue judged ↔ IsJudged list → judged ≡ false
+    → StopsPlan plan list (Limit joint_limit)
+lassos_stop_plan plan list judged few exactly none =
+    inr (few, not_judged list judged exactly none, refl)
 
 pub joint_stops : (names : List (List ℕ)) (claim : Claim) (list : List (Lasso Letter))
     (judged : Bool) → AreTaken claim → Each HasFewMaps (plans_of claim)
     → Each IsSmall (closures_of claim) → IsTrue judged ↔ IsJudged list → judged ≡ false
     → Stops names claim list (Limit joint_limit)
 joint_stops names claim list judged taken few small exactly none =
-    many_positions taken few small (λ is. true≢false (sym (exactly.1 is) ∙ none))
+    many_positions taken few small (not_judged list judged exactly none)
 
 pub names_stop : (names : List (List ℕ)) (net : Net) (f : Plain) (list : List (Lasso Letter))
     (e : NameError) → IsWithin (circuit net f) list → IsNameRefusal net names f.body e

@@ -1,5 +1,5 @@
 -- What is counted of a claim and of a list of lassos before evidence is judged, and where that stops.
-use Rattle.std.specs.Prelude.{ℕ, ◌↔◌, List, Bool, IsTrue, Result, Ok, Err}
+use Rattle.std.specs.Prelude.{◌≡◌, ◌⊎◌, ℕ, ◌↔◌, List, Bool, IsTrue, Result, Ok, Err}
 use Rattle.hy_base.specs.declared.limit.Limit.{Limit as Past}
 use Rattle.hy_bits.specs.Letter.{Letter}
 use Rattle.hy_formula.specs.Lassos.{Lasso}
@@ -7,7 +7,8 @@ use Rattle.hy_formula.specs.Quantifiers.{Each}
 use Rattle.hy_lasso.specs.Joint.{IsJudged}
 use Rattle.hy_lasso.specs.Limits.{joint_limit}
 use Rattle.ea_reduce.specs.Refused.{HasFewMaps, HasManyMaps, instances_limit}
-use Rattle.rank_proofs.specs.Counts.{closure_limit}
+use Rattle.ea_reduce.specs.Plans.{PlainPlan}
+use Rattle.rank_proofs.specs.Counts.{HasFewMembers, HasManyMembers, closure_limit}
 use Rattle.live_safe.specs.declared.safe_net.SafeNet.{SafeNet}
 use Rattle.cnf_frames.specs.declared.inductions.InductionProof.{InductionProof}
 use Rattle.cnf_frames.specs.declared.queries.FrameError.TheVariants as frame
@@ -42,6 +43,14 @@ Stops names claim list (Limit limit) = IsPast claim list limit
 Stops names claim list (Name name twice) = IsWithin claim list × RefusesName names claim name twice
 Stops names claim list (Text line) = ⊥
 Stops names claim list Memory = Unit {0}
+
+-- why a plan whose maps are within their limit is not judged with lassos
+abbrev pub StopsPlan : PlainPlan → List (Lasso Letter) → CertError → Type 0
+StopsPlan plan list (Limit limit) =
+    (HasManyMembers plan × (limit ≡ closure_limit))
+    ⊎ (HasFewMembers plan × (¬ IsJudged list) × (limit ≡ joint_limit))
+StopsPlan plan list Memory = Unit {0}
+StopsPlan plan list _ = ⊥
 
 -- why evidence was not judged, of which a query is refused so; want of memory needs no cause
 abbrev pub IsRefusalBy : (Past → Type 0) → CertError → Type 0

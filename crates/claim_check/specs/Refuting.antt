@@ -4,7 +4,7 @@ use denote.Ref.{Bor}
 use Rattle.hy_text.specs.Lines.{lines_of}
 use Rattle.ea_reduce.specs.Plans.{PlainPlan}
 use Rattle.ea_reduce.specs.Refused.{HasFewMaps}
-use Rattle.free_net.specs.Reduced.{IsReduced}
+use Rattle.free_net.specs.Reduced.{IsOfFormulas}
 use Rattle.cert_text.specs.Certificates.{Refutation}
 use Rattle.cert_text.specs.InductionLines.{SaysFreeHead}
 use Rattle.cert_text.specs.Lines.{Line}
@@ -15,7 +15,7 @@ use Rattle.claim_check.specs.Verdicts.{RefusesIn}
 
 -- The plan is one of which a free net is made, for which there is room.
 pub record HasFreeNet (plan : PlainPlan) : Type 0 where
-  pub reduced : IsReduced plan
+  pub formulas : IsOfFormulas plan
   pub few : HasFewMaps plan
 
 -- The first line is the head of a proof over a free net.

@@ -1,20 +1,21 @@
 //! What is counted of formulas, and of the lassos of a certificate, before evidence is judged.
 
-ghost use Rattle.std.specs.Prelude.{◌≡◌, ℕ, List, IfOk, IfErr, OnOk};
+ghost use Rattle.std.specs.Prelude.{◌≡◌, ℕ, All, List, IfOk, IfErr, OnOk};
 ghost use Rattle.hy_formula.specs.Formulas.{plain_formula};
-ghost use Rattle.ltl_closure.specs.Jobs.{closure_of};
+ghost use Rattle.hy_lasso.specs.Joint.{IsJudged};
+ghost use Rattle.ltl_closure.specs.Jobs.{IsMapped, closure_of};
 ghost use Rattle.ea_reduce.specs.Plans.{plain_plan, plan_tasks};
+ghost use Rattle.rank_proofs.specs.Counts.{HasFewMembers, RefusesClosure};
 ghost use Rattle.claim_check.specs.Claims.{equivalence, formula, implication as one_implication};
-ghost use Rattle.claim_check.specs.Counting.{IsWithin, Stops};
+ghost use Rattle.claim_check.specs.Counting.{IsWithin, Stops, StopsPlan};
 ghost use Rattle.claim_check.specs.Good.{plan_against, reduction};
 ghost use Rattle.claim_check.specs.Refuting.{HasFreeNet};
 
 use crate::error::CertError;
 use ea_reduce::{Plan, implication, reduce};
-use free_net::laws::plans_are_reduced;
 use hy_formula::Formula;
 use hy_lasso::{LassoList, are_judged};
-use ltl_closure::Closure;
+use ltl_closure::{Closure, ClosureError};
 use rank_proofs::plan_closure;
 use std::alloc::Global;
 
@@ -42,13 +43,9 @@ pub fn plan_formula(alloc: Global, f: &Formula, list: &LassoList) -> Result<Plan
     ensures stopped { IfErr result (λ e. (names : List (List ℕ))
         → Stops names (formula (plain_formula f.now)) list.now e) }
 {
-    plans_are_reduced(); // what each plan is
     let plan = reduce(alloc, f)?;
-    let closure = plan_closure(alloc, &plan)?;
-    if !are_judged(list) {
-        return Err(CertError::joint());
-    }
-    Ok(Planned { plan, closure })
+    let made = with_lassos(alloc, plan, list)?;
+    Ok(made)
 }
 
 /// The plan that the first formula is to hold and the second one is not, where it, its closure and
@@ -67,13 +64,9 @@ pub fn plan_implication(
     ensures stopped { IfErr result (λ e. (names : List (List ℕ))
         → Stops names (one_implication (plain_formula f.now) (plain_formula g.now)) list.now e) }
 {
-    plans_are_reduced(); // what each plan is
     let plan = implication(alloc, f, g)?;
-    let closure = plan_closure(alloc, &plan)?;
-    if !are_judged(list) {
-        return Err(CertError::joint());
-    }
-    Ok(Planned { plan, closure })
+    let made = with_lassos(alloc, plan, list)?;
+    Ok(made)
 }
 
 /// The plans of both directions, where they, their closures and the lassos are within their limits.
@@ -95,19 +88,35 @@ pub fn plan_equivalence(
     ensures stopped { IfErr result (λ e. (names : List (List ℕ))
         → Stops names (equivalence (plain_formula f.now) (plain_formula g.now)) list.now e) }
 {
-    plans_are_reduced(); // what each plan is
     let plan = implication(alloc, f, g)?;
     let converse = implication(alloc, g, f)?;
+    let there = with_closure(alloc, plan)?;
+    let back = with_lassos(alloc, converse, list)?;
+    Ok(BothPlanned { there, back })
+}
+
+/// The plan and its closure, where that is within its limit.
+fn with_closure(alloc: Global, plan: Plan) -> Result<Planned, ClosureError>
+    requires { All IsMapped plan.jobs }
+    ensures plan { IfOk result (λ made. made.plan ≡ plan) }
+    ensures few { OnOk result (HasFewMembers (plain_plan plan)) }
+    ensures refused { IfErr result (RefusesClosure (plain_plan plan)) }
+{
     let closure = plan_closure(alloc, &plan)?;
-    let other = plan_closure(alloc, &converse)?;
+    Ok(Planned { plan, closure })
+}
+
+/// The same where the lassos are within theirs too.
+fn with_lassos(alloc: Global, plan: Plan, list: &LassoList) -> Result<Planned, CertError>
+    requires { All IsMapped plan.jobs }
+    ensures plan { IfOk result (λ made. made.plan ≡ plan) }
+    ensures few { OnOk result (HasFewMembers (plain_plan plan)) }
+    ensures judged { OnOk result (IsJudged list.now) }
+    ensures stopped { IfErr result (StopsPlan (plain_plan plan) list.now) }
+{
+    let made = with_closure(alloc, plan)?;
     if !are_judged(list) {
         return Err(CertError::joint());
     }
-    Ok(BothPlanned {
-        there: Planned { plan, closure },
-        back: Planned {
-            plan: converse,
-            closure: other,
-        },
-    })
+    Ok(made)
 }

@@ -19,6 +19,7 @@ ghost use Rattle.claim_check.specs.Verdicts.{RefusesEither, RefusesIn};
 use crate::counting::{BothPlanned, Planned};
 use crate::error::CertError;
 use cert_text::free_head;
+use free_net::laws::formulas_are_reduced;
 use free_net::plan_safe;
 use hy_base::{M, Memory};
 use hy_formula::Formula;
@@ -135,6 +136,7 @@ fn past_free<'a>(
     ensures shorter { IfOk result
         (λ left. IfSome left (λ left. length left.now ≤ length text.now)) }
 {
+    formulas_are_reduced(); // what each plan is
     let safe = plan_safe(alloc, &planned.plan, &planned.closure)?;
     let left = judge_free(alloc, &safe, text)?;
     Ok(left)

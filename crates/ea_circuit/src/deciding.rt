@@ -4,19 +4,20 @@ ghost use Rattle.std.specs.Prelude.{◌≡◌, ◌<◌, ◌^◌, IfErr, IfOk};
 ghost use Rattle.ltl_closure.specs.Jobs.{closure_of};
 ghost use Rattle.ea_reduce.specs.Plans.{plain_plan, plan_tasks};
 ghost use Rattle.ea_reduce.specs.Refused.{HasFewMaps};
-ghost use Rattle.free_net.specs.Reduced.{ArePlanNets, IsReduced};
+ghost use Rattle.free_net.specs.Reduced.{ArePlanNets, IsOfFormulas, IsReduced};
 ghost use Rattle.ea_circuit.specs.Found.{AreFound, IsFound};
 ghost use Rattle.ea_circuit.specs.Refused.{RefusesBoth, RefusesWork};
 
 use crate::circuit_error::{CircuitError, work_error};
 use crate::found::{Found, FoundBoth, Unknown};
-use crate::lassos::lassos_of;
 use ea_reduce::Plan;
-use free_net::laws::paths_fulfil;
+use formula_nets::traces_of;
+use free_net::laws::{formulas_are_reduced, paths_fulfil};
 use free_net::{PlanNets, plan_nets};
 use ltl_closure::Closure;
 use mc_core::{Ask, Decision, decide};
 use std::alloc::Global;
+use wit_lasso::unfold;
 
 /// Decides whether some lassos fulfil a plan, whose closure this is.
 pub fn decide_plan(
@@ -26,17 +27,19 @@ pub fn decide_plan(
     ask: &Ask,
 ) -> Result<Found, CircuitError>
     requires closure { closure.now ≡ closure_of (plan_tasks (plain_plan plan.now)) }
-    requires reduced { IsReduced (plain_plan plan.now) }
+    requires formulas { IsOfFormulas (plain_plan plan.now) }
     requires few { HasFewMaps (plain_plan plan.now) }
     requires conflicts { ask.now.conflicts < 2 ^ 31 }
     ensures found { IfOk result (IsFound (plain_plan plan.now) ask.now) }
     ensures refused { IfErr result (RefusesWork (plain_plan plan.now) ask.now) }
 {
+    formulas_are_reduced(); // what each plan is
     let nets = plan_nets(alloc, plan, closure)?;
     decide_nets(alloc, plan, &nets, ask)
 }
 
-/// The same where these are the nets of the plan.
+/// The same where these are the nets of the plan. The lassos for which a path stands are made in time
+/// linear in the net for each step of the path and each variable.
 fn decide_nets(
     alloc: Global,
     plan: &Plan,
@@ -57,7 +60,9 @@ fn decide_nets(
     match decision {
         Decision::Safe(proof) => Ok(Found::Unsat(proof)),
         Decision::Path(path) | Decision::FarPath(path) => {
-            Ok(Found::Sat(lassos_of(alloc, plan, nets, &path)?))
+            let runs = unfold(alloc, &nets.inputs, plan.vars, &nets.safe, &path)?;
+            let lassos = traces_of(alloc, &nets.inputs, runs.as_slice(), &nets.signals)?;
+            Ok(Found::Sat(lassos))
         }
         Decision::Depth { kept, path } => Ok(Found::Unknown(Unknown::Depth { kept, path })),
         Decision::Spent { k, step, kept, log } => {
@@ -77,7 +82,8 @@ pub fn decide_both(
 ) -> Result<FoundBoth, CircuitError>
     requires closures { (closure.now ≡ closure_of (plan_tasks (plain_plan plan.now)))
         × (back.now ≡ closure_of (plan_tasks (plain_plan converse.now))) }
-    requires reduced { IsReduced (plain_plan plan.now) × IsReduced (plain_plan converse.now) }
+    requires formulas { IsOfFormulas (plain_plan plan.now)
+        × IsOfFormulas (plain_plan converse.now) }
     requires few { HasFewMaps (plain_plan plan.now) × HasFewMaps (plain_plan converse.now) }
     requires conflicts { ask.now.conflicts < 2 ^ 31 }
     ensures found { IfOk result (AreFound (plain_plan plan.now) (plain_plan converse.now)

@@ -5,7 +5,6 @@
 mod circuit_error;
 mod deciding;
 mod found;
-mod lassos;
 mod questions;
 
 pub use circuit_error::CircuitError;

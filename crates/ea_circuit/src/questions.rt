@@ -14,7 +14,6 @@ use crate::circuit_error::CircuitError;
 use crate::deciding::{decide_both, decide_plan};
 use crate::found::{Found, FoundBoth};
 use ea_reduce::{implication, reduce};
-use free_net::laws::plans_are_reduced;
 use hy_formula::Formula;
 use mc_core::Ask;
 use rank_proofs::plan_closure;
@@ -34,7 +33,6 @@ pub fn decide(alloc: Global, f: &Formula, ask: &Ask) -> Result<Found, CircuitErr
     ensures counted { OnOk result (IsCounted (plans.reduction f.now.prefix (tree_of f.now.body))) }
     ensures refused { IfErr result (Undecided f.now.prefix (tree_of f.now.body) ask.now) }
 {
-    plans_are_reduced(); // what each plan is
     let plan = reduce(alloc, f)?;
     let closure = plan_closure(alloc, &plan)?;
     decide_plan(alloc, &plan, &closure, ask)
@@ -57,7 +55,6 @@ pub fn implies(alloc: Global, a: &Formula, b: &Formula, ask: &Ask) -> Result<Fou
     ensures refused { IfErr result (UndecidedImplication a.now.prefix (tree_of a.now.body)
         b.now.prefix (tree_of b.now.body) ask.now) }
 {
-    plans_are_reduced(); // what each plan is
     let plan = implication(alloc, a, b)?;
     let closure = plan_closure(alloc, &plan)?;
     decide_plan(alloc, &plan, &closure, ask)
@@ -87,7 +84,6 @@ pub fn equivalent(
     ensures refused { IfErr result (UndecidedEquivalence a.now.prefix (tree_of a.now.body)
         b.now.prefix (tree_of b.now.body) ask.now) }
 {
-    plans_are_reduced(); // what each plan is
     let plan = implication(alloc, a, b)?;
     let converse = implication(alloc, b, a)?;
     let closure = plan_closure(alloc, &plan)?;

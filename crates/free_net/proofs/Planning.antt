@@ -1,5 +1,5 @@
 -- What plans of formulas are, and that there is room for their nets.
-use Rattle.std.proofs.Common.{◌≡◌, ℕ, zero, suc, ◌+◌, ◌*◌, ◌^◌, ◌<◌, ◌≤◌, Bool, true, false, List, [], ◌∷◌, length, map, All, refl, ap, arith, length-append}
+use Rattle.std.proofs.Common.{◌≡◌, ℕ, zero, suc, ◌+◌, ◌*◌, ◌^◌, ◌<◌, ◌≤◌, Bool, true, false, List, [], ◌∷◌, length, map, All, refl, ap, arith, length-append, inl, inr, sym, subst}
 use Rattle.std.proofs.lemmas.Nat.{mul-le}
 use Rattle.hy_formula.specs.Quantifiers.{turned}
 use Rattle.hy_formula.specs.Trees.{Tree}
@@ -13,7 +13,7 @@ use Rattle.ea_reduce.proofs.Jobs.{below-append, below-by}
 use Rattle.ea_reduce.proofs.Maps.{are-below}
 use Rattle.formula_nets.specs.SafeNets.{safe_over}
 use Rattle.free_net.specs.FreeNets.{plan_inputs, plan_names, plan_safe, plan_signals}
-use Rattle.free_net.specs.Reduced.{IsReduced}
+use Rattle.free_net.specs.Reduced.{IsOfFormulas, IsReduced}
 use Rattle.free_net.proofs.Naming.{names-few}
 use Rattle.free_net.proofs.Roots.{roots-many}
 
@@ -27,7 +27,7 @@ lassos-most : (n : ℕ) → n ≤ lassos_for n
 lassos-most zero = omega arith
 lassos-most (suc n) = omega arith
 
-pub reduction-reduced : (prefix : List Quant) (body : Tree) → IsReduced (reduction prefix body)
+reduction-reduced : (prefix : List Quant) (body : Tree) → IsReduced (reduction prefix body)
 reduction-reduced prefix body =
     let vars : ℕ = lassos_for (existentials prefix) in
     let some : 0 < vars = lassos-some (existentials prefix) in
@@ -39,7 +39,7 @@ reduction-reduced prefix body =
       jobs = omega arith;
     }
 
-pub implication-reduced : (first : List Quant) (body : Tree) (second : List Quant) (other : Tree) →
+implication-reduced : (first : List Quant) (body : Tree) (second : List Quant) (other : Tree) →
     IsReduced (implication first body second other)
 implication-reduced first body second other =
     let next : ℕ = existentials first in
@@ -55,6 +55,11 @@ implication-reduced first body second other =
           (below-by vars other false (maps_of vars next back) (are-below vars next back some most)) tt);
       jobs = omega arith;
     }
+
+pub formulas-reduced : (plan : PlainPlan) → IsOfFormulas plan → IsReduced plan
+formulas-reduced plan (inl (prefix, body, is)) = subst IsReduced (sym is) (reduction-reduced prefix body)
+formulas-reduced plan (inr (first, body, second, other, is)) =
+    subst IsReduced (sym is) (implication-reduced first body second other)
 
 -- ---- how many roots they have, and how large their nets are
 

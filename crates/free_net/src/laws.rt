@@ -3,12 +3,10 @@
 ghost use Rattle.std.specs.Prelude.{◌≡◌, ◌↔◌, ℕ, ◌<◌, ◌≤◌, ◌^◌, List, length, IsTrue};
 ghost use Rattle.hy_bits.specs.Letter.{Letter};
 ghost use Rattle.hy_formula.specs.Lassos as letters;
-ghost use Rattle.hy_formula.specs.Trees.{Tree};
-ghost use Rattle.hy_formula.specs.declared.prefix.Quant.{Quant};
 ghost use Rattle.hy_lasso.specs.Words.{lasso_words};
 ghost use Rattle.ltl_closure.specs.Jobs.{task_nodes};
 ghost use Rattle.ea_reduce.specs.Fulfilled.{Fulfils, IsFulfillable};
-ghost use Rattle.ea_reduce.specs.Plans.{PlainPlan, implication, plan_tasks, reduction};
+ghost use Rattle.ea_reduce.specs.Plans.{PlainPlan, plan_tasks};
 ghost use Rattle.ea_reduce.specs.Refused.{HasFewMaps};
 ghost use Rattle.aig_net.specs.declared.run.Run.{Run};
 ghost use Rattle.aig_net.specs.Executions.{Word};
@@ -17,16 +15,14 @@ ghost use Rattle.live_safe.specs.Paths.{IsBadPath};
 ghost use Rattle.wit_lasso.specs.Unfoldings.{AreUnfolded};
 ghost use Rattle.formula_nets.specs.Witnesses.{AreTraces};
 ghost use Rattle.free_net.specs.FreeNets.{HasName, plan_inputs, plan_safe, plan_signals, plan_tableau};
-ghost use Rattle.free_net.specs.Reduced.{IsReduced};
+ghost use Rattle.free_net.specs.Reduced.{IsOfFormulas, IsReduced};
 
 use aig_net::one_execution;
 use formula_nets::safe_nets_over_are_small;
 
-/// What the plans of a formula and of an implication are.
-pub fn plans_are_reduced()
-    ensures reduction { (prefix : List Quant) (body : Tree) → IsReduced (reduction prefix body) }
-    ensures implication { (first : List Quant) (body : Tree) (second : List Quant) (other : Tree)
-        → IsReduced (implication first body second other) }
+/// What the plans of formulas are.
+pub fn formulas_are_reduced()
+    ensures { (plan : PlainPlan) → IsOfFormulas plan → IsReduced plan }
 {}
 
 /// There is room for the safe net of a plan of few lassos, maps and members.

@@ -101,7 +101,7 @@ fn below(alloc: Global, safe: &SafeNet, target: &[u32]) -> M<Vec<bool>> {
             mark(marks.as_mut_slice(), safe.bad);
         }
     }
-    mark_below(net, marks.as_mut_slice());
+    mark_below(net, marks.as_mut_slice(), false);
     Ok(marks)
 }
 

@@ -13,16 +13,24 @@ pub(crate) fn mark(marks: &mut [bool], literal: u32) {
     }
 }
 
-/// Marks what the marked ands depend on in the same frame, in time linear in the net.
-pub(crate) fn mark_below(net: &Net, marks: &mut [bool]) {
+/// The same of a literal that is true where its variable is 1; of others too where not `ones`.
+pub(crate) fn mark_any(marks: &mut [bool], literal: u32, ones: bool) {
+    if !ones || literal % 2 == 0 {
+        mark(marks, literal);
+    }
+}
+
+/// Marks what the marked ands depend on in the same frame, or, where `ones`, what they make 1; in
+/// time linear in the net.
+pub(crate) fn mark_below(net: &Net, marks: &mut [bool], ones: bool) {
     let first = first_and(net) as usize;
     let ands = net.ands().as_slice();
     for back in 0..ands.len() {
         let i = ands.len() - 1 - back;
         if marks.get(first + i) == Some(&true) {
             let gate = ands[i];
-            mark(marks, gate.left);
-            mark(marks, gate.right);
+            mark_any(marks, gate.left, ones);
+            mark_any(marks, gate.right, ones);
         }
     }
 }
@@ -33,7 +41,7 @@ fn constrained_variables(alloc: Global, net: &Net) -> M<Vec<bool>> {
     for literal in net.constraints().as_slice() {
         mark(marks.as_mut_slice(), *literal);
     }
-    mark_below(net, marks.as_mut_slice());
+    mark_below(net, marks.as_mut_slice(), false);
     Ok(marks)
 }
 

@@ -3,6 +3,7 @@
 
 ghost use Rattle.aig_net.specs.Nets.{variables};
 
+use crate::constrained::{mark_any, mark_below};
 use crate::cubes::Cube;
 use crate::variables::{first_and, first_latch};
 use aig_net::Net;
@@ -12,36 +13,18 @@ use std::alloc::Global;
 
 /// The bad states.
 pub(crate) fn bad_states(alloc: Global, safe: &SafeNet) -> M<Cube> {
-    safe.net.variables(); // what each net keeps
+    let behind = first_and(&safe.net) - first_latch(&safe.net);
     let mut target = List::new(alloc);
-    target.push(2 * safe.net.latches().len() as u32)?;
+    target.push(2 * behind)?;
     Ok(target)
-}
-
-/// Marks the variable that is 1 where the literal is true.
-fn mark_true(marks: &mut [bool], literal: u32) {
-    if literal % 2 == 0
-        && let Some(marked) = marks.get_mut(literal as usize / 2)
-    {
-        *marked = true;
-    }
 }
 
 /// For each variable whether ands alone make it 1 wherever the literal is true, in time linear in
 /// the net.
 fn implied(alloc: Global, net: &Net, literal: u32) -> M<Vec<bool>> {
     let mut marks = vec![in alloc; false; net.variables() as usize]?;
-    mark_true(marks.as_mut_slice(), literal);
-    let first = first_and(net) as usize;
-    let ands = net.ands().as_slice();
-    for back in 0..ands.len() {
-        let i = ands.len() - 1 - back;
-        if marks.get(first + i) == Some(&true) {
-            let gate = ands[i];
-            mark_true(marks.as_mut_slice(), gate.left);
-            mark_true(marks.as_mut_slice(), gate.right);
-        }
-    }
+    mark_any(marks.as_mut_slice(), literal, true);
+    mark_below(net, marks.as_mut_slice(), true);
     Ok(marks)
 }
 

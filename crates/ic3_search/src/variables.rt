@@ -15,7 +15,8 @@ pub(crate) fn first_latch(net: &Net) -> u32
 
 /// The variable of the first and.
 pub(crate) fn first_and(net: &Net) -> u32
-    ensures { result + length net.now.ands ≤ 2 ^ 31 }
+    ensures first { result ≡ suc net.now.inputs + length net.now.latches }
+    ensures room { result + length net.now.ands ≤ 2 ^ 31 }
 {
     first_latch(net) + net.latches().len() as u32
 }

@@ -1,22 +1,16 @@
-use Rattle.std.proofs.Common.{inl, subst, sym}
+use Rattle.std.proofs.Common.{inl, ◌∙◌, ap, subst}
 use Rattle.std.proofs.lemmas.Result.{err_from_is_err_and}
 use Rattle.hy_formula.specs.Formulas.{plain_formula}
 use Rattle.ea_reduce.specs.Plans.{PlainPlan, plain_plan}
 use Rattle.rank_proofs.specs.Counts.{HasFewMembers, HasManyMembers}
-use Rattle.hy_formula.specs.Trees.{tree_of}
-use Rattle.claim_check.specs.Refuting.{HasFreeNet}
 use Rattle.claim_check.specs.Claims.{formula}
-use Rattle.claim_check.proofs.Counted.{joint_stops, planned_stops, reduction_stops}
+use Rattle.claim_check.proofs.Counted.{formula_net, plan_stops, reduction_stops}
 use Rattle.claim_check.proofs.counting.plan_formula.Goals as goal
 
 pub returns-clause-net : goal.returns-clause-net
 returns-clause-net c =
-    let P : PlainPlan → Type 0 = HasFreeNet in
-    subst P (sym c.in_ok-plan.ensures.plan) (record {
-      reduced =
-          c.plans_are_reduced.ensures.reduction c.args.f.now.prefix (tree_of c.args.f.now.body);
-      few = c.in_ok-plan.ensures.few;
-    })
+    formula_net (plain_formula c.args.f.now) (plain_plan c.in_ok-made.made.plan)
+    (ap plain_plan c.in_ok-made.ensures.plan ∙ c.in_ok-plan.ensures.plan) c.in_ok-plan.ensures.few
 
 pub returns-in_err-plan-clause-stopped : goal.returns-in_err-plan-clause-stopped
 returns-in_err-plan-clause-stopped c =
@@ -24,21 +18,15 @@ returns-in_err-plan-clause-stopped c =
     rw (p.1, p.2) (λ names.
     reduction_stops names (plain_formula c.args.f.now) c.args.list.now c.in_err-plan.field-0.0 c.in_err-plan.ensures.refused)
 
-pub returns-in_err-closure-clause-stopped : goal.returns-in_err-closure-clause-stopped
-returns-in_err-closure-clause-stopped c =
-    let p = err_from_is_err_and c.from_residual-in_err-closure.result
-    c.from_residual-in_err-closure.ensures.1 in
+pub returns-in_err-made-clause-stopped : goal.returns-in_err-made-clause-stopped
+returns-in_err-made-clause-stopped c =
+    let p = err_from_is_err_and c.from_residual-in_err-made.result
+    c.from_residual-in_err-made.ensures.1 in
     let Many : PlainPlan → Type 0 = HasManyMembers in
-    rw (p.1, p.2) (λ names.
-    planned_stops names (formula (plain_formula c.args.f.now)) c.args.list.now (plain_plan c.in_ok-plan.plan) c.in_err-closure.field-0.0 c.in_ok-plan.ensures.taken
-    (c.in_ok-plan.ensures.few, tt) (λ many. inl (subst Many c.in_ok-plan.ensures.plan many))
-    c.in_err-closure.ensures.refused)
-
-pub returns-then-not-are_judged-clause-stopped : goal.returns-then-not-are_judged-clause-stopped
-returns-then-not-are_judged-clause-stopped c =
     let Small : PlainPlan → Type 0 = HasFewMembers in
-    rw c.joint.ensures (λ names.
-    joint_stops names (formula (plain_formula c.args.f.now)) c.args.list.now c.are_judged.result c.in_ok-plan.ensures.taken
-    (c.in_ok-plan.ensures.few, tt)
-    (subst Small c.in_ok-plan.ensures.plan c.in_ok-closure.ensures.few, tt)
-    c.are_judged.ensures c.if-not-are_judged.true)
+    rw (p.1, p.2) (λ names.
+    plan_stops names (formula (plain_formula c.args.f.now)) c.args.list.now
+    (plain_plan c.in_ok-plan.plan) c.in_ok-plan.ensures.taken (c.in_ok-plan.ensures.few, tt)
+    (λ many. inl (subst Many c.in_ok-plan.ensures.plan many))
+    (λ few. (subst Small c.in_ok-plan.ensures.plan few, tt)) c.in_err-made.field-0.0
+    c.in_err-made.ensures.stopped)

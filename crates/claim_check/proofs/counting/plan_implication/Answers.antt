@@ -1,45 +1,34 @@
-use Rattle.std.proofs.Common.{inl, subst, sym}
+use Rattle.std.proofs.Common.{inl, ◌∙◌, ap, subst}
 use Rattle.std.proofs.lemmas.Result.{err_from_is_err_and}
 use Rattle.hy_formula.specs.Formulas.{plain_formula}
 use Rattle.ea_reduce.specs.Plans.{PlainPlan, plain_plan}
 use Rattle.rank_proofs.specs.Counts.{HasFewMembers, HasManyMembers}
-use Rattle.hy_formula.specs.Trees.{tree_of}
-use Rattle.claim_check.specs.Refuting.{HasFreeNet}
 use Rattle.claim_check.specs.Claims.{implication}
-use Rattle.claim_check.proofs.Counted.{joint_stops, planned_stops, implication_stops}
+use Rattle.claim_check.proofs.Counted.{against_net, implication_stops, plan_stops}
 use Rattle.claim_check.proofs.counting.plan_implication.Goals as goal
 
 pub returns-clause-net : goal.returns-clause-net
 returns-clause-net c =
-    let P : PlainPlan → Type 0 = HasFreeNet in
-    subst P (sym c.in_ok-plan.ensures.plan) (record {
-      reduced =
-          c.plans_are_reduced.ensures.implication c.args.f.now.prefix (tree_of c.args.f.now.body)
-          c.args.g.now.prefix (tree_of c.args.g.now.body);
-      few = c.in_ok-plan.ensures.few;
-    })
+    against_net (plain_formula c.args.f.now) (plain_formula c.args.g.now) (plain_plan c.in_ok-made.made.plan)
+    (ap plain_plan c.in_ok-made.ensures.plan ∙ c.in_ok-plan.ensures.plan) c.in_ok-plan.ensures.few
 
 pub returns-in_err-plan-clause-stopped : goal.returns-in_err-plan-clause-stopped
 returns-in_err-plan-clause-stopped c =
     let p = err_from_is_err_and c.from_residual.result c.from_residual.ensures.1 in
     rw (p.1, p.2) (λ names.
-    implication_stops names (plain_formula c.args.f.now) (plain_formula c.args.g.now) c.args.list.now c.in_err-plan.field-0.0 c.in_err-plan.ensures.refused)
+    implication_stops names (implication (plain_formula c.args.f.now) (plain_formula c.args.g.now))
+    c.args.list.now (plain_formula c.args.f.now) (plain_formula c.args.g.now) (λ many. inl many)
+    c.in_err-plan.field-0.0 (λ _ _ bad. bad) (λ one two. (one, two)) c.in_err-plan.ensures.refused)
 
-pub returns-in_err-closure-clause-stopped : goal.returns-in_err-closure-clause-stopped
-returns-in_err-closure-clause-stopped c =
-    let p = err_from_is_err_and c.from_residual-in_err-closure.result
-    c.from_residual-in_err-closure.ensures.1 in
+pub returns-in_err-made-clause-stopped : goal.returns-in_err-made-clause-stopped
+returns-in_err-made-clause-stopped c =
+    let p = err_from_is_err_and c.from_residual-in_err-made.result
+    c.from_residual-in_err-made.ensures.1 in
     let Many : PlainPlan → Type 0 = HasManyMembers in
-    rw (p.1, p.2) (λ names.
-    planned_stops names (implication (plain_formula c.args.f.now) (plain_formula c.args.g.now)) c.args.list.now (plain_plan c.in_ok-plan.plan) c.in_err-closure.field-0.0 (c.in_ok-plan.ensures.first, c.in_ok-plan.ensures.second)
-    (c.in_ok-plan.ensures.few, tt) (λ many. inl (subst Many c.in_ok-plan.ensures.plan many))
-    c.in_err-closure.ensures.refused)
-
-pub returns-then-not-are_judged-clause-stopped : goal.returns-then-not-are_judged-clause-stopped
-returns-then-not-are_judged-clause-stopped c =
     let Small : PlainPlan → Type 0 = HasFewMembers in
-    rw c.joint.ensures (λ names.
-    joint_stops names (implication (plain_formula c.args.f.now) (plain_formula c.args.g.now)) c.args.list.now c.are_judged.result (c.in_ok-plan.ensures.first, c.in_ok-plan.ensures.second)
-    (c.in_ok-plan.ensures.few, tt)
-    (subst Small c.in_ok-plan.ensures.plan c.in_ok-closure.ensures.few, tt)
-    c.are_judged.ensures c.if-not-are_judged.true)
+    rw (p.1, p.2) (λ names.
+    plan_stops names (implication (plain_formula c.args.f.now) (plain_formula c.args.g.now)) c.args.list.now
+    (plain_plan c.in_ok-plan.plan) (c.in_ok-plan.ensures.first, c.in_ok-plan.ensures.second) (c.in_ok-plan.ensures.few, tt)
+    (λ many. inl (subst Many c.in_ok-plan.ensures.plan many))
+    (λ few. (subst Small c.in_ok-plan.ensures.plan few, tt)) c.in_err-made.field-0.0
+    c.in_err-made.ensures.stopped)
