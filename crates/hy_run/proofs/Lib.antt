@@ -2,5 +2,5 @@ pub mod Classes
 mod Following
 pub mod Settled
 pub mod Shelves
-mod Silence
+pub mod Silence
 pub mod Steps

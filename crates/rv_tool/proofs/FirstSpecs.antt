@@ -22,11 +22,14 @@ use Rattle.hy_formula.specs.Formulas.{plain_formula, plain_formulas}
 use Rattle.hy_read.specs.Grammar.{Read}
 use Rattle.hy_read.specs.Results.{Count, specs, quantifiers, parens, heights, names, in_order, largest, most, count_of, first_past, Result, fault, unbound, past, taken, Reads}
 use Rattle.fin_monitor.specs.Limits.{HasLargeClosure, HasSmallClosure, HasManyAtoms, HasFewAtoms, HasLargeTable, IsTaken}
-use Rattle.rv_core.specs.Built.{HasFewQuantifiers, IsUniversal, SomeBody, EachBody, FirstOther, IsTooLarge, spec_of_formula}
+use Rattle.rv_core.specs.Built.{HasFewQuantifiers, IsUniversal, SomeBody, EachBody, FirstOther, IsNewRefusal, IsTooLarge, spec_of_formula}
 use Rattle.rv_core.specs.Built.{AreUniversal as AllUniversal}
 use Rattle.rv_core.specs.Endings.{Spec}
+use Rattle.rv_core.specs.declared.rv_error.RvNewError.{RvNewError}
+use Rattle.rv_core.specs.declared.rv_error.RvNewError.TheVariants as new_errors
 use Rattle.hy_run.specs.Classes.{by_class, is_universal, FirstUntaken}
 use Rattle.hy_run.specs.declared.refusal.Refusal.TheVariants.{Prefix, Limit}
+use Rattle.rv_tool.specs.Refused.{new_refused}
 use Rattle.rv_tool.specs.Monitoring.{RvAnswer, AreTooLarge, AreUniversal, SomePlain, EachPlain, EventsCome, IsOutcome, untaken, too_large, done, spent, specs_of}
 use Rattle.rv_tool.specs.Watching.{OrMemory}
 
@@ -139,14 +142,21 @@ are-too-large formulas kinds.Table (small, few, some) =
     (each-plain HasSmallClosure formulas small, each-plain HasFewAtoms formulas few, some-plain HasLargeTable formulas some)
 are-too-large formulas _ none = absurd none
 
-pub prefix-outcome : (lengths : Lengths) (drop : Bool) (formulas : List Formula) (AreSo : List Placed → Type 0) (k : ℕ) (c : Class)
+prefix-outcome : (lengths : Lengths) (drop : Bool) (formulas : List Formula) (AreSo : List Placed → Type 0) (k : ℕ) (c : Class)
     → FirstOther formulas k c → IsOutcome lengths drop (plain_formulas formulas) AreSo (Err (Prefix 0 c))
 prefix-outcome lengths drop formulas AreSo k c first = untaken k c (first-untaken formulas k c first)
 
-pub limit-outcome : (lengths : Lengths) (drop : Bool) (formulas : List Formula) (AreSo : List Placed → Type 0) (kind : Kind)
+limit-outcome : (lengths : Lengths) (drop : Bool) (formulas : List Formula) (AreSo : List Placed → Type 0) (kind : Kind)
     → AllUniversal formulas → IsTooLarge formulas kind → IsOutcome lengths drop (plain_formulas formulas) AreSo (Err (Limit kind (most_of kind)))
 limit-outcome lengths drop formulas AreSo kind universal large =
     too_large kind (are-universal formulas universal) (are-too-large formulas kind large)
+
+pub refused-outcome : (lengths : Lengths) (drop : Bool) (formulas : List Formula) (AreSo : List Placed → Type 0) (error : RvNewError)
+    → IsNewRefusal formulas error → IsOutcome lengths drop (plain_formulas formulas) AreSo (Err (new_refused error))
+refused-outcome lengths drop formulas AreSo (new_errors.Prefix k c) first = prefix-outcome lengths drop formulas AreSo k c first
+refused-outcome lengths drop formulas AreSo (new_errors.Limit kind) (universal, large) =
+    limit-outcome lengths drop formulas AreSo kind universal large
+refused-outcome lengths drop formulas AreSo new_errors.Memory h = spent
 
 -- ---- what they come to
 

@@ -20,11 +20,11 @@ use Rattle.rv_core.specs.Histories.{History, empty_history}
 use Rattle.rv_core.specs.Keeping.{IsKeptCount}
 use Rattle.rv_core.specs.Replies.{IsFound, error_of}
 use Rattle.rv_core.specs.declared.rv_error.RvError.{RvError}
-use Rattle.rv_core.specs.declared.rv_error.RvError.TheVariants as errors
 use Rattle.hy_run.specs.Classes.{AreTaken, FirstUntaken, by_class, is_universal}
 use Rattle.hy_run.specs.Runs.{Answer}
 use Rattle.hy_run.specs.declared.refusal.Refusal.{Refusal}
 use Rattle.hy_run.specs.declared.refusal.Refusal.TheVariants.{Prefix, Limit, Own, Memory}
+use Rattle.rv_tool.specs.Refused.{event_refused}
 use Rattle.rv_tool.specs.declared.verdict.RvFault.{RvFault}
 use Rattle.rv_tool.specs.declared.verdict.RvFault.TheVariants.{Session}
 use Rattle.rv_tool.specs.declared.verdict.RvVerdict.{RvVerdict}
@@ -65,10 +65,7 @@ specs_of formulas = map spec_of formulas
 
 -- why a line is refused whose event is answered by this error
 abbrev pub event_refusal : ℕ → RvError → Refusal RvFault
-event_refusal line errors.NoLetter = Own (Session line)
-event_refusal line errors.NoSave = Own (Session line)
-event_refusal line (errors.Limit kind) = Limit kind (most kind)
-event_refusal line errors.Memory = Memory
+event_refusal line = event_refused (Session line)
 
 -- The traces that arrived violate a formula, the first such one by this number, and so is answered: by that formula, the
 -- last trace, and a tuple.

@@ -3,6 +3,7 @@
 
 pub mod laws;
 mod monitoring;
+mod refusals;
 mod source;
 mod texts;
 mod tool;
@@ -10,6 +11,7 @@ mod verdict;
 mod watching;
 mod words;
 
+pub use refusals::{event_refusal, new_refusal};
 pub use tool::RvHyper;
 pub use verdict::{Question, RvFault, RvVerdict};
 pub use watching::kept_of;

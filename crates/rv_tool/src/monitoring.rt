@@ -12,8 +12,9 @@ ghost use Rattle.rv_tool.specs.Rules.{rv_rules};
 ghost use Rattle.rv_tool.specs.declared.verdict.Question.TheVariants.{Monitor, MonitorMade};
 ghost use Rattle.rv_tool.specs.Watching.{AreLeft, count_left, AreNumbered, OrFault, IsLinesAnswer};
 
+use crate::refusals::new_refusal;
 use crate::source::Source;
-use crate::verdict::{RvAnswer, RvFault};
+use crate::verdict::RvAnswer;
 use crate::watching::watch;
 use hy_base::Shelf;
 use hy_files::{FileFault, bytes_in, specs_in};
@@ -125,21 +126,5 @@ fn unwatched(alloc: Global, error: RvNewError, source: &Source) -> RvAnswer
     match source.check(alloc) {
         Ok(()) => Err(new_refusal(error)),
         Err(fault) => Err(file_refusal(1, FileFault::from(fault))),
-    }
-}
-
-/// Why formulas are refused that are not monitored.
-fn new_refusal(error: RvNewError) -> Refusal<RvFault>
-    ensures { (lengths : Lengths) (drop : Bool) (formulas : List Formula)
-        → IsNewRefusal formulas error → (source : Source)
-        → IsOutcome lengths drop (plain_formulas formulas) (AreLeft source) (Err result) }
-{
-    match error {
-        RvNewError::Prefix { class, .. } => Refusal::Prefix { file: 0, class },
-        RvNewError::Limit(kind) => Refusal::Limit {
-            kind,
-            limit: kind.most(),
-        },
-        RvNewError::Memory => Refusal::Memory,
     }
 }

@@ -4,9 +4,10 @@ ghost use Rattle.std.specs.Prelude.{◌≡◌, ◌<◌, ◌^◌, IfOk};
 ghost use Rattle.rv_core.specs.Held.{StandsFor, specs_of};
 ghost use Rattle.rv_core.specs.Seen.{held};
 ghost use Rattle.rv_core.specs.Histories.{History, empty_history};
-ghost use Rattle.rv_tool.specs.Monitoring.{EventsCome, AreKeptCounts, IsNoViolation, event_refusal};
+ghost use Rattle.rv_tool.specs.Monitoring.{EventsCome, AreKeptCounts, IsNoViolation};
 ghost use Rattle.rv_tool.specs.Watching.{OrMemory, OrFault, AreLeft, count_left, AreNumbered, AreGood, AreRead, IsWatched};
 
+use crate::refusals::event_refusal;
 use crate::source::Source;
 use crate::verdict::{RvAnswer, RvFault, RvVerdict};
 use hy_base::{M, Memory, NumList, Steps};
@@ -124,25 +125,11 @@ fn watched_answer(alloc: Global, rv: &Rv, watched: Watched) -> RvAnswer
 {
     match watched {
         Watched::Through => clean_answer(alloc, rv),
-        Watched::Refused { error, line } => Err(event_refusal(error, line)),
+        Watched::Refused { error, line } => { Err(event_refusal(error, RvFault::Session { line })) }
         Watched::Violated { spec, trace, tuple } => {
             Ok(RvVerdict::Violation { spec, trace, tuple })
         }
         Watched::Unread => Err(Refusal::Memory),
-    }
-}
-
-/// Why a line is refused whose event is answered by this error.
-fn event_refusal(error: RvError, line: u32) -> Refusal<RvFault>
-    ensures { result ≡ event_refusal line error }
-{
-    match error {
-        RvError::NoLetter | RvError::NoSave => Refusal::Own(RvFault::Session { line }),
-        RvError::Limit(kind) => Refusal::Limit {
-            kind,
-            limit: kind.most(),
-        },
-        RvError::Memory => Refusal::Memory,
     }
 }
 

@@ -11,7 +11,7 @@ use Rattle.rv_core.specs.declared.rv_error.RvNewError.{RvNewError}
 use Rattle.rv_core.specs.declared.rv_error.RvNewError.TheVariants.{Prefix, Limit, Memory}
 use Rattle.hy_run.specs.Names.{Text}
 use Rattle.rv_tool.proofs.FirstSpecs.{are-too-large, are-universal, each-plain, first-untaken, specs-same}
-use Rattle.rv_watch.specs.At.{new_refusal}
+use Rattle.rv_tool.specs.Refused.{new_refused}
 use Rattle.rv_watch.specs.Courses.{WatchAnswer}
 use Rattle.rv_watch.specs.Input.{Watches}
 use Rattle.rv_watch.specs.Runs.{Follows, TakesSpecs, too_large, unmade, untaken, watched}
@@ -20,7 +20,7 @@ use Rattle.rv_watch.specs.declared.verdict.Question.{Question}
 module _ {S : Type 0} (g : Ghosts S) (old mid : S) (q : Question) (file : Text) (formulas : List Formula) (names : List Text)
     (takes : TakesSpecs g old mid file (plain_formulas formulas) names) where
   -- The formulas are not monitored.
-  pub unmonitored-follows : (error : RvNewError) → IsNewRefusal formulas error → Follows g old mid q file [] (Err (new_refusal error))
+  pub unmonitored-follows : (error : RvNewError) → IsNewRefusal formulas error → Follows g old mid q file [] (Err (new_refused error))
   unmonitored-follows (Prefix spec class) first = untaken (plain_formulas formulas) names spec class takes (first-untaken formulas spec class first)
   unmonitored-follows (Limit kind) (universal, large) =
       too_large (plain_formulas formulas) names kind takes (are-universal formulas universal) (are-too-large formulas kind large)

@@ -8,6 +8,5 @@ mod Once
 mod Pieces
 mod Replying
 mod Running
-mod Silence
 mod Taking
 mod Watching

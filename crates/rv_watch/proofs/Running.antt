@@ -10,7 +10,7 @@ use Rattle.hy_run.specs.declared.refusal.Refusal.TheVariants.{Words, Memory}
 use Rattle.rv_watch.specs.Courses.{WatchAnswer}
 use Rattle.rv_watch.specs.Runs.{Comes, HasNoCommand, Names, ReceivesAll, error_line, of_memory, of_none, short, unworded}
 use Rattle.rv_watch.specs.declared.verdict.WatchFault.{WatchFault}
-use Rattle.rv_watch.proofs.Silence.{gives_nothing}
+use Rattle.hy_run.proofs.Silence.{gives_nothing}
 
 -- The words are no command, or memory ran out over them.
 abbrev pub HasNone : List Text → Refusal WatchFault → Type 0

@@ -11,7 +11,7 @@ use Rattle.hy_finite.specs.EventAnswers.{IsLineAnswer}
 use Rattle.hy_finite.specs.EventLines.{SaysNothing}
 use Rattle.hy_finite.specs.declared.event.Event.{Event}
 use Rattle.rv_core.specs.Endings.{Spec, IsClean}
-use Rattle.rv_core.specs.Held.{StandsFor, specs_of}
+use Rattle.rv_core.specs.Held.{Held, StandsFor, specs_of}
 use Rattle.rv_core.specs.Histories.{History, goes, step, arrives}
 use Rattle.rv_core.specs.Replies.{Answers, IsFound}
 use Rattle.rv_core.specs.Seen.{held}
@@ -20,7 +20,7 @@ use Rattle.rv_core.specs.declared.reply.Reply.TheVariants.{Quiet, Arrived, Viola
 use Rattle.rv_core.specs.declared.rv_error.RvError.{RvError}
 use Rattle.hy_run.specs.declared.refusal.Refusal.TheVariants.{Own}
 use Rattle.rv_tool.specs.declared.verdict.RvVerdict.TheVariants as verdicts
-use Rattle.rv_watch.specs.At.{IsAt, IsTaken, line_refusal}
+use Rattle.rv_watch.specs.At.{IsAt, IsTaken, TellsCrowded, line_refusal}
 use Rattle.rv_watch.specs.Courses.{Course, HasRoom, IsCrowded, IsWithin, WatchAnswer, arrived, behind, counted, counted_if, crowded, event_refusal, faulty, long, most_lines, most_traces, quiet, refuses, says_event, silent, uncounted, violates}
 use Rattle.rv_watch.specs.Runs.{ReceivesAll}
 use Rattle.rv_watch.specs.Texts.{count_line, counts_text}
@@ -29,6 +29,11 @@ use Rattle.rv_watch.specs.declared.course.Terms.{Terms}
 use Rattle.rv_watch.specs.declared.course.Watcher.{Watcher}
 use Rattle.rv_watch.specs.declared.verdict.WatchFault.TheVariants.{Traces, Lines}
 use Rattle.rv_watch.proofs.Replying.{answered-quiet, answered-arrived, answered-violation, answered-error}
+
+-- where it is not told that there is no room
+pub has-room : {m : Held} {e : Event} {answer : Bool} (c : Course) → TellsCrowded m e answer → StandsFor m c.history
+    → answer ≡ false → ¬ IsCrowded c e
+has-room c tells stands no many = let yes = (tells.crowded c stands).1 many in absurd (cc (yes, no))
 
 -- ---- counts
 

@@ -7,12 +7,11 @@ use Rattle.hy_base.specs.declared.shelf.Shelf.{Ghosts as ShelfGhosts}
 use Rattle.hy_base.specs.declared.sink.Sink.{Ghosts}
 use Rattle.hy_files.specs.declared.fault.FileFault.TheVariants.{Open, Read}
 use Rattle.rv_core.specs.Endings.{Spec}
-use Rattle.rv_core.specs.Held.{StandsFor, specs_of}
-use Rattle.rv_core.specs.Histories.{empty_history}
+use Rattle.rv_core.specs.Held.{specs_of}
 use Rattle.rv_core.specs.Seen.{held}
 use Rattle.rv_core.specs.declared.rv.Rv.{Rv}
 use Rattle.hy_run.specs.declared.refusal.Refusal.TheVariants.{File}
-use Rattle.rv_watch.specs.At.{IsBehind, IsFinished, IsStopped, IsWatched, at_line, short, at_last, at_end as at_the_end, short_last}
+use Rattle.rv_watch.specs.At.{IsBehind, IsFinished, IsFresh, IsStopped, IsWatched, at_line, short, at_last, at_end as at_the_end, short_last}
 use Rattle.rv_watch.specs.Courses.{WatchAnswer, start}
 use Rattle.rv_watch.specs.Input.{IsGiven, IsWhole, input_name, unopened, unread, stopped, last, through, spent, spent_last}
 use Rattle.rv_watch.specs.declared.course.Terms.{Terms}
@@ -85,9 +84,9 @@ module _ (terms : Terms) (specs : List Spec) {E : Type 0} (g : Ghosts E) (from e
 -- ---- before the first read
 
 pub behind-first : (terms : Terms) {E : Type 0} (g : Ghosts E) (err : E) (rv : Rv) (w : Watcher) (front : List ℕ)
-    → w ≡ record { rv = rv; lines = 0; since = 0 } → front ≡ [] → StandsFor (held rv) empty_history → (held rv).rule ≡ terms.question.lengths
-    → (held rv).drop ≡ terms.question.drop → IsBehind terms (specs_of (held rv)) g err err w front []
-behind-first terms {E} g err rv w front is empty stands rule dropping =
+    → w ≡ record { rv = rv; lines = 0; since = 0 } → front ≡ [] → IsFresh terms rv
+    → IsBehind terms (specs_of (held rv)) g err err w front []
+behind-first terms {E} g err rv w front is empty fresh =
     let P : Watcher → Type 0 = λ x. IsBehind terms (specs_of (held rv)) g err err x front [] in
     let first : Watcher = record { rv = rv; lines = 0; since = 0 } in
     subst P (sym is) (record {
@@ -97,10 +96,10 @@ behind-first terms {E} g err rv w front is empty stands rule dropping =
       small = let none = ap length empty in omega (arith, none);
       taken = refl;
       at = record {
-        rule = rule;
-        dropping = dropping;
+        rule = fresh.rule;
+        dropping = fresh.dropping;
         specs_are = refl;
-        stands = stands;
+        stands = fresh.stands;
         lines = refl;
         since = refl;
         heard = refl;

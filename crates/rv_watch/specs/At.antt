@@ -1,21 +1,24 @@
 -- What the code of a watch has in hand, and what its steps come to.
-use Rattle.std.specs.Prelude.{◌≡◌, ◌⊎◌, ◌+◌, ◌-◌, ◌*◌, ◌^◌, ℕ, ◌≤◌, ◌<◌, List, [], ◌∷◌, ◌++◌, length, Option, Some, None, Err}
+use Rattle.std.specs.Prelude.{◌≡◌, ◌⊎◌, ◌↔◌, Bool, IsTrue, IsFalse, ◌+◌, ◌-◌, ◌*◌, ◌^◌, ℕ, ◌≤◌, ◌<◌, List, [], ◌∷◌, ◌++◌, length, Option, Some, None, Err}
 use Rattle.hy_base.specs.Limits.{most}
 use Rattle.hy_base.specs.declared.limit.Kind.TheVariants.{Length}
 use Rattle.hy_base.specs.declared.reading.TheConstants.{BYTES_LIMIT}
 use Rattle.hy_base.specs.declared.shelf.Shelf.{Ghosts as ShelfGhosts}
 use Rattle.hy_base.specs.declared.sink.Sink.{Ghosts}
+use Rattle.hy_finite.specs.Traces.{Trace}
+use Rattle.hy_finite.specs.declared.event.Event.{Event}
 use Rattle.hy_text.specs.Lines.{lines_of}
 use Rattle.hy_text.specs.declared.line_error.LineError.{LineError}
 use Rattle.hy_text.specs.declared.line_error.LineError.TheVariants as line_errors
 use Rattle.rv_core.specs.Endings.{Spec}
-use Rattle.rv_core.specs.Held.{StandsFor, specs_of}
+use Rattle.rv_core.specs.Held.{Held, StandsFor, specs_of}
+use Rattle.rv_core.specs.Histories.{History, empty_history}
 use Rattle.rv_core.specs.Seen.{held}
+use Rattle.rv_core.specs.StepBounds.{Brings}
+use Rattle.rv_core.specs.declared.rv.Rv.{Rv}
 use Rattle.hy_run.specs.declared.refusal.Refusal as refusals
-use Rattle.hy_run.specs.declared.refusal.Refusal.TheVariants.{Prefix, Limit, Own, Memory}
-use Rattle.rv_core.specs.declared.rv_error.RvNewError.{RvNewError}
-use Rattle.rv_core.specs.declared.rv_error.RvNewError.TheVariants as new_errors
-use Rattle.rv_watch.specs.Courses.{Course, Leads, Stops, Takes, WatchAnswer, start}
+use Rattle.hy_run.specs.declared.refusal.Refusal.TheVariants.{Limit, Own, Memory}
+use Rattle.rv_watch.specs.Courses.{Course, IsCrowded, Leads, Stops, Takes, WatchAnswer, counted, start}
 use Rattle.rv_watch.specs.Input.{HasEnded, IsOpen, IsThrough, Watches}
 use Rattle.rv_watch.specs.Runs.{ReceivesAll}
 use Rattle.rv_watch.specs.declared.course.Terms.{Terms}
@@ -29,12 +32,6 @@ line_refusal line (line_errors.Syntax n) = Own (Line line)
 line_refusal line line_errors.Limit = Limit Length (most Length)
 line_refusal line line_errors.Memory = Memory
 
--- why formulas are refused that are not monitored
-abbrev pub new_refusal : RvNewError → refusals.Refusal WatchFault
-new_refusal (new_errors.Prefix spec class) = Prefix 0 class
-new_refusal (new_errors.Limit kind) = Limit kind (most kind)
-new_refusal new_errors.Memory = Memory
-
 -- lines, of which the first goes on from a front
 abbrev pub glued : List ℕ → List (List ℕ) → List (List ℕ)
 glued front [] = front ∷ []
@@ -43,6 +40,17 @@ glued front (line ∷ lines) = (front ++ line) ∷ lines
 -- how many bytes may still come, at least one for each of them that is taken
 abbrev pub room : ℕ → List ℕ → ℕ
 room lines front = (2 ^ 64 - lines) * (BYTES_LIMIT + 1) + (BYTES_LIMIT - length front)
+
+-- Nothing has come to the monitor yet, which goes by what is asked.
+pub record IsFresh (terms : Terms) (rv : Rv) : Type 0 where
+  pub stands : StandsFor (held rv) empty_history
+  pub rule : (held rv).rule ≡ terms.question.lengths
+  pub dropping : (held rv).drop ≡ terms.question.drop
+
+-- It is told whether the most traces are present and the event brings one more.
+pub record TellsCrowded (m : Held) (e : Event) (answer : Bool) : Type 0 where
+  pub crowded : (c : Course) → StandsFor m c.history → IsTrue answer ↔ IsCrowded c e
+  pub room : IsFalse answer → (t : Trace) → Brings m e t → m.arrived < 2 ^ 31
 
 module _ (terms : Terms) (specs : List Spec) where
   abbrev pub TakenLines : Course → List (List ℕ) → Course → Type 0
@@ -115,3 +123,40 @@ module _ (terms : Terms) (specs : List Spec) where
     abbrev pub IsWatched : {S : Type 0} → ShelfGhosts S → S → S → E → WatchAnswer → Type 0
     IsWatched shelves old new err answer =
         (said : List (List ℕ)) × Watches shelves old terms.question specs terms.names.now new said answer × ReceivesAll g from err said
+
+-- ---- whatever the formulas are, and from whichever sink on
+
+-- What a watch by such a monitor comes to.
+abbrev pub IsWatchedBy : {E S : Type 0} → Terms → Rv → Ghosts E → E → ShelfGhosts S → S → S → E → WatchAnswer → Type 0
+IsWatchedBy terms rv g err shelves old new err' answer = IsWatched terms (specs_of (held rv)) g err shelves old new err' answer
+
+-- An arrival was counted, and the counts were written where they were due.
+abbrev pub CountsArrival : {E : Type 0} → Ghosts E → E → Watcher → Option ℕ → E → Watcher → Type 0
+CountsArrival {E} g old w every new next = (from : E) (c : Course) (h : History) → StandsFor (held w.rv) h
+    → w.since ≡ c.since → ReceivesAll g from old c.said
+    → (next.since ≡ (counted every c h).since) × ReceivesAll g from new (counted every c h).said
+
+module _ {E : Type 0} (terms : Terms) (g : Ghosts E) (old : E) (w : Watcher) where
+  -- The watcher is at some course.
+  abbrev pub IsUnderWay : Type 0
+  IsUnderWay = (specs : List Spec) × (from : E) × (c : Course) × IsAt terms specs g from old w c
+
+  -- The line was taken from there, or it stopped the watch, or memory ran out.
+  abbrev pub TakesLine : E → Watcher → List ℕ → Option WatchAnswer → Type 0
+  TakesLine new next line answer = (specs : List Spec) (from : E) (c : Course) → IsAt terms specs g from old w c
+      → IsTaken terms specs g from new next line c answer
+
+  module _ (front : List ℕ) where
+    -- The watcher is behind some bytes, with this front of a line.
+    abbrev pub IsMidway : Type 0
+    IsMidway = (specs : List Spec) × (from : E) × (bytes : List ℕ) × IsBehind terms specs g from old w front bytes
+
+    -- The piece was taken from there, as far as the watch goes.
+    abbrev pub TakesPiece : E → Watcher → List ℕ → List ℕ → Option WatchAnswer → Type 0
+    TakesPiece new next front' piece answer = (specs : List Spec) (from : E) (bytes : List ℕ)
+        → IsBehind terms specs g from old w front bytes → IsFed terms specs g from new next front' bytes piece answer
+
+    -- The input ends there.
+    abbrev pub Finishes : E → WatchAnswer → Type 0
+    Finishes new answer = (specs : List Spec) (from : E) (bytes : List ℕ)
+        → IsBehind terms specs g from old w front bytes → IsFinished terms specs g from new bytes answer

@@ -11,10 +11,10 @@ use Rattle.rv_core.specs.Endings.{Spec, IsClean}
 use Rattle.rv_core.specs.Histories.{BringsTrace, History, Refusal, empty_history, refused, goes, step, arrives}
 use Rattle.rv_core.specs.Replies.{IsFound, error_of}
 use Rattle.rv_core.specs.declared.rv_error.RvError.{RvError}
-use Rattle.rv_core.specs.declared.rv_error.RvError.TheVariants as errors
 use Rattle.hy_run.specs.Runs.{Answer}
 use Rattle.hy_run.specs.declared.refusal.Refusal as refusals
 use Rattle.hy_run.specs.declared.refusal.Refusal.TheVariants.{Limit, Own, Memory}
+use Rattle.rv_tool.specs.Refused.{event_refused}
 use Rattle.rv_tool.specs.declared.verdict.RvVerdict.{RvVerdict}
 use Rattle.rv_tool.specs.declared.verdict.RvVerdict.TheVariants.{Violation}
 use Rattle.rv_watch.specs.Texts.{count_line}
@@ -75,10 +75,7 @@ IsCrowded c e = BringsTrace c.history e × (most_traces ≤ length c.history.pre
 
 -- why a line is refused whose event is answered by this error
 abbrev pub event_refusal : ℕ → RvError → refusals.Refusal WatchFault
-event_refusal line errors.NoLetter = Own (Session line)
-event_refusal line errors.NoSave = Own (Session line)
-event_refusal line (errors.Limit kind) = Limit kind (most kind)
-event_refusal line errors.Memory = Memory
+event_refusal line = event_refused (Session line)
 
 -- ---- what lines do, by a rule of lengths, formulas, the names of a table, and how often counts are due
 

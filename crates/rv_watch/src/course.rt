@@ -1,17 +1,10 @@
 //! Lines that are taken one after another.
 
-ghost use Rattle.std.specs.Prelude.{◌≡◌, ◌↔◌, ◌+◌, ◌<◌, ◌≤◌, ◌^◌, List, IfNone, IsFalse, IsTrue, length};
+ghost use Rattle.std.specs.Prelude.{◌≡◌, ◌+◌, ◌≤◌, IfNone, length};
 ghost use Rattle.hy_base.specs.Sink.{KeepsSink};
 ghost use Rattle.hy_base.specs.declared.reading.TheConstants.{BYTES_LIMIT};
-ghost use Rattle.hy_finite.specs.Traces.{Trace};
-ghost use Rattle.rv_core.specs.Endings.{Spec};
-ghost use Rattle.rv_core.specs.Held.{StandsFor};
-ghost use Rattle.rv_core.specs.Histories.{History};
 ghost use Rattle.rv_core.specs.Seen.{held};
-ghost use Rattle.rv_core.specs.StepBounds.{Brings};
-ghost use Rattle.rv_watch.specs.At.{IsAt, IsTaken, line_refusal};
-ghost use Rattle.rv_watch.specs.Courses.{Course, IsCrowded, counted, event_refusal};
-ghost use Rattle.rv_watch.specs.Runs.{ReceivesAll};
+ghost use Rattle.rv_watch.specs.At.{CountsArrival, IsUnderWay, TakesLine, TellsCrowded, line_refusal};
 
 use crate::texts::write_counts;
 use crate::verdict::{Question, WatchAnswer, WatchFault};
@@ -19,8 +12,8 @@ use hy_base::{Kind, Sink, Steps};
 use hy_finite::{Event, LineError, read_event};
 use hy_formula::NameTable;
 use hy_run::Refusal;
-use rv_core::{Reply, Rv, RvError};
-use rv_tool::RvVerdict;
+use rv_core::{Reply, Rv};
+use rv_tool::{RvVerdict, event_refusal};
 use std::alloc::Global;
 use std::sync::ledger::Ledger;
 
@@ -66,12 +59,9 @@ impl Watcher {
         err: &mut E,
     ) -> Option<WatchAnswer>
         requires small { length line.now ≤ BYTES_LIMIT }
-        requires at { (specs : List Spec) × (from : E) × (c : Course)
-            × IsAt terms.now specs E.Sink from err.old self.old c }
+        requires at { IsUnderWay terms.now E.Sink err.old self.old }
         ensures keeps { KeepsSink E.Sink err.old err.new }
-        ensures taken { (specs : List Spec) (from : E) (c : Course)
-            → IsAt terms.now specs E.Sink from err.old self.old c
-            → IsTaken terms.now specs E.Sink from err.new self.new line.now c result }
+        ensures taken { TakesLine terms.now E.Sink err.old self.old err.new self.new line.now result }
         ensures more { IfNone result (self.new.lines ≡ self.old.lines + 1) }
     {
         let Some(number) = self.lines.checked_add(1) else {
@@ -101,7 +91,7 @@ impl Watcher {
             Ok(Reply::Violation { spec, trace, tuple }) => {
                 Some(Ok(RvVerdict::Violation { spec, trace, tuple }))
             }
-            Err(error) => Some(Err(event_refusal(error, number))),
+            Err(error) => { Some(Err(event_refusal(error, WatchFault::Session { line: number }))) }
         }
     }
 
@@ -110,10 +100,7 @@ impl Watcher {
         ensures keeps { KeepsSink E.Sink err.old err.new }
         ensures same { self.new.rv ≡ self.old.rv }
         ensures lines { self.new.lines ≡ self.old.lines }
-        ensures counted { (from : E) (c : Course) (h : History) → StandsFor (held self.old.rv) h
-            → self.old.since ≡ c.since → ReceivesAll E.Sink from err.old c.said
-            → (self.new.since ≡ (counted every c h).since)
-            × ReceivesAll E.Sink from err.new (counted every c h).said }
+        ensures counted { CountsArrival E.Sink err.old self.old every err.new self.new }
     {
         let Some(every) = every else {
             return;
@@ -129,10 +116,7 @@ impl Watcher {
 
 /// Whether a trace comes by an event behind the most traces that can be present.
 fn is_crowded(rv: &Rv, event: &Event) -> bool
-    ensures crowded { (c : Course) → StandsFor (held rv.now) c.history
-        → IsTrue result ↔ IsCrowded c event.now }
-    ensures room { IsFalse result → (t : Trace) → Brings (held rv.now) event.now t
-        → (held rv.now).arrived < 2 ^ 31 }
+    ensures { TellsCrowded (held rv.now) event.now result }
 {
     rv.traces() >= MOST_TRACES && rv.brings_trace(event)
 }
@@ -148,19 +132,5 @@ fn line_refusal(fault: LineError, line: u64) -> Refusal<WatchFault>
             limit: Kind::Length.most(),
         },
         LineError::Memory => Refusal::Memory,
-    }
-}
-
-/// Why a line is refused whose event is answered by this error.
-fn event_refusal(error: RvError, line: u64) -> Refusal<WatchFault>
-    ensures { result ≡ event_refusal line error }
-{
-    match error {
-        RvError::NoLetter | RvError::NoSave => Refusal::Own(WatchFault::Session { line }),
-        RvError::Limit(kind) => Refusal::Limit {
-            kind,
-            limit: kind.most(),
-        },
-        RvError::Memory => Refusal::Memory,
     }
 }

@@ -1,15 +1,10 @@
 //! Standard input, whose lines are taken as they end.
 
-ghost use Rattle.std.specs.Prelude.{◌≡◌, ◌+◌, ◌≤◌, ◌++◌, [], List, ℕ, Err, IfNone, IfSome, length};
+ghost use Rattle.std.specs.Prelude.{◌≡◌, ◌+◌, ◌≤◌, ◌++◌, [], Err, IfNone, IfSome, length};
 ghost use Rattle.hy_base.specs.Shelf.{KeepsShelf};
 ghost use Rattle.hy_base.specs.Sink.{KeepsSink};
-ghost use Rattle.rv_core.specs.Endings.{Spec};
-ghost use Rattle.rv_core.specs.Held.{StandsFor, specs_of};
-ghost use Rattle.rv_core.specs.Histories.{empty_history};
-ghost use Rattle.rv_core.specs.Seen.{held};
 ghost use Rattle.hy_run.specs.declared.refusal.Refusal.TheVariants.{File as OfFile};
-ghost use Rattle.rv_watch.specs.At.{IsAt, IsBehind, IsFed, IsFinished, IsTaken, IsWatched, room};
-ghost use Rattle.rv_watch.specs.Courses.{Course};
+ghost use Rattle.rv_watch.specs.At.{Finishes, IsFresh, IsMidway, IsUnderWay, IsWatchedBy, TakesLine, TakesPiece, room};
 
 use crate::course::{Terms, Watcher};
 use crate::verdict::WatchAnswer;
@@ -39,12 +34,10 @@ pub fn watch_input<S: Shelf, L: Ledger, E: Sink>(
     steps: &mut Steps<L>,
     err: &mut E,
 ) -> WatchAnswer
-    requires stands { StandsFor (held rv) empty_history }
-    requires rule { (held rv).rule ≡ terms.now.question.lengths }
-    requires dropping { (held rv).drop ≡ terms.now.question.drop }
+    requires { IsFresh terms.now rv }
     ensures keeps_shelf { KeepsShelf S.Shelf shelf.old shelf.new }
     ensures keeps_err { KeepsSink E.Sink err.old err.new }
-    ensures watched { IsWatched terms.now (specs_of (held rv)) E.Sink err.old S.Shelf shelf.old shelf.new err.new result }
+    ensures watched { IsWatchedBy terms.now rv E.Sink err.old S.Shelf shelf.old shelf.new err.new result }
 {
     let mut watcher = Watcher::new(rv);
     let mut front = Text::new(alloc);
@@ -85,12 +78,10 @@ fn feed<L: Ledger, E: Sink>(
     steps: &mut Steps<L>,
     err: &mut E,
 ) -> Option<WatchAnswer>
-    requires { (specs : List Spec) × (from : E) × (bytes : List ℕ)
-        × IsBehind terms.now specs E.Sink from err.old watcher.old front.old bytes }
+    requires { IsMidway terms.now E.Sink err.old watcher.old front.old }
     ensures keeps { KeepsSink E.Sink err.old err.new }
-    ensures fed { (specs : List Spec) (from : E) (bytes : List ℕ)
-        → IsBehind terms.now specs E.Sink from err.old watcher.old front.old bytes
-        → IsFed terms.now specs E.Sink from err.new watcher.new front.new bytes piece.now result }
+    ensures fed { TakesPiece terms.now E.Sink err.old watcher.old front.old err.new watcher.new
+        front.new piece.now result }
     ensures room { IfNone result (room watcher.new.lines front.new + length piece.now
         ≤ room watcher.old.lines front.old) }
 {
@@ -136,12 +127,10 @@ fn take_ended<L: Ledger, E: Sink>(
     err: &mut E,
 ) -> Option<WatchAnswer>
     requires small { length (front.old ++ line.now) ≤ BYTES_LIMIT }
-    requires at { (specs : List Spec) × (from : E) × (c : Course)
-        × IsAt terms.now specs E.Sink from err.old watcher.old c }
+    requires at { IsUnderWay terms.now E.Sink err.old watcher.old }
     ensures keeps { KeepsSink E.Sink err.old err.new }
-    ensures taken { (specs : List Spec) (from : E) (c : Course)
-        → IsAt terms.now specs E.Sink from err.old watcher.old c
-        → IsTaken terms.now specs E.Sink from err.new watcher.new (front.old ++ line.now) c result }
+    ensures taken { TakesLine terms.now E.Sink err.old watcher.old err.new watcher.new
+        (front.old ++ line.now) result }
     ensures more { IfNone result (watcher.new.lines ≡ watcher.old.lines + 1) }
     ensures empty { IfNone result (front.new ≡ []) }
 {
@@ -165,12 +154,9 @@ fn finish<L: Ledger, E: Sink>(
     steps: &mut Steps<L>,
     err: &mut E,
 ) -> WatchAnswer
-    requires { (specs : List Spec) × (from : E) × (bytes : List ℕ)
-        × IsBehind terms.now specs E.Sink from err.old watcher.old line.now bytes }
+    requires { IsMidway terms.now E.Sink err.old watcher.old line.now }
     ensures keeps { KeepsSink E.Sink err.old err.new }
-    ensures finished { (specs : List Spec) (from : E) (bytes : List ℕ)
-        → IsBehind terms.now specs E.Sink from err.old watcher.old line.now bytes
-        → IsFinished terms.now specs E.Sink from err.new bytes result }
+    ensures finished { Finishes terms.now E.Sink err.old watcher.old line.now err.new result }
 {
     if let Some(answer) = watcher.take(alloc, line, terms, steps, err) {
         return answer;

@@ -3,21 +3,19 @@
 ghost use Rattle.std.specs.Prelude.{◌≡◌, ◌<◌, [], List, ℕ};
 ghost use Rattle.hy_base.specs.Shelf.{KeepsShelf};
 ghost use Rattle.hy_base.specs.Sink.{KeepsSink};
-ghost use Rattle.rv_core.specs.Held.{StandsFor, specs_of};
-ghost use Rattle.rv_core.specs.Histories.{empty_history};
-ghost use Rattle.rv_core.specs.Seen.{held};
-ghost use Rattle.rv_watch.specs.At.{IsWatched, new_refusal};
+ghost use Rattle.rv_watch.specs.At.{IsFresh, IsWatchedBy};
 ghost use Rattle.rv_watch.specs.Runs.{Follows, ReceivesAll};
 
 use crate::course::Terms;
 use crate::input::watch_input;
-use crate::verdict::{WatchAnswer, WatchFault};
+use crate::verdict::WatchAnswer;
 use crate::words::Order;
 use hy_base::{Shelf, Sink, Steps};
 use hy_files::specs_in;
 use hy_formula::NameTable;
-use hy_run::{Refusal, file_refusal};
-use rv_core::{Rv, RvNewError};
+use hy_run::file_refusal;
+use rv_core::Rv;
+use rv_tool::new_refusal;
 use std::alloc::Global;
 use std::marker::Brand;
 use std::sync::ledger::{Blank, Ledger};
@@ -64,29 +62,13 @@ fn watch_on<S: Shelf, L: Ledger, E: Sink>(
     blank: Blank,
     err: &mut E,
 ) -> WatchAnswer
-    requires stands { StandsFor (held rv) empty_history }
-    requires rule { (held rv).rule ≡ terms.now.question.lengths }
-    requires dropping { (held rv).drop ≡ terms.now.question.drop }
+    requires fresh { IsFresh terms.now rv }
     requires name { blank.name ≡ L.name }
     requires parts { blank.parts ≡ L.parts }
     requires some { 0 < blank.parts }
     ensures { KeepsShelf S.Shelf shelf.old shelf.new × KeepsSink E.Sink err.old err.new
-        × IsWatched terms.now (specs_of (held rv)) E.Sink err.old S.Shelf shelf.old shelf.new err.new result }
+        × IsWatchedBy terms.now rv E.Sink err.old S.Shelf shelf.old shelf.new err.new result }
 {
     let mut steps = Steps::<L>::new(blank);
     watch_input(alloc, shelf, rv, terms, &mut steps, err)
-}
-
-/// Why formulas are refused that are not monitored.
-fn new_refusal(error: RvNewError) -> Refusal<WatchFault>
-    ensures { result ≡ new_refusal error }
-{
-    match error {
-        RvNewError::Prefix { class, .. } => Refusal::Prefix { file: 0, class },
-        RvNewError::Limit(kind) => Refusal::Limit {
-            kind,
-            limit: kind.most(),
-        },
-        RvNewError::Memory => Refusal::Memory,
-    }
 }

@@ -3,13 +3,13 @@
 ghost use Rattle.std.specs.Prelude.{◌≡◌, OnOk, OnErr, codes, decimal, ◌++◌};
 ghost use Rattle.hy_base.specs.Sink.{KeepsSink, GivesWhole, FailsToGive};
 ghost use Rattle.hy_files.specs.ErrorLines.{Received, plain};
-ghost use Rattle.hy_run.specs.Refusals.{file_status, refusal_line, refusal_status};
+ghost use Rattle.hy_run.specs.Refusals.{refusal_line, refusal_status};
 ghost use Rattle.rv_watch.specs.Texts.{counts_text, fault_line, own_line, own_status};
 
 use crate::verdict::WatchFault;
 use hy_base::{Sink, SinkFailed, write_all, write_pieces};
-use hy_files::{FileFault, name_of_file, write_class, write_fault, write_limit};
-use hy_run::Refusal;
+use hy_files::{name_of_file, write_class, write_fault, write_limit};
+use hy_run::{Refusal, file_status};
 use itoa::Buffer;
 
 /// Writes how many traces are present, and how many sessions are open. That a put fails changes
@@ -86,20 +86,5 @@ pub fn status_of(refusal: &Refusal<WatchFault>) -> u8
         Refusal::Own(WatchFault::Traces | WatchFault::Lines) => 5,
         Refusal::Write => 3,
         Refusal::Memory => 6,
-    }
-}
-
-/// The exit status of a fault of a file.
-fn file_status(fault: FileFault) -> u8
-    ensures { result ≡ file_status fault }
-{
-    match fault {
-        FileFault::Open | FileFault::Read => 3,
-        FileFault::Bytes | FileFault::Count { .. } => 5,
-        FileFault::Memory => 6,
-        FileFault::Syntax { .. }
-        | FileFault::Unbound { .. }
-        | FileFault::Circuit { .. }
-        | FileFault::Line { .. } => 2,
     }
 }

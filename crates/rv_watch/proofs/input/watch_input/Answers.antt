@@ -27,8 +27,7 @@ loop-front-init g c =
       bytes = [];
       given = given-first g.S.Shelf c.args.shelf.now c.open_file.new.self open_is.called open_is.whole;
       behind =
-          behind-first c.args.terms.now g.E.Sink c.args.err.now c.args.rv _ _ c.new-watcher.ensures c.new-front.ensures c.requires.stands c.requires.rule
-          c.requires.dropping;
+          behind-first c.args.terms.now g.E.Sink c.args.err.now c.args.rv _ _ c.new-watcher.ensures c.new-front.ensures c.requires;
     }
 
 pub returns-in-Err-clause-watched : goal.returns-in-Err-clause-watched

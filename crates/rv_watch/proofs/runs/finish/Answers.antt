@@ -1,5 +1,5 @@
 use Rattle.std.proofs.Common.{inl}
-use Rattle.rv_watch.proofs.Silence.{gives_nothing, received}
+use Rattle.hy_run.proofs.Silence.{gives_nothing, received}
 use Rattle.rv_watch.proofs.runs.finish.Goals as goal
 use Rattle.rv_watch.proofs.runs.finish.Goals.{in-Ok, in-Err}
 

@@ -1,5 +1,5 @@
 use Rattle.std.proofs.Common.{inl, refl}
-use Rattle.rv_watch.proofs.Silence.{gives_nothing}
+use Rattle.hy_run.proofs.Silence.{gives_nothing}
 use Rattle.rv_watch.proofs.runs.write_answer.Goals as goal
 
 pub returns-in-Err-clause-written : goal.returns-in-Err-clause-written
