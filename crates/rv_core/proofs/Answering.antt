@@ -18,12 +18,12 @@ use Rattle.rv_core.specs.declared.arrival.Arrival.{Arrival}
 use Rattle.rv_core.specs.declared.arrival.Arrival.TheVariants as arrival
 use Rattle.rv_core.specs.Histories.{BringsTrace, Session, History, too_long, too_many_sessions, too_many_saves, no_session, no_save, extended, closed, with_trace, refused, goes, step, arrives, back_step}
 use Rattle.rv_core.specs.Opened.{Open, letters_in, Extends, longer, opened, IsNotTaken, Closes}
-use Rattle.rv_core.specs.Held.{Held, specs_of, AreSessions, StandsFor}
+use Rattle.rv_core.specs.Held.{Held, AreSessions, StandsFor}
 use Rattle.rv_core.specs.Arrivals.{AreNext, FirstFound, IsArrival, after_arrival}
 use Rattle.rv_core.specs.Replies.{takes_memory, IsAnswer, quiet, arrived, violated, refused_by, spent, Answers, IsReplyTo}
 use Rattle.rv_core.proofs.SessionLists.{sessions-extended, sessions-closed}
 use Rattle.rv_core.proofs.Stepping.{goes-longer, goes-opened, refused-long, refused-many, goes-end, refused-end, goes-save, refused-save}
-use Rattle.rv_core.proofs.Standing.{changed, with_saves, saved_of, back_to, arrival-stands, arrival-found, letter-stands, save-stands, back-stands, none-saved, saves-long}
+use Rattle.rv_core.proofs.Standing.{changed, with_saves, saved_of, back_to, arrival-stands, arrival-found, letter-stands, save-stands, back-stands, none-saved, saves-there}
 
 -- ---- a letter
 
@@ -140,6 +140,14 @@ pub memory-answer : (m : Held) (e : Event) → takes_memory e ≡ true
     → Answers m m e (Err error.Memory)
 memory-answer m e takes = record { rule = refl; specs = refl; right = λ h s. spent takes s }
 
+-- also behind a step by which what is kept stays the same lists
+pub memory-kept : (m : Held) (e : Event) (kept : List (List Numbered)) → takes_memory e ≡ true
+    → kept ≡ m.kept → Answers m (record m { kept = kept }) e (Err error.Memory)
+memory-kept m e kept takes same =
+    let P : List (List Numbered) → Type 0 =
+    λ ks. Answers m (record m { kept = ks }) e (Err error.Memory) in
+    subst P (sym same) (memory-answer m e takes)
+
 pub no-end : (m : Held) (n : ℕ) → letters_in n m.sessions ≡ None
     → Answers m m (event.End n) (Err error.NoLetter)
 no-end m n none = record {
@@ -188,10 +196,8 @@ answered-save m few = record {
   rule = refl;
   specs = refl;
   right = λ h s.
-      let long =
-      saves-long m.rule m.drop (specs_of m) h.present.arrived m.saves h.saves s.saves in
       quiet (record { present = h.present; saves = h.present ∷ h.saves })
-      (goes-save h (omega (arith, long))) refl (save-stands m h s);
+      (goes-save h (omega (arith, saves-there m h s, few))) refl (save-stands m h s);
 }
 
 pub many-saves : (m : Held) → 64 ≤ length m.saves
@@ -200,9 +206,7 @@ many-saves m many = record {
   rule = refl;
   specs = refl;
   right = λ h s.
-      let long =
-      saves-long m.rule m.drop (specs_of m) h.present.arrived m.saves h.saves s.saves in
-      refused_by too_many_saves (refused-save h (omega (arith, long))) s;
+      refused_by too_many_saves (refused-save h (omega (arith, saves-there m h s, many))) s;
 }
 
 pub answered-back : (m : Held) (x : Saved) (xs : List Saved) → m.saves ≡ x ∷ xs

@@ -1,6 +1,7 @@
 -- Steps of one walk within the bound of its spec, and of all within the sum.
 use Rattle.std.proofs.Common.{◌≡◌, ℕ, ◌+◌, ◌*◌, ◌<◌, ◌≤◌, Bool, false, IsTrue, List, ◌∷◌, length, slice_get, slice_index_or, Some, take, sum, arith}
 use Rattle.std.specs.List.{Contains}
+use Rattle.std.proofs.lemmas.List.{length-map}
 use Rattle.std.proofs.lemmas.List.Sums.{sum_by_more, sum_by-take-le}
 use Rattle.std.proofs.lemmas.Nat.{mul-le}
 use Rattle.hy_base.proofs.Members.{contains-here}
@@ -11,9 +12,11 @@ use Rattle.hy_finite.specs.Traces.{Trace}
 use Rattle.fin_monitor.specs.Machines.{Machine}
 use Rattle.tuple_walk.specs.JointPrefixes.{Row, IsJointPrefix, IsFirstPrefix}
 use Rattle.tuple_walk.specs.Finds.{traces_of}
+use Rattle.rv_core.specs.declared.rv.Rv.{Rv}
 use Rattle.rv_core.specs.Held.{Held, spec_of}
 use Rattle.rv_core.specs.Keeping.{kept_at}
 use Rattle.rv_core.specs.Masks.{masked}
+use Rattle.rv_core.specs.Seen.{held, watched, watched_by}
 use Rattle.rv_core.specs.StepBounds.{IsBound, by_joint, by_first, IsSpecBound, AreBounds}
 use Rattle.rv_core.specs.Watched.{IsExact}
 use Rattle.rv_core.proofs.Below.{machine-some}
@@ -100,3 +103,15 @@ module _ (m : Held) (t : Trace) (bounds : List ℕ) (are : AreBounds m t bounds)
 
   pub bounds-all : (i end : ℕ) → end ≤ start + sum (take i bounds) → end ≤ start + sum bounds
   bounds-all i end within = omega (arith, within, sum_by-take-le (λ x. x) bounds i)
+
+-- where it ends with one of the specs
+pub bounds-end : (rv : Rv) (t : Trace) (bounds : List ℕ) → AreBounds (held rv) t bounds
+    → (start i before after : ℕ) → i < length rv.watches → before ≤ start + sum (take i bounds)
+    → ((q : Machine) (bound : ℕ) → slice_get (watched_by rv.watches) i ≡ Some q
+    → IsSpecBound rv.rule q (traces_of (kept_at rv.kept i)) (masked (spec_of q) t) bound
+    → after ≤ before + bound)
+    → after ≤ start + sum bounds
+bounds-end rv t bounds are start i before after lt within one =
+    bounds-all (held rv) t bounds are start (i + 1) after
+    (bounds-more (held rv) t bounds are start i (omega (arith, length-map rv.watches watched, lt))
+    before after within one)

@@ -1,5 +1,5 @@
 -- Specs of one variable: a trace is judged by itself, and one that is kept does as well as any other.
-use Rattle.std.proofs.Common.{◌≡◌, ℕ, ◌+◌, ◌*◌, ◌≤◌, Bool, true, false, nat_eq, List, [], ◌∷◌, ◌++◌, length, inl, inr, refl, sym, ◌∙◌, subst, arith}
+use Rattle.std.proofs.Common.{◌≡◌, ℕ, ◌+◌, ◌*◌, ◌≤◌, Bool, true, false, nat_eq, List, [], ◌∷◌, ◌++◌, length, slice_get, Some, inl, inr, refl, sym, ◌∙◌, subst, arith}
 use Rattle.std.specs.List.{Contains}
 use Rattle.std.proofs.lemmas.Bool.{eq-eqb}
 use Rattle.std.proofs.lemmas.List.Elements.{Contains-push}
@@ -13,12 +13,17 @@ use Rattle.dominance.specs.Dominance.{Dominates}
 use Rattle.tuple_walk.specs.Finds.{AreViolating, AllMeet, traces_of}
 use Rattle.tuple_walk.specs.JointPrefixes.{Row, IsJointPrefix}
 use Rattle.rv_core.specs.declared.arrival.Outcome.TheVariants.{Stays, Passes, Violates}
+use Rattle.rv_core.specs.declared.rv.Rv.{Rv}
+use Rattle.rv_core.specs.declared.watch.Watch.{Watch}
 use Rattle.rv_core.specs.Arrivals.{IsOver, none, IsNext, over, last, IsOutcome}
 use Rattle.rv_core.specs.Held.{spec_of}
-use Rattle.rv_core.specs.Keeping.{is_dropping, CoversIf}
+use Rattle.rv_core.specs.Keeping.{is_dropping, kept_at, CoversIf}
+use Rattle.rv_core.specs.Seen.{watched, watched_by}
 use Rattle.rv_core.specs.StepBounds.{IsBound, by_joint, by_first, IsSpecBound}
 use Rattle.rv_core.proofs.Bounding.{bound-fewer}
 use Rattle.rv_core.proofs.Keepings.{traces-from}
+use Rattle.rv_core.proofs.Outcomes.{bound-at}
+use Rattle.rv_core.proofs.Seeing.{seen-at}
 use Rattle.rv_core.proofs.Sifting.{rest-start}
 
 -- members of a list of one are that one
@@ -134,3 +139,20 @@ module _ (rule : Lengths) (m : Machine) (t : Trace) (one : m.variables ≡ 1) wh
             → IsNext rule drop m t n list new
         first [] none_kept f = last [] tt none f
         first (p ∷ ps) none_kept f = absurd (cc)
+
+-- ---- the spec with a number, which has one variable
+
+module _ (rv : Rv) (t : Trace) (s : ℕ) (w : Watch) (old : List Numbered)
+    (at : slice_get rv.watches s ≡ Some w) (is : slice_get rv.kept s ≡ Some old)
+    (one : (m : Machine) → slice_get (watched_by rv.watches) s ≡ Some m → m.variables ≡ 1) where
+  pub one-at : (watched w).variables ≡ 1
+  one-at = one (watched w) (seen-at rv.watches s w at)
+
+  pub lone-at : ((version : List Numbered) → slice_get rv.kept s ≡ Some version → ¬ IsHeld t version)
+      → (u : Trace) (start end : ℕ) → u ≡ t
+      → ((bound : ℕ) → IsBound rv.rule (watched w) (u ∷ []) u bound → end ≤ start + bound)
+      → (m : Machine) (bound : ℕ) → slice_get (watched_by rv.watches) s ≡ Some m
+      → IsSpecBound rv.rule m (traces_of (kept_at rv.kept s)) t bound → end ≤ start + bound
+  lone-at absent u start end same steps m bound there b =
+      lone-walk rv.rule (watched w) t one-at old u start end same (absent old is) steps bound
+      (bound-at rv t s w old at is m there bound b)

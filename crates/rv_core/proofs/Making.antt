@@ -1,15 +1,18 @@
 -- What is kept with a trace more is made for one spec after another, and stays for the others.
-use Rattle.std.proofs.Common.{◌≡◌, ℕ, zero, suc, ◌<◌, ◌≤◌, ◌+◌, Bool, List, [], ◌∷◌, length, slice_get, slice_set, Some, inl, inr, refl, sym, ap, ◌∙◌, subst, arith}
+use Rattle.std.proofs.Common.{◌≡◌, ℕ, zero, suc, ◌<◌, ◌≤◌, ◌+◌, Bool, List, [], ◌∷◌, length, slice_get, slice_set, Option, Some, inl, inr, refl, sym, ap, ◌∙◌, subst, arith}
 use Rattle.std.proofs.lemmas.Bool.{cases_eq}
+use Rattle.std.proofs.lemmas.List.{length-map}
 use Rattle.std.proofs.lemmas.Option.{slice_get_within, same_Some}
 use Rattle.hy_finite.specs.declared.lengths.Lengths.{Lengths}
 use Rattle.hy_finite.specs.Traces.{Trace}
 use Rattle.fin_monitor.specs.Machines.{Machine}
 use Rattle.trace_trie.specs.Numbered.{Numbered}
-use Rattle.rv_core.specs.Arrivals.{IsPassed, IsNext, AreNext}
+use Rattle.rv_core.specs.declared.rv.Rv.{Rv}
+use Rattle.rv_core.specs.Arrivals.{IsPassed, IsNext, AreNext, kept_or}
 use Rattle.rv_core.specs.Held.{spec_of}
 use Rattle.rv_core.specs.Keeping.{kept_at}
 use Rattle.rv_core.specs.Masks.{masked}
+use Rattle.rv_core.specs.Seen.{watched, watched_by}
 
 -- ---- another one at a place
 
@@ -118,3 +121,18 @@ module _ (rule : Lengths) (drop : Bool) (ms : List Machine) (n : ℕ) (t : Trace
       right = λ s m at.
           let within = slice_get_within ms s m at in are.right s m (omega (arith, end)) at;
     }
+
+-- behind the last spec, by whichever name what is made has then
+pub made-whole : (rv : Rv) (t : Trace) (i : ℕ) (next same : Option (List (List Numbered))) → next ≡ same
+    → AreMade rv.rule rv.drop_dominated (watched_by rv.watches) rv.traces t rv.kept i
+    (kept_or rv.kept next) → i ≡ length rv.watches
+    → AreNext rv.rule rv.drop_dominated (watched_by rv.watches) rv.traces t rv.kept
+    (kept_or rv.kept same)
+made-whole rv t i next same e made end =
+    let ms = watched_by rv.watches in
+    let long = length-map rv.watches watched in
+    let P : Option (List (List Numbered)) → Type 0 =
+    λ found. AreNext rv.rule rv.drop_dominated ms rv.traces t rv.kept (kept_or rv.kept found) in
+    subst P e
+    (made-all rv.rule rv.drop_dominated ms rv.traces t rv.kept i (kept_or rv.kept next) made
+    (omega (arith, long, end)) (rv.below.0 ∙ sym long))

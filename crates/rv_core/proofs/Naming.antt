@@ -85,11 +85,19 @@ name-at [] i lt = absurd (omega arith)
 name-at (n ∷ ns) zero lt = refl
 name-at (n ∷ ns) (suc i) lt = name-at ns i (omega arith)
 
-pub listed-below : (names : List ℕ) (all : Letter) → AreListed names all → AreBelow 64 all
+listed-below : (names : List ℕ) (all : Letter) → AreListed names all → AreBelow 64 all
     → (i n : ℕ) → slice_get names i ≡ Some n → n < 64
 listed-below names all are below i n at =
     below n (sym (are n)
     ∙ any-of (λ m. nat_eq m n) names n (get-contains names i n at) (eq-eqb n n refl))
+
+-- the name at a place of these, which are the same list
+pub name-below : (names items : List ℕ) (all : Letter) → items ≡ names → AreListed names all
+    → AreBelow 64 all → (i : ℕ) → i < length items → slice_index_or items i 0 < 64
+name-below names items all same are below i lt =
+    let P : List ℕ → Type 0 = λ list. AreListed list all in
+    listed-below items all (subst P (sym same) are) below i (slice_index_or items i 0)
+    (name-at items i lt)
 
 -- ---- those of a letter
 

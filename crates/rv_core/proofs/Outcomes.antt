@@ -1,6 +1,7 @@
 -- What comes of a trace for one spec.
-use Rattle.std.proofs.Common.{◌≡◌, ◌↔◌, ◌≤◌, ◌+◌, ℕ, Bool, true, false, IsTrue, List, [], ◌∷◌, ◌++◌, length, slice_get, Some, inl, inr, refl, sym, ap, ◌∙◌, subst}
+use Rattle.std.proofs.Common.{◌≡◌, ◌↔◌, ◌≤◌, ◌<◌, ◌+◌, ℕ, Bool, true, false, IsTrue, List, [], ◌∷◌, ◌++◌, slice_get, Some, inl, inr, refl, sym, ap, ◌∙◌, subst}
 use Rattle.std.specs.List.{Contains}
+use Rattle.std.proofs.lemmas.List.{length-map}
 use Rattle.std.proofs.lemmas.Option.{same_Some}
 use Rattle.hy_base.proofs.Members.{contains-here, contains-later}
 use Rattle.hy_formula.specs.Quantifiers.{Each}
@@ -12,6 +13,7 @@ use Rattle.trace_trie.specs.Numbered.{Numbered, IsHeld}
 use Rattle.tuple_walk.specs.Finds.{AllMeet, traces_of}
 use Rattle.rv_core.specs.declared.arrival.Outcome.{Outcome}
 use Rattle.rv_core.specs.declared.arrival.Outcome.TheVariants.{Stays, Passes}
+use Rattle.rv_core.specs.declared.rv.Rv.{Rv}
 use Rattle.rv_core.specs.declared.watch.Watch.{Watch}
 use Rattle.rv_core.specs.Arrivals.{IsPassed, IsOver, AreLeft, none, stays, IsNext, over, last, IsOutcome, AreHeld, AreNext}
 use Rattle.rv_core.specs.Endings.{Spec}
@@ -21,6 +23,7 @@ use Rattle.rv_core.specs.Masks.{masked}
 use Rattle.rv_core.specs.Seen.{watched, watched_by}
 use Rattle.rv_core.specs.StepBounds.{IsBound, IsSpecBound}
 use Rattle.rv_core.proofs.Keepings.{covers-itself, covers-equal, traces-from, traces-push}
+use Rattle.rv_core.proofs.Places.{each-at}
 use Rattle.rv_core.proofs.Seeing.{seen-at, same-watched, kept-there}
 
 module _ (rule : Lengths) (m : Machine) (n : ℕ) (t : Trace) (old : List Numbered) where
@@ -105,43 +108,69 @@ not-held b u t x spec old kept holds same is seen is_false held =
 
 -- ---- the spec with a number
 
-module _ (rule : Lengths) (watches : List Watch) (kept : List (List Numbered)) (t : Trace) (s : ℕ)
-    (w : Watch) (old : List Numbered) (at : slice_get watches s ≡ Some w)
-    (is : slice_get kept s ≡ Some old) (m : Machine)
-    (there : slice_get (watched_by watches) s ≡ Some m) where
-  same : watched w ≡ m
-  same = same_Some _ _ (sym (seen-at watches s w at) ∙ there)
+-- the traces that are kept for it have arrived
+pub numbers-below : (rv : Rv) (s : ℕ) (old : List Numbered) → slice_get rv.kept s ≡ Some old
+    → Each (λ (p : Numbered). p.0 < rv.traces) old
+numbers-below rv s old is =
+    each-at (λ (list : List Numbered). Each (λ (p : Numbered). p.0 < rv.traces) list) rv.kept s old
+    rv.below.1 is
 
-  pub outcome-at : (drop : Bool) (n : ℕ) (outcome : Outcome)
-      → IsOutcome rule drop (watched w) t n old outcome
-      → IsOutcome rule drop m t n (kept_at kept s) outcome
-  outcome-at drop n outcome o =
-      let P : Machine → Type 0 = λ q. IsOutcome rule drop q t n (kept_at kept s) outcome in
-      let Q : List Numbered → Type 0 = λ ps. IsOutcome rule drop (watched w) t n ps outcome in
-      subst P same (subst Q (sym (kept-there kept s old is)) o)
+module _ (rv : Rv) (t : Trace) (s : ℕ) (w : Watch) (old : List Numbered)
+    (at : slice_get rv.watches s ≡ Some w) (is : slice_get rv.kept s ≡ Some old) where
+  module _ (m : Machine) (there : slice_get (watched_by rv.watches) s ≡ Some m) where
+    same : watched w ≡ m
+    same = same_Some _ _ (sym (seen-at rv.watches s w at) ∙ there)
 
-  pub bound-at : (bound : ℕ) → IsSpecBound rule m (traces_of (kept_at kept s)) t bound
-      → IsSpecBound rule (watched w) (traces_of old) t bound
-  bound-at bound b =
-      let P : Machine → Type 0 = λ q. IsSpecBound rule q (traces_of old) t bound in
-      let Q : List Numbered → Type 0 = λ ps. IsSpecBound rule m (traces_of ps) t bound in
-      subst P (sym same) (subst Q (kept-there kept s old is) b)
+    pub outcome-at : (outcome : Outcome)
+        → IsOutcome rv.rule rv.drop_dominated (watched w) t rv.traces old outcome
+        → IsOutcome rv.rule rv.drop_dominated m t rv.traces (kept_at rv.kept s) outcome
+    outcome-at outcome o =
+        let P : Machine → Type 0 =
+        λ q. IsOutcome rv.rule rv.drop_dominated q t rv.traces (kept_at rv.kept s) outcome in
+        let Q : List Numbered → Type 0 =
+        λ ps. IsOutcome rv.rule rv.drop_dominated (watched w) t rv.traces ps outcome in
+        subst P same (subst Q (sym (kept-there rv.kept s old is)) o)
+
+    pub bound-at : (bound : ℕ) → IsSpecBound rv.rule m (traces_of (kept_at rv.kept s)) t bound
+        → IsSpecBound rv.rule (watched w) (traces_of old) t bound
+    bound-at bound b =
+        let P : Machine → Type 0 = λ q. IsSpecBound rv.rule q (traces_of old) t bound in
+        let Q : List Numbered → Type 0 = λ ps. IsSpecBound rv.rule m (traces_of ps) t bound in
+        subst P (sym same) (subst Q (kept-there rv.kept s old is) b)
+
+  -- steps of a walk over what is kept and the trace
+  pub walk-at : ((version : List Numbered) → slice_get rv.kept s ≡ Some version → ¬ IsHeld t version)
+      → (all : List Numbered) (u : Trace) (start end : ℕ) → all ≡ old ++ (rv.traces, t) ∷ [] → u ≡ t
+      → ((bound : ℕ) → IsBound rv.rule (watched w) (traces_of all) u bound → end ≤ start + bound)
+      → (m : Machine) (bound : ℕ) → slice_get (watched_by rv.watches) s ≡ Some m
+      → IsSpecBound rv.rule m (traces_of (kept_at rv.kept s)) t bound → end ≤ start + bound
+  walk-at absent all u start end added same_letters steps m bound there b =
+      walk-steps rv.rule (watched w) rv.traces t old (absent old is) all u start end added
+      same_letters steps bound (bound-at m there bound b)
 
 -- ---- all specs
 
 -- an equal one is kept for each
-pub all-known : (rule : Lengths) (drop : Bool) (ms : List Machine) (n : ℕ) (t u : Trace)
-    (kept : List (List Numbered)) → u ≡ t → length kept ≡ length ms → AreHeld ms u kept
-    → AreNext rule drop ms n t kept kept
-all-known rule drop ms n t u kept same long held = record {
-  long = long;
+pub all-known : (rv : Rv) (t u : Trace) → u ≡ t → AreHeld (watched_by rv.watches) u rv.kept
+    → AreNext rv.rule rv.drop_dominated (watched_by rv.watches) rv.traces t rv.kept rv.kept
+all-known rv t u same held = record {
+  long = rv.below.0 ∙ sym (length-map rv.watches watched);
   passed = λ s m there. (passes s m there).0;
   right = λ s m there. (passes s m there).1;
 }
   where
-    passes : (s : ℕ) (m : Machine) → slice_get ms s ≡ Some m
-        → IsOutcome rule drop m (masked (spec_of m) t) n (kept_at kept s) Stays
+    passes : (s : ℕ) (m : Machine) → slice_get (watched_by rv.watches) s ≡ Some m
+        → IsOutcome rv.rule rv.drop_dominated m (masked (spec_of m) t) rv.traces
+        (kept_at rv.kept s) Stays
     passes s m there =
-        let P : Trace → Type 0 = λ v. AreHeld ms v kept in
-        held-stays rule m n (masked (spec_of m) t) (kept_at kept s) drop
+        let P : Trace → Type 0 = λ v. AreHeld (watched_by rv.watches) v rv.kept in
+        held-stays rv.rule m rv.traces (masked (spec_of m) t) (kept_at rv.kept s) rv.drop_dominated
         (subst P same held s m there)
+
+-- Where the look-up fails, not for each is an equal one kept, by the same lists.
+pub not-known : (ms : List Machine) (t u : Trace) (kept later : List (List Numbered)) (b : Bool)
+    → IsTrue b ↔ AreHeld ms u kept → b ≡ false → u ≡ t → later ≡ kept → ¬ AreHeld ms t later
+not-known ms t u kept later b known off e f all =
+    let P : Trace → Type 0 = λ v. AreHeld ms v kept in
+    let yes = known.1 (subst P (sym e) (subst (AreHeld ms t) f all)) in
+    absurd (cc (yes, off))

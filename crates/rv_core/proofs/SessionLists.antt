@@ -17,6 +17,21 @@ abbrev pub word_of : Option (List Letter) → List Letter
 word_of None = []
 word_of (Some word) = word
 
+-- A change of session n leaves session k as it is: who looks for m finds that, or what comes of the change.
+elsewhere : (n m k : ℕ) → ¬ (n ≡ k) → (own changed rest old : Option (List Letter))
+    → rest ≡ cond (nat_eq n m) changed old
+    → cond (nat_eq m k) own rest ≡ cond (nat_eq n m) changed (cond (nat_eq m k) own old)
+elsewhere n m k differ own changed rest old e =
+    elim (cases_eq m k) [
+      | inl f ↦
+          let at : nat_eq m k ≡ true = eq-eqb m k f in
+          let off : nat_eq n m ≡ false = ne_eqb n m (λ g. differ (g ∙ f)) in
+          rw (at, off) refl
+      | inr off ↦
+          let past : nat_eq m k ≡ false = ne_eqb m k off in
+          rw past e
+    ]
+
 pub letters-extended : (n : ℕ) (a : Letter) (ss : List Session) (m : ℕ)
     → letters_of m (extended n a ss) ≡ cond (nat_eq n m)
     (Some (word_of (letters_of n ss) ++ a ∷ [])) (letters_of m ss)
@@ -29,15 +44,7 @@ letters-extended n a (s ∷ ss) m =
           rw (here, same) (by-cases (nat_eq n m))
       | inr differ ↦
           let there : nat_eq n s.number ≡ false = ne_eqb n s.number differ in
-          rw there (elim (cases_eq m s.number) [
-            | inl f ↦
-                let at : nat_eq m s.number ≡ true = eq-eqb m s.number f in
-                let off : nat_eq n m ≡ false = ne_eqb n m (λ g. differ (g ∙ f)) in
-                rw (at, off) refl
-            | inr off ↦
-                let past : nat_eq m s.number ≡ false = ne_eqb m s.number off in
-                rw past (letters-extended n a ss m)
-          ])
+          rw there (elsewhere n m s.number differ _ _ _ _ (letters-extended n a ss m))
     ]
   where
     by-cases : (b : Bool) → cond b (Some (s.letters ++ a ∷ [])) (letters_of m ss)
@@ -60,15 +67,7 @@ letters-closed n (s ∷ ss) m =
           rw (here, same, letters-closed n ss m) (by-cases (nat_eq n m))
       | inr differ ↦
           let there : nat_eq n s.number ≡ false = ne_eqb n s.number differ in
-          rw there (elim (cases_eq m s.number) [
-            | inl f ↦
-                let at : nat_eq m s.number ≡ true = eq-eqb m s.number f in
-                let off : nat_eq n m ≡ false = ne_eqb n m (λ g. differ (g ∙ f)) in
-                rw (at, off) refl
-            | inr off ↦
-                let past : nat_eq m s.number ≡ false = ne_eqb m s.number off in
-                rw past (letters-closed n ss m)
-          ])
+          rw there (elsewhere n m s.number differ _ _ _ _ (letters-closed n ss m))
     ]
   where
     by-cases : (b : Bool)

@@ -149,17 +149,7 @@ saves-more rule drop specs later t (x ∷ xs) (p ∷ ps) (is, rest) = (
 
 -- what a monitor holds with these parts, the specs and the saves as before
 abbrev pub changed : Held → List (List Numbered) → ℕ → Open → Bool → Held
-changed m kept n os b =
-    record {
-      rule = m.rule;
-      drop = m.drop;
-      machines = m.machines;
-      arrived = n;
-      kept = kept;
-      sessions = os;
-      saves = m.saves;
-      clean = b;
-    }
+changed m kept n os b = record m { arrived = n; kept = kept; sessions = os; clean = b }
 
 pub arrival-stands : (m : Held) (kept : List (List Numbered)) (os : Open) (h : History) (t : Trace)
     (ss : List Session) → StandsFor m h → IsTrace t
@@ -210,17 +200,7 @@ letter-stands m os h ss s sessions = record {
 
 -- what a monitor holds with these saves
 abbrev pub with_saves : Held → List Saved → Held
-with_saves m saves =
-    record {
-      rule = m.rule;
-      drop = m.drop;
-      machines = m.machines;
-      arrived = m.arrived;
-      kept = m.kept;
-      sessions = m.sessions;
-      saves = saves;
-      clean = m.clean;
-    }
+with_saves m saves = record m { saves = saves }
 
 abbrev pub saved_with : ℕ → List (List Numbered) → Open → Saved
 saved_with n kept os = record { arrived = n; kept = kept; sessions = os }
@@ -254,16 +234,7 @@ save-stands m h s = record {
 -- what a monitor holds that goes back to a save
 abbrev pub back_to : Held → Saved → List Saved → Held
 back_to m x xs =
-    record {
-      rule = m.rule;
-      drop = m.drop;
-      machines = m.machines;
-      arrived = x.arrived;
-      kept = x.kept;
-      sessions = x.sessions;
-      saves = xs;
-      clean = m.clean;
-    }
+    record m { arrived = x.arrived; kept = x.kept; sessions = x.sessions; saves = xs }
 
 pub back-stands : (m : Held) (x : Saved) (xs : List Saved) (h : History)
     → StandsFor m h → m.saves ≡ x ∷ xs
@@ -307,7 +278,7 @@ none-saved m h s e =
     by [] a = refl
     by (p ∷ ps) a = absurd a
 
-pub saves-long : (rule : Lengths) (drop : Bool) (specs : List Spec) (later : List Trace)
+saves-long : (rule : Lengths) (drop : Bool) (specs : List Spec) (later : List Trace)
     (saves : List Saved) (ps : List Present) → AreSaves rule drop specs later saves ps
     → length saves ≡ length ps
 saves-long rule drop specs later [] [] a = refl
@@ -315,6 +286,10 @@ saves-long rule drop specs later [] (p ∷ ps) a = absurd a
 saves-long rule drop specs later (x ∷ xs) [] a = absurd a
 saves-long rule drop specs later (x ∷ xs) (p ∷ ps) (is, rest) =
     ap suc (saves-long rule drop specs p.arrived xs ps rest)
+
+pub saves-there : (m : Held) (h : History) → StandsFor m h → length m.saves ≡ length h.saves
+saves-there m h s =
+    saves-long m.rule m.drop (specs_of m) h.present.arrived m.saves h.saves s.saves
 
 -- ---- what a monitor holds fits together
 

@@ -70,43 +70,44 @@ step-back h next e = popped h.saves refl e
 
 -- ---- when an event is refused, and when not
 
-pub goes-longer : (h : History) (n : ℕ) (a : Letter) (word : List Letter)
-    → letters_of n h.present.sessions ≡ Some word
-    → length word < 1024
-    → step h (event.Letter n a) ≡ goes (with_sessions h (extended n a h.present.sessions))
-goes-longer h n a word known short =
-    let fits : nat_lt (length word) most_letters ≡ true = lt-ltb (length word) most_letters short in
-    ap (letter_step h n a) known
-    ∙ ap (λ b. cond b (goes (with_sessions h (extended n a h.present.sessions))) (refused too_long))
-    fits
+module _ (h : History) (n : ℕ) (a : Letter) where
+  -- of an open session its length decides
+  open-step : (word : List Letter) → letters_of n h.present.sessions ≡ Some word → (b : Bool)
+      → nat_lt (length word) most_letters ≡ b → step h (event.Letter n a)
+      ≡ cond b (goes (with_sessions h (extended n a h.present.sessions))) (refused too_long)
+  open-step word known b fits =
+      ap (letter_step h n a) known
+      ∙ ap (λ x. cond x (goes (with_sessions h (extended n a h.present.sessions))) (refused too_long))
+      fits
 
-pub goes-opened : (h : History) (n : ℕ) (a : Letter) → letters_of n h.present.sessions ≡ None
-    → length h.present.sessions < 1024
-    → step h (event.Letter n a) ≡ goes (with_sessions h (extended n a h.present.sessions))
-goes-opened h n a known few =
-    let fits : nat_lt (length h.present.sessions) most_sessions ≡ true =
-    lt-ltb (length h.present.sessions) most_sessions few in
-    ap (letter_step h n a) known
-    ∙ ap (λ b. cond b (goes (with_sessions h (extended n a h.present.sessions)))
-    (refused too_many_sessions)) fits
+  -- of one that is not open how many are
+  new-step : letters_of n h.present.sessions ≡ None → (b : Bool)
+      → nat_lt (length h.present.sessions) most_sessions ≡ b → step h (event.Letter n a)
+      ≡ cond b (goes (with_sessions h (extended n a h.present.sessions)))
+      (refused too_many_sessions)
+  new-step known b few =
+      ap (letter_step h n a) known
+      ∙ ap (λ x. cond x (goes (with_sessions h (extended n a h.present.sessions)))
+      (refused too_many_sessions)) few
 
-pub refused-long : (h : History) (n : ℕ) (a : Letter) (word : List Letter)
-    → letters_of n h.present.sessions ≡ Some word
-    → 1024 ≤ length word → step h (event.Letter n a) ≡ refused too_long
-refused-long h n a word known long =
-    let full : nat_lt (length word) most_letters ≡ false = le-ltb (length word) most_letters long in
-    ap (letter_step h n a) known
-    ∙ ap (λ b. cond b (goes (with_sessions h (extended n a h.present.sessions))) (refused too_long))
-    full
+  pub goes-longer : (word : List Letter) → letters_of n h.present.sessions ≡ Some word
+      → length word < 1024
+      → step h (event.Letter n a) ≡ goes (with_sessions h (extended n a h.present.sessions))
+  goes-longer word known short = open-step word known true (lt-ltb (length word) most_letters short)
 
-pub refused-many : (h : History) (n : ℕ) (a : Letter) → letters_of n h.present.sessions ≡ None
-    → 1024 ≤ length h.present.sessions → step h (event.Letter n a) ≡ refused too_many_sessions
-refused-many h n a known many =
-    let full : nat_lt (length h.present.sessions) most_sessions ≡ false =
-    le-ltb (length h.present.sessions) most_sessions many in
-    ap (letter_step h n a) known
-    ∙ ap (λ b. cond b (goes (with_sessions h (extended n a h.present.sessions)))
-    (refused too_many_sessions)) full
+  pub goes-opened : letters_of n h.present.sessions ≡ None → length h.present.sessions < 1024
+      → step h (event.Letter n a) ≡ goes (with_sessions h (extended n a h.present.sessions))
+  goes-opened known few =
+      new-step known true (lt-ltb (length h.present.sessions) most_sessions few)
+
+  pub refused-long : (word : List Letter) → letters_of n h.present.sessions ≡ Some word
+      → 1024 ≤ length word → step h (event.Letter n a) ≡ refused too_long
+  refused-long word known long = open-step word known false (le-ltb (length word) most_letters long)
+
+  pub refused-many : letters_of n h.present.sessions ≡ None → 1024 ≤ length h.present.sessions
+      → step h (event.Letter n a) ≡ refused too_many_sessions
+  refused-many known many =
+      new-step known false (le-ltb (length h.present.sessions) most_sessions many)
 
 pub goes-end : (h : History) (n : ℕ) (word : Trace) → letters_of n h.present.sessions ≡ Some word
     → step h (event.End n) ≡ goes (with_trace h word (closed n h.present.sessions))

@@ -97,17 +97,7 @@ FitsIn specs n (Violation spec tuple) = Unit {0}
 
 -- what a monitor holds with a trace more, where this is kept then
 abbrev pub with_kept : Held → List (List Numbered) → Bool → Held
-with_kept m kept clean =
-    record {
-      rule = m.rule;
-      drop = m.drop;
-      machines = m.machines;
-      arrived = m.arrived + 1;
-      kept = kept;
-      sessions = m.sessions;
-      saves = m.saves;
-      clean = clean;
-    }
+with_kept m kept clean = record m { arrived = m.arrived + 1; kept = kept; clean = clean }
 
 -- What was kept stays where nothing more is, and after a violation.
 abbrev pub after_arrival : Held → Arrival → Held

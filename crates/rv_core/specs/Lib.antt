@@ -8,5 +8,6 @@ pub mod Masks
 pub mod Opened
 pub mod Replies
 pub mod Seen
+pub mod SpecAlone
 pub mod StepBounds
 pub mod Watched

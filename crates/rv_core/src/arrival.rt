@@ -1,17 +1,12 @@
 //! What comes of a trace that arrives.
 
-ghost use Rattle.std.specs.Prelude.{◌≡◌, ◌↔◌, ◌+◌, ◌<◌, ◌≤◌, ◌^◌, ℕ, List, length, sum, slice_get, Some, IfOk, IsTrue};
-ghost use Rattle.trace_trie.specs.Numbered.{Numbered, IsHeld};
-ghost use Rattle.fin_monitor.specs.Machines.{Machine};
-ghost use Rattle.tuple_walk.specs.Finds.{traces_of};
-ghost use Rattle.rv_core.specs.Arrivals.{AreHeld, IsOutcome, IsArrival, FitsIn, after_arrival, kept_or};
+ghost use Rattle.std.specs.Prelude.{◌≡◌, ◌↔◌, ◌+◌, ◌<◌, ◌≤◌, ◌^◌, ℕ, List, length, sum, IfOk, IsTrue};
+ghost use Rattle.rv_core.specs.Arrivals.{AreHeld, IsArrival, FitsIn, after_arrival, kept_or};
 ghost use Rattle.rv_core.specs.declared.arrival.Arrival.TheVariants.{Same};
-ghost use Rattle.rv_core.specs.Held.{spec_of};
-ghost use Rattle.rv_core.specs.Keeping.{kept_at};
-ghost use Rattle.rv_core.specs.Masks.{masked};
 ghost use Rattle.rv_core.specs.Replies.{IsReplyTo};
 ghost use Rattle.rv_core.specs.Seen.{watched_by};
-ghost use Rattle.rv_core.specs.StepBounds.{IsSpecBound, AreBounds};
+ghost use Rattle.rv_core.specs.SpecAlone.{KeepsNone, TellsHeld, HasOneVariable, ComesOf, GrowWithin, by_names, whole};
+ghost use Rattle.rv_core.specs.StepBounds.{AreBounds};
 
 use crate::kept::Kept;
 use crate::reply::Reply;
@@ -67,8 +62,7 @@ impl Rv {
     fn is_held(&self, spec: usize, trace: &[LetterMask]) -> bool
         requires there { spec < length self.now.watches }
         requires not_all { ¬ AreHeld (watched_by self.now.watches) trace.now self.now.kept }
-        ensures { (m : Machine) → slice_get (watched_by self.now.watches) spec ≡ Some m
-            → IsTrue result ↔ IsHeld (masked (spec_of m) trace.now) (kept_at self.now.kept spec) }
+        ensures { TellsHeld self.now spec (by_names trace.now) result }
     {
         if self.watches.len() == 1 {
             return false;
@@ -137,14 +131,9 @@ impl Rv {
         requires few { (held self.now).arrived < 2 ^ 31 }
         requires there { spec < length self.now.watches }
         requires not_all { ¬ AreHeld (watched_by self.now.watches) trace.now self.now.kept }
-        ensures outcome { (m : Machine) → slice_get (watched_by self.now.watches) spec ≡ Some m
-            → IfOk result (IsOutcome self.now.rule self.now.drop_dominated m
-            (masked (spec_of m) trace.now) self.now.traces (kept_at self.now.kept spec)) }
+        ensures outcome { ComesOf self.now spec (by_names trace.now) result }
         ensures counted { steps.old ≤ steps.new }
-        ensures bounded { (m : Machine) (bound : ℕ)
-            → slice_get (watched_by self.now.watches) spec ≡ Some m
-            → IsSpecBound self.now.rule m (traces_of (kept_at self.now.kept spec))
-            (masked (spec_of m) trace.now) bound → steps.new ≤ steps.old + bound }
+        ensures bounded { GrowWithin self.now spec (by_names trace.now) steps.old steps.new }
     {
         let letters = trace.as_slice();
         if self.is_held(spec, letters) {
@@ -171,16 +160,10 @@ impl Rv {
     ) -> M<Outcome>
         requires few { (held self.now).arrived < 2 ^ 31 }
         requires there { spec < length self.now.watches }
-        requires absent { (version : List Numbered) → slice_get self.now.kept spec ≡ Some version
-            → ¬ IsHeld trace.now version }
-        ensures outcome { (m : Machine) → slice_get (watched_by self.now.watches) spec ≡ Some m
-            → IfOk result (IsOutcome self.now.rule self.now.drop_dominated m trace.now
-            self.now.traces (kept_at self.now.kept spec)) }
+        requires absent { KeepsNone self.now spec trace.now }
+        ensures outcome { ComesOf self.now spec (whole trace.now) result }
         ensures counted { steps.old ≤ steps.new }
-        ensures bounded { (m : Machine) (bound : ℕ)
-            → slice_get (watched_by self.now.watches) spec ≡ Some m
-            → IsSpecBound self.now.rule m (traces_of (kept_at self.now.kept spec)) trace.now bound
-            → steps.new ≤ steps.old + bound }
+        ensures bounded { GrowWithin self.now spec (whole trace.now) steps.old steps.new }
     {
         let watch = self.watches.at(spec);
         let kept = self.kept.at(spec);
@@ -211,18 +194,11 @@ impl Rv {
     ) -> M<Outcome>
         requires few { (held self.now).arrived < 2 ^ 31 }
         requires there { spec < length self.now.watches }
-        requires absent { (version : List Numbered) → slice_get self.now.kept spec ≡ Some version
-            → ¬ IsHeld trace.now version }
-        requires one { (m : Machine) → slice_get (watched_by self.now.watches) spec ≡ Some m
-            → m.variables ≡ 1 }
-        ensures outcome { (m : Machine) → slice_get (watched_by self.now.watches) spec ≡ Some m
-            → IfOk result (IsOutcome self.now.rule self.now.drop_dominated m trace.now
-            self.now.traces (kept_at self.now.kept spec)) }
+        requires absent { KeepsNone self.now spec trace.now }
+        requires one { HasOneVariable self.now spec }
+        ensures outcome { ComesOf self.now spec (whole trace.now) result }
         ensures counted { steps.old ≤ steps.new }
-        ensures bounded { (m : Machine) (bound : ℕ)
-            → slice_get (watched_by self.now.watches) spec ≡ Some m
-            → IsSpecBound self.now.rule m (traces_of (kept_at self.now.kept spec)) trace.now bound
-            → steps.new ≤ steps.old + bound }
+        ensures bounded { GrowWithin self.now spec (whole trace.now) steps.old steps.new }
     {
         let watch = self.watches.at(spec);
         let kept = self.kept.at(spec);

@@ -3,7 +3,7 @@ use Rattle.std.proofs.Math.Seq.{take-length}
 use Rattle.std.specs.FinSet.{intersection}
 use Rattle.hy_bits.specs.Letter.{Letter}
 use Rattle.rv_core.specs.Masks.{AreListed}
-use Rattle.rv_core.proofs.Naming.{AreFound, found-start, found-more, found-less, found-all, name-at, listed-below}
+use Rattle.rv_core.proofs.Naming.{AreFound, found-start, found-more, found-less, found-all, name-at, name-below}
 use Rattle.rv_core.proofs.Places.{take-next}
 use Rattle.rv_core.proofs.names.Names.of_letter.Goals.{then-has, else-has}
 use Rattle.rv_core.proofs.names.Names.of_letter.Goals as goal
@@ -15,21 +15,13 @@ loop-name-init c =
 
 pub has-requires : goal.has-requires
 has-requires c =
-    let items = c.deref-name-items.result.now in
-    let i = c.loop-name.name-index in
-    let P : List ℕ → Type 0 = λ names. AreListed names c.self.inside.all in
-    let listed = subst P (sym c.deref-name-items.ensures.value) c.self.invariant in
-    listed-below items c.self.inside.all listed c.names_below.ensures i
-    (slice_index_or items i 0) (name-at items i c.loop-name-test.true)
+    name-below _ c.deref-name-items.result.now c.self.inside.all c.deref-name-items.ensures.value
+    c.self.invariant c.names_below.ensures c.loop-name.name-index c.loop-name-test.true
 
 pub with-found-requires : goal.with-found-requires
 with-found-requires c =
-    let items = c.deref-name-items.result.now in
-    let i = c.loop-name.name-index in
-    let P : List ℕ → Type 0 = λ names. AreListed names c.self.inside.all in
-    let listed = subst P (sym c.deref-name-items.ensures.value) c.self.invariant in
-    listed-below items c.self.inside.all listed c.names_below.ensures i
-    (slice_index_or items i 0) (name-at items i c.loop-name-test.true)
+    name-below _ c.deref-name-items.result.now c.self.inside.all c.deref-name-items.ensures.value
+    c.self.invariant c.names_below.ensures c.loop-name.name-index c.loop-name-test.true
 
 pub loop-name-preserved : goal.loop-name-preserved
 loop-name-preserved c =

@@ -2,14 +2,14 @@ use Rattle.std.proofs.Common.{◌≡◌, ◌∙◌, ◌+◌, ◌<◌, length, Li
 use Rattle.std.proofs.lemmas.List.{length-map}
 use Rattle.trace_trie.specs.Numbered.{Numbered}
 use Rattle.rv_core.specs.declared.arrival.Outcome.{Outcome}
-use Rattle.rv_core.specs.Arrivals.{IsOutcome, AreNext, kept_or}
+use Rattle.rv_core.specs.Arrivals.{IsOutcome, kept_or}
 use Rattle.rv_core.specs.Held.{spec_of}
 use Rattle.rv_core.specs.Keeping.{kept_at}
 use Rattle.rv_core.specs.Masks.{masked}
 use Rattle.rv_core.specs.Seen.{watched, watched_by, held}
 use Rattle.rv_core.proofs.Below.{machine-some, next-below}
-use Rattle.rv_core.proofs.Bounding.{bounds-more, bounds-all}
-use Rattle.rv_core.proofs.Making.{AreMade, made-none, made-stays, made-passes, made-all}
+use Rattle.rv_core.proofs.Bounding.{bounds-more, bounds-end}
+use Rattle.rv_core.proofs.Making.{AreMade, made-none, made-stays, made-passes, made-whole}
 use Rattle.rv_core.proofs.rv.Rv.arrival.Goals.{in-Stays, in-Passes+in_ok-kept-in-Passes}
 use Rattle.rv_core.proofs.rv.Rv.arrival.Goals as goal
 
@@ -83,29 +83,13 @@ returns-in-Violates-clause-arrival g c =
 
 pub returns-in-Some-clause-arrival : goal.returns-in-Some-clause-arrival
 returns-in-Some-clause-arrival g c =
-    let rv = c.args.self.now in
-    let ms = watched_by rv.watches in
-    let long = length-map rv.watches watched in
-    let P : Option (List (List Numbered)) → Type 0 =
-    λ next. AreNext rv.rule rv.drop_dominated ms rv.traces c.args.trace.now rv.kept
-    (kept_or rv.kept next) in
-    subst P c.in-Some.is
-    (made-all rv.rule rv.drop_dominated ms rv.traces c.args.trace.now rv.kept c.loop-i.i
-    (kept_or rv.kept c.loop-i.next) c.loop-i.invariant.made
-    (omega (arith, long, c.loop-i-test.false)) (rv.below.0 ∙ sym long))
+    made-whole c.args.self.now c.args.trace.now c.loop-i.i _ _ c.in-Some.is c.loop-i.invariant.made
+    (omega (arith, c.loop-i-test.false))
 
 pub returns-in-None-clause-arrival : goal.returns-in-None-clause-arrival
 returns-in-None-clause-arrival g c =
-    let rv = c.args.self.now in
-    let ms = watched_by rv.watches in
-    let long = length-map rv.watches watched in
-    let P : Option (List (List Numbered)) → Type 0 =
-    λ next. AreNext rv.rule rv.drop_dominated ms rv.traces c.args.trace.now rv.kept
-    (kept_or rv.kept next) in
-    subst P c.in-None.is
-    (made-all rv.rule rv.drop_dominated ms rv.traces c.args.trace.now rv.kept c.loop-i.i
-    (kept_or rv.kept c.loop-i.next) c.loop-i.invariant.made
-    (omega (arith, long, c.loop-i-test.false)) (rv.below.0 ∙ sym long))
+    made-whole c.args.self.now c.args.trace.now c.loop-i.i _ _ c.in-None.is c.loop-i.invariant.made
+    (omega (arith, c.loop-i-test.false))
 
 pub returns-in-Some-clause-below : goal.returns-in-Some-clause-below
 returns-in-Some-clause-below g c =
@@ -118,30 +102,18 @@ returns-in-Some-clause-below g c =
 
 pub returns-in_err-outcome-clause-bounded : goal.returns-in_err-outcome-clause-bounded
 returns-in_err-outcome-clause-bounded g c bounds are =
-    let rv = c.args.self.now in
-    let i = c.loop-i.i in
-    let lt : i < length (watched_by rv.watches) =
-    omega (arith, length-map rv.watches watched, c.loop-i-test.true) in
-    bounds-all (held rv) c.args.trace.now bounds are c.args.steps.now (i + 1) c.outcome.new.steps
-    (bounds-more (held rv) c.args.trace.now bounds are c.args.steps.now i lt c.loop-i.steps
-    c.outcome.new.steps (c.loop-i.invariant.bounded bounds are) c.outcome.ensures.bounded)
+    bounds-end c.args.self.now c.args.trace.now bounds are c.args.steps.now c.loop-i.i c.loop-i.steps
+    c.outcome.new.steps (omega (arith, c.loop-i-test.true)) (c.loop-i.invariant.bounded bounds are)
+    c.outcome.ensures.bounded
 
 pub returns-in_err-kept-in-Passes-clause-bounded : goal.returns-in_err-kept-in-Passes-clause-bounded
 returns-in_err-kept-in-Passes-clause-bounded g c bounds are =
-    let rv = c.args.self.now in
-    let i = c.loop-i.i in
-    let lt : i < length (watched_by rv.watches) =
-    omega (arith, length-map rv.watches watched, c.loop-i-test.true) in
-    bounds-all (held rv) c.args.trace.now bounds are c.args.steps.now (i + 1) c.outcome.new.steps
-    (bounds-more (held rv) c.args.trace.now bounds are c.args.steps.now i lt c.loop-i.steps
-    c.outcome.new.steps (c.loop-i.invariant.bounded bounds are) c.outcome.ensures.bounded)
+    bounds-end c.args.self.now c.args.trace.now bounds are c.args.steps.now c.loop-i.i c.loop-i.steps
+    c.outcome.new.steps (omega (arith, c.loop-i-test.true)) (c.loop-i.invariant.bounded bounds are)
+    c.outcome.ensures.bounded
 
 pub returns-in-Violates-clause-bounded : goal.returns-in-Violates-clause-bounded
 returns-in-Violates-clause-bounded g c bounds are =
-    let rv = c.args.self.now in
-    let i = c.loop-i.i in
-    let lt : i < length (watched_by rv.watches) =
-    omega (arith, length-map rv.watches watched, c.loop-i-test.true) in
-    bounds-all (held rv) c.args.trace.now bounds are c.args.steps.now (i + 1) c.outcome.new.steps
-    (bounds-more (held rv) c.args.trace.now bounds are c.args.steps.now i lt c.loop-i.steps
-    c.outcome.new.steps (c.loop-i.invariant.bounded bounds are) c.outcome.ensures.bounded)
+    bounds-end c.args.self.now c.args.trace.now bounds are c.args.steps.now c.loop-i.i c.loop-i.steps
+    c.outcome.new.steps (omega (arith, c.loop-i-test.true)) (c.loop-i.invariant.bounded bounds are)
+    c.outcome.ensures.bounded

@@ -10,7 +10,7 @@ use Rattle.rv_core.specs.Opened.{Open}
 use Rattle.rv_core.specs.Replies.{Answers}
 use Rattle.rv_core.specs.Seen.{held}
 use Rattle.rv_core.proofs.Standing.{with_saves, saved_with, saved_of}
-use Rattle.rv_core.proofs.Answering.{memory-answer, answered-save, many-saves, reverse-push}
+use Rattle.rv_core.proofs.Answering.{memory-kept, answered-save, many-saves, reverse-push}
 use Rattle.rv_core.proofs.rv.Rv.take_save.Goals as goal
 
 pub returns-then-len-ge-MOST_SAVES-clause-answers :
@@ -22,41 +22,28 @@ returns-then-len-ge-MOST_SAVES-clause-answers c =
 
 pub returns-in_err-settle-clause-answers : goal.returns-in_err-settle-clause-answers
 returns-in_err-settle-clause-answers c =
-    let m = held c.args.self.now in
     let p = err_from_is_err_and c.from_residual.result c.from_residual.ensures.1 in
-    let P : List (List Numbered) → Type 0 =
-    λ kept. Answers m (record m { kept = kept }) event.Save (Err error.Memory) in
-    rw (p.1, p.2) (subst P (sym c.settle.ensures) (memory-answer m event.Save refl))
+    rw (p.1, p.2) (memory-kept (held c.args.self.now) event.Save c.settle.new.self refl c.settle.ensures)
 
 pub returns-in_err-kept-clause-answers : goal.returns-in_err-kept-clause-answers
 returns-in_err-kept-clause-answers c =
-    let m = held c.args.self.now in
     let p = err_from_is_err_and c.from_residual-in_err-kept.result c.from_residual-in_err-kept.ensures.1 in
-    let P : List (List Numbered) → Type 0 =
-    λ kept. Answers m (record m { kept = kept }) event.Save (Err error.Memory) in
-    rw (p.1, p.2) (subst P (sym c.settle.ensures) (memory-answer m event.Save refl))
+    rw (p.1, p.2) (memory-kept (held c.args.self.now) event.Save c.settle.new.self refl c.settle.ensures)
 
 pub returns-in_err-sessions-clause-answers : goal.returns-in_err-sessions-clause-answers
 returns-in_err-sessions-clause-answers c =
-    let m = held c.args.self.now in
     let p = err_from_is_err_and c.from_residual-in_err-sessions.result c.from_residual-in_err-sessions.ensures.1 in
-    let P : List (List Numbered) → Type 0 =
-    λ kept. Answers m (record m { kept = kept }) event.Save (Err error.Memory) in
-    rw (p.1, p.2) (subst P (sym c.settle.ensures) (memory-answer m event.Save refl))
+    rw (p.1, p.2) (memory-kept (held c.args.self.now) event.Save c.settle.new.self refl c.settle.ensures)
 
 pub returns-in_err-push-clause-answers : goal.returns-in_err-push-clause-answers
 returns-in_err-push-clause-answers c =
     let m = held c.args.self.now in
-    let p = err_from_is_err_and c.from_residual-in_err-push.result
-    c.from_residual-in_err-push.ensures.1 in
-    let P : List (List Numbered) → Type 0 =
-    λ kept. Answers m (record m { kept = kept }) event.Save (Err error.Memory) in
+    let p = err_from_is_err_and c.from_residual-in_err-push.result c.from_residual-in_err-push.ensures.1 in
     let Q : List Saved → Type 0 =
     λ saves. Answers m (record (with_saves m (reverse saves)) { kept = c.settle.new.self })
     event.Save (Err error.Memory) in
     rw (p.1, p.2)
-    (subst Q (sym c.in_err-push.ensures.refused)
-    (subst P (sym c.settle.ensures) (memory-answer m event.Save refl)))
+    (subst Q (sym c.in_err-push.ensures.refused) (memory-kept m event.Save c.settle.new.self refl c.settle.ensures))
 
 pub returns-clause-answers : goal.returns-clause-answers
 returns-clause-answers c =

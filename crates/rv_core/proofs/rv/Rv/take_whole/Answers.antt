@@ -1,17 +1,13 @@
-use Rattle.std.proofs.Common.{List, refl, Ok, Err, sym, ◌∙◌, subst, arith}
-use Rattle.std.proofs.lemmas.List.{length-map}
+use Rattle.std.proofs.Common.{List, refl, Ok, sym, subst, arith}
 use Rattle.std.proofs.lemmas.Result.{err_from_is_err_and}
 use Rattle.hy_finite.specs.declared.event.Event.TheVariants as event
-use Rattle.hy_finite.specs.Traces.{Trace}
 use Rattle.trace_trie.specs.Numbered.{Numbered}
-use Rattle.rv_core.specs.Arrivals.{AreHeld}
 use Rattle.rv_core.specs.declared.arrival.Arrival.TheVariants.{Same}
 use Rattle.rv_core.specs.Held.{Held}
-use Rattle.rv_core.specs.declared.rv_error.RvError.TheVariants as error
 use Rattle.rv_core.specs.Replies.{Answers}
-use Rattle.rv_core.specs.Seen.{held, watched, watched_by}
-use Rattle.rv_core.proofs.Answering.{whole-brings, answered-arrival, memory-answer}
-use Rattle.rv_core.proofs.Outcomes.{all-known}
+use Rattle.rv_core.specs.Seen.{held}
+use Rattle.rv_core.proofs.Answering.{whole-brings, answered-arrival, memory-kept}
+use Rattle.rv_core.proofs.Outcomes.{all-known, not-known}
 use Rattle.rv_core.proofs.rv.Rv.take_whole.Goals as goal
 
 pub returns-then-all_hold-clause-answers : goal.returns-then-all_hold-clause-answers
@@ -23,37 +19,23 @@ returns-then-all_hold-clause-answers g c =
     subst P (sym c.take_same.ensures.held)
     (answered-arrival m (event.Whole t) t m.sessions (whole-brings m t) refl (omega arith) Same
     c.take_same.result c.take_same.ensures.reply
-    (all-known rv.rule rv.drop_dominated (watched_by rv.watches) rv.traces t
-    c.as_slice.result.now rv.kept c.as_slice.ensures
-    (rv.below.0 ∙ sym (length-map rv.watches watched)) (c.all_hold.ensures.0 c.if-all_hold.true)))
+    (all-known rv t c.as_slice.result.now c.as_slice.ensures
+    (c.all_hold.ensures.0 c.if-all_hold.true)))
 
 pub arrival-requires-clause-not_all : goal.arrival-requires-clause-not_all
 arrival-requires-clause-not_all g c =
-    let ms = watched_by c.args.self.now.watches in
-    let P : Trace → Type 0 = λ t. ¬ AreHeld ms t c.args.self.now.kept in
-    let Q : List (List Numbered) → Type 0 = λ kept. ¬ AreHeld ms c.args.trace.now kept in
-    subst Q (sym c.settle.ensures)
-    (subst P c.as_slice.ensures
-    (λ all. let yes = c.all_hold.ensures.1 all in let no = c.if-all_hold.false in absurd (cc (yes, no))))
+    not-known _ c.args.trace.now c.as_slice.result.now _ _ c.all_hold.result c.all_hold.ensures
+    c.if-all_hold.false c.as_slice.ensures c.settle.ensures
 
 pub returns-in_err-settle-clause-answers : goal.returns-in_err-settle-clause-answers
 returns-in_err-settle-clause-answers g c =
-    let m = held c.args.self.now in
     let p = err_from_is_err_and c.from_residual.result c.from_residual.ensures.1 in
-    let P : List (List Numbered) → Type 0 =
-    λ kept. Answers m (record m { kept = kept }) (event.Whole c.args.trace.now) (Err error.Memory) in
-    rw (p.1, p.2)
-    (subst P (sym c.settle.ensures) (memory-answer m (event.Whole c.args.trace.now) refl))
+    rw (p.1, p.2) (memory-kept (held c.args.self.now) (event.Whole c.args.trace.now) c.settle.new.self refl c.settle.ensures)
 
 pub returns-in_err-arrival-clause-answers : goal.returns-in_err-arrival-clause-answers
 returns-in_err-arrival-clause-answers g c =
-    let m = held c.args.self.now in
-    let p = err_from_is_err_and c.from_residual-in_err-arrival.result
-    c.from_residual-in_err-arrival.ensures.1 in
-    let P : List (List Numbered) → Type 0 =
-    λ kept. Answers m (record m { kept = kept }) (event.Whole c.args.trace.now) (Err error.Memory) in
-    rw (p.1, p.2)
-    (subst P (sym c.settle.ensures) (memory-answer m (event.Whole c.args.trace.now) refl))
+    let p = err_from_is_err_and c.from_residual-in_err-arrival.result c.from_residual-in_err-arrival.ensures.1 in
+    rw (p.1, p.2) (memory-kept (held c.args.self.now) (event.Whole c.args.trace.now) c.settle.new.self refl c.settle.ensures)
 
 pub returns-clause-answers : goal.returns-clause-answers
 returns-clause-answers g c =
