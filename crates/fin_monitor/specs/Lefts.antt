@@ -66,6 +66,11 @@ IsAsked nodes atoms k mask =
 abbrev pub AreAsked : List Node → List IndexedAtom → List ℕ → ℕ → Type 0
 AreAsked nodes atoms masks n = (k : ℕ) → k < n → IsAsked nodes atoms k (slice_index masks k)
 
+-- of all members
+pub record AreMasks (nodes : List Node) (atoms : List IndexedAtom) (masks : List ℕ) : Type 0 where
+  pub long : length masks ≡ length nodes
+  pub asked : AreAsked nodes atoms masks (length nodes)
+
 -- Codes that agree on the mask say the same of the atom.
 abbrev pub IsAtomMask : List IndexedAtom → ℕ → ℕ → ℕ → Type 0
 IsAtomMask atoms name variable mask =

@@ -4,7 +4,7 @@ ghost use Rattle.std.specs.Prelude.{◌≡◌, ℕ, ◌≤◌, ◌<◌, ◌*◌,
 ghost use Rattle.hy_formula.specs.Quantifiers.{Each};
 ghost use Rattle.hy_formula.specs.Atoms.{plain_atom};
 ghost use Rattle.fin_monitor.specs.Duties.{residual_at, accepts};
-ghost use Rattle.fin_monitor.specs.Lefts.{kept_lists, AreAsked};
+ghost use Rattle.fin_monitor.specs.Lefts.{kept_lists, AreMasks};
 ghost use Rattle.fin_monitor.specs.Reductions.{LeaveAlike, AreFirsts};
 ghost use Rattle.fin_monitor.specs.Tables.{AreAllLefts, Puts, Follows, IsExplored, IsPutRefusal, IsTableRefusal, IsAutomaton};
 
@@ -103,9 +103,8 @@ impl<const W: usize> Explored<W> {
         requires width { W ≤ 16 }
         requires members { length judge.now.closure.now.nodes ≤ 64 * W }
         requires few { length judge.now.atoms.now ≤ 16 }
-        requires masks { length masks.now ≡ length judge.now.closure.now.nodes }
-        requires asked { AreAsked judge.now.closure.now.nodes (map plain_atom judge.now.atoms.now)
-            masks.now (length masks.now) }
+        requires masks { AreMasks judge.now.closure.now.nodes
+            (map plain_atom judge.now.atoms.now) masks.now }
         requires there { row < length self.old.residuals.keys }
         requires rows { length self.old.table ≡ row * 2 ^ length judge.now.atoms.now }
         requires explored { IsExplored judge.now.closure.now.nodes root
@@ -181,9 +180,8 @@ impl<const W: usize> Explored<W> {
         requires width { W ≤ 16 }
         requires members { length judge.now.closure.now.nodes ≤ 64 * W }
         requires few { length judge.now.atoms.now ≤ 16 }
-        requires masks { length masks.now ≡ length judge.now.closure.now.nodes }
-        requires asked { AreAsked judge.now.closure.now.nodes (map plain_atom judge.now.atoms.now)
-            masks.now (length masks.now) }
+        requires masks { AreMasks judge.now.closure.now.nodes
+            (map plain_atom judge.now.atoms.now) masks.now }
         requires there { row < length self.old.residuals.keys }
         requires rows { length self.old.table ≡ row * 2 ^ length judge.now.atoms.now }
         requires explored { IsExplored judge.now.closure.now.nodes root
@@ -238,9 +236,8 @@ impl<const W: usize> Explored<W> {
         requires width { W ≤ 16 }
         requires members { length judge.now.closure.now.nodes ≤ 64 * W }
         requires few { length judge.now.atoms.now ≤ 16 }
-        requires masks { length masks.now ≡ length judge.now.closure.now.nodes }
-        requires asked { AreAsked judge.now.closure.now.nodes (map plain_atom judge.now.atoms.now)
-            masks.now (length masks.now) }
+        requires masks { AreMasks judge.now.closure.now.nodes
+            (map plain_atom judge.now.atoms.now) masks.now }
         requires there { row < length self.old.residuals.keys }
         requires residual { LeaveAlike judge.now.closure.now.nodes residual.now
             (residual_at (kept_lists self.old.residuals.keys) row) }

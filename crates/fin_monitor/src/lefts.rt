@@ -3,7 +3,7 @@
 ghost use Rattle.std.specs.Prelude.{◌≡◌, ◌≤◌, ◌<◌, ◌*◌, ◌∷◌, ◌++◌, [], cond, length, map, IfOk, OnOk, List as Sequence};
 ghost use Rattle.hy_formula.specs.Atoms.{plain_atom};
 ghost use Rattle.fin_monitor.specs.Duties.{Duty as Duties, no_duty, joined, AreAlike};
-ghost use Rattle.fin_monitor.specs.Lefts.{kept_lists, IsFamily, IsFamilyOf, IsLeft, AreLefts, AreAsked, IsStepOf, IsPartialStep, IsJoinedWith, IsUnionsBelow};
+ghost use Rattle.fin_monitor.specs.Lefts.{kept_lists, IsFamily, IsFamilyOf, IsLeft, AreLefts, AreMasks, IsStepOf, IsPartialStep, IsJoinedWith, IsUnionsBelow};
 
 use crate::atoms::holds;
 use crate::duty::Duty;
@@ -52,9 +52,8 @@ impl<const W: usize> Lefts<W> {
         requires width { W ≤ 16 }
         requires members { length judge.now.closure.now.nodes ≤ 64 * W }
         requires few { length judge.now.atoms.now ≤ 16 }
-        requires masks { length masks.now ≡ length judge.now.closure.now.nodes }
-        requires asked { AreAsked judge.now.closure.now.nodes (map plain_atom judge.now.atoms.now)
-            masks.now (length masks.now) }
+        requires masks { AreMasks judge.now.closure.now.nodes
+            (map plain_atom judge.now.atoms.now) masks.now }
         requires long { length self.old.lists ≡ length judge.now.closure.now.nodes }
         requires lefts { AreLefts judge.now.closure.now.nodes (map plain_atom judge.now.atoms.now)
             self.old.code (kept_lists self.old.lists) (length self.old.lists) }

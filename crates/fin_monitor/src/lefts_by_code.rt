@@ -5,7 +5,7 @@ ghost use Rattle.hy_formula.specs.Quantifiers.{Each};
 ghost use Rattle.hy_formula.specs.Atoms.{plain_atom};
 ghost use Rattle.fin_monitor.specs.Codes.{letter_of};
 ghost use Rattle.fin_monitor.specs.Duties.{residual_step, Same};
-ghost use Rattle.fin_monitor.specs.Lefts.{kept_lists, IsFamily, AreAsked};
+ghost use Rattle.fin_monitor.specs.Lefts.{kept_lists, IsFamily, AreMasks};
 ghost use Rattle.fin_monitor.specs.Tables.{AreAllLefts};
 
 use crate::duty::Duty;
@@ -56,9 +56,8 @@ impl<const W: usize> LeftsByCode<W> {
         requires width { W ≤ 16 }
         requires members { length judge.now.closure.now.nodes ≤ 64 * W }
         requires few { length judge.now.atoms.now ≤ 16 }
-        requires masks { length masks.now ≡ length judge.now.closure.now.nodes }
-        requires asked { AreAsked judge.now.closure.now.nodes (map plain_atom judge.now.atoms.now)
-            masks.now (length masks.now) }
+        requires masks { AreMasks judge.now.closure.now.nodes
+            (map plain_atom judge.now.atoms.now) masks.now }
         requires some { 0 < length self.old.kept.items }
         requires kept { Each (λ k. AreAllLefts judge.now.closure.now.nodes
             (map plain_atom judge.now.atoms.now) k.code (kept_lists k.lists)) self.old.kept.items }

@@ -4,7 +4,7 @@ ghost use Rattle.std.specs.Prelude.{◌≡◌, ◌≤◌, ◌<◌, ◌*◌, leng
 ghost use Rattle.ltl_closure.specs.Nodes.{PartsBelow};
 ghost use Rattle.ltl_closure.specs.Plain.{plain_node};
 ghost use Rattle.hy_formula.specs.Atoms.{plain_atom};
-ghost use Rattle.fin_monitor.specs.Lefts.{AreAsked, IsAskedNode, IsAskedAll, IsAskedBelow, IsPart};
+ghost use Rattle.fin_monitor.specs.Lefts.{AreMasks, IsAskedNode, IsAskedAll, IsAskedBelow, IsPart};
 
 use crate::atoms::mask_of;
 use crate::duty::Duty;
@@ -17,9 +17,7 @@ use std::alloc::Global;
 /// letter depends on these bits of its code alone. In time linear in the closure.
 pub fn asked_masks(alloc: Global, closure: &Closure, atoms: &[Atom]) -> M<NumList>
     requires { length atoms.now ≤ 16 }
-    ensures long { IfOk result (λ masks. length masks ≡ length closure.now.nodes) }
-    ensures asked { IfOk result (λ masks. AreAsked closure.now.nodes (map plain_atom atoms.now) masks
-        (length closure.now.nodes)) }
+    ensures { IfOk result (AreMasks closure.now.nodes (map plain_atom atoms.now)) }
 {
     let mut masks = NumList::new(alloc);
     for k in 0..closure.len() {

@@ -29,7 +29,7 @@ pub fill_row-requires : goal.fill_row-requires
 fill_row-requires g c =
     let P : List Duty → Type 0 = λ l. LeaveAlike c.args.judge.now.closure.now.nodes l (residual_at (kept_lists c.args.self.now.residuals.keys) c.args.row) in
     let r = c.requires in
-    (search rules, (search rules, (r.width, (r.members, (r.few, (r.masks, (r.asked, (r.there, (r.rows, (r.explored, (r.some, (r.lefts, subst P (sym c.deref-2.ensures.value) c.in_ok-residual.ensures))))))))))))
+    (search rules, (search rules, (r.width, (r.members, (r.few, (r.masks, (r.there, (r.rows, (r.explored, (r.some, (r.lefts, subst P (sym c.deref-2.ensures.value) c.in_ok-residual.ensures)))))))))))
 
 pub returns-clause-repeats : goal.returns-clause-repeats
 returns-clause-repeats g c =

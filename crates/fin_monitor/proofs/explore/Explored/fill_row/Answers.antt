@@ -3,7 +3,7 @@ use Rattle.std.proofs.lemmas.Option.{get_or_from_slice_get}
 use Rattle.hy_formula.specs.Quantifiers.{Each}
 use Rattle.hy_formula.specs.Atoms.{plain_atom}
 use Rattle.fin_monitor.specs.Duties.{residual_at}
-use Rattle.fin_monitor.specs.Lefts.{kept_lists, AreAsked}
+use Rattle.fin_monitor.specs.Lefts.{kept_lists}
 use Rattle.fin_monitor.specs.Reductions.{LeaveAlike}
 use Rattle.fin_monitor.specs.Tables.{row_of, AreAllLefts, IsExplored}
 use Rattle.fin_monitor.proofs.Exploring.{Ready, explored-push, copied, row-power}
@@ -47,13 +47,12 @@ loop-code-preserved g c =
           })
       | else-asked-code w' ↦
           let low : ℕ = bit_and code c.asked_in-mask.result in
-          let B : ℕ → Type 0 = λ n. AreAsked nodes atoms c.args.masks.now n in
           let at : get_or c.loop-code.self.table (c.len-first.result + low) 0 ≡ w'.at.result.now = get_or_from_slice_get c.loop-code.self.table (c.len-first.result + low) _ 0 w'.at.ensures in
           let R : ℕ → Type 0 = λ x. c.len-first.result ≡ row * x in
           let first : c.len-first.result ≡ row * row_of atoms = subst R (sym w) (c.len-first.ensures ∙ c.requires.rows) in
           let D : ℕ → Type 0 = λ x. get_or c.loop-code.self.table (x + low) 0 ≡ w'.at.result.now in
           let (inside, follows) = copied nodes c.args.root atoms c.args.masks.now (kept_lists c.loop-code.self.residuals.keys) c.loop-code.self.table row code c.asked_in-mask.result w'.at.result.now c.args.residual.now
-          c.requires.masks (subst B c.requires.masks c.requires.asked) inv.explored long less inv.same (c.asked_in-mask.ensures) w'.if-asked-code.false (subst D first at) in
+          c.requires.masks.long c.requires.masks.asked inv.explored long less inv.same (c.asked_in-mask.ensures) w'.if-asked-code.false (subst D first at) in
           rw (w'.self-is, w'.next-is)
           (record {
             explored = inv.explored;

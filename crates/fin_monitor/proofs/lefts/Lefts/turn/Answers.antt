@@ -18,9 +18,9 @@ put_left-requires g c = (
       (
         c.requires.few,
         (
-          omega (arith, c.len-k-end.ensures, c.loop-k-test.true, c.requires.masks),
+          omega (arith, c.len-k-end.ensures, c.loop-k-test.true, c.requires.masks.long),
           (
-            omega (arith, c.len-k-end.ensures, c.loop-k-test.true, c.requires.masks, c.requires.long, c.loop-k.invariant.long),
+            omega (arith, c.len-k-end.ensures, c.loop-k-test.true, c.requires.masks.long, c.requires.long, c.loop-k.invariant.long),
             c.loop-k.invariant.turned.done,
           ),
         ),
@@ -35,10 +35,10 @@ loop-k-init g c = record { long = refl; code = refl; turned = turned-start c.arg
 pub loop-k-preserved : goal.loop-k-preserved
 loop-k-preserved g c =
     let inv = c.loop-k.invariant in
-    let inside : c.loop-k.k < length (kept_lists c.loop-k.self.lists) = omega (arith, kept-length c.loop-k.self.lists, inv.long, c.requires.long, c.requires.masks, c.len-k-end.ensures, c.loop-k-test.true) in
+    let inside : c.loop-k.k < length (kept_lists c.loop-k.self.lists) = omega (arith, kept-length c.loop-k.self.lists, inv.long, c.requires.long, c.requires.masks.long, c.len-k-end.ensures, c.loop-k-test.true) in
     let at : get_or c.args.masks.now c.loop-k.k 0 ≡ c.at-mask.result.now = get_or_from_slice_get c.args.masks.now c.loop-k.k _ 0 c.at-mask.ensures in
     let P : ℕ → Type 0 = IsAsked c.args.judge.now.closure.now.nodes (map plain_atom c.args.judge.now.atoms.now) c.loop-k.k in
-    let asked = subst P at (c.requires.asked c.loop-k.k (omega (arith, c.len-k-end.ensures, c.loop-k-test.true))) in
+    let asked = subst P at (c.requires.masks.asked c.loop-k.k (omega (arith, c.len-k-end.ensures, c.loop-k-test.true, c.requires.masks.long))) in
     elim c.if-code-mask.branch [
       | then-code-mask+in_ok-put_left w ↦
           let Q : List (List Duty) → Type 0 = λ l. AreTurned c.args.judge.now.closure.now.nodes (map plain_atom c.args.judge.now.atoms.now) c.args.self.now.code c.args.code l (c.loop-k.k + 1) in
@@ -62,5 +62,5 @@ pub returns : goal.returns
 returns g c =
     let inv = c.loop-k.invariant in
     let P : ℕ → Type 0 = λ n. AreLefts c.args.judge.now.closure.now.nodes (map plain_atom c.args.judge.now.atoms.now) c.args.code (kept_lists c.loop-k.self.lists) n in
-    let e : c.loop-k.k ≡ length c.loop-k.self.lists = omega (arith, inv.long, c.requires.long, c.requires.masks, c.len-k-end.ensures, c.loop-k-test.false, c.loop-k.auto.k-end) in
+    let e : c.loop-k.k ≡ length c.loop-k.self.lists = omega (arith, inv.long, c.requires.long, c.requires.masks.long, c.len-k-end.ensures, c.loop-k-test.false, c.loop-k.auto.k-end) in
     record { long = inv.long ∙ c.requires.long; code = refl; lefts = subst P e inv.turned.done }
