@@ -17,7 +17,7 @@ use cert_text::laws::{one_certificate, one_fault};
 use cnf_frames::induction_proof;
 use ea_reduce::laws::{implying, reducing};
 use formula_nets::{paths_decide, same_signals, signals_are_own, witnesses_decide};
-use free_net::laws::{paths_fulfil, plans_are_reduced};
+use free_net::laws::{formulas_are_reduced, paths_fulfil};
 use hy_lasso::laws::negating;
 use live_safe::paths_are_lassos;
 use rank_proofs::laws::refuting;
@@ -38,7 +38,7 @@ pub fn truth_of_formulas()
     reducing();
     implying();
     refuting();
-    plans_are_reduced();
+    formulas_are_reduced();
     paths_fulfil();
     paths_are_lassos();
     induction_proof();

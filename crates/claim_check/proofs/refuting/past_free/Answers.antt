@@ -5,6 +5,10 @@ use Rattle.claim_check.proofs.Refuted.{free_passed}
 use Rattle.claim_check.proofs.WeighedCircuits.{frames_refused}
 use Rattle.claim_check.proofs.refuting.past_free.Goals as goal
 
+pub plan_safe-requires-clause-reduced : goal.plan_safe-requires-clause-reduced
+plan_safe-requires-clause-reduced c =
+    c.formulas_are_reduced.ensures (plain_plan c.args.planned.now.plan) c.requires.net.formulas
+
 pub returns-in_err-left-clause-passed : goal.returns-in_err-left-clause-passed
 returns-in_err-left-clause-passed c =
     let p = err_from_is_err_and c.from_residual-in_err-left.result

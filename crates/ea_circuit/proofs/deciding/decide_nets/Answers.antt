@@ -69,7 +69,7 @@ traces_of-requires-clause-runs c =
     (values : ValueLasso) × IsExecutionOf c.args.nets.now.inputs (run_at runs k) values in
     subst P (sym c.as_slice.ensures)
     (runs-execute plan c.args.nets.now c.requires.nets c.in-Path.path path
-    c.in_ok-runs.runs c.in_ok-runs.ensures)
+    c.in_ok-runs-in-Path.runs c.in_ok-runs-in-Path.ensures)
 
 pub traces_of-requires-clause-within : goal.traces_of-requires-clause-within
 traces_of-requires-clause-within c =
@@ -78,24 +78,24 @@ traces_of-requires-clause-within c =
     subst (λ net. P net c.args.nets.now.signals) (sym c.requires.nets.inputs)
     (subst (P (plan_inputs plan)) (sym c.requires.nets.signals) (free-own (plan_names plan)).within)
 
-pub returns-in_ok-lassos-clause-found : goal.returns-in_ok-lassos-clause-found
-returns-in_ok-lassos-clause-found c =
+pub returns-in_ok-lassos-in-Path-clause-found : goal.returns-in_ok-lassos-in-Path-clause-found
+returns-in_ok-lassos-in-Path-clause-found c =
     let plan : PlainPlan = plain_plan c.args.plan.now in
     let path : GoesToBad c.args.nets.now.safe c.in-Path.path =
     goes c.args.nets.now.safe c.args.ask.now c.in-Ok.decision c.in-Path.path
     c.in-Ok.ensures.decided c.in-Path.is in
     let T : List Run → _ → Type 0 = AreTraces c.args.nets.now.inputs c.args.nets.now.signals in
     let B : SafeNet → Type 0 = λ s. IsBadPath s (length c.in-Path.path.inputs) path.0 in
-    let traces = c.in_ok-lassos.lassos in
+    let traces = c.in_ok-lassos-in-Path.lassos in
     let are = traces-are plan c.args.nets.now c.requires.nets c.in-Path.path path
-    c.in_ok-runs.runs c.in_ok-runs.ensures traces
-    (subst (λ runs. T runs traces) c.as_slice.ensures c.in_ok-lassos.ensures) in (
+    c.in_ok-runs-in-Path.runs c.in_ok-runs-in-Path.ensures traces
+    (subst (λ runs. T runs traces) c.as_slice.ensures c.in_ok-lassos-in-Path.ensures) in (
       c.paths_fulfil.ensures.traces plan c.requires.reduced (length c.in-Path.path.inputs)
-          path.0 c.in_ok-runs.runs traces (subst B c.requires.nets.safe path.2)
+          path.0 c.in_ok-runs-in-Path.runs traces (subst B c.requires.nets.safe path.2)
           (unfolded plan c.args.nets.now c.requires.nets c.in-Path.path path
-          c.in_ok-runs.runs c.in_ok-runs.ensures) are,
-      traces-short plan c.in_ok-runs.runs traces are
-          (c.paths_fulfil.ensures.named plan c.in_ok-runs.runs traces are),
+          c.in_ok-runs-in-Path.runs c.in_ok-runs-in-Path.ensures) are,
+      traces-short plan c.in_ok-runs-in-Path.runs traces are
+          (c.paths_fulfil.ensures.named plan c.in_ok-runs-in-Path.runs traces are),
     )
 
 pub returns-in-Safe-clause-found : goal.returns-in-Safe-clause-found

@@ -8,8 +8,20 @@ use Rattle.ea_circuit.proofs.questions.equivalent.Goals as goal
 
 pub decide_both-requires-clause-formulas : goal.decide_both-requires-clause-formulas
 decide_both-requires-clause-formulas c = (
-  inr (_, _, _, _, c.in_ok-plan.ensures.plan),
-  inr (_, _, _, _, c.in_ok-converse.ensures.plan),
+  inr (
+    c.args.a.now.prefix,
+    tree_of c.args.a.now.body,
+    c.args.b.now.prefix,
+    tree_of c.args.b.now.body,
+    c.in_ok-plan.ensures.plan,
+  ),
+  inr (
+    c.args.b.now.prefix,
+    tree_of c.args.b.now.body,
+    c.args.a.now.prefix,
+    tree_of c.args.a.now.body,
+    c.in_ok-converse.ensures.plan,
+  ),
 )
 
 pub returns-clause-decision : goal.returns-clause-decision

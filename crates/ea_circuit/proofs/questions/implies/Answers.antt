@@ -5,7 +5,13 @@ use Rattle.ea_circuit.proofs.Refusing.{counted, implication-refused}
 use Rattle.ea_circuit.proofs.questions.implies.Goals as goal
 
 pub decide_plan-requires-clause-formulas : goal.decide_plan-requires-clause-formulas
-decide_plan-requires-clause-formulas c = inr (_, _, _, _, c.in_ok-plan.ensures.plan)
+decide_plan-requires-clause-formulas c = inr (
+  c.args.a.now.prefix,
+  tree_of c.args.a.now.body,
+  c.args.b.now.prefix,
+  tree_of c.args.b.now.body,
+  c.in_ok-plan.ensures.plan,
+)
 
 pub returns-clause-decision : goal.returns-clause-decision
 returns-clause-decision c =
