@@ -31,9 +31,9 @@ use Rattle.rv_watch.specs.declared.verdict.WatchFault.TheVariants.{Traces, Lines
 use Rattle.rv_watch.proofs.Replying.{answered-quiet, answered-arrived, answered-violation, answered-error}
 
 -- where it is not told that there is no room
-pub has-room : {m : Held} {e : Event} {answer : Bool} (c : Course) → TellsCrowded m e answer → StandsFor m c.history
+pub not-crowded : {m : Held} {e : Event} {answer : Bool} (c : Course) → TellsCrowded m e answer → StandsFor m c.history
     → answer ≡ false → ¬ IsCrowded c e
-has-room c tells stands no many = let yes = (tells.crowded c stands).1 many in absurd (cc (yes, no))
+not-crowded c tells stands is many = let yes = (tells.crowded c stands).1 many in absurd (cc (yes, is))
 
 -- ---- counts
 

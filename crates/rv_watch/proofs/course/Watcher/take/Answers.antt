@@ -8,7 +8,7 @@ use Rattle.rv_core.specs.declared.reply.Reply.{Reply}
 use Rattle.rv_core.specs.declared.rv_error.RvError.{RvError}
 use Rattle.rv_watch.specs.Courses.{most_lines}
 use Rattle.rv_watch.specs.declared.course.Watcher.{Watcher}
-use Rattle.rv_watch.proofs.Taking.{has-room, stopped-uncounted, stopped-unread, stopped-crowded, stopped-violated, stopped-error, took-silent, took-quiet, took-arrival}
+use Rattle.rv_watch.proofs.Taking.{not-crowded, stopped-uncounted, stopped-unread, stopped-crowded, stopped-violated, stopped-error, took-silent, took-quiet, took-arrival}
 use Rattle.rv_watch.proofs.course.Watcher.take.Goals as goal
 
 pub returns-in_default-clause-taken : goal.returns-in_default-clause-taken
@@ -55,7 +55,7 @@ returns-in-Ok-Arrived-clause-taken g c specs from course at =
     took-arrival c.args.terms.now specs g.E.Sink from c.args.err.now c.args.self.now c.args.line.now course at c.requires.small c.in-Some.number
     c.in-Some.ensures.1 few c.in-Ok-Some.event (subst P c.in-Ok-Some.field-0-is c.in-Ok-Some.ensures) c.count.new.self
     (ap (λ (r : Rv). (held r).drop) c.count.ensures.same ∙ c.event.ensures.dropping) c.count.ensures.lines c.count.new.err c.event.new.self _
-    c.count.ensures.same (has-room course c.is_crowded.ensures at.stands c.if-is_crowded.false)
+    c.count.ensures.same (not-crowded course c.is_crowded.ensures at.stands c.if-is_crowded.false)
     (subst A (c.in-Ok-Arrived.is ∙ ap Ok c.in-Ok-Arrived.field-0-is) c.event.ensures.answers)
     (λ h stands. c.count.ensures.counted from course h stands at.since at.heard)
 
@@ -67,7 +67,7 @@ returns-in-Ok-Violation-clause-taken g c specs from course at =
     let w : Watcher = record { rv = c.event.new.self; lines = c.args.self.now.lines; since = c.args.self.now.since } in
     stopped-violated c.args.terms.now specs g.E.Sink from c.args.err.now c.args.self.now c.args.line.now course at c.requires.small c.in-Some.number
     c.in-Some.ensures.1 few c.in-Ok-Some.event (subst P c.in-Ok-Some.field-0-is c.in-Ok-Some.ensures) w _ _ _
-    (has-room course c.is_crowded.ensures at.stands c.if-is_crowded.false)
+    (not-crowded course c.is_crowded.ensures at.stands c.if-is_crowded.false)
     (subst A (c.in-Ok-Violation.is ∙ ap Ok c.in-Ok-Violation.field-0-is) c.event.ensures.answers)
 
 pub returns-clause-taken : goal.returns-clause-taken
