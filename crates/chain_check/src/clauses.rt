@@ -5,15 +5,15 @@ ghost use Rattle.chain_check.specs.Clauses.{AreClauses, AreLiterals};
 
 use crate::literal::Literal;
 use crate::logs::Clause;
-use hy_base::M;
+use hy_base::{M, Memory};
 use std::alloc::Global;
 use std::marker::Model;
 
 /// Where a clause stands.
 #[derive(Clone, Copy)]
 struct Span {
-    start: usize,
-    end: usize,
+    start: u32,
+    end: u32,
 }
 
 /// Clauses in one list of literals.
@@ -59,17 +59,18 @@ impl Clauses {
         ensures { slice_get self.now i ≡ Some result.now }
     {
         let span = self.spans[i];
-        &self.literals[span.start..span.end]
+        &self.literals[span.start as usize..span.end as usize]
     }
 
-    /// Adds a clause last, in time linear in it. Refused for memory it changes nothing.
+    /// Adds a clause last, in time linear in it. Refused for memory, as it is where there would be
+    /// more than 2^32 - 1 literals, it changes nothing.
     pub fn add(&mut self, clause: &[i32]) -> M<()>
         ensures added { OnOk result (self.new ≡ self.old ++ clause.now ∷ []) }
         ensures refused { OnErr result (self.new ≡ self.old) }
     {
-        let start = self.literals.len();
+        let start = place_after(self.literals.as_slice())?;
         push_numbers(&mut self.literals, clause)?;
-        let end = self.literals.len();
+        let end = place_after(self.literals.as_slice())?;
         self.spans.push(Span { start, end })?;
         Ok(())
     }
@@ -84,6 +85,13 @@ impl Clauses {
         spans.extend_from_slice(self.spans.as_slice())?;
         Ok(Clauses { literals, spans })
     }
+}
+
+/// The place behind the literals, where a u32 holds it.
+fn place_after(literals: &[Literal]) -> M<u32>
+    ensures { IfOk result (λ place. place ≡ length literals.now) }
+{
+    u32::try_from(literals.len()).map_err(|_| Memory)
 }
 
 /// Adds the literals of these numbers.

@@ -6,7 +6,7 @@ ghost use Rattle.cnf_frames.specs.Facts.{IsSafe};
 use cnf_frames::{FrameError, base_query};
 use hy_base::{M, Memory};
 use live_safe::SafeNet;
-use sat_core::{Outcome, solve};
+use sat_core::{Outcome, solve_owned};
 use std::alloc::Global;
 
 /// How many lengths are tried.
@@ -23,7 +23,7 @@ fn is_path(alloc: Global, safe: &SafeNet, steps: u32, conflicts: u32) -> M<bool>
         Err(FrameError::Limit(_)) => return Ok(false),
         Err(FrameError::Memory) => return Err(Memory),
     };
-    match solve(alloc, &query.cnf, conflicts)? {
+    match solve_owned(alloc, query.cnf, conflicts)? {
         Outcome::Satisfied(_) => Ok(true),
         _ => Ok(false),
     }

@@ -5,7 +5,7 @@ ghost use Rattle.std.specs.Prelude.{◌<◌, ◌^◌, IfOk};
 use crate::dimacs::clauses_in;
 use anyhow::{Result, bail};
 use chain_check::{Log, print_log};
-use sat_core::{Assignment, Outcome, solve};
+use sat_core::{Assignment, Outcome, solve_owned};
 use std::io::Write;
 use std::process::ExitCode;
 
@@ -24,7 +24,7 @@ pub fn run(rt: &HostRuntime, words: &[String]) -> Result<ExitCode> {
 fn solve_file(rt: &HostRuntime, conflicts: &str, file: &str, with_log: bool) -> Result<ExitCode> {
     let conflicts = conflicts_of(conflicts)?;
     let cnf = clauses_in(rt, file)?;
-    let outcome = solve(rt.alloc(), &cnf, conflicts)?;
+    let outcome = solve_owned(rt.alloc(), cnf, conflicts)?;
     report(rt, &outcome, with_log)
 }
 
