@@ -23,3 +23,4 @@ mod variable_parts;
 
 pub use monitor::Monitor;
 pub use monitor_error::MonitorError;
+pub use variable_parts::VariableParts;

@@ -15,8 +15,8 @@ pub type NameBits = List<NameBit>;
 #[derive(Drop)]
 pub struct VariableParts {
     /// For each set of the names below `LOW_NAMES` its part, at the number whose bits they are.
-    pub low: NumList,
+    pub(crate) low: NumList,
     /// The other names of the variable's atoms.
-    pub high: NameBits,
+    pub(crate) high: NameBits,
     pub ghost long: { length low ≡ 256 },
 }
