@@ -57,6 +57,11 @@ bound-fewer rule m t few list among bound (by_first prefixes same all) =
       prefix = is.prefix;
     }))
 
+-- as many as that are at most as many for each variable
+pub within-times : (n count old new : ℕ) → 1 ≤ n → new ≤ old + count → new ≤ old + n * count
+within-times n count old new some within =
+    omega (arith, within, mul-le 1 count n count some (omega arith))
+
 -- of a search for tuples with the trace first
 pub first-bound : (rule : Lengths) (m : Machine) (list : List Trace) (t : Trace) (old new : ℕ)
     → 1 ≤ m.variables
@@ -65,21 +70,20 @@ pub first-bound : (rule : Lengths) (m : Machine) (list : List Trace) (t : Trace)
     → new ≤ old + length prefixes)
     → (bound : ℕ) → IsBound rule m list t bound → new ≤ old + bound
 first-bound rule m list t old new some first bound (by_joint prefixes all) =
-    let within = first prefixes (λ rows is. all rows (joint-of rule list t m.variables rows is)) in
-    let more = mul-le 1 (length prefixes) m.variables (length prefixes) some (omega arith) in
-    omega (arith, within, more)
+    within-times m.variables (length prefixes) old new some
+    (first prefixes (λ rows is. all rows (joint-of rule list t m.variables rows is)))
 first-bound rule m list t old new some first bound (by_first prefixes same all) = first prefixes all
 
 -- of a search for all tuples, where it is not said that the order does not matter
 pub joint-bound : (said : Bool) (rule : Lengths) (m : Machine) (list : List Trace) (t : Trace)
-    (old new : ℕ) → said ≡ false → IsExact said m
+    (old new : ℕ) → 1 ≤ m.variables → said ≡ false → IsExact said m
     → ((prefixes : List (List Row))
     → ((rows : List Row) → IsJointPrefix rule list t m.variables rows → Contains prefixes rows)
-    → new ≤ old + m.variables * length prefixes)
+    → new ≤ old + length prefixes)
     → (bound : ℕ) → IsBound rule m list t bound → new ≤ old + bound
-joint-bound said rule m list t old new e exact joint bound (by_joint prefixes all) =
-    joint prefixes all
-joint-bound said rule m list t old new e exact joint bound (by_first prefixes same all) =
+joint-bound said rule m list t old new some e exact joint bound (by_joint prefixes all) =
+    within-times m.variables (length prefixes) old new some (joint prefixes all)
+joint-bound said rule m list t old new some e exact joint bound (by_first prefixes same all) =
     let f : IsTrue said = exact rule same in absurd (cc)
 
 -- ---- specs one after another

@@ -1,5 +1,5 @@
 -- Specs of one variable: a trace is judged by itself, and one that is kept does as well as any other.
-use Rattle.std.proofs.Common.{◌≡◌, ℕ, ◌+◌, ◌*◌, ◌≤◌, Bool, true, false, nat_eq, List, [], ◌∷◌, ◌++◌, length, slice_get, Some, inl, inr, refl, sym, ◌∙◌, subst, arith}
+use Rattle.std.proofs.Common.{◌≡◌, ℕ, ◌+◌, ◌≤◌, Bool, true, false, nat_eq, List, [], ◌∷◌, ◌++◌, length, slice_get, Some, inl, inr, refl, sym, ◌∙◌, subst, arith}
 use Rattle.std.specs.List.{Contains}
 use Rattle.std.proofs.lemmas.Bool.{eq-eqb}
 use Rattle.std.proofs.lemmas.List.Elements.{Contains-push}
@@ -20,7 +20,7 @@ use Rattle.rv_core.specs.Held.{spec_of}
 use Rattle.rv_core.specs.Keeping.{is_dropping, kept_at, CoversIf}
 use Rattle.rv_core.specs.Seen.{watched, watched_by}
 use Rattle.rv_core.specs.StepBounds.{IsBound, by_joint, by_first, IsSpecBound}
-use Rattle.rv_core.proofs.Bounding.{bound-fewer}
+use Rattle.rv_core.proofs.Bounding.{bound-fewer, within-times}
 use Rattle.rv_core.proofs.Keepings.{traces-from}
 use Rattle.rv_core.proofs.Outcomes.{bound-at}
 use Rattle.rv_core.proofs.Seeing.{seen-at}
@@ -51,9 +51,10 @@ module _ (rule : Lengths) (m : Machine) (t : Trace) (one : m.variables ≡ 1) wh
   pub lone-steps : (list : List Trace) (old new : ℕ)
       → ((prefixes : List (List Row))
       → ((rows : List Row) → IsJointPrefix rule list t m.variables rows → Contains prefixes rows)
-      → new ≤ old + m.variables * length prefixes)
+      → new ≤ old + length prefixes)
       → (bound : ℕ) → IsBound rule m list t bound → new ≤ old + bound
-  lone-steps list old new joint bound (by_joint prefixes all) = joint prefixes all
+  lone-steps list old new joint bound (by_joint prefixes all) =
+      within-times m.variables (length prefixes) old new (omega (arith, one)) (joint prefixes all)
   lone-steps list old new joint bound (by_first prefixes same all) =
       absurd (omega (arith, one, same.two))
 

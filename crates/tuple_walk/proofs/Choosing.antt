@@ -14,12 +14,13 @@ use Rattle.trace_trie.specs.Cursors.{AreDistinct, GoesOn, AreLetters}
 use Rattle.tuple_walk.specs.Finds.{traces_of}
 use Rattle.tuple_walk.specs.JointPrefixes.{Row, entry, rows_of}
 use Rattle.tuple_walk.specs.Places.{IsWay, HasNoGap}
-use Rattle.tuple_walk.specs.Searches.{AreFrom, IsTupleOf, AreRejected, AreAccepted, AreAcceptedBy, IsAccepted, IsPrefixIn, AreSteps, entry_in, BeginsBy, AreStepsBy}
+use Rattle.tuple_walk.specs.Searches.{AreFrom, IsTupleOf, Sought, IsTupleIn, AreRejected, AreAccepted, AreAcceptedBy, IsAccepted, IsPrefixIn, AreSteps, entry_in, BeginsBy, AreStepsBy}
 use Rattle.tuple_walk.proofs.Lists.{apart-append}
+use Rattle.tuple_walk.proofs.Ways.{no-entry}
 
 -- ---- one list changed
 
-from-set : {A : Type 0} (ls : List (List A)) (i : ℕ) (w xs : List A)
+pub from-set : {A : Type 0} (ls : List (List A)) (i : ℕ) (w xs : List A)
     → ((x : A) → Contains w x → Contains (get_or ls i []) x) → AreFrom (set ls i w) xs
     → AreFrom ls xs
 from-set [] i w xs part h = h
@@ -28,7 +29,7 @@ from-set (l ∷ ls) zero w (x ∷ xs) part h = (part x h.0, h.1)
 from-set (l ∷ ls) (suc i) w [] part h = absurd h
 from-set (l ∷ ls) (suc i) w (x ∷ xs) part h = (h.0, from-set ls i w xs part h.1)
 
-tuple-set : (ls : List (List Numbered)) (i : ℕ) (w : List Numbered) (ts : List Trace)
+pub tuple-set : (ls : List (List Numbered)) (i : ℕ) (w : List Numbered) (ts : List Trace)
     → i < length ls → IsTupleOf ls ts → Contains (traces_of w) (get_or ts i [])
     → IsTupleOf (set ls i w) ts
 tuple-set [] i w ts lt h c = absurd (omega arith)
@@ -129,33 +130,37 @@ distinct-take (b ∷ letters) (suc k) a d e c = elim (contains-cases b a (take k
 
 -- ---- what is accepted and rejected
 
-module _ (m : Machine) (lengths : Lengths) (q : ℕ) (ls : List (List Numbered)) (i : ℕ) where
+module _ (s : Sought) (m : Machine) (lengths : Lengths) (q : ℕ) (ls : List (List Numbered))
+    (i : ℕ) where
   pub rejected-part : (e : Option Letter) (w : List Numbered) (numbers : List ℕ)
-      → IsWay (get_or ls i []) e w → AreRejected m lengths q (set ls i w) numbers
-      → AreRejected m lengths q ls numbers
+      → IsWay (get_or ls i []) e w → AreRejected s m lengths q (set ls i w) numbers
+      → AreRejected s m lengths q ls numbers
   rejected-part e w numbers way r = record {
     pairs = r.pairs;
     members = from-set ls i w r.pairs way.part r.members;
+    has = r.has;
     same = r.same;
     rejected = r.rejected;
   }
 
   -- the tuples that begin so are accepted, where they are behind the way
   pub accepted-way : (e : Option Letter) (w : List Numbered) → i < length ls
-      → IsWay (get_or ls i []) e w → AreAccepted m lengths q 1 (set ls i w)
-      → (tuple : List Trace) → IsTupleOf ls tuple → 1 ≤ judged lengths tuple
+      → IsWay (get_or ls i []) e w → AreAccepted s m lengths q 1 (set ls i w)
+      → (tuple : List Trace) → IsTupleIn s ls tuple → 1 ≤ judged lengths tuple
       → entry (get_or tuple i []) ≡ e → IsAccepted m lengths q tuple
   accepted-way e w lt way accepted tuple h some begins =
-      accepted tuple
-      (tuple-set ls i w tuple lt h
-      (way.whole (get_or tuple i []) (tuple-at ls i tuple lt h) begins))
+      accepted tuple (
+        tuple-set ls i w tuple lt h.0
+            (way.whole (get_or tuple i []) (tuple-at ls i tuple lt h.0) begins),
+        h.1,
+      )
       some
 
   pub accepted-more : (letters : List Letter) (k : ℕ) (a : Letter) (w : List Numbered)
       → i < length ls → slice_get letters k ≡ Some a → IsWay (get_or ls i []) (Some a) w
-      → AreAcceptedBy m lengths q i (take k letters) ls
-      → AreAccepted m lengths q 1 (set ls i w)
-      → AreAcceptedBy m lengths q i (take (suc k) letters) ls
+      → AreAcceptedBy s m lengths q i (take k letters) ls
+      → AreAccepted s m lengths q 1 (set ls i w)
+      → AreAcceptedBy s m lengths q i (take (suc k) letters) ls
   accepted-more letters k a w lt e way before accepted = λ tuple h some b c begins.
       elim (take-cases letters k a b e c) [
         | inl earlier ↦ before tuple h some b earlier begins
@@ -165,12 +170,12 @@ module _ (m : Machine) (lengths : Lengths) (q : ℕ) (ls : List (List Numbered))
 
   -- each tuple begins with one of the letters, or with none
   pub accepted-all : (letters : List Letter) → i < length ls → AreLetters letters (get_or ls i [])
-      → AreAcceptedBy m lengths q i letters ls
-      → ((tuple : List Trace) → IsTupleOf ls tuple → 1 ≤ judged lengths tuple
+      → AreAcceptedBy s m lengths q i letters ls
+      → ((tuple : List Trace) → IsTupleIn s ls tuple → 1 ≤ judged lengths tuple
       → entry (get_or tuple i []) ≡ None → IsAccepted m lengths q tuple)
-      → AreAccepted m lengths q 1 ls
+      → AreAccepted s m lengths q 1 ls
   accepted-all letters lt are by_letter by_gap = λ tuple h some.
-      at tuple h some (get_or tuple i []) refl (tuple-at ls i tuple lt h)
+      at tuple h some (get_or tuple i []) refl (tuple-at ls i tuple lt h.0)
     where
       goes : (a : Letter) (t : Trace) → Contains (traces_of (get_or ls i [])) (a ∷ t)
           → Contains letters a
@@ -179,7 +184,7 @@ module _ (m : Machine) (lengths : Lengths) (q : ℕ) (ls : List (List Numbered))
           let P : Trace → Type 0 = GoesOn letters in
           subst P e (each-at (λ (p : Numbered). GoesOn letters p.1) (get_or ls i []) p are.whole d)
 
-      at : (tuple : List Trace) → IsTupleOf ls tuple → 1 ≤ judged lengths tuple → (t : Trace)
+      at : (tuple : List Trace) → IsTupleIn s ls tuple → 1 ≤ judged lengths tuple → (t : Trace)
           → get_or tuple i [] ≡ t → Contains (traces_of (get_or ls i [])) (get_or tuple i [])
           → IsAccepted m lengths q tuple
       at tuple h some [] e c = by_gap tuple h some (ap entry e)
@@ -188,17 +193,13 @@ module _ (m : Machine) (lengths : Lengths) (q : ℕ) (ls : List (List Numbered))
           by_letter tuple h some a (goes a t (subst P e c)) (ap entry e)
 
 -- a tuple with a trace that has ended has no position under the least length
-ended-least : (tuple : List Trace) (i : ℕ) → i < length tuple → get_or tuple i [] ≡ []
+pub ended-least : (tuple : List Trace) (i : ℕ) → i < length tuple → get_or tuple i [] ≡ []
     → judged Min tuple ≡ 0
 ended-least [] i lt e = absurd (omega arith)
 ended-least (t ∷ []) zero lt e = ap length e
 ended-least (t ∷ []) (suc i) lt e = absurd (omega arith)
 ended-least (t ∷ u ∷ ts) zero lt e = omega (arith, ap length e)
 ended-least (t ∷ u ∷ ts) (suc i) lt e = omega (arith, ended-least (u ∷ ts) i (omega arith) e)
-
-no-entry : (t : Trace) → entry t ≡ None → t ≡ []
-no-entry [] e = refl
-no-entry (a ∷ t) e = absurd (cc)
 
 -- no tuple with a position is past the end of a trace, where no way leads there
 pub none-gaps : (lengths : Lengths) (ls : List (List Numbered)) (i : ℕ) → i < length ls
@@ -219,11 +220,11 @@ none-gaps Pad ls i lt none tuple h some e =
 
 -- ---- steps
 
-prefix-unset : (lengths : Lengths) (ls : List (List Numbered)) (i : ℕ) (w : List Numbered)
+pub prefix-unset : (s : Sought) (lengths : Lengths) (ls : List (List Numbered)) (i : ℕ) (w : List Numbered)
     → ((p : Numbered) → Contains w p → Contains (get_or ls i []) p) → (rows : List Row)
-    → IsPrefixIn lengths (set ls i w) rows → IsPrefixIn lengths ls rows
-prefix-unset lengths ls i w part rows (tuple, h, pre) =
-    (tuple, tuple-unset ls i w tuple part h, pre)
+    → IsPrefixIn s lengths (set ls i w) rows → IsPrefixIn s lengths ls rows
+prefix-unset s lengths ls i w part rows (tuple, h, pre) =
+    (tuple, (tuple-unset ls i w tuple part h.0, h.1), pre)
 
 entry-at : (ts : List Trace) (i : ℕ) → i < length ts
     → get_or (map entry ts) i None ≡ entry (get_or ts i [])
@@ -236,84 +237,92 @@ entry-first : (ts : List Trace) (i k : ℕ) → i < length ts → 0 < k
 entry-first ts i zero lt some = absurd (omega arith)
 entry-first ts i (suc k) lt some = entry-at ts i lt
 
-entry-set : (lengths : Lengths) (ls : List (List Numbered)) (i : ℕ) (e : Option Letter)
+entry-set : (s : Sought) (lengths : Lengths) (ls : List (List Numbered)) (i : ℕ) (e : Option Letter)
     (w : List Numbered) → i < length ls → ((p : Numbered) → Contains w p → entry p.1 ≡ e)
-    → (rows : List Row) → IsPrefixIn lengths (set ls i w) rows → entry_in i rows ≡ e
-entry-set lengths ls i e w lt first rows (tuple, h, pre) =
+    → (rows : List Row) → IsPrefixIn s lengths (set ls i w) rows → entry_in i rows ≡ e
+entry-set s lengths ls i e w lt first rows (tuple, h, pre) =
     let long : i < length tuple =
-    omega (arith, length-tuple (set ls i w) tuple h, length-set ls i w) in
+    omega (arith, length-tuple (set ls i w) tuple h.0, length-set ls i w) in
     let (p, c, is) = map-from (λ (p : Numbered). p.1) w (get_or tuple i [])
-    (tuple-set_at ls i w tuple lt h) in
+    (tuple-set_at ls i w tuple lt h.0) in
     ap (entry_in i) pre.same
     ∙ entry-first tuple i pre.count long pre.some
     ∙ ap entry (sym is)
     ∙ first p c
 
-pub no-steps : (lengths : Lengths) (ls : List (List Numbered)) → AreSteps lengths ls 0
-no-steps lengths ls = record { visited = []; apart = tt; inside = tt; many = omega arith }
-
-module _ (lengths : Lengths) (ls : List (List Numbered)) (i : ℕ) where
-  pub no-steps_by : (letters : List Letter) → AreStepsBy lengths i letters ls 0
+module _ (s : Sought) (lengths : Lengths) (ls : List (List Numbered)) (i : ℕ) where
+  pub no-steps_by : (letters : List Letter) → AreStepsBy s lengths i letters ls 0
   no-steps_by letters =
       record { visited = []; apart = tt; inside = tt; begin = tt; many = omega arith }
 
   pub steps-more : (letters : List Letter) (k : ℕ) (a : Letter) (w : List Numbered)
       → i < length ls → AreDistinct letters → slice_get letters k ≡ Some a
       → IsWay (get_or ls i []) (Some a) w → (before more : ℕ)
-      → AreStepsBy lengths i (take k letters) ls before
-      → AreSteps lengths (set ls i w) more
-      → AreStepsBy lengths i (take (suc k) letters) ls (before + more)
-  steps-more letters k a w lt distinct e way before more s t =
-      let begins : (rows : List Row) → IsPrefixIn lengths (set ls i w) rows
+      → AreStepsBy s lengths i (take k letters) ls before
+      → AreSteps s lengths (set ls i w) more
+      → AreStepsBy s lengths i (take (suc k) letters) ls (before + more)
+  steps-more letters k a w lt distinct e way before more b t =
+      let begins : (rows : List Row) → IsPrefixIn s lengths (set ls i w) rows
       → entry_in i rows ≡ Some a =
-      entry-set lengths ls i (Some a) w lt way.first in
+      entry-set s lengths ls i (Some a) w lt way.first in
       record {
-        visited = s.visited ++ t.visited;
-        apart = apart-append s.visited t.visited s.apart t.apart
-            (λ rows c d.
-            let (b, among, is) = each-at (BeginsBy i (take k letters)) s.visited rows s.begin c in
+        visited = b.visited ++ t.visited;
+        apart = apart-append b.visited t.visited b.apart t.apart
+            (λ rows d f.
+            let (c, among, is) = each-at (BeginsBy i (take k letters)) b.visited rows b.begin d in
             let also : entry_in i rows ≡ Some a =
-            begins rows (each-at (IsPrefixIn lengths (set ls i w)) t.visited rows t.inside d) in
-            let same : b ≡ a = cc in
+            begins rows (each-at (IsPrefixIn s lengths (set ls i w)) t.visited rows t.inside f) in
+            let same : c ≡ a = cc in
             let P : Letter → Type 0 = Contains (take k letters) in
             distinct-take letters k a distinct e (subst P same among));
-        inside = each-append (IsPrefixIn lengths ls) s.visited t.visited s.inside
-            (each-like (IsPrefixIn lengths (set ls i w)) (IsPrefixIn lengths ls)
-            (prefix-unset lengths ls i w way.part) t.visited t.inside);
-        begin = each-append (BeginsBy i (take (suc k) letters)) s.visited t.visited
+        inside = each-append (IsPrefixIn s lengths ls) b.visited t.visited b.inside
+            (each-like (IsPrefixIn s lengths (set ls i w)) (IsPrefixIn s lengths ls)
+            (prefix-unset s lengths ls i w way.part) t.visited t.inside);
+        begin = each-append (BeginsBy i (take (suc k) letters)) b.visited t.visited
             (each-like (BeginsBy i (take k letters)) (BeginsBy i (take (suc k) letters))
-            (λ rows (b, among, is). (b, take-longer letters k b among, is)) s.visited s.begin)
-            (each-like (IsPrefixIn lengths (set ls i w)) (BeginsBy i (take (suc k) letters))
+            (λ rows (c, among, is). (c, take-longer letters k c among, is)) b.visited b.begin)
+            (each-like (IsPrefixIn s lengths (set ls i w)) (BeginsBy i (take (suc k) letters))
             (λ rows h. (a, take-last letters k a e, begins rows h)) t.visited t.inside);
-        many = omega (arith, s.many, t.many, length-append s.visited t.visited);
+        many = omega (arith, b.many, t.many, length-append b.visited t.visited);
       }
 
   pub steps-letters : (letters : List Letter) (k made : ℕ)
-      → AreStepsBy lengths i (take k letters) ls made → AreStepsBy lengths i letters ls made
-  steps-letters letters k made s = record {
-    visited = s.visited;
-    apart = s.apart;
-    inside = s.inside;
+      → AreStepsBy s lengths i (take k letters) ls made → AreStepsBy s lengths i letters ls made
+  steps-letters letters k made b = record {
+    visited = b.visited;
+    apart = b.apart;
+    inside = b.inside;
     begin = each-like (BeginsBy i (take k letters)) (BeginsBy i letters)
-        (λ rows (b, among, is). (b, from-take letters k b among, is)) s.visited s.begin;
-    many = s.many;
+        (λ rows (c, among, is). (c, from-take letters k c among, is)) b.visited b.begin;
+    many = b.many;
   }
 
   pub steps-gap : (letters : List Letter) (w : List Numbered) → i < length ls
       → IsWay (get_or ls i []) None w → (before more : ℕ)
-      → AreStepsBy lengths i letters ls before → AreSteps lengths (set ls i w) more
-      → AreSteps lengths ls (before + more)
-  steps-gap letters w lt way before more s t = record {
-    visited = s.visited ++ t.visited;
-    apart = apart-append s.visited t.visited s.apart t.apart
-        (λ rows c d.
-        let (b, among, is) = each-at (BeginsBy i letters) s.visited rows s.begin c in
+      → AreStepsBy s lengths i letters ls before → AreSteps s lengths (set ls i w) more
+      → AreSteps s lengths ls (before + more)
+  steps-gap letters w lt way before more b t = record {
+    visited = b.visited ++ t.visited;
+    apart = apart-append b.visited t.visited b.apart t.apart
+        (λ rows d f.
+        let (c, among, is) = each-at (BeginsBy i letters) b.visited rows b.begin d in
         let also : entry_in i rows ≡ None =
-        entry-set lengths ls i None w lt way.first rows
-        (each-at (IsPrefixIn lengths (set ls i w)) t.visited rows t.inside d) in
+        entry-set s lengths ls i None w lt way.first rows
+        (each-at (IsPrefixIn s lengths (set ls i w)) t.visited rows t.inside f) in
         absurd (cc));
-    inside = each-append (IsPrefixIn lengths ls) s.visited t.visited s.inside
-        (each-like (IsPrefixIn lengths (set ls i w)) (IsPrefixIn lengths ls)
-        (prefix-unset lengths ls i w way.part) t.visited t.inside);
-    many = omega (arith, s.many, t.many, length-append s.visited t.visited);
+    inside = each-append (IsPrefixIn s lengths ls) b.visited t.visited b.inside
+        (each-like (IsPrefixIn s lengths (set ls i w)) (IsPrefixIn s lengths ls)
+        (prefix-unset s lengths ls i w way.part) t.visited t.inside);
+    many = omega (arith, b.many, t.many, length-append b.visited t.visited);
+  }
+
+  -- where all begin by one way
+  pub steps-way : (e : Option Letter) (w : List Numbered) → IsWay (get_or ls i []) e w → (made : ℕ)
+      → AreSteps s lengths (set ls i w) made → AreSteps s lengths ls made
+  steps-way e w way made t = record {
+    visited = t.visited;
+    apart = t.apart;
+    inside = each-like (IsPrefixIn s lengths (set ls i w)) (IsPrefixIn s lengths ls)
+        (prefix-unset s lengths ls i w way.part) t.visited t.inside;
+    many = t.many;
   }

@@ -1,5 +1,5 @@
 -- Where tuples have no position left.
-use Rattle.std.proofs.Common.{◌≡◌, ℕ, zero, suc, ◌<◌, true, false, List, [], ◌∷◌, length, map, inl, inr, refl, sym, ap, ◌∙◌, subst, arith}
+use Rattle.std.proofs.Common.{◌≡◌, ℕ, zero, suc, ◌<◌, true, List, [], ◌∷◌, length, map, inl, inr, refl, sym, ap, ◌∙◌, subst, arith}
 use Rattle.std.specs.List.{Contains}
 use Rattle.hy_base.proofs.Members.{contains-here, contains-later, contains-cases, contains-none, map-from}
 use Rattle.hy_formula.specs.Quantifiers.{Each}
@@ -11,7 +11,7 @@ use Rattle.fin_monitor.proofs.CodeBits.{code-lt}
 use Rattle.trace_trie.specs.Numbered.{Numbered, tail}
 use Rattle.tuple_walk.specs.Finds.{numbers_of, traces_of}
 use Rattle.tuple_walk.specs.Places.{HasEnded}
-use Rattle.tuple_walk.specs.Searches.{state_over, AreFrom, IsTupleOf, AreRejected, AreAccepted, IsAccepted, CanStop, AreEnded}
+use Rattle.tuple_walk.specs.Searches.{state_over, AreFrom, IsTupleOf, HasAt, Sought, IsTupleIn, AreAccepted, IsAccepted, CanStop, AreEnded, AreStopped}
 use Rattle.tuple_walk.proofs.Stepping.{all-judged}
 use Rattle.tuple_walk.proofs.Choosing.{length-tuple}
 
@@ -86,36 +86,37 @@ each-ended (l ∷ k ∷ ls) (p ∷ []) h e = absurd h.2
 each-ended (l ∷ k ∷ ls) (p ∷ o ∷ ps) h e =
     omega (arith, ap length (h.1 e.0), each-ended (k ∷ ls) (o ∷ ps) h.2 e.1)
 
-stop-judged : (lengths : Lengths) (ls : List (List Numbered)) (ps : List Numbered)
+pub stop-judged : (lengths : Lengths) (ls : List (List Numbered)) (ps : List Numbered)
     → CanStop lengths ls → AreEnded ls ps → judged lengths (traces_of ps) ≡ 0
 stop-judged Min ls ps (l, c, e) h = one-ended ls ps h l c e
 stop-judged Pad ls ps can h = each-ended ls ps h can
 
-module _ (m : Machine) (lengths : Lengths) (q : ℕ) (ls : List (List Numbered)) where
-  pub stop-rejected : (numbers : List ℕ) → CanStop lengths ls → is_accepting m q ≡ false
-      → ((ps : List Numbered) × AreEnded ls ps × (numbers_of ps ≡ numbers))
-      → AreRejected m lengths q ls numbers
-  stop-rejected numbers can rejects (ps, h, e) = record {
-    pairs = ps;
-    members = ended-from ls ps h;
-    same = e;
-    rejected = ap (λ k. is_accepting m (state_over m q (traces_of ps) k))
-        (stop-judged lengths ls ps can h) ∙ rejects;
-  }
+-- members that have ended where some have
+pub ended-stopped : (s : Sought) (lengths : Lengths) (ls : List (List Numbered)) (numbers : List ℕ)
+    → CanStop lengths ls → (ps : List Numbered) → AreEnded ls ps → HasAt s.marks s.given ps
+    → numbers_of ps ≡ numbers → AreStopped s lengths ls numbers
+ended-stopped s lengths ls numbers can ps h has e = record {
+  pairs = ps;
+  members = ended-from ls ps h;
+  has = has;
+  same = e;
+  over = stop-judged lengths ls ps can h;
+}
 
-  pub from-none : AreAccepted m lengths q 1 ls
-      → ((ts : List Trace) → IsTupleOf ls ts → judged lengths ts ≡ 0 → is_accepting m q ≡ true)
-      → AreAccepted m lengths q 0 ls
+module _ (s : Sought) (m : Machine) (lengths : Lengths) (q : ℕ) (ls : List (List Numbered)) where
+  pub from-none : AreAccepted s m lengths q 1 ls
+      → ((ts : List Trace) → IsTupleIn s ls ts → judged lengths ts ≡ 0 → is_accepting m q ≡ true)
+      → AreAccepted s m lengths q 0 ls
   from-none accepted here = λ ts h le. at ts h (judged lengths ts) refl
     where
-      at : (ts : List Trace) → IsTupleOf ls ts → (k : ℕ) → judged lengths ts ≡ k
+      at : (ts : List Trace) → IsTupleIn s ls ts → (k : ℕ) → judged lengths ts ≡ k
           → IsAccepted m lengths q ts
       at ts h zero e = ap (λ k. is_accepting m (state_over m q ts k)) e ∙ here ts h e
       at ts h (suc k) e = accepted ts h (omega arith)
 
 -- ---- the settled state
 
-settled-over : (m : Machine) → IsMonitor m → (k q : ℕ) (ts : List Trace) → q ≡ settled_state m
+pub settled-over : (m : Machine) → IsMonitor m → (k q : ℕ) (ts : List Trace) → q ≡ settled_state m
     → state_over m q ts k ≡ settled_state m
 settled-over m is zero q ts e = e
 settled-over m is (suc k) q ts e =
@@ -125,6 +126,6 @@ settled-over m is (suc k) q ts e =
     ∙ is.stays code (code-lt (λ name variable. trace_words ts name variable 0) m.atoms))
 
 pub settled-accepted : (m : Machine) → IsMonitor m → (lengths : Lengths) (q : ℕ)
-    → q ≡ settled_state m → (ls : List (List Numbered)) → AreAccepted m lengths q 0 ls
-settled-accepted m is lengths q e ls = λ ts h le.
+    → q ≡ settled_state m → (s : Sought) (ls : List (List Numbered)) → AreAccepted s m lengths q 0 ls
+settled-accepted m is lengths q e s ls = λ ts h le.
     ap (is_accepting m) (settled-over m is (judged lengths ts) q ts e) ∙ is.settled

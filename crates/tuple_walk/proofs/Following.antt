@@ -1,11 +1,12 @@
 -- One tuple alone, position by position.
-use Rattle.std.proofs.Common.{◌≡◌, ◌⊎◌, ℕ, zero, suc, ◌<◌, ◌≤◌, List, [], ◌∷◌, ◌++◌, length, map, take, slice_get, get_or, bit_or, Option, Some, None, IfSome, IfNone, inl, inr, refl, sym, ap, ◌∙◌, subst, arith}
+use Rattle.std.proofs.Common.{◌≡◌, ◌⊎◌, ℕ, zero, suc, ◌<◌, ◌≤◌, ◌&&◌, nat_eq, List, [], ◌∷◌, ◌++◌, length, map, take, slice_get, get_or, bit_or, Option, option_map, Some, None, IfSome, IfNone, inl, inr, refl, sym, ap, ◌∙◌, subst, arith}
 use Rattle.std.specs.List.{Contains}
 use Rattle.std.proofs.lemmas.Bool.{cases_eq}
 use Rattle.std.specs.Borrow.{Bor}
 use Rattle.std.specs.FinSet.{empty, contains}
 use Rattle.std.specs.Int.Bits.{or_zero_l}
-use Rattle.std.proofs.lemmas.List.{take_all}
+use Rattle.std.proofs.lemmas.List.{length-map, take_all}
+use Rattle.std.proofs.lemmas.Option.{slice_get-map, slice_get_read}
 use Rattle.hy_base.proofs.Members.{contains-here, contains-cases, contains-none, contains-one}
 use Rattle.hy_bits.specs.Letter.{Letter}
 use Rattle.hy_formula.specs.Quantifiers.{Each}
@@ -14,15 +15,19 @@ use Rattle.hy_finite.specs.Traces.{Trace, of_two, judged, trace_words}
 use Rattle.hy_finite.proofs.JudgedLength.{of_two-assoc}
 use Rattle.fin_monitor.specs.Codes.{code_of, part_of, joint_letter}
 use Rattle.fin_monitor.specs.Machines.{Machine, IsMonitor, next_state, settled_state, code_at}
-use Rattle.fin_monitor.proofs.CodeBits.{code-lt}
+use Rattle.fin_monitor.specs.Parts.{AreParts}
+use Rattle.fin_monitor.proofs.CodeBits.{code-lt, small-code}
 use Rattle.trace_trie.specs.Numbered.{Numbered, tail}
 use Rattle.tuple_walk.specs.Alone.{left_of}
 use Rattle.tuple_walk.specs.Finds.{numbers_of, traces_of}
 use Rattle.tuple_walk.specs.JointPrefixes.{Row, rows_of}
 use Rattle.tuple_walk.specs.Places.{AreSome}
-use Rattle.tuple_walk.specs.Searches.{state_over, AreFrom, IsTupleOf, IsAccepted, IsRejected, AreAccepted, IsSearch, AreEnded, AreApart, IsPrefixIn, AreSteps}
+use Rattle.tuple_walk.specs.Searches.{state_over, AreFrom, IsTupleOf, HasAt, Sought, IsTupleIn, IsAccepted, IsRejected, AreAccepted, IsSearch, AreReady, AreEnded, AreApart, IsPrefixIn, AreSteps}
+use Rattle.tuple_walk.specs.TraceParts.{part_at, traces_in, parts_in}
 use Rattle.tuple_walk.specs.declared.place.Place.{Place}
+use Rattle.tuple_walk.specs.declared.trace_parts.TraceParts.{TraceParts}
 use Rattle.tuple_walk.proofs.Ending.{ended-from}
+use Rattle.tuple_walk.proofs.Lists.{get-of}
 use Rattle.tuple_walk.proofs.Nexts.{long-places}
 use Rattle.tuple_walk.proofs.Scanning.{code-more, code-none}
 use Rattle.tuple_walk.proofs.Starting.{over-next}
@@ -56,6 +61,20 @@ pub ones-more : (ps : List Numbered) (p : Numbered) → ones (ps ++ p ∷ []) �
 ones-more [] p = refl
 ones-more (q ∷ ps) p = ap (λ ls. (q ∷ []) ∷ ls) (ones-more ps p)
 
+ones-there : (ps : List Numbered) (i : ℕ) (x : Numbered) → i < length (ones ps)
+    → Contains (get_or (ones ps) i []) x → slice_get ps i ≡ Some x
+ones-there [] i x lt c = absurd (omega arith)
+ones-there (p ∷ ps) zero x lt c = ap (λ (q : Numbered). Some q) (contains-one p x c)
+ones-there (p ∷ ps) (suc i) x lt c = ones-there ps i x (omega arith) c
+
+-- the given trace is the one at a marked place
+ones-has : (s : Sought) (ls : List (List Numbered)) (ps : List Numbered) → ls ≡ ones ps
+    → AreReady s ls → HasAt s.marks s.given ps
+ones-has s ls ps is ready =
+    let here = subst (AreReady s) is ready in
+    let (i, marked, lt) = here.place in
+    (i, marked, ones-there ps i s.given lt (here.there i marked lt))
+
 -- where all lists have been looked at
 all-ones : (ls : List (List Numbered)) (rests : List (Bor Trace)) (ps : List Numbered)
     (i k : ℕ) → length ls ≤ i → k ≡ i → take i ls ≡ ones ps → traces_of ps ≡ left_of (take i rests)
@@ -67,27 +86,29 @@ all-ones ls rests ps i k le same is traces = (
 
 -- ---- where the tuple is judged
 
-module _ (m : Machine) (lengths : Lengths) (q : ℕ) (ps : List Numbered)
+module _ (s : Sought) (m : Machine) (lengths : Lengths) (q : ℕ) (ps : List Numbered)
     (ls : List (List Numbered)) (is : ls ≡ ones ps) where
-  pub ones-accepted : IsAccepted m lengths q (traces_of ps) → AreAccepted m lengths q 0 ls
+  pub ones-accepted : IsAccepted m lengths q (traces_of ps) → AreAccepted s m lengths q 0 ls
   ones-accepted e = λ ts h le.
       let P : List (List Numbered) → Type 0 = λ l. IsTupleOf l ts in
       let Q : List Trace → Type 0 = IsAccepted m lengths q in
-      subst Q (sym (only-tuple ps ts (subst P is h))) e
+      subst Q (sym (only-tuple ps ts (subst P is h.0))) e
 
   pub ones-rejected : IsRejected m lengths q (traces_of ps) → (r : Option (List ℕ))
       → IfSome r (λ numbers. (qs : List Numbered) × AreEnded ls qs × (numbers_of qs ≡ numbers))
-      → IfNone r (¬ AreSome ls) → AreSome ls → IsSearch m lengths q 0 ls r
-  ones-rejected e None some none are = absurd (none are)
-  ones-rejected e (Some numbers) (qs, ended, same) none are =
+      → IfNone r (¬ AreSome ls) → AreReady s ls → IsSearch s m lengths q 0 ls r
+  ones-rejected e None some none ready = absurd (none ready.some)
+  ones-rejected e (Some numbers) (qs, ended, same) none ready =
       let from = ended-from ls qs ended in
       let P : List (List Numbered) → Type 0 = λ l. AreFrom l qs in
       let Q : List Numbered → Type 0 = λ l. IsRejected m lengths q (traces_of l) in
+      let only = only-pairs ps qs (subst P is from) in
       record {
         pairs = qs;
         members = from;
+        has = subst (HasAt s.marks s.given) (sym only) (ones-has s ls ps is ready);
         same = same;
-        rejected = subst Q (sym (only-pairs ps qs (subst P is from))) e;
+        rejected = subst Q (sym only) e;
       }
 
 -- ---- steps
@@ -121,15 +142,18 @@ apart-prefixes ts (suc k) = (
   apart-prefixes ts k,
 )
 
-module _ (lengths : Lengths) (ps : List Numbered) (ls : List (List Numbered))
-    (is : ls ≡ ones ps) where
-  among : IsTupleOf ls (traces_of ps)
+module _ (s : Sought) (lengths : Lengths) (ps : List Numbered) (ls : List (List Numbered))
+    (is : ls ≡ ones ps) (has : HasAt s.marks s.given ps) where
+  among : IsTupleIn s ls (traces_of ps)
   among =
       let P : List (List Numbered) → Type 0 = λ l. IsTupleOf l (traces_of ps) in
-      subst P (sym is) (pairs-tuple (ones ps) ps (from-ones ps))
+      let (i, marked, at) = has in (
+        subst P (sym is) (pairs-tuple (ones ps) ps (from-ones ps)),
+        (i, marked, get-of (λ (p : Numbered). p.1) ps i s.given at),
+      )
 
   each-prefix : (k : ℕ) → k ≤ judged lengths (traces_of ps)
-      → Each (IsPrefixIn lengths ls) (prefixes (traces_of ps) k)
+      → Each (IsPrefixIn s lengths ls) (prefixes (traces_of ps) k)
   each-prefix zero le = tt
   each-prefix (suc k) le = (
     (
@@ -141,7 +165,7 @@ module _ (lengths : Lengths) (ps : List Numbered) (ls : List (List Numbered))
   )
 
   -- a step for each of the first positions
-  pub ones-steps : (made : ℕ) → made ≤ judged lengths (traces_of ps) → AreSteps lengths ls made
+  pub ones-steps : (made : ℕ) → made ≤ judged lengths (traces_of ps) → AreSteps s lengths ls made
   ones-steps made le = record {
     visited = prefixes (traces_of ps) made;
     apart = apart-prefixes (traces_of ps) made;
@@ -153,7 +177,8 @@ module _ (lengths : Lengths) (ps : List Numbered) (ls : List (List Numbered))
 module _ (n : ℕ) (places : List Place) (few : n ≤ length places) (rests : List (Bor Trace))
     (i k : ℕ) (done : n ≤ i) (same : k ≡ i)
     (looked : (ps : List Numbered) × (take i (map left_at (take n places)) ≡ ones ps)
-    × (traces_of ps ≡ left_of (take i rests))) where
+    × (traces_of ps ≡ left_of (take i rests))) (s : Sought)
+    (ready : AreReady s (map left_at (take n places))) where
   abbrev lists : List (List Numbered)
   lists = map left_at (take n places)
 
@@ -163,25 +188,25 @@ module _ (n : ℕ) (places : List Place) (few : n ≤ length places) (rests : Li
       same looked.1 looked.2
 
   pub left-counted : (lengths : Lengths) (made : ℕ)
-      → made ≤ judged lengths (left_of (take k rests)) → AreSteps lengths lists made
+      → made ≤ judged lengths (left_of (take k rests)) → AreSteps s lengths lists made
   left-counted lengths made le =
-      ones-steps lengths looked.0 lists are-ones.0 made
-      (omega (arith, le, ap (judged lengths) are-ones.1))
+      ones-steps s lengths looked.0 lists are-ones.0 (ones-has s lists looked.0 are-ones.0 ready)
+      made (omega (arith, le, ap (judged lengths) are-ones.1))
 
   module _ (m : Machine) (lengths : Lengths) (q : ℕ) where
     pub left-accepted : IsAccepted m lengths q (left_of (take k rests))
-        → AreAccepted m lengths q 0 lists
+        → AreAccepted s m lengths q 0 lists
     left-accepted e =
-        ones-accepted m lengths q looked.0 lists are-ones.0
+        ones-accepted s m lengths q looked.0 lists are-ones.0
         (subst (IsAccepted m lengths q) are-ones.1 e)
 
     pub left-rejected : IsRejected m lengths q (left_of (take k rests)) → (r : Option (List ℕ))
         → IfSome r (λ numbers. (qs : List Numbered) × AreEnded lists qs
         × (numbers_of qs ≡ numbers))
-        → IfNone r (¬ AreSome lists) → AreSome lists → IsSearch m lengths q 0 lists r
-    left-rejected e =
-        ones-rejected m lengths q looked.0 lists are-ones.0
-        (subst (IsRejected m lengths q) are-ones.1 e)
+        → IfNone r (¬ AreSome lists) → IsSearch s m lengths q 0 lists r
+    left-rejected e r some none =
+        ones-rejected s m lengths q looked.0 lists are-ones.0
+        (subst (IsRejected m lengths q) are-ones.1 e) r some none ready
 
 -- ---- the length on which a tuple is judged
 
@@ -248,11 +273,6 @@ settled-later m is q i ts e (suc j) le = at (before i j le) (settled-later m is 
 abbrev pub letters_at_position : ℕ → List Trace → List Letter
 letters_at_position i ts = map (λ (t : Trace). get_or t i empty) ts
 
-pub long-letters : (position : ℕ) (rests : List (Bor Trace))
-    → length (letters_at_position position (left_of rests)) ≡ length rests
-long-letters position [] = refl
-long-letters position (r ∷ rests) = ap suc (long-letters position rests)
-
 pub letter-there : (position : ℕ) (ts : List Trace) (i : ℕ) (t : Trace)
     → slice_get ts i ≡ Some t
     → slice_get (letters_at_position position ts) i ≡ Some (get_or t position empty)
@@ -284,20 +304,46 @@ two-letters m a b =
     ∙ code-more letters 0 a m.atoms refl)
     ∙ code-more letters 1 b m.atoms refl
 
-pub two-code : (m : Machine) (i : ℕ) (t u : Trace)
-    → bit_or (part_of m.atoms 0 (get_or t i empty)) (part_of m.atoms 1 (get_or u i empty))
-    ≡ code_at m (trace_words (t ∷ u ∷ [])) i
-two-code m i t u =
-    two-letters m (get_or t i empty) (get_or u i empty) ∙ position-code m i (t ∷ u ∷ [])
+-- ---- a trace among others, each beside the parts of its letters
 
--- the parts of three letters
-pub three-code : (m : Machine) (i : ℕ) (t u v : Trace)
-    → bit_or (bit_or (part_of m.atoms 0 (get_or t i empty)) (part_of m.atoms 1 (get_or u i empty)))
-    (part_of m.atoms 2 (get_or v i empty))
-    ≡ code_at m (trace_words (t ∷ u ∷ v ∷ [])) i
-three-code m i t u v =
-    let letters = letters_at_position i (t ∷ u ∷ v ∷ []) in
-    ap (λ k. bit_or k (part_of m.atoms 2 (get_or v i empty)))
-    (two-letters m (get_or t i empty) (get_or u i empty))
-    ∙ code-more letters 2 (get_or v i empty) m.atoms refl
-    ∙ position-code m i (t ∷ u ∷ v ∷ [])
+module _ (m : Machine) (all : List TraceParts) (are : AreParts (parts_in all) m.atoms (length all))
+    (v : ℕ) (t : TraceParts) (lt : v < length all) (is : t ≡ get_or all v t) where
+  there : {A : Type 0} (f : TraceParts → A) → slice_get (map f all) v ≡ Some (f t)
+  there f = slice_get-map f all v ∙ ap (option_map f) (slice_get_read all (length all) v t refl lt is)
+
+  pub part-right : (i : ℕ) → part_at t i ≡ part_of m.atoms v (get_or t.trace.now i empty)
+  part-right i =
+      are.each v t.parts.now (there (λ (u : TraceParts). u.parts.now)) (get_or t.trace.now i empty)
+
+  pub part-small : IsMonitor m → (i : ℕ) → part_at t i < 65536
+  part-small right i =
+      let a = get_or t.trace.now i empty in
+      omega (
+        arith,
+        part-right i,
+        small-code (λ name u. nat_eq u v && contains a name) m.atoms 0 right.few_atoms,
+      )
+
+  -- the part of one trace more
+  pub trace-more : (i code : ℕ)
+      → code ≡ code_of (joint_letter (take v (letters_at_position i (traces_in all)))) m.atoms
+      → bit_or code (part_at t i)
+      ≡ code_of (joint_letter (take (suc v) (letters_at_position i (traces_in all)))) m.atoms
+  trace-more i code e =
+      let a = get_or t.trace.now i empty in
+      (λ j. bit_or (e j) (part-right i j))
+      ∙ code-more (letters_at_position i (traces_in all)) v a m.atoms
+      (letter-there i (traces_in all) v t.trace.now (there (λ (u : TraceParts). u.trace.now)))
+
+-- the code of all of them
+pub traces-code : (m : Machine) (all : List TraceParts) (i k : ℕ) → length all ≤ k
+    → code_of (joint_letter (take k (letters_at_position i (traces_in all)))) m.atoms
+    ≡ code_at m (trace_words (traces_in all)) i
+traces-code m all i k le =
+    ap (λ l. code_of (joint_letter l) m.atoms) (take_all k (letters_at_position i (traces_in all))
+    (omega (
+      arith,
+      length-map (traces_in all) (λ (t : Trace). get_or t i empty),
+      length-map all (λ (t : TraceParts). t.trace.now),
+    )))
+    ∙ position-code m i (traces_in all)

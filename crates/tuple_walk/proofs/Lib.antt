@@ -1,8 +1,12 @@
+pub mod Advancing
 pub mod Choosing
+pub mod Coming
 pub mod Ending
 pub mod Following
+pub mod Last
 pub mod Lists
 pub mod Longest
+pub mod Narrowing
 pub mod Nexts
 pub mod PairEnds
 pub mod Pairs
@@ -10,4 +14,5 @@ pub mod Placing
 pub mod Scanning
 pub mod Starting
 pub mod Stepping
+pub mod Stopping
 pub mod Ways

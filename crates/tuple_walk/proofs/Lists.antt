@@ -1,9 +1,10 @@
 -- Members of lists, and lists of different members.
-use Rattle.std.proofs.Common.{◌≡◌, ℕ, zero, suc, ◌<◌, ◌≤◌, List, [], ◌∷◌, ◌++◌, length, map, take, slice_get, Some, inl, inr, refl, sym, ap, ◌∙◌, subst, arith}
+use Rattle.std.proofs.Common.{◌≡◌, ◌≢◌, ◌⊎◌, ℕ, zero, suc, ◌<◌, ◌≤◌, List, [], ◌∷◌, ◌++◌, length, map, take, set, slice_get, Some, inl, inr, refl, sym, ap, ◌∙◌, subst, arith}
 use Rattle.std.specs.List.{Contains}
 use Rattle.std.proofs.lemmas.List.Elements.{Contains-append_cases}
 use Rattle.hy_base.proofs.Members.{contains-here, contains-later, contains-cases, contains-none, map-from}
 use Rattle.hy_formula.specs.Quantifiers.{Each}
+use Rattle.hy_formula.proofs.Each.{each-at}
 use Rattle.tuple_walk.specs.Searches.{AreApart}
 
 pub take-more : {A : Type 0} (xs : List A) (i : ℕ) (x : A) → slice_get xs i ≡ Some x
@@ -37,6 +38,64 @@ each-more P (suc n) zero (y ∷ ys) x lt e p h =
     let same : y ≡ x = cc in (subst P (sym same) p, tt)
 each-more P (suc n) (suc i) (y ∷ ys) x lt e p h =
     (h.0, each-more P n i ys x (omega arith) e p h.1)
+
+pub each-of : {A : Type 0} (P : A → Type 0) (xs : List A) (i : ℕ) (x : A) → Each P xs
+    → slice_get xs i ≡ Some x → P x
+each-of P xs i x h e = each-at P xs x h (get-contains xs i x e)
+
+pub get-of : {A B : Type 0} (f : A → B) (xs : List A) (i : ℕ) (x : A) → slice_get xs i ≡ Some x
+    → slice_get (map f xs) i ≡ Some (f x)
+get-of f [] i x e = absurd (cc)
+get-of f (y ∷ ys) zero x e = let is : y ≡ x = cc in ap (λ z. Some (f z)) is
+get-of f (y ∷ ys) (suc i) x e = get-of f ys i x e
+
+pub get-unmap : {A B : Type 0} (f : A → B) (xs : List A) (i : ℕ) (y : B)
+    → slice_get (map f xs) i ≡ Some y → (x : A) × (slice_get xs i ≡ Some x) × (f x ≡ y)
+get-unmap f [] i y e = absurd (cc)
+get-unmap f (x ∷ xs) zero y e = let is : f x ≡ y = cc in (x, refl, is)
+get-unmap f (x ∷ xs) (suc i) y e = get-unmap f xs i y e
+
+-- two lists that are mapped to the same
+pub get-same : {A B C : Type 0} (f : A → C) (g : B → C) (xs : List A) (ys : List B) (i : ℕ) (x : A)
+    → map f xs ≡ map g ys → slice_get xs i ≡ Some x
+    → (y : B) × (slice_get ys i ≡ Some y) × (g y ≡ f x)
+get-same f g xs ys i x e at =
+    get-unmap g ys i (f x) (sym (ap (λ l. slice_get l i) e) ∙ get-of f xs i x at)
+
+pub some-in : {A : Type 0} (xs : List A) (x : A) → Contains xs x → 0 < length xs
+some-in [] x c = absurd (contains-none x c)
+some-in (y ∷ ys) x c = omega arith
+
+pub some-same : {A : Type 0} {x y : A} → Some x ≡ Some y → x ≡ y
+some-same e = cc
+
+-- ---- one put anew
+
+pub set-cases : {A : Type 0} (xs : List A) (i j : ℕ) (x y : A) → slice_get (set xs i x) j ≡ Some y
+    → ((j ≡ i) × (x ≡ y)) ⊎ (slice_get xs j ≡ Some y)
+set-cases [] i j x y e = inr e
+set-cases (z ∷ xs) zero zero x y e = inl (refl, some-same e)
+set-cases (z ∷ xs) zero (suc j) x y e = inr e
+set-cases (z ∷ xs) (suc i) zero x y e = inr e
+set-cases (z ∷ xs) (suc i) (suc j) x y e = elim (set-cases xs i j x y e) [
+  | inl (f, g) ↦ inl (ap suc f, g)
+  | inr other ↦ inr other
+]
+
+pub set-other : {A : Type 0} (xs : List A) (i j : ℕ) (x y : A) → j ≢ i → slice_get xs j ≡ Some y
+    → slice_get (set xs i x) j ≡ Some y
+set-other [] i j x y other e = e
+set-other (z ∷ xs) zero zero x y other e = absurd (other refl)
+set-other (z ∷ xs) zero (suc j) x y other e = e
+set-other (z ∷ xs) (suc i) zero x y other e = e
+set-other (z ∷ xs) (suc i) (suc j) x y other e =
+    set-other xs i j x y (λ f. other (ap suc f)) e
+
+pub set-here : {A : Type 0} (xs : List A) (i : ℕ) (x : A) → i < length xs
+    → slice_get (set xs i x) i ≡ Some x
+set-here [] i x lt = absurd (omega arith)
+set-here (z ∷ xs) zero x lt = refl
+set-here (z ∷ xs) (suc i) x lt = set-here xs i x (omega arith)
 
 -- ---- different members
 

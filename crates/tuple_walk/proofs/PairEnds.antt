@@ -14,20 +14,21 @@ use Rattle.trace_trie.specs.Cursors.{AreLetters}
 use Rattle.trace_trie.specs.Numbered.{Numbered}
 use Rattle.tuple_walk.specs.Finds.{numbers_of, traces_of}
 use Rattle.tuple_walk.specs.JointPrefixes.{entry}
-use Rattle.tuple_walk.specs.Pairs.{pair_of, beside, found, stops_of, over_of, MayGoOn}
+use Rattle.tuple_walk.specs.Pairs.{pair_of, beside, sought_beside, found, stops_of, over_of, MayGoOn}
 use Rattle.tuple_walk.specs.Places.{HasEnded, HasNoGap, IsWay}
-use Rattle.tuple_walk.specs.Searches.{IsTupleOf, AreRejected, AreAccepted, AreAcceptedBy, IsSearch, CanStop, AreEnded, AreSteps, AreStepsBy}
+use Rattle.tuple_walk.specs.Searches.{Sought, IsTupleIn, AreRejected, AreAccepted, AreAcceptedBy, IsSearch, CanStop, AreEnded, AreSteps, AreStepsBy}
 use Rattle.tuple_walk.proofs.Choosing.{tuple-at, rejected-part, accepted-way, accepted-all, none-gaps, steps-gap}
-use Rattle.tuple_walk.proofs.Ending.{from-none, stop-rejected, goes-on}
+use Rattle.tuple_walk.proofs.Ending.{from-none, ended-stopped, goes-on}
+use Rattle.tuple_walk.proofs.Nexts.{stopped-search}
 use Rattle.tuple_walk.proofs.Ways.{gap-way}
-use Rattle.tuple_walk.proofs.Pairs.{each-pair, other_place, other-here, other-set, other-within, given-here, given-within}
+use Rattle.tuple_walk.proofs.Pairs.{each-pair, other_place, other-here, other-set, other-within, given-here, given-within, beside-has}
 
 -- ---- where the node is done
 
 -- none of a pair is past an end under the least length
 pub ended-accepted : (m : Machine) (q : ℕ) (first : Bool) (number : ℕ) (t : Trace)
     (rests : List Numbered) → t ≡ []
-    → AreAccepted m Min q 1 (beside first (number, t) rests)
+    → AreAccepted (sought_beside first (number, t)) m Min q 1 (beside first (number, t) rests)
 ended-accepted m q first number t rests e = λ tuple h some.
     let ls = beside first (number, t) rests in
     let i = cond first 0 1 in
@@ -35,13 +36,17 @@ ended-accepted m q first number t rests e = λ tuple h some.
     let P : List Numbered → Type 0 = λ l. Contains (traces_of l) (get_or tuple i []) in
     let is : t ≡ get_or tuple i [] =
     contains-one t (get_or tuple i [])
-    (subst P (given-here first (number, t) rests) (tuple-at ls i tuple lt h)) in
-    absurd (none-gaps Min ls i lt tt tuple h some (ap entry (sym is ∙ e)))
+    (subst P (given-here first (number, t) rests) (tuple-at ls i tuple lt h.0)) in
+    absurd (none-gaps Min ls i lt tt tuple h.0 some (ap entry (sym is ∙ e)))
 
 module _ (m : Machine) (lengths : Lengths) (q : ℕ) (first : Bool) (number : ℕ) (t : Trace)
     (rests : List Numbered) (letters : List NameSet) (are : AreLetters letters rests)
-    (here : (ts : List Trace) → IsTupleOf (beside first (number, t) rests) ts
+    (here : (ts : List Trace)
+    → IsTupleIn (sought_beside first (number, t)) (beside first (number, t) rests) ts
     → judged lengths ts ≡ 0 → is_accepting m q ≡ true) where
+  abbrev sought : Sought
+  sought = sought_beside first (number, t)
+
   abbrev lists : List (List Numbered)
   lists = beside first (number, t) rests
 
@@ -52,16 +57,16 @@ module _ (m : Machine) (lengths : Lengths) (q : ℕ) (first : Bool) (number : �
 
   -- no trace ends where tuples are judged past an end
   pub node-accepted : HasNoGap lengths rests
-      → AreAcceptedBy m lengths q (other_place first) letters lists
-      → AreAccepted m lengths q 0 lists
+      → AreAcceptedBy sought m lengths q (other_place first) letters lists
+      → AreAccepted sought m lengths q 0 lists
   node-accepted none by_letter =
       let P : List Numbered → Type 0 = HasNoGap lengths in
       let gap = subst P (sym (other-here first (number, t) rests)) none in
       let lt = other-within first (number, t) rests in
-      from-none m lengths q lists
-      (accepted-all m lengths q lists (other_place first) letters lt letters-here by_letter
+      from-none sought m lengths q lists
+      (accepted-all sought m lengths q lists (other_place first) letters lt letters-here by_letter
       (λ tuple h some e.
-      absurd (none-gaps lengths lists (other_place first) lt gap tuple h some e))) here
+      absurd (none-gaps lengths lists (other_place first) lt gap tuple h.0 some e))) here
 
   module _ (ended : ℕ) (among : Contains rests (ended, [])) where
     gap-here : IsWay (get_or lists (other_place first) []) None ((ended, []) ∷ [])
@@ -69,34 +74,34 @@ module _ (m : Machine) (lengths : Lengths) (q : ℕ) (first : Bool) (number : �
         let P : List Numbered → Type 0 = λ l. IsWay l None ((ended, []) ∷ []) in
         subst P (sym (other-here first (number, t) rests)) (gap-way ended rests among)
 
-    pub end-search : AreAcceptedBy m lengths q (other_place first) letters lists
+    pub end-search : AreAcceptedBy sought m lengths q (other_place first) letters lists
         → (r : Option ℕ)
-        → IsSearch m lengths q 0 (beside first (number, t) ((ended, []) ∷ []))
+        → IsSearch sought m lengths q 0 (beside first (number, t) ((ended, []) ∷ []))
         (found first number r)
-        → IsSearch m lengths q 0 lists (found first number r)
+        → IsSearch sought m lengths q 0 lists (found first number r)
     end-search by_letter (Some other) s =
         let P : List (List Numbered) → Type 0 = λ ls.
-        AreRejected m lengths q ls (pair_of first number other) in
-        rejected-part m lengths q lists (other_place first) None ((ended, []) ∷ [])
+        AreRejected sought m lengths q ls (pair_of first number other) in
+        rejected-part sought m lengths q lists (other_place first) None ((ended, []) ∷ [])
         (pair_of first number other) gap-here
         (subst P (sym (other-set first (number, t) rests ((ended, []) ∷ []))) s)
     end-search by_letter None s =
-        let P : List (List Numbered) → Type 0 = AreAccepted m lengths q 1 in
+        let P : List (List Numbered) → Type 0 = AreAccepted sought m lengths q 1 in
         let lt = other-within first (number, t) rests in
-        from-none m lengths q lists
-        (accepted-all m lengths q lists (other_place first) letters lt letters-here by_letter
-        (accepted-way m lengths q lists (other_place first) None ((ended, []) ∷ []) lt gap-here
+        from-none sought m lengths q lists
+        (accepted-all sought m lengths q lists (other_place first) letters lt letters-here by_letter
+        (accepted-way sought m lengths q lists (other_place first) None ((ended, []) ∷ []) lt gap-here
         (subst P (sym (other-set first (number, t) rests ((ended, []) ∷ [])))
         (λ tuple h some. s tuple h (omega arith))))) here
 
     pub end-steps : (before more made : ℕ) → before + more ≡ made
-        → AreStepsBy lengths (other_place first) letters lists before
-        → AreSteps lengths (beside first (number, t) ((ended, []) ∷ [])) more
-        → AreSteps lengths lists made
+        → AreStepsBy sought lengths (other_place first) letters lists before
+        → AreSteps sought lengths (beside first (number, t) ((ended, []) ∷ [])) more
+        → AreSteps sought lengths lists made
     end-steps before more made sum s u =
-        let P : List (List Numbered) → Type 0 = λ ls. AreSteps lengths ls more in
-        let Q : ℕ → Type 0 = AreSteps lengths lists in
-        subst Q sum (steps-gap lengths lists (other_place first) letters ((ended, []) ∷ [])
+        let P : List (List Numbered) → Type 0 = λ ls. AreSteps sought lengths ls more in
+        let Q : ℕ → Type 0 = AreSteps sought lengths lists in
+        subst Q sum (steps-gap sought lengths lists (other_place first) letters ((ended, []) ∷ [])
         (other-within first (number, t) rests) gap-here before more s
         (subst P (sym (other-set first (number, t) rests ((ended, []) ∷ []))) u))
 
@@ -116,12 +121,17 @@ pub stop-search : (m : Machine) (lengths : Lengths) (q : ℕ) (first : Bool) (nu
     → IfSome r (λ n. (u : Trace) × Contains rests (n, u) × (HasEnded rests → u ≡ []))
     → IfNone r (rests ≡ []) → CanStop lengths (beside first (number, t) rests)
     → is_accepting m q ≡ false
-    → IsSearch m lengths q 0 (beside first (number, t) rests) (found first number r)
+    → IsSearch (sought_beside first (number, t)) m lengths q 0 (beside first (number, t) rests)
+    (found first number r)
 stop-search m lengths q first number t rests some None any none can rejects =
     absurd (omega (arith, some, ap (λ (l : List Numbered). length l) none))
 stop-search m lengths q first number t rests some (Some other) (u, c, ended) none can rejects =
-    stop-rejected m lengths q (beside first (number, t) rests) (pair_of first number other) can
-    rejects (pair_of first (number, t) (other, u), both first, same first)
+    let s = sought_beside first (number, t) in
+    let ls = beside first (number, t) rests in
+    stopped-search s m lengths q ls (pair_of first number other)
+    (ended-stopped s lengths ls (pair_of first number other) can
+    (pair_of first (number, t) (other, u)) (both first)
+    (beside-has first (number, t) (other, u)) (same first)) rejects
   where
     here : Contains {X = Numbered} ((number, t) ∷ []) (number, t)
     here = contains-here (number, t) []
@@ -192,7 +202,7 @@ no-letters : (t : Trace) → nat_eq (length t) 0 ≡ true → t ≡ []
 no-letters [] e = refl
 no-letters (a ∷ t) e = absurd (omega (arith, eqb-true (length (a ∷ t)) 0 e))
 
-some-letters : (t : Trace) → nat_eq (length t) 0 ≡ false → 0 < length t
+pub some-letters : (t : Trace) → nat_eq (length t) 0 ≡ false → 0 < length t
 some-letters [] e = absurd (cc)
 some-letters (a ∷ t) e = omega arith
 
@@ -256,8 +266,8 @@ module _ (lengths : Lengths) (first : Bool) (number : ℕ) (t : Trace) (rests : 
         is ∙ (λ j. not (is_accepting m q) && stops_of lengths (is_ended j) (is_other j))
 
     pub pair-here : b ≡ false → (ts : List Trace)
-        → IsTupleOf (beside first (number, t) rests) ts → judged lengths ts ≡ 0
-        → is_accepting m q ≡ true
+        → IsTupleIn (sought_beside first (number, t)) (beside first (number, t) rests) ts
+        → judged lengths ts ≡ 0 → is_accepting m q ≡ true
     pair-here e ts h zero_judged = at (is_accepting m q) refl (sym seen ∙ e)
       where
         two : 0 < length (beside first (number, t) rests)
@@ -268,7 +278,7 @@ module _ (lengths : Lengths) (first : Bool) (number : ℕ) (t : Trace) (rests : 
             → is_accepting m q ≡ true
         at true f g = f
         at false f g =
-            absurd (goes-on lengths (beside first (number, t) rests) two (pair-goes g) ts h
+            absurd (goes-on lengths (beside first (number, t) rests) two (pair-goes g) ts h.0
             zero_judged)
 
     pub pair-rejects : b ≡ true → CanStop lengths (beside first (number, t) rests)
@@ -284,7 +294,7 @@ module _ (lengths : Lengths) (first : Bool) (number : ℕ) (t : Trace) (rests : 
 -- where none of the pairs has a position left, and where the given trace may go on
 pub over-accepted : (m : Machine) (lengths : Lengths) (q : ℕ) (first : Bool) (number : ℕ)
     (t : Trace) (rests : List Numbered) → over_of lengths (nat_eq (length t) 0) ≡ true
-    → AreAccepted m lengths q 1 (beside first (number, t) rests)
+    → AreAccepted (sought_beside first (number, t)) m lengths q 1 (beside first (number, t) rests)
 over-accepted m Min q first number t rests e =
     ended-accepted m q first number t rests (no-letters t e)
 over-accepted m Pad q first number t rests e = absurd (cc)

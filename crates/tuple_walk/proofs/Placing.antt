@@ -1,6 +1,6 @@
 -- Four places of which the first ones are looked at.
-use Rattle.std.proofs.Common.{◌≡◌, ℕ, zero, suc, ◌+◌, ◌<◌, List, [], ◌∷◌, length, map, take, drop, set, slice_get, get_or, Some, refl, sym, ap, ◌∙◌, subst, arith}
-use Rattle.std.proofs.lemmas.List.{map-set}
+use Rattle.std.proofs.Common.{◌≡◌, ℕ, zero, suc, ◌+◌, ◌<◌, List, [], ◌∷◌, length, map, take, drop, set, slice_get, get_or, Option, Some, None, IfNone, refl, sym, ap, ◌∙◌, subst, arith}
+use Rattle.std.proofs.lemmas.List.{map-set, set-set}
 use Rattle.hy_formula.specs.Quantifiers.{Each}
 use Rattle.trace_trie.specs.Numbered.{Numbered}
 use Rattle.tuple_walk.specs.declared.place.Place.{Place}
@@ -8,7 +8,7 @@ use Rattle.tuple_walk.specs.Four.{letters_in}
 use Rattle.tuple_walk.specs.Places.{whole_behind, whole_of, letters_at, open_at, IsOpen, AreSome}
 use Rattle.tuple_walk.proofs.Stepping.{left_at}
 
-take-set : {A : Type 0} (n : ℕ) (xs : List A) (i : ℕ) (x : A)
+pub take-set : {A : Type 0} (n : ℕ) (xs : List A) (i : ℕ) (x : A)
     → take n (set xs i x) ≡ set (take n xs) i x
 take-set zero xs i x = refl
 take-set (suc n) [] i x = refl
@@ -16,12 +16,13 @@ take-set (suc n) (y ∷ ys) zero x = refl
 take-set (suc n) (y ∷ ys) (suc i) x = ap (λ zs. y ∷ zs) (take-set n ys i x)
 
 -- the places with one of them changed
-pub wholes-set : (n : ℕ) (ps : List Place) (i : ℕ) (p : Place) (next : List Place)
-    → next ≡ set ps i p → map whole_of (take n next) ≡ set (map whole_of (take n ps)) i (whole_of p)
-wholes-set n ps i p next e =
-    ap (λ qs. map whole_of (take n qs)) e
-    ∙ ap (map whole_of) (take-set n ps i p)
-    ∙ map-set whole_of (take n ps) i p
+pub lists-set : (f : Place → List Numbered) (n : ℕ) (ps : List Place) (i : ℕ) (p : Place)
+    (next : List Place) → next ≡ set ps i p
+    → map f (take n next) ≡ set (map f (take n ps)) i (f p)
+lists-set f n ps i p next e =
+    ap (λ qs. map f (take n qs)) e
+    ∙ ap (map f) (take-set n ps i p)
+    ∙ map-set f (take n ps) i p
 
 pub moved-more : {A : Type 0} (P : A → Type 0) (i : ℕ) (xs : List A) (x : A) (next : List A)
     → i < length xs → next ≡ set xs i x → Each P (take i xs) → P x → Each P (take (i + 1) next)
@@ -54,12 +55,35 @@ open-less {A} P i n xs x next e h =
     less zero (y ∷ ys) h = h.1
     less (suc i) (y ∷ ys) h = less i ys h
 
+-- at the first places, of which one is put anew
+pub open-set : {A : Type 0} (P : A → Type 0) (n : ℕ) (xs : List A) (i : ℕ) (x : A) (next : List A)
+    → next ≡ set xs i x → Each P (take n xs) → P x → Each P (take n next)
+open-set {A} P n xs i x next e h p =
+    let Q : List A → Type 0 = λ ys. Each P ys in
+    subst Q (sym (ap (take n) e ∙ take-set n xs i x)) (all (take n xs) i h)
+  where
+    all : (ys : List A) (i : ℕ) → Each P ys → Each P (set ys i x)
+    all [] i h = tt
+    all (y ∷ ys) zero h = (p, h.1)
+    all (y ∷ ys) (suc i) h = (h.0, all ys i h.1)
+
 -- a place put back
 pub set-back : {A : Type 0} (xs : List A) (i : ℕ) (x : A) → slice_get xs i ≡ Some x
     → set xs i x ≡ xs
 set-back [] i x e = refl
 set-back (y ∷ ys) zero x e = let is : y ≡ x = cc in ap (λ z. z ∷ ys) (sym is)
 set-back (y ∷ ys) (suc i) x e = ap (λ zs. y ∷ zs) (set-back ys i x e)
+
+-- as before, where nothing is found from places of which one is put anew, and it is put back
+pub put-back : {A R : Type 0} (found put back before : List A) (i : ℕ) (x here : A)
+    → put ≡ set before i x → slice_get before i ≡ Some here → back ≡ set found i here
+    → (r : Option R) → IfNone r (found ≡ put) → IfNone r (back ≡ before)
+put-back found put back before i x here is at e (Some y) same = tt
+put-back {A} found put back before i x here is at e None same =
+    e
+    ∙ ap (λ (l : List A). set l i here) (same ∙ is)
+    ∙ set-set before i x here
+    ∙ set-back before i here at
 
 pub some-set : (ls : List (List Numbered)) (i : ℕ) (w : List Numbered) → AreSome ls → 0 < length w
     → AreSome (set ls i w)

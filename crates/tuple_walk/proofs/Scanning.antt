@@ -155,12 +155,6 @@ code-more l i a atoms e =
     sym (code-or (joint_letter (take i l)) (λ n v. nat_eq v i && contains a n) atoms)
     ∙ (λ j. code_of (λ n v. sym (name-more l i a e n v) j) atoms)
 
-pub get-unmap : {A B : Type 0} (f : A → B) (xs : List A) (i : ℕ) (y : B)
-    → slice_get (map f xs) i ≡ Some y → (x : A) × (slice_get xs i ≡ Some x) × (f x ≡ y)
-get-unmap f [] i y e = absurd (cc)
-get-unmap f (x ∷ xs) zero y e = let is : f x ≡ y = cc in (x, refl, is)
-get-unmap f (x ∷ xs) (suc i) y e = get-unmap f xs i y e
-
 pub code-none : (atoms : List IndexedAtom) → code_of (joint_letter []) atoms ≡ 0
 code-none [] = refl
 code-none (a ∷ atoms) =

@@ -1,10 +1,10 @@
--- The tuples with a given trace at one place, and all others from a list.
-use Rattle.std.proofs.Common.{◌≡◌, ℕ, zero, suc, ◌+◌, ◌*◌, ◌-◌, ◌<◌, ◌≤◌, true, false, List, [], ◌∷◌, length, map, take, set, replicate, get_or, Option, Some, None, IfSome, IfNone, refl, sym, ap, ◌∙◌, subst, arith}
+-- The tuples of a list with a given trace at a marked place, before any letter.
+use Rattle.std.proofs.Common.{◌≡◌, ℕ, zero, suc, ◌<◌, ◌≤◌, true, false, ◌↔◌, List, [], ◌∷◌, length, map, take, replicate, slice_get, get_or, Option, Some, None, IfSome, IfNone, refl, sym, ap, ◌∙◌, subst, arith}
 use Rattle.std.specs.List.{Contains}
-use Rattle.std.proofs.Math.Nat.{add-mul, mul-le-mul_right}
 use Rattle.std.specs.FinSet.{empty, contains}
-use Rattle.std.proofs.lemmas.List.{map-set, take-replicate, take-map}
-use Rattle.hy_base.proofs.Members.{contains-here, contains-later, contains-none, map-of, map-from, contains-one}
+use Rattle.std.proofs.lemmas.List.{take-replicate, length-replicate, get_or-replicate}
+use Rattle.std.proofs.lemmas.Option.{slice_get-get_or}
+use Rattle.hy_base.proofs.Members.{map-from}
 use Rattle.hy_formula.specs.Quantifiers.{Each, IsTuple}
 use Rattle.hy_formula.proofs.Each.{each-at}
 use Rattle.hy_finite.specs.declared.lengths.Lengths.{Lengths}
@@ -14,131 +14,76 @@ use Rattle.fin_monitor.specs.Machines.{Machine, IsMonitor, next_state, is_accept
 use Rattle.fin_monitor.proofs.Running.{accepts-meets}
 use Rattle.trace_trie.specs.Numbered.{Numbered, AreTraces, tail}
 use Rattle.tuple_walk.specs.declared.place.Place.{Place}
-use Rattle.tuple_walk.specs.Finds.{numbers_of, traces_of, AreViolating, IsFirst, AllMeet, FirstMeet}
+use Rattle.tuple_walk.specs.Alone.{sought_alone}
+use Rattle.tuple_walk.specs.Finds.{traces_of, AreViolating, IsFirst, AllMeet, FirstMeet}
 use Rattle.tuple_walk.specs.JointPrefixes.{Row, IsPrefixOf, IsJointPrefix, IsFirstPrefix}
-use Rattle.tuple_walk.specs.Places.{AreSome, IsOpen, starts}
-use Rattle.tuple_walk.specs.Searches.{state_over, AreFrom, IsTupleOf, AreRejected, AreAccepted, IsSearch, IsPrefixIn, AreSteps}
-use Rattle.tuple_walk.proofs.Lists.{apart-most}
-use Rattle.tuple_walk.proofs.Stepping.{left_at, all-judged, tuple-pairs}
+use Rattle.tuple_walk.specs.Places.{IsOpen}
+use Rattle.tuple_walk.specs.Searches.{state_over, IsAccepted, AreFrom, IsTupleOf, HasAt, Sought, AreRejected, IsSearch, AreReady, IsNarrowed, IsPrefixIn, AreSteps}
+use Rattle.tuple_walk.proofs.Lists.{apart-most, get-contains, get-of, some-in, some-same}
+use Rattle.tuple_walk.proofs.Stepping.{left_at, all-judged, pairs-tuple}
 
-pub starts-right : (list : List Numbered) (x : Numbered) (n k p : ℕ) → n ≤ k → p < n
-    → take n (set (replicate k list) p (x ∷ [])) ≡ starts list x n p
-starts-right list x zero k p le lt = absurd (omega arith)
-starts-right list x (suc n) zero p le lt = absurd (omega arith)
-starts-right list x (suc n) (suc k) zero le lt =
-    ap (λ ls. (x ∷ []) ∷ ls) (take-replicate n k list (omega arith))
-starts-right list x (suc n) (suc k) (suc p) le lt =
-    ap (λ ls. list ∷ ls) (starts-right list x n k p (omega arith) (omega arith))
+-- ---- as many copies of a list as there are places
 
-pub some-in : {A : Type 0} (xs : List A) (x : A) → Contains xs x → 0 < length xs
-some-in [] x c = absurd (contains-none x c)
-some-in (y ∷ ys) x c = omega arith
+map-copies : {A B : Type 0} (f : A → B) (n : ℕ) (x : A) → map f (replicate n x) ≡ replicate n (f x)
+map-copies f zero x = refl
+map-copies f (suc n) x = ap (λ ys. f x ∷ ys) (map-copies f n x)
 
-module _ (list : List Numbered) (x : Numbered) (is : Contains list x) where
-  some-copies : (n : ℕ) → AreSome (replicate n list)
-  some-copies zero = tt
-  some-copies (suc n) = (some-in list x is, some-copies n)
+each-copies : {A : Type 0} (P : A → Type 0) (n : ℕ) (x : A) → P x → Each P (replicate n x)
+each-copies P zero x p = tt
+each-copies P (suc n) x p = (p, each-copies P n x p)
 
-  pub some-starts : (n p : ℕ) → AreSome (starts list x n p)
-  some-starts zero p = tt
-  some-starts (suc n) zero = (omega arith, some-copies n)
-  some-starts (suc n) (suc p) = (some-in list x is, some-starts n p)
+from-copies : {A : Type 0} (list : List A) (n : ℕ) (xs : List A) → AreFrom (replicate n list) xs
+    → IsTuple (Contains list) n xs
+from-copies list zero [] h = record { count = refl; members = tt }
+from-copies list zero (x ∷ xs) h = absurd h
+from-copies list (suc n) [] h = absurd h
+from-copies list (suc n) (x ∷ xs) h =
+    let t = from-copies list n xs h.1 in
+    record { count = ap suc t.count; members = (h.0, t.members) }
 
-  from-copies : (n : ℕ) (ps : List Numbered) → AreFrom (replicate n list) ps
-      → IsTuple (Contains list) n ps
-  from-copies zero [] h = record { count = refl; members = tt }
-  from-copies zero (p ∷ ps) h = absurd h
-  from-copies (suc n) [] h = absurd h
-  from-copies (suc n) (p ∷ ps) h =
-      let t = from-copies n ps h.1 in
-      record { count = ap suc t.count; members = (h.0, t.members) }
+to-copies : {A : Type 0} (list : List A) (n : ℕ) (xs : List A) → IsTuple (Contains list) n xs
+    → AreFrom (replicate n list) xs
+to-copies list zero [] t = tt
+to-copies list zero (x ∷ xs) t = absurd (omega (arith, t.count))
+to-copies list (suc n) [] t = absurd (omega (arith, t.count))
+to-copies list (suc n) (x ∷ xs) t = (
+  t.members.0,
+  to-copies list n xs (record { count = omega (arith, t.count); members = t.members.1 }),
+)
 
-  -- members that are chosen so are a tuple with x at its place
-  from-starts : (n p : ℕ) (ps : List Numbered) → p < n → AreFrom (starts list x n p) ps
-      → IsTuple (Contains list) n ps × (get_or ps p x ≡ x) × Contains ps x
-  from-starts zero p ps lt h = absurd (omega arith)
-  from-starts (suc n) zero [] lt h = absurd h
-  from-starts (suc n) zero (q ∷ ps) lt h =
-      let t = from-copies n ps h.1 in
-      let e = contains-one x q h.0 in
-      let P : Numbered → Type 0 = Contains list in
-      let Q : Numbered → Type 0 = Contains (q ∷ ps) in (
-        record { count = ap suc t.count; members = (subst P e is, t.members) },
-        sym e,
-        subst Q (sym e) (contains-here q ps),
-      )
-  from-starts (suc n) (suc p) [] lt h = absurd h
-  from-starts (suc n) (suc p) (q ∷ ps) lt h =
-      let (t, at, c) = from-starts n p ps (omega arith) h.1 in (
-        record { count = ap suc t.count; members = (h.0, t.members) },
-        at,
-        contains-later q x ps c,
-      )
+-- the given trace is in each of them
+pub copies-ready : (s : Sought) (list : List Numbered) (x : Numbered) (n : ℕ) → s.given ≡ x
+    → Contains list x → 0 < n → slice_get s.marks 0 ≡ Some true → AreReady s (replicate n list)
+copies-ready s list x n given member some first =
+    let long = length-replicate n list in
+    let P : Numbered → Type 0 = Contains list in
+    let Q : List Numbered → Type 0 = λ l. Contains l s.given in
+    record {
+      some = each-copies (λ (l : List Numbered). 0 < length l) n list (some-in list x member);
+      there = λ i marked lt.
+          subst Q (sym (get_or-replicate n i list [] (omega (arith, lt, long))))
+          (subst P (sym given) member);
+      place = (0, first, omega (arith, some, long));
+    }
 
-  -- and each tuple with its trace there is chosen so
-  to-copies : (n : ℕ) (ts : List Trace) → IsTuple (Contains (traces_of list)) n ts
-      → IsTupleOf (replicate n list) ts
-  to-copies zero [] t = tt
-  to-copies zero (u ∷ ts) t = absurd (omega (arith, t.count))
-  to-copies (suc n) [] t = absurd (omega (arith, t.count))
-  to-copies (suc n) (u ∷ ts) t =
-      let more : IsTuple (Contains (traces_of list)) n ts =
-      record { count = omega (arith, t.count); members = t.members.1 } in
-      (t.members.0, to-copies n ts more)
-
-  to-starts : (n p : ℕ) (ts : List Trace) → p < n → IsTuple (Contains (traces_of list)) n ts
-      → get_or ts p x.1 ≡ x.1 → IsTupleOf (starts list x n p) ts
-  to-starts zero p ts lt t e = absurd (omega arith)
-  to-starts (suc n) p [] lt t e = absurd (omega (arith, t.count))
-  to-starts (suc n) zero (u ∷ ts) lt t e =
-      let P : Trace → Type 0 = Contains (x.1 ∷ []) in (
-        subst P (sym e) (contains-here x.1 []),
-        to-copies n ts (record { count = omega (arith, t.count); members = t.members.1 }),
-      )
-  to-starts (suc n) (suc p) (u ∷ ts) lt t e = (
-    t.members.0,
-    to-starts n p ts (omega arith)
-        (record { count = omega (arith, t.count); members = t.members.1 }) e,
-  )
-
-  traces-tuple : (n : ℕ) (ps : List Numbered) → IsTuple (Contains list) n ps
-      → IsTuple (Contains (traces_of list)) n (traces_of ps)
-  traces-tuple zero [] t = record { count = refl; members = tt }
-  traces-tuple zero (p ∷ ps) t = absurd (omega (arith, t.count))
-  traces-tuple (suc n) [] t = absurd (omega (arith, t.count))
-  traces-tuple (suc n) (p ∷ ps) t =
-      let more : IsTuple (Contains list) n ps =
-      record { count = omega (arith, t.count); members = t.members.1 } in
-      let r = traces-tuple n ps more in
-      record {
-        count = ap suc r.count;
-        members = (map-of (λ (q : Numbered). q.1) list p t.members.0, r.members);
-      }
-
-start-lists : (ps all : List Place) (place : ℕ) (alone : Place) (ls : List (List Numbered))
-    (l : List Numbered) → ps ≡ set all place alone → map left_at all ≡ ls → left_at alone ≡ l
-    → map left_at ps ≡ set ls place l
-start-lists ps all place alone ls l e f g =
-    ap (map left_at) e ∙ map-set left_at all place alone ∙ (λ i. set (f i) place (g i))
-
-pub start-rests : (n : ℕ) (ps all : List Place) (place : ℕ) (alone : Place)
-    (ls : List (List Numbered)) (l : List Numbered) → ps ≡ set all place alone
-    → map left_at all ≡ ls → left_at alone ≡ l → map left_at (take n ps) ≡ take n (set ls place l)
-start-rests n ps all place alone ls l e f g =
-    sym (take-map left_at n ps) ∙ ap (take n) (start-lists ps all place alone ls l e f g)
-
--- nothing is taken at any of these
-pub start-open : (other alone : Place) (place : ℕ) (ps : List Place)
-    → ps ≡ set (replicate 4 other) place alone → IsOpen other → IsOpen alone → Each IsOpen ps
-start-open other alone place ps e open_other open_alone =
+-- the same place four times
+pub all-open : (n : ℕ) (ps : List Place) (p : Place) → n ≤ 4 → ps ≡ replicate 4 p → IsOpen p
+    → Each IsOpen (take n ps)
+all-open n ps p le e is =
     let P : List Place → Type 0 = λ qs. Each IsOpen qs in
-    subst P (sym e) (with_one (replicate 4 other) place
-    (open_other, (open_other, (open_other, (open_other, tt)))))
-  where
-    with_one : (qs : List Place) (i : ℕ) → Each IsOpen qs → Each IsOpen (set qs i alone)
-    with_one [] i h = tt
-    with_one (q ∷ qs) zero h = (open_alone, h.1)
-    with_one (q ∷ qs) (suc i) h = (h.0, with_one qs i h.1)
+    subst P (sym (ap (take n) e ∙ take-replicate n 4 p le)) (each-copies IsOpen n p is)
+
+pub all-narrowed : (s : Sought) (n : ℕ) (ps : List Place) (p : Place) (list : List Numbered)
+    (new : List (List Numbered)) → n ≤ 4 → ps ≡ replicate 4 p → left_at p ≡ list
+    → IsNarrowed s (map left_at (take n ps)) new → IsNarrowed s (replicate n list) new
+all-narrowed s n ps p list new le e is narrowed =
+    let P : List (List Numbered) → Type 0 = λ lists. IsNarrowed s lists new in
+    let same : map left_at (take n ps) ≡ replicate n list =
+    ap (λ qs. map left_at (take n qs)) e
+    ∙ ap (map left_at) (take-replicate n 4 p le)
+    ∙ map-copies left_at n p
+    ∙ ap (replicate n) is in
+    subst P same narrowed
 
 -- ---- states of whole tuples
 
@@ -168,9 +113,19 @@ over-after m ts (suc k) =
     over-next m 0 k ts
     ∙ ap (λ q. next_state m q (code_at m (trace_words ts) k)) (over-after m ts k)
 
-module _ (m : Machine) (is : IsMonitor m) (lengths : Lengths) (list : List Numbered)
-    (short : AreTraces list) (x : Numbered) (member : Contains list x) (p : ℕ)
-    (lt : p < m.variables) where
+-- ---- what is found among the copies
+
+at-first : {A : Type 0} (xs : List A) (i : ℕ) (x : A) → i < 1 → slice_get xs i ≡ Some x
+    → (others : List A) × (xs ≡ x ∷ others)
+at-first [] i x lt e = absurd (cc)
+at-first (y ∷ ys) zero x lt e = (ys, ap (λ z. z ∷ ys) (some-same e))
+at-first (y ∷ ys) (suc i) x lt e = absurd (omega (arith, lt))
+
+module _ (m : Machine) (is : IsMonitor m) (some : 0 < m.variables) (lengths : Lengths)
+    (list : List Numbered) (short : AreTraces list) where
+  abbrev copies : List (List Numbered)
+  copies = replicate m.variables list
+
   long-traces : (ts : List Trace) → Each (Contains (traces_of list)) ts
       → Each (λ (t : Trace). 0 < length t) ts
   long-traces [] h = tt
@@ -181,179 +136,162 @@ module _ (m : Machine) (is : IsMonitor m) (lengths : Lengths) (list : List Numbe
       c).0 in
       (subst P e (omega arith), long-traces ts h.1)
 
-  judged-tuple : (ts : List Trace) → IsTuple (Contains (traces_of list)) m.variables ts
-      → 0 < judged lengths ts
-  judged-tuple ts t =
-      all-judged lengths ts (omega (arith, t.count)) (long-traces ts t.members)
-
-  pub found-violating : (numbers : List ℕ)
-      → AreRejected m lengths 0 (starts list x m.variables p) numbers
-      → AreViolating m lengths list numbers × Contains numbers x.0
-      × (p ≡ 0 → IsFirst x.0 numbers)
-  found-violating numbers r =
-      let (t, at, c) = from-starts list x member m.variables p r.pairs lt r.members in
-      let ts = traces_of r.pairs in
-      let k = judged lengths (traces_of r.pairs) in
-      let P : List ℕ → Type 0 = λ l. Contains l x.0 in (
-        record {
-          pairs = r.pairs;
-          members = t;
-          same = r.same;
-          violates = λ meets.
-              let accepts : is_accepting m (state_over m 0 ts k) ≡ true =
-              (accepts-meets m is lengths ts
-              (judged-tuple ts (traces-tuple list x member m.variables r.pairs t))
-              (state_over m 0 ts k) (is_accepting m (state_over m 0 ts k)) refl
-              (over-after m ts k)).1 meets in
-              let rejects : is_accepting m (state_over m 0 ts k) ≡ false = r.rejected in
-              absurd (cc);
-        },
-        subst P r.same (map-of (λ (q : Numbered). q.0) r.pairs x c),
-        λ e. first r.pairs (sym (ap (λ k. get_or r.pairs k x) e) ∙ at) c r.same,
-      )
-    where
-      first : (ps : List Numbered) → get_or ps 0 x ≡ x → Contains ps x → numbers_of ps ≡ numbers
-          → IsFirst x.0 numbers
-      first [] at c e = absurd (contains-none x c)
-      first (q ∷ ps) at c e =
-          (numbers_of ps, sym e ∙ ap (λ (o : Numbered). o.0 ∷ numbers_of ps) at)
-
-  pub none-meets : AreAccepted m lengths 0 0 (starts list x m.variables p)
-      → (ts : List Trace) → IsTuple (Contains (traces_of list)) m.variables ts
-      → get_or ts p x.1 ≡ x.1 → Meets lengths m.body ts
-  none-meets accepted ts t at =
-      let h = to-starts list x member m.variables p ts lt t at in
+  accepted-meets : (ts : List Trace) → IsTuple (Contains (traces_of list)) m.variables ts
+      → IsAccepted m lengths 0 ts ↔ Meets lengths m.body ts
+  accepted-meets ts t =
       let k = judged lengths ts in
-      (accepts-meets m is lengths ts (judged-tuple ts t) (state_over m 0 ts k)
-      (is_accepting m (state_over m 0 ts k)) refl
-      (over-after m ts k)).0 (accepted ts h (omega arith))
+      accepts-meets m is lengths ts
+      (all-judged lengths ts (omega (arith, some, t.count)) (long-traces ts t.members))
+      (state_over m 0 ts k) (is_accepting m (state_over m 0 ts k)) refl (over-after m ts k)
 
-  get-traces : (ps : List Numbered) (k : ℕ) (x : Numbered) → get_or ps k x ≡ x
-      → get_or (traces_of ps) k x.1 ≡ x.1
-  get-traces [] k x e = refl
-  get-traces (q ∷ ps) zero x e = ap (λ (o : Numbered). o.1) e
-  get-traces (q ∷ ps) (suc k) x e = get-traces ps k x e
-
-  prefix-joint : (rows : List Row) → IsPrefixIn lengths (starts list x m.variables p) rows
-      → (ts : List Trace) × IsTuple (Contains (traces_of list)) m.variables ts
-      × (get_or ts p x.1 ≡ x.1) × Contains ts x.1 × IsPrefixOf lengths ts rows
-  prefix-joint rows (ts, h, pre) =
-      let (ps, c, e) = tuple-pairs (starts list x m.variables p) ts h in
-      let (t, at, has) = from-starts list x member m.variables p ps lt c in
-      let P : List Trace → Type 0 = λ us. IsTuple (Contains (traces_of list)) m.variables us
-      × (get_or us p x.1 ≡ x.1) × Contains us x.1 in
-      let (u, v, w) = subst P e (
-        traces-tuple list x member m.variables ps t,
-        get-traces ps p x at,
-        map-of (λ (q : Numbered). q.1) ps x has,
-      ) in
-      (ts, u, v, w, pre)
-
-  pub joint-most : (made : ℕ) → AreSteps lengths (starts list x m.variables p) made
-      → (prefixes : List (List Row))
-      → ((rows : List Row) → IsJointPrefix lengths (traces_of list) x.1 m.variables rows
-      → Contains prefixes rows) → made ≤ length prefixes
-  joint-most made s prefixes all =
-      let most : length s.visited ≤ length prefixes =
-      apart-most s.visited prefixes s.apart (λ rows c.
-      let (ts, t, at, has, pre) = prefix-joint rows
-      (each-at (IsPrefixIn lengths (starts list x m.variables p)) s.visited rows s.inside c) in
-      all rows (record { tuple = ts; members = t; one = has; prefix = pre })) in
-      omega (arith, s.many, most)
-
-  first-prefix : (rows : List Row) (ts : List Trace)
+  tuple-in : (ts : List Trace) → IsTupleOf copies ts
       → IsTuple (Contains (traces_of list)) m.variables ts
-      → get_or ts 0 x.1 ≡ x.1 → Contains ts x.1 → IsPrefixOf lengths ts rows
-      → IsFirstPrefix lengths (traces_of list) x.1 m.variables rows
-  first-prefix rows [] t at has pre = absurd (contains-none x.1 has)
-  first-prefix rows (u ∷ ts) t at has pre =
-      let P : Trace → Type 0 = λ v. IsTuple (Contains (traces_of list)) m.variables (v ∷ ts) in
-      let Q : Trace → Type 0 = λ v. IsPrefixOf lengths (v ∷ ts) rows in
-      record { others = ts; members = subst P at t; prefix = subst Q at pre }
+  tuple-in ts h =
+      let P : List (List Trace) → Type 0 = λ lists. AreFrom lists ts in
+      from-copies (traces_of list) m.variables ts (subst P (map-copies traces_of m.variables list) h)
 
-  pub first-most : p ≡ 0 → (made : ℕ) → AreSteps lengths (starts list x m.variables p) made
-      → (prefixes : List (List Row))
-      → ((rows : List Row) → IsFirstPrefix lengths (traces_of list) x.1 m.variables rows
-      → Contains prefixes rows) → made ≤ length prefixes
-  first-most zero_p made s prefixes all =
-      let most : length s.visited ≤ length prefixes =
-      apart-most s.visited prefixes s.apart (λ rows c.
-      let (ts, t, at, has, pre) = prefix-joint rows
-      (each-at (IsPrefixIn lengths (starts list x m.variables p)) s.visited rows s.inside c) in
-      all rows (first-prefix rows ts t (sym (ap (λ k. get_or ts k x.1) zero_p) ∙ at) has pre)) in
-      omega (arith, s.many, most)
+  tuple-of : (ts : List Trace) → IsTuple (Contains (traces_of list)) m.variables ts
+      → IsTupleOf copies ts
+  tuple-of ts t =
+      let P : List (List Trace) → Type 0 = λ lists. AreFrom lists ts in
+      subst P (sym (map-copies traces_of m.variables list)) (to-copies (traces_of list) m.variables ts t)
 
-  pub first-search : p ≡ 0 → (r : Option (List ℕ))
-      → IsSearch m lengths 0 0 (starts list x m.variables p) r
-      → IfSome r (AreViolating m lengths list) × IfSome r (IsFirst x.0)
-      × IfNone r (FirstMeet m lengths (traces_of list) x.1)
-  first-search zero_p (Some numbers) r =
-      let (violating, has, first) = found-violating numbers r in (violating, first zero_p, tt)
-  first-search zero_p None r = (
-    tt,
-    tt,
-    λ others t. none-meets r (x.1 ∷ others) t
-        (ap (λ k. get_or (x.1 ∷ others) k x.1) zero_p),
-  )
+  module _ (s : Sought) (x : Numbered) (given : s.given ≡ x) where
+    pub found-violating : (r : Option (List ℕ)) → IsSearch s m lengths 0 0 copies r
+        → IfSome r (AreViolating m lengths list)
+    found-violating None accepted = tt
+    found-violating (Some numbers) r = record {
+      pairs = r.pairs;
+      members = from-copies list m.variables r.pairs r.members;
+      same = r.same;
+      violates = λ meets.
+          let ts = traces_of r.pairs in
+          let accepts : is_accepting m (state_over m 0 ts (judged lengths ts)) ≡ true =
+          (accepted-meets ts (tuple-in ts (pairs-tuple copies r.pairs r.members))).1 meets in
+          let rejects : is_accepting m (state_over m 0 ts (judged lengths ts)) ≡ false =
+          r.rejected in
+          absurd (cc);
+    }
 
--- the trace stands somewhere
-pub meets-all : (m : Machine) (lengths : Lengths) (list : List Numbered) (t : Trace)
-    → ((k : ℕ) → k < m.variables → (ts : List Trace)
-    → IsTuple (Contains (traces_of list)) m.variables ts
-    → get_or ts k t ≡ t → Meets lengths m.body ts)
-    → AllMeet m lengths (traces_of list) t
-meets-all m lengths list t all ts is (k, lt, at) = all k (omega (arith, is.count)) ts is at
+    number-at : (numbers : List ℕ) → AreRejected s m lengths 0 copies numbers
+        → HasAt s.marks x.0 numbers
+    number-at numbers r =
+        let (i, marked, at) = r.has in (
+          i,
+          marked,
+          sym (ap (λ l. slice_get l i) r.same)
+              ∙ get-of (λ (p : Numbered). p.0) r.pairs i s.given at
+              ∙ ap (λ (p : Numbered). Some p.0) given,
+        )
 
--- one walk more
-pub one-more : (a b c k l : ℕ) → a ≤ b + k * l → a ≤ c → c - a ≤ l → c ≤ b + (k + 1) * l
-one-more a b c k l le more made = omega (arith, le, more, made, add-mul k 1 l)
+    pub found-given : (r : Option (List ℕ)) → IsSearch s m lengths 0 0 copies r
+        → IfSome r (λ numbers. Contains numbers x.0)
+    found-given None accepted = tt
+    found-given (Some numbers) r =
+        let (i, marked, at) = number-at numbers r in get-contains numbers i x.0 at
 
-pub within-times : (a b k n l : ℕ) → a ≤ b + k * l → k ≤ n → a ≤ b + n * l
-within-times a b k n l le more = omega (arith, le, mul-le-mul_right l more)
+    at-mark : (ts : List Trace) (i : ℕ) → slice_get s.marks i ≡ Some true
+        → slice_get ts i ≡ Some x.1 → HasAt s.marks s.given.1 ts
+    at-mark ts i marked at = (i, marked, at ∙ ap (λ (p : Numbered). Some p.1) (sym given))
+
+    -- each place is marked
+    pub none-meets : ((i : ℕ) → i < m.variables → slice_get s.marks i ≡ Some true)
+        → (r : Option (List ℕ)) → IsSearch s m lengths 0 0 copies r
+        → IfNone r (AllMeet m lengths (traces_of list) x.1)
+    none-meets all (Some numbers) r = tt
+    none-meets all None accepted = λ ts t (k, lt, at).
+        (accepted-meets ts t).0 (accepted ts (
+          tuple-of ts t,
+          at-mark ts k (all k (omega (arith, lt, t.count)))
+              (slice_get-get_or ts k x.1 lt ∙ ap (λ (u : Trace). Some u) at),
+        ) (omega arith))
+
+    pub joint-most : (made : ℕ) → AreSteps s lengths copies made
+        → (prefixes : List (List Row))
+        → ((rows : List Row) → IsJointPrefix lengths (traces_of list) x.1 m.variables rows
+        → Contains prefixes rows) → made ≤ length prefixes
+    joint-most made b prefixes all =
+        let most = apart-most b.visited prefixes b.apart (λ rows c.
+        let (ts, (of, (i, marked, at)), pre) =
+        each-at (IsPrefixIn s lengths copies) b.visited rows b.inside c in
+        all rows (record {
+          tuple = ts;
+          members = tuple-in ts of;
+          one = get-contains ts i x.1 (at ∙ ap (λ (p : Numbered). Some p.1) given);
+          prefix = pre;
+        })) in
+        omega (arith, b.many, most)
+
+    -- the first place alone is marked
+    module _ (within : (i : ℕ) → slice_get s.marks i ≡ Some true → i < 1) where
+      pub found-first : (r : Option (List ℕ)) → IsSearch s m lengths 0 0 copies r
+          → IfSome r (IsFirst x.0)
+      found-first None accepted = tt
+      found-first (Some numbers) r =
+          let (i, marked, at) = number-at numbers r in at-first numbers i x.0 (within i marked) at
+
+      pub first-most : (made : ℕ) → AreSteps s lengths copies made
+          → (prefixes : List (List Row))
+          → ((rows : List Row) → IsFirstPrefix lengths (traces_of list) x.1 m.variables rows
+          → Contains prefixes rows) → made ≤ length prefixes
+      first-most made b prefixes all =
+          let most = apart-most b.visited prefixes b.apart (λ rows c.
+          let (ts, (of, (i, marked, at)), pre) =
+          each-at (IsPrefixIn s lengths copies) b.visited rows b.inside c in
+          let (others, e) = at-first ts i x.1 (within i marked)
+          (at ∙ ap (λ (p : Numbered). Some p.1) given) in
+          let P : List Trace → Type 0 = IsTuple (Contains (traces_of list)) m.variables in
+          let Q : List Trace → Type 0 = λ us. IsPrefixOf lengths us rows in
+          all rows (record {
+            others = others;
+            members = subst P e (tuple-in ts of);
+            prefix = subst Q e pre;
+          })) in
+          omega (arith, b.many, most)
+
+    pub first-meets : slice_get s.marks 0 ≡ Some true
+        → (r : Option (List ℕ)) → IsSearch s m lengths 0 0 copies r
+        → IfNone r (FirstMeet m lengths (traces_of list) x.1)
+    first-meets marked (Some numbers) r = tt
+    first-meets marked None accepted = λ others t.
+        (accepted-meets (x.1 ∷ others) t).0 (accepted (x.1 ∷ others) (
+          tuple-of (x.1 ∷ others) t,
+          at-mark (x.1 ∷ others) 0 marked refl,
+        ) (omega arith))
 
 -- one variable: the trace alone
 module _ (m : Machine) (is : IsMonitor m) (lengths : Lengths) (x : Numbered)
-    (some : 1 ≤ length x.1) (short : length x.1 ≤ 1024) (one : m.variables ≡ 1) where
+    (long : 1 ≤ length x.1) (short : length x.1 ≤ 1024) (one : m.variables ≡ 1) where
   lone-traces : AreTraces (x ∷ [])
-  lone-traces = ((some, short), tt)
+  lone-traces = ((long, short), tt)
 
-  lone-starts : starts (x ∷ []) x m.variables 0 ≡ (x ∷ []) ∷ []
-  lone-starts = ap (λ n. starts (x ∷ []) x n 0) one
+  lone-some : 0 < m.variables
+  lone-some = omega (arith, one)
 
-  first-place : 0 < m.variables
-  first-place = omega (arith, one)
+  lone-copies : (x ∷ []) ∷ [] ≡ replicate m.variables (x ∷ [])
+  lone-copies = sym (ap (λ n. replicate n (x ∷ [])) one)
 
-  pub lone-search : (r : Option (List ℕ)) → IsSearch m lengths 0 0 ((x ∷ []) ∷ []) r
+  lone-marked : (i : ℕ) → i < m.variables → slice_get (sought_alone x).marks i ≡ Some true
+  lone-marked zero lt = refl
+  lone-marked (suc i) lt = absurd (omega (arith, lt, one))
+
+  pub lone-search : (r : Option (List ℕ))
+      → IsSearch (sought_alone x) m lengths 0 0 ((x ∷ []) ∷ []) r
       → IfSome r (AreViolating m lengths (x ∷ [])) × IfSome r (λ numbers. Contains numbers x.0)
       × IfNone r (AllMeet m lengths (x.1 ∷ []) x.1)
-  lone-search r search =
-      let P : List (List Numbered) → Type 0 = λ lists. IsSearch m lengths 0 0 lists r in
-      by r (subst P (sym lone-starts) search)
-    where
-      by : (r : Option (List ℕ)) → IsSearch m lengths 0 0 (starts (x ∷ []) x m.variables 0) r
-          → IfSome r (AreViolating m lengths (x ∷ [])) × IfSome r (λ numbers. Contains numbers x.0)
-          × IfNone r (AllMeet m lengths (x.1 ∷ []) x.1)
-      by (Some numbers) s =
-          let (violating, has, first) = found-violating m is lengths (x ∷ []) lone-traces x
-          (contains-here x []) 0 first-place numbers s in (violating, has, tt)
-      by None s = (
-        tt,
-        tt,
-        meets-all m lengths (x ∷ []) x.1 (λ k lt ts t at.
-            let Q : ℕ → Type 0 = λ j. get_or ts j x.1 ≡ x.1 in
-            let first : k ≡ 0 = omega (arith, lt, one) in
-            none-meets m is lengths (x ∷ []) lone-traces x (contains-here x []) 0 first-place s ts t
-            (subst Q first at)),
+  lone-search r searched =
+      let P : List (List Numbered) → Type 0 = λ lists. IsSearch (sought_alone x) m lengths 0 0 lists r in
+      let so = subst P lone-copies searched in (
+        found-violating m is lone-some lengths (x ∷ []) lone-traces (sought_alone x) x refl r so,
+        found-given m is lone-some lengths (x ∷ []) lone-traces (sought_alone x) x refl r so,
+        none-meets m is lone-some lengths (x ∷ []) lone-traces (sought_alone x) x refl lone-marked r so,
       )
 
-  pub lone-most : (made : ℕ) → AreSteps lengths ((x ∷ []) ∷ []) made
+  pub lone-most : (made : ℕ) → AreSteps (sought_alone x) lengths ((x ∷ []) ∷ []) made
       → (prefixes : List (List Row))
       → ((rows : List Row) → IsJointPrefix lengths (x.1 ∷ []) x.1 m.variables rows
-      → Contains prefixes rows) → made ≤ m.variables * length prefixes
-  lone-most made s prefixes all =
-      let P : List (List Numbered) → Type 0 = λ lists. AreSteps lengths lists made in
-      let most = joint-most m is lengths (x ∷ []) lone-traces x (contains-here x []) 0 first-place
-      made (subst P (sym lone-starts) s) prefixes all in
-      let same : m.variables * length prefixes ≡ 1 * length prefixes =
-      ap (λ n. n * length prefixes) one in
-      omega (arith, most, same)
+      → Contains prefixes rows) → made ≤ length prefixes
+  lone-most made b =
+      let P : List (List Numbered) → Type 0 = λ lists. AreSteps (sought_alone x) lengths lists made in
+      joint-most m is lone-some lengths (x ∷ []) lone-traces (sought_alone x) x refl made
+      (subst P lone-copies b)

@@ -1,9 +1,9 @@
 -- Tuples before and behind one step.
-use Rattle.std.proofs.Common.{◌≡◌, ℕ, zero, suc, ◌+◌, ◌-◌, ◌<◌, true, false, List, [], ◌∷◌, length, map, get_or, Some, refl, sym, ap, ◌∙◌, subst, arith}
+use Rattle.std.proofs.Common.{◌≡◌, ℕ, zero, suc, ◌+◌, ◌-◌, ◌<◌, true, false, List, [], ◌∷◌, length, map, get_or, slice_get, Some, refl, sym, ap, ◌∙◌, subst, arith}
 use Rattle.std.specs.List.{Contains, list_any}
 use Rattle.std.specs.FinSet.{empty, contains}
 use Rattle.std.proofs.lemmas.List.{length-map}
-use Rattle.hy_base.proofs.Members.{contains-here, map-of, map-from}
+use Rattle.hy_base.proofs.Members.{contains-here, contains-none, map-of, map-from}
 use Rattle.hy_bits.specs.Letter.{Letter as NameSet}
 use Rattle.hy_formula.specs.Quantifiers.{Each}
 use Rattle.hy_formula.proofs.Each.{each-at, each-map, each-like}
@@ -20,16 +20,17 @@ use Rattle.tuple_walk.specs.declared.place.Place.{Place}
 use Rattle.tuple_walk.specs.Finds.{numbers_of, traces_of}
 use Rattle.tuple_walk.specs.JointPrefixes.{Row, entry, rows_of}
 use Rattle.tuple_walk.specs.Places.{rests_of, whole_behind, whole_of, IsMovedTo, IsMoved, AreSome, taken_entry, taken_of, letter_or, is_letter}
-use Rattle.tuple_walk.specs.Searches.{state_over, AreFrom, IsTupleOf, AreRejected, AreAccepted, IsPrefixIn, AreSteps}
-use Rattle.tuple_walk.proofs.Ways.{long-led}
-use Rattle.tuple_walk.proofs.Lists.{apart-map}
+use Rattle.tuple_walk.specs.Searches.{state_over, AreFrom, IsTupleOf, HasAt, Sought, IsTupleIn, AreRejected, AreAccepted, IsPrefixIn, AreSteps}
+use Rattle.tuple_walk.specs.Serving.{Agrees, IsBehind}
+use Rattle.tuple_walk.proofs.Ways.{long-led, no-entry, same-trace}
+use Rattle.tuple_walk.proofs.Lists.{apart-map, each-of, get-of, get-unmap, get-same, some-same}
 
 abbrev pub left_at : Place → List Numbered
 left_at p = rests_of p.spot
 
 -- ---- at one place
 
-forward : (lengths : Lengths) (t : Taken) (rests : List Numbered) (x : Numbered)
+pub forward : (lengths : Lengths) (t : Taken) (rests : List Numbered) (x : Numbered)
     → IsMovedTo lengths t rests → Contains (whole_behind t rests) x
     → (entry x.1 ≡ taken_entry t) × Contains rests (x.0, tail x.1)
 forward lengths Nothing rests x h c = absurd h
@@ -92,16 +93,35 @@ tuple-pairs (l ∷ ls) (t ∷ ts) h =
     let (ps, d, f) = tuple-pairs ls ts h.1 in
     (p ∷ ps, (c, d), λ i. e i ∷ f i)
 
-first-member : (l : List Numbered) → 0 < length l → (p : Numbered) × Contains l p
+pub first-member : (l : List Numbered) → 0 < length l → (p : Numbered) × Contains l p
 first-member [] lt = absurd (omega arith)
 first-member (p ∷ l) lt = (p, contains-here p l)
 
-pub some-pairs : (ls : List (List Numbered)) → AreSome ls → (ps : List Numbered) × AreFrom ls ps
+some-pairs : (ls : List (List Numbered)) → AreSome ls → (ps : List Numbered) × AreFrom ls ps
 some-pairs [] h = ([], tt)
 some-pairs (l ∷ ls) h =
     let (p, c) = first-member l h.0 in
     let (ps, d) = some-pairs ls h.1 in
     (p ∷ ps, (c, d))
+
+-- members of which one is chosen
+pub pairs-with : (ls : List (List Numbered)) (i : ℕ) (x : Numbered) → AreSome ls → i < length ls
+    → Contains (get_or ls i []) x → (ps : List Numbered) × AreFrom ls ps × (slice_get ps i ≡ Some x)
+pairs-with [] i x h lt c = absurd (omega arith)
+pairs-with (l ∷ ls) zero x h lt c =
+    let (ps, d) = some-pairs ls h.1 in
+    (x ∷ ps, (c, d), refl)
+pairs-with (l ∷ ls) (suc i) x h lt c =
+    let (p, d) = first-member l h.0 in
+    let (ps, e, at) = pairs-with ls i x h.1 (omega arith) c in
+    (p ∷ ps, (d, e), at)
+
+pub tuple-with : (s : Sought) (ls : List (List Numbered)) (i : ℕ) → AreSome ls
+    → slice_get s.marks i ≡ Some true → i < length ls → Contains (get_or ls i []) s.given
+    → (ts : List Trace) × IsTupleIn s ls ts
+tuple-with s ls i h marked lt c =
+    let (ps, d, at) = pairs-with ls i s.given h lt c in
+    (traces_of ps, (pairs-tuple ls ps d, (i, marked, get-of (λ (p : Numbered). p.1) ps i s.given at)))
 
 -- ---- at all places
 
@@ -242,13 +262,82 @@ taken-code m letters ts e =
     ap (λ (l : List NameSet). code_of (joint_letter l) m.atoms) (sym e)
     ∙ (λ i. code_of (λ name v. contains (letter-at ts v i) name) m.atoms)
 
+-- ---- the given trace before and behind the step
+
+-- what is taken is what a trace has first, or may be
+agrees-first : (lengths : Lengths) (p : Place) (t : Trace) → IsMoved lengths p
+    → taken_of p ≡ entry t → Agrees p.taken t
+agrees-first lengths p t moved e = at p.taken moved e
+  where
+    at : (k : Taken) → IsMovedTo lengths k (left_at p) → taken_entry k ≡ entry t → Agrees k t
+    at Nothing h e = absurd h
+    at (Letter a) h e = sym e
+    at Gap h e = no-entry t (sym e)
+
+first-agrees : (lengths : Lengths) (p : Place) (t : Trace) → IsMoved lengths p
+    → Agrees p.taken t → taken_of p ≡ entry t
+first-agrees lengths p t moved e = at p.taken moved e
+  where
+    at : (k : Taken) → IsMovedTo lengths k (left_at p) → Agrees k t → taken_entry k ≡ entry t
+    at Nothing h e = absurd h
+    at (Letter a) h e = sym e
+    at Gap h e = sym (ap entry e)
+
+module _ (lengths : Lengths) (places : List Place) (moved : Each (IsMoved lengths) places)
+    (s u : Sought) (is : IsBehind s u places) where
+  has-behind : (ts : List Trace) → IsTupleOf (map whole_of places) ts
+      → HasAt s.marks s.given.1 ts → HasAt u.marks u.given.1 (map tail ts)
+  has-behind ts h (i, marked, at) =
+      let (p, place, same) = get-same entry taken_of ts places i s.given.1
+      (tuple-forward lengths places moved ts h).0 at in
+      let agrees = agrees-first lengths p s.given.1 (each-of (IsMoved lengths) places i p moved place)
+      same in (
+        i,
+        is.kept i (record { marked = marked; place = p; at = place; agrees = agrees }),
+        get-of tail ts i s.given.1 at ∙ ap (λ (t : Trace). Some t) (sym is.rest),
+      )
+
+  at-before : (ts : List Trace) → map entry ts ≡ map taken_of places → (i : ℕ)
+      → slice_get u.marks i ≡ Some true → slice_get (map tail ts) i ≡ Some u.given.1
+      → (slice_get s.marks i ≡ Some true) × (slice_get ts i ≡ Some s.given.1)
+  at-before ts same i marked at =
+      let (t, there, left) = get-unmap tail ts i u.given.1 at in
+      let (p, place, first) = get-same entry taken_of ts places i t same there in
+      let (before, agrees) = is.only i p marked place in
+      let first_given = first-agrees lengths p s.given.1
+      (each-of (IsMoved lengths) places i p moved place) agrees in (
+        before,
+        there ∙ ap (λ (v : Trace). Some v)
+            (same-trace t s.given.1 (sym first ∙ first_given) (left ∙ is.rest)),
+      )
+
+  has-before : (ts : List Trace) → map entry ts ≡ map taken_of places
+      → HasAt u.marks u.given.1 (map tail ts) → HasAt s.marks s.given.1 ts
+  has-before ts same (i, marked, at) =
+      let (before, there) = at-before ts same i marked at in
+      (i, before, there)
+
+  pairs-before : (xs ys : List Numbered) → map entry (traces_of xs) ≡ map taken_of places
+      → numbers_of xs ≡ numbers_of ys → map tail (traces_of xs) ≡ traces_of ys
+      → HasAt u.marks u.given ys → HasAt s.marks s.given xs
+  pairs-before xs ys same numbers tails (i, marked, at) =
+      let P : List Trace → Type 0 = λ us. slice_get us i ≡ Some u.given.1 in
+      let (before, there) = at-before (traces_of xs) same i marked
+      (subst P (sym tails) (get-of (λ (p : Numbered). p.1) ys i u.given at)) in
+      let (x, place, trace) = get-unmap (λ (p : Numbered). p.1) xs i s.given.1 there in
+      let (y, other, number) = get-same (λ (p : Numbered). p.0) (λ (p : Numbered). p.0) ys xs i
+      u.given (sym numbers) at in
+      let one : y ≡ x = some-same (sym other ∙ place) in
+      let first : x.0 ≡ s.given.0 = sym (ap (λ (p : Numbered). p.0) one) ∙ number ∙ is.number in
+      (i, before, place ∙ (λ j. Some (first j, trace j)))
+
 module _ (m : Machine) (lengths : Lengths) (q code next : ℕ) (places : List Place)
     (moved : Each (IsMoved lengths) places)
     (letter : list_any is_letter (map taken_of places) ≡ true)
     (steps : next ≡ next_state m q code)
     (right : (ts : List Trace) → map entry ts ≡ map taken_of places
     → code ≡ code_at m (trace_words ts) 0) where
-  at-state : (ts : List Trace) → IsTupleOf (map whole_of places) ts
+  pub at-state : (ts : List Trace) → IsTupleOf (map whole_of places) ts
       → state_over m q ts (judged lengths ts)
       ≡ state_over m next (map tail ts) (judged lengths (map tail ts))
   at-state ts h =
@@ -260,94 +349,105 @@ module _ (m : Machine) (lengths : Lengths) (q code next : ℕ) (places : List Pl
       (ap (next_state m q) (sym (right ts (tuple-forward lengths places moved ts h).0))
       ∙ sym steps)
 
-  pub step-accepted : AreAccepted m lengths next 0 (map left_at places)
-      → AreAccepted m lengths q 1 (map whole_of places)
-  step-accepted accepted = λ ts h some.
-      ap (is_accepting m) (at-state ts h)
-      ∙ accepted (map tail ts) (tuple-forward lengths places moved ts h).1 (omega arith)
-
-  pub step-rejected : (numbers : List ℕ)
-      → AreRejected m lengths next (map left_at places) numbers
-      → AreRejected m lengths q (map whole_of places) numbers
-  step-rejected numbers r =
-      let (xs, c, n, t) = pairs-back lengths places moved r.pairs r.members in
-      record {
-        pairs = xs;
-        members = c;
-        same = n ∙ r.same;
-        rejected = ap (is_accepting m) (at-state (traces_of xs)
-            (pairs-tuple (map whole_of places) xs c)
-            ∙ (λ i. state_over m next (t i) (judged lengths (t i))))
-            ∙ r.rejected;
-      }
-
-  row : Row
-  row = map taken_of places
-
   abbrev behind_row : List Row → List Row
   behind_row rows = map taken_of places ∷ rows
 
-  not-empty : (ls : List (List Numbered)) (rows : List Row) → IsPrefixIn lengths ls rows
-      → ¬ (rows ≡ [])
-  not-empty ls rows (ts, h, pre) e = none pre.count pre.some (sym pre.same ∙ e)
-    where
-      none : (k : ℕ) → 0 < k → ¬ (rows_of ts k ≡ [])
-      none zero lt e = omega arith
-      none (suc k) lt e = cc
-
-  prefix-behind : (rows : List Row) → IsPrefixIn lengths (map left_at places) rows
-      → IsPrefixIn lengths (map whole_of places) (behind_row rows)
-  prefix-behind rows (us, h, pre) =
-      let (ts, c, e) = tuple-back lengths places moved us h in
-      let is = (tuple-forward lengths places moved ts c).0 in
-      let some = moved-judged lengths places moved letter ts c in
-      let long : judged lengths us ≡ judged lengths ts - 1 =
-      ap (judged lengths) (sym e) ∙ judged-tail lengths ts in (
+  first-row : (s : Sought) (ts : List Trace) → IsTupleIn s (map whole_of places) ts
+      → IsPrefixIn s lengths (map whole_of places) (behind_row [])
+  first-row s ts h =
+      let first = (tuple-forward lengths places moved ts h.0).0 in (
         ts,
-        c,
-        record {
-          count = suc pre.count;
-          some = omega arith;
-          inside = omega (arith, pre.inside);
-          same = λ i. sym is i ∷ (pre.same ∙ ap (λ vs. rows_of vs pre.count) (sym e)) i;
-        },
-      )
-
-  first-row : AreSome (map whole_of places)
-      → IsPrefixIn lengths (map whole_of places) (behind_row [])
-  first-row some =
-      let (xs, c) = some-pairs (map whole_of places) some in
-      let h = pairs-tuple (map whole_of places) xs c in
-      let is = (tuple-forward lengths places moved (traces_of xs) h).0 in (
-        traces_of xs,
         h,
         record {
           count = 1;
           some = omega arith;
-          inside = moved-judged lengths places moved letter (traces_of xs) h;
-          same = λ i. sym is i ∷ [];
+          inside = moved-judged lengths places moved letter ts h.0;
+          same = λ i. sym first i ∷ [];
         },
       )
 
-  pub step-steps : (made : ℕ) → AreSome (map whole_of places)
-      → AreSteps lengths (map left_at places) made
-      → AreSteps lengths (map whole_of places) (made + 1)
-  step-steps made some s = record {
-    visited = behind_row [] ∷ map behind_row s.visited;
-    apart = (
-      λ c.
-          let (rows, d, e) = map-from behind_row s.visited (behind_row []) c in
-          let none : rows ≡ [] = cc in
-          not-empty (map left_at places) rows
-          (each-at (IsPrefixIn lengths (map left_at places)) s.visited rows s.inside d) none,
-      apart-map behind_row (λ x y e. let same : x ≡ y = cc in same) s.visited s.apart,
-    );
-    inside = (
-      first-row some,
-      each-map (IsPrefixIn lengths (map whole_of places)) behind_row s.visited
-          (each-like (IsPrefixIn lengths (map left_at places))
-          (λ rows. IsPrefixIn lengths (map whole_of places) (behind_row rows)) prefix-behind
-          s.visited s.inside),
-    );
-    many = omega (arith, s.many, length-map s.visited behind_row);
+  pub one-step : (s : Sought) (ts : List Trace) → IsTupleIn s (map whole_of places) ts
+      → AreSteps s lengths (map whole_of places) 1
+  one-step s ts h = record {
+    visited = behind_row [] ∷ [];
+    apart = (λ c. contains-none (behind_row []) c, tt);
+    inside = (first-row s ts h, tt);
+    many = omega arith;
   }
+
+  module _ (s u : Sought) (is : IsBehind s u places) where
+    pub step-accepted : AreAccepted u m lengths next 0 (map left_at places)
+        → AreAccepted s m lengths q 1 (map whole_of places)
+    step-accepted accepted = λ ts h some.
+        ap (is_accepting m) (at-state ts h.0)
+        ∙ accepted (map tail ts) (
+          (tuple-forward lengths places moved ts h.0).1,
+          has-behind lengths places moved s u is ts h.0 h.1,
+        ) (omega arith)
+
+    pub step-rejected : (numbers : List ℕ)
+        → AreRejected u m lengths next (map left_at places) numbers
+        → AreRejected s m lengths q (map whole_of places) numbers
+    step-rejected numbers r =
+        let (xs, c, n, t) = pairs-back lengths places moved r.pairs r.members in
+        record {
+          pairs = xs;
+          members = c;
+          has = pairs-before lengths places moved s u is xs r.pairs
+              (pairs-forward lengths places moved xs c).0 n t r.has;
+          same = n ∙ r.same;
+          rejected = ap (is_accepting m) (at-state (traces_of xs)
+              (pairs-tuple (map whole_of places) xs c)
+              ∙ (λ i. state_over m next (t i) (judged lengths (t i))))
+              ∙ r.rejected;
+        }
+
+    not-empty : (ls : List (List Numbered)) (rows : List Row) → IsPrefixIn u lengths ls rows
+        → ¬ (rows ≡ [])
+    not-empty ls rows (ts, h, pre) e = none pre.count pre.some (sym pre.same ∙ e)
+      where
+        none : (k : ℕ) → 0 < k → ¬ (rows_of ts k ≡ [])
+        none zero lt e = omega arith
+        none (suc k) lt e = cc
+
+    prefix-behind : (rows : List Row) → IsPrefixIn u lengths (map left_at places) rows
+        → IsPrefixIn s lengths (map whole_of places) (behind_row rows)
+    prefix-behind rows (us, h, pre) =
+        let (ts, c, e) = tuple-back lengths places moved us h.0 in
+        let first = (tuple-forward lengths places moved ts c).0 in
+        let some = moved-judged lengths places moved letter ts c in
+        let P : List Trace → Type 0 = HasAt u.marks u.given.1 in
+        let long : judged lengths us ≡ judged lengths ts - 1 =
+        ap (judged lengths) (sym e) ∙ judged-tail lengths ts in (
+          ts,
+          (c, has-before lengths places moved s u is ts first (subst P (sym e) h.1)),
+          record {
+            count = suc pre.count;
+            some = omega arith;
+            inside = omega (arith, pre.inside);
+            same = λ i. sym first i ∷ (pre.same ∙ ap (λ vs. rows_of vs pre.count) (sym e)) i;
+          },
+        )
+
+    pub step-steps : (made : ℕ) → (ts : List Trace) → IsTupleIn s (map whole_of places) ts
+        → AreSteps u lengths (map left_at places) made
+        → AreSteps s lengths (map whole_of places) (made + 1)
+    step-steps made ts some b = record {
+      visited = behind_row [] ∷ map behind_row b.visited;
+      apart = (
+        λ c.
+            let (rows, d, e) = map-from behind_row b.visited (behind_row []) c in
+            let none : rows ≡ [] = cc in
+            not-empty (map left_at places) rows
+            (each-at (IsPrefixIn u lengths (map left_at places)) b.visited rows b.inside d) none,
+        apart-map behind_row (λ x y e. let same : x ≡ y = cc in same) b.visited b.apart,
+      );
+      inside = (
+        first-row s ts some,
+        each-map (IsPrefixIn s lengths (map whole_of places)) behind_row b.visited
+            (each-like (IsPrefixIn u lengths (map left_at places))
+            (λ rows. IsPrefixIn s lengths (map whole_of places) (behind_row rows)) prefix-behind
+            b.visited b.inside),
+      );
+      many = omega (arith, b.many, length-map b.visited behind_row);
+    }

@@ -11,6 +11,17 @@ use Rattle.tuple_walk.specs.JointPrefixes.{entry}
 use Rattle.trace_trie.specs.Cursors.{AreLetters}
 use Rattle.tuple_walk.specs.Places.{first_letter, IsWay}
 
+pub no-entry : (t : Trace) → entry t ≡ None → t ≡ []
+no-entry [] e = refl
+no-entry (a ∷ t) e = absurd (cc)
+
+-- a trace is what it has first and what is left behind it
+pub same-trace : (t u : Trace) → entry t ≡ entry u → tail t ≡ tail u → t ≡ u
+same-trace [] [] e f = refl
+same-trace [] (b ∷ u) e f = absurd (cc)
+same-trace (a ∷ t) [] e f = absurd (cc)
+same-trace (a ∷ t) (b ∷ u) e f = let is : a ≡ b = cc in λ i. is i ∷ f i
+
 from-under : (a : Letter) (rests : List Numbered) (p : Numbered)
     → Contains (led_by a (under a rests)) p → Contains rests p
 from-under a [] p c = absurd (contains-none p c)
@@ -69,6 +80,15 @@ to-under a ((k, b ∷ u) ∷ rests) n t c = step (to-under a rests n t) (same_le
               absurd (cc)
           | inr later ↦ ih later
         ]
+
+pub kept-under : (a : Letter) (rests : List Numbered) (p : Numbered) → entry p.1 ≡ Some a
+    → Contains rests p → Contains (led_by a (under a rests)) p
+kept-under a rests (n, []) e c = absurd (cc)
+kept-under a rests (n, b ∷ t) e c =
+    let is : b ≡ a = cc in
+    let P : Letter → Type 0 = λ d. Contains rests (n, d ∷ t) in
+    let Q : Letter → Type 0 = λ d. Contains {X = Numbered} (led_by a (under a rests)) (n, d ∷ t) in
+    subst Q (sym is) (to-under a rests n t (subst P is c))
 
 pub long-led : (a : Letter) (ps : List Numbered) → length (led_by a ps) ≡ length ps
 long-led a [] = refl

@@ -6,4 +6,6 @@ pub mod JointPrefixes
 pub mod Pairs
 pub mod Places
 pub mod Searches
+pub mod Serving
+pub mod TraceParts
 pub mod Walks

@@ -4,6 +4,7 @@ use Rattle.hy_finite.specs.declared.lengths.Lengths.{Lengths}
 use Rattle.hy_finite.specs.declared.lengths.Lengths.TheVariants.{Min, Pad}
 use Rattle.hy_finite.specs.Traces.{Trace}
 use Rattle.trace_trie.specs.Numbered.{Numbered}
+use Rattle.tuple_walk.specs.Searches.{Sought}
 
 -- what is of the given one and what of the other, in the order of their places
 abbrev pub pair_of : {A : Type 0} → Bool → A → A → List A
@@ -13,6 +14,10 @@ pair_of false given other = other ∷ given ∷ []
 -- what may come at the two places
 abbrev pub beside : Bool → Numbered → List Numbered → List (List Numbered)
 beside first given rests = pair_of first (given ∷ []) rests
+
+-- the given trace is sought where it stands
+abbrev pub sought_beside : Bool → Numbered → Sought
+sought_beside first given = record { marks = pair_of first true false; given = given }
 
 -- the numbers of the pair, where one is found beside the given
 abbrev pub found : Bool → ℕ → Option ℕ → Option (List ℕ)

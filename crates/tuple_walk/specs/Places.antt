@@ -1,5 +1,5 @@
 -- What may still come at the places of the tuples on a walk.
-use Rattle.std.specs.Prelude.{◌≡◌, ℕ, zero, suc, ◌<◌, Bool, true, false, List, [], ◌∷◌, length, replicate, Option, Some, None}
+use Rattle.std.specs.Prelude.{◌≡◌, ℕ, ◌<◌, Bool, true, false, List, [], ◌∷◌, length, Option, Some, None}
 use Rattle.std.specs.List.{Contains}
 use Rattle.std.specs.FinSet.{empty}
 use Rattle.hy_bits.specs.Letter.{Letter as NameSet}
@@ -59,12 +59,6 @@ IsMoved lengths p = IsMovedTo lengths p.taken (rests_of p.spot)
 -- Some are left at each place.
 abbrev pub AreSome : List (List Numbered) → Type 0
 AreSome wholes = Each (λ (rests : List Numbered). 0 < length rests) wholes
-
--- What may come at n places before all letters: at place p one member alone, at all others each.
-abbrev pub starts : List Numbered → Numbered → ℕ → ℕ → List (List Numbered)
-starts list x zero p = []
-starts list x (suc n) zero = (x ∷ []) ∷ replicate n list
-starts list x (suc n) (suc p) = list ∷ starts list x n p
 
 -- Those of the rests that begin so, each number with one trace for each different trace.
 pub record IsWay (rests : List Numbered) (e : Option NameSet) (way : List Numbered) : Type 0 where

@@ -1,17 +1,21 @@
 //! The walk where one trace alone is left at each place: one tuple, letter by letter.
 
-ghost use Rattle.std.specs.Prelude.{◌≡◌, ◌-◌, ◌<◌, ◌≤◌, length, slice_index_or, ◌∷◌, []};
+ghost use Rattle.std.specs.Prelude.{◌≡◌, ◌-◌, ◌<◌, ◌≤◌, length, slice_index_or, ◌∷◌, [], take};
 ghost use Rattle.std.specs.Bool.{OnTrue, OnFalse};
 ghost use Rattle.std.specs.FinSet.{empty};
 ghost use Rattle.hy_formula.specs.Quantifiers.{Each};
 ghost use Rattle.hy_finite.specs.Traces.{judged, trace_words};
 ghost use Rattle.fin_monitor.specs.Machines.{codes, code_at, states_of};
-ghost use Rattle.tuple_walk.specs.Alone.{IsAlone, left_of};
-ghost use Rattle.tuple_walk.specs.Places.{AreSome};
-ghost use Rattle.tuple_walk.specs.Searches.{IsSearch, IsAccepted, IsRejected, AreSteps};
+ghost use Rattle.fin_monitor.specs.Parts.{AreParts};
+ghost use Rattle.tuple_walk.specs.Alone.{IsAlone, left_of, sought_alone};
+ghost use Rattle.tuple_walk.specs.Searches.{IsSearch, IsAccepted, IsRejected, AreReady, AreSteps};
+ghost use Rattle.tuple_walk.specs.Serving.{sought_of};
+ghost use Rattle.tuple_walk.specs.TraceParts.{traces_in, parts_in};
 ghost use Rattle.tuple_walk.specs.Walks.{machine_in, places_in, rests_in};
 
+use crate::given::Given;
 use crate::places::Places;
+use crate::trace_parts::TraceParts;
 use crate::tuple::Tuple;
 use crate::walk::{MOST_PLACES, Walk};
 use hy_base::Steps;
@@ -34,16 +38,22 @@ impl<'a, L: Ledger> Walk<'a, L> {
 
     /// As `search`, where one trace alone is left at each place. The stack stays flat.
     #[inline(never)]
-    pub(crate) fn follow(&self, places: &Places<'a>, q: u32, steps: &mut Steps<L>) -> Option<Tuple>
+    pub(crate) fn follow(
+        &self,
+        places: &Places<'a>,
+        given: &Given<'a>,
+        q: u32,
+        steps: &mut Steps<L>,
+    ) -> Option<Tuple>
         requires some { 1 ≤ (machine_in self.now).variables }
         requires state { q < states_of (machine_in self.now) }
         requires alone { Each IsAlone (places_in self.now places.now) }
-        requires members { AreSome (rests_in self.now places.now) }
-        ensures searched { IsSearch (machine_in self.now) self.now.lengths q 0
+        requires ready { AreReady (sought_of given.now) (rests_in self.now places.now) }
+        ensures searched { IsSearch (sought_of given.now) (machine_in self.now) self.now.lengths q 0
             (rests_in self.now places.now) result }
         ensures steps { steps.old ≤ steps.new }
-        ensures counted { AreSteps self.now.lengths (rests_in self.now places.now)
-            (steps.new - steps.old) }
+        ensures counted { AreSteps (sought_of given.now) self.now.lengths
+            (rests_in self.now places.now) (steps.new - steps.old) }
     {
         let mut rests: [&[LetterMask]; MOST_PLACES] = [&[]; MOST_PLACES];
         let count = self.monitor.vars() as usize;
@@ -66,11 +76,11 @@ impl<'a, L: Ledger> Walk<'a, L> {
         steps: &mut Steps<L>,
     ) -> Option<Tuple>
         requires one { (machine_in self.now).variables ≡ 1 }
-        ensures searched { IsSearch (machine_in self.now) self.now.lengths 0 0
-            (((number, trace.now) ∷ []) ∷ []) result }
+        ensures searched { IsSearch (sought_alone (number, trace.now)) (machine_in self.now)
+            self.now.lengths 0 0 (((number, trace.now) ∷ []) ∷ []) result }
         ensures steps { steps.old ≤ steps.new }
-        ensures counted { AreSteps self.now.lengths (((number, trace.now) ∷ []) ∷ [])
-            (steps.new - steps.old) }
+        ensures counted { AreSteps (sought_alone (number, trace.now)) self.now.lengths
+            (((number, trace.now) ∷ []) ∷ []) (steps.new - steps.old) }
     {
         if self.rejects_rests(&[trace], self.monitor.start(), steps) {
             Some(Tuple::new(self.alloc, [number, 0, 0, 0], 1))
@@ -97,14 +107,69 @@ impl<'a, L: Ledger> Walk<'a, L> {
         ensures steps { steps.old ≤ steps.new }
         ensures counted { steps.new - steps.old ≤ judged self.now.lengths (left_of rests.now) }
     {
+        match self.monitor.vars() {
+            1 => self.rejects_of::<1>(rests, q, steps),
+            2 => self.rejects_of::<2>(rests, q, steps),
+            3 => self.rejects_of::<3>(rests, q, steps),
+            _ => self.rejects_of::<4>(rests, q, steps),
+        }
+    }
+
+    /// As `rejects_rests`, for `N` rests. The parts of codes are lent once, before the loop, and each
+    /// number of rests has a loop of its own.
+    #[inline(never)]
+    fn rejects_of<const N: usize>(
+        &self,
+        rests: &[&[LetterMask]],
+        q: u32,
+        steps: &mut Steps<L>,
+    ) -> bool
+        requires some { 1 ≤ N }
+        requires vars { N ≡ (machine_in self.now).variables }
+        requires state { q < states_of (machine_in self.now) }
+        requires each { length rests.now ≡ N }
+        ensures rejected { OnTrue result (IsRejected (machine_in self.now) self.now.lengths q
+            (left_of rests.now)) }
+        ensures accepted { OnFalse result (IsAccepted (machine_in self.now) self.now.lengths q
+            (left_of rests.now)) }
+        ensures steps { steps.old ≤ steps.new }
+        ensures counted { steps.new - steps.old ≤ judged self.now.lengths (left_of rests.now) }
+    {
+        let lent = self.with_parts::<N>(rests);
+        let all = &lent[..N];
         let mut state = q;
         for i in 0..self.judged(rests) {
             if self.monitor.is_settled(state) {
                 return false;
             }
-            state = self.monitor.step(state, self.joint_at(rests, i), steps);
+            state = self.monitor.step(state, self.joint_at(all, i), steps);
         }
         !self.monitor.accepts(state)
+    }
+
+    /// Each rest with the parts that letters of its variable give; what stands behind is not used.
+    #[inline(always)]
+    fn with_parts<'p, 't, const N: usize>(
+        &'p self,
+        rests: &[&'t [LetterMask]],
+    ) -> [TraceParts<'p, 't>; MOST_PLACES]
+        requires some { 1 ≤ N }
+        requires vars { N ≡ (machine_in self.now).variables }
+        requires each { length rests.now ≡ N }
+        ensures traces { traces_in (take N result) ≡ left_of rests.now }
+        ensures parts { AreParts (parts_in (take N result)) (machine_in self.now).atoms N }
+    {
+        let mut all = [TraceParts {
+            parts: self.monitor.parts_of(0),
+            trace: &[],
+        }; MOST_PLACES];
+        for var in 0..N {
+            all[var] = TraceParts {
+                parts: self.monitor.parts_of(var as u8),
+                trace: rests[var],
+            };
+        }
+        all
     }
 
     /// On how many positions the tuple of these rests is judged.
@@ -119,52 +184,18 @@ impl<'a, L: Ledger> Walk<'a, L> {
         length
     }
 
-    /// The code of the letters at position `i`, empty ones past the end of a rest.
+    /// The code of the letters at position `i` of these traces, empty ones past an end.
     #[inline(always)]
-    fn joint_at(&self, rests: &[&[LetterMask]], i: usize) -> u32
-        requires { length rests.now ≡ (machine_in self.now).variables }
-        ensures code { result ≡ code_at (machine_in self.now) (trace_words (left_of rests.now)) i }
+    fn joint_at(&self, all: &[TraceParts<'_, '_>], i: usize) -> u32
+        requires { AreParts (parts_in all.now) (machine_in self.now).atoms (length all.now) }
+        ensures code { result ≡ code_at (machine_in self.now) (trace_words (traces_in all.now)) i }
         ensures within { result < codes (machine_in self.now) }
     {
-        if rests.len() == 2 {
-            return self.joint_of_two(rests[0], rests[1], i);
-        }
-        if rests.len() == 3 {
-            return self.joint_of_three(rests[0], rests[1], rests[2], i);
-        }
         let mut code = 0;
-        for var in 0..self.monitor.vars() {
-            code |= self.monitor.part(var, letter_at(rests[var as usize], i));
+        for t in all {
+            code |= t.at(i);
         }
         code
-    }
-
-    /// As `joint_at`, for two rests: most formulas have two variables.
-    #[inline(always)]
-    fn joint_of_two(&self, first: &[LetterMask], second: &[LetterMask], i: usize) -> u32
-        ensures code { result ≡ code_at (machine_in self.now)
-            (trace_words (first.now ∷ second.now ∷ [])) i }
-        ensures within { result < codes (machine_in self.now) }
-    {
-        self.monitor.part(0, letter_at(first, i)) | self.monitor.part(1, letter_at(second, i))
-    }
-
-    /// As `joint_at`, for three rests.
-    #[inline(always)]
-    fn joint_of_three(
-        &self,
-        first: &[LetterMask],
-        second: &[LetterMask],
-        third: &[LetterMask],
-        i: usize,
-    ) -> u32
-        ensures code { result ≡ code_at (machine_in self.now)
-            (trace_words (first.now ∷ second.now ∷ third.now ∷ [])) i }
-        ensures within { result < codes (machine_in self.now) }
-    {
-        let two = self.monitor.part(0, letter_at(first, i))
-            | self.monitor.part(1, letter_at(second, i));
-        two | self.monitor.part(2, letter_at(third, i))
     }
 }
 

@@ -3,9 +3,10 @@
 ghost use Rattle.std.specs.Prelude.{◌≡◌, ◌+◌, ◌<◌, ◌≤◌, nat_eq};
 ghost use Rattle.fin_monitor.specs.Codes.{part_of};
 ghost use Rattle.fin_monitor.specs.Machines.{codes, states_of, next_state, is_accepting, settled_state};
+ghost use Rattle.fin_monitor.specs.Parts.{ArePartsOf};
 ghost use Rattle.fin_monitor.specs.Seen.{machine_of};
 
-use fin_monitor::Monitor;
+use fin_monitor::{Monitor, VariableParts};
 use hy_base::Steps;
 use hy_bits::LetterMask;
 use std::marker::PhantomData;
@@ -85,5 +86,14 @@ impl<'a, L: Ledger> CountedMonitor<'a, L> {
         ensures within { result < codes (machine_on self.now) }
     {
         self.monitor.part(var, letter)
+    }
+
+    /// What letters of a variable give of codes, lent for a loop over letters: `of` each is `part`.
+    #[inline(always)]
+    pub(crate) fn parts_of(&self, var: u8) -> &VariableParts
+        requires { var < (machine_on self.now).variables }
+        ensures { ArePartsOf result.now (machine_on self.now).atoms var }
+    {
+        self.monitor.parts_of(var)
     }
 }

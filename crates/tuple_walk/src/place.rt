@@ -1,7 +1,9 @@
 //! Where a walk stands at one place of its tuples.
 
-ghost use Rattle.std.specs.Prelude.{◌≡◌};
+ghost use Rattle.std.specs.Prelude.{◌≡◌, ◌↔◌, IsTrue};
+ghost use Rattle.trace_trie.specs.Numbered.{same_letter};
 ghost use Rattle.tuple_walk.specs.Places.{letter_taken, has_taken};
+ghost use Rattle.tuple_walk.specs.Serving.{Agrees};
 ghost use Rattle.tuple_walk.specs.declared.place.Taken.TheVariants.{Nothing};
 
 use crate::spot::Spot;
@@ -59,6 +61,17 @@ impl<'a> Place<'a> {
         }
     }
 
+    /// Whether what is taken may be what a trace has next of which this is left.
+    pub(crate) fn agrees(&self, rest: &[LetterMask]) -> bool
+        ensures { IsTrue result ↔ Agrees self.now.taken rest.now }
+    {
+        match self.taken {
+            Taken::Nothing => true,
+            Taken::Letter(letter) => !rest.is_empty() && same(letter, rest[0]),
+            Taken::Gap => rest.is_empty(),
+        }
+    }
+
     /// An equal place.
     pub(crate) fn copied(&self) -> Place<'a>
         ensures { result ≡ self.now }
@@ -68,4 +81,11 @@ impl<'a> Place<'a> {
             spot: self.spot,
         }
     }
+}
+
+/// Whether both are the same letter.
+fn same(a: LetterMask, b: LetterMask) -> bool
+    ensures { result ≡ same_letter a b }
+{
+    a.is_subset(&b) && b.is_subset(&a)
 }

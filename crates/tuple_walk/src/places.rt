@@ -1,10 +1,11 @@
 //! Where a walk stands at all places of its tuples.
 
-ghost use Rattle.std.specs.Prelude.{◌≡◌, ◌<◌, [], ◌∷◌, map, replicate, set, slice_get, Some};
+ghost use Rattle.std.specs.Prelude.{◌≡◌, ◌↔◌, ◌<◌, IsTrue, map, replicate, set, slice_get, Some};
 ghost use Rattle.trace_trie.specs.Cursors.{AreLetters};
 ghost use Rattle.tuple_walk.specs.declared.place.Place.{Place as Seen};
 ghost use Rattle.tuple_walk.specs.Places.{open_at, letter_taken, has_taken, letters_at, rests_of};
 ghost use Rattle.tuple_walk.specs.Four.{four};
+ghost use Rattle.tuple_walk.specs.Serving.{Agrees};
 
 use crate::place::Place;
 use hy_bits::LetterMask;
@@ -19,33 +20,15 @@ pub(crate) struct Places<'a> {
 }
 
 impl<'a> Places<'a> {
-    /// These four.
-    pub(crate) fn of(
-        first: &Place<'a>,
-        second: &Place<'a>,
-        third: &Place<'a>,
-        fourth: &Place<'a>,
-    ) -> Places<'a>
-        ensures { four result ≡ first.now ∷ second.now ∷ third.now ∷ fourth.now ∷ [] }
+    /// The same at each place.
+    pub(crate) fn all(place: &Place<'a>) -> Places<'a>
+        ensures { four result ≡ replicate 4 place.now }
     {
         Places {
-            first: first.copied(),
-            second: second.copied(),
-            third: third.copied(),
-            fourth: fourth.copied(),
-        }
-    }
-
-    /// One at place `i`, counted from 0, and another at each other place.
-    pub(crate) fn one_at(i: usize, one: &Place<'a>, other: &Place<'a>) -> Places<'a>
-        requires { i < 4 }
-        ensures { four result ≡ set (replicate 4 other.now) i one.now }
-    {
-        match i {
-            0 => Places::of(one, other, other, other),
-            1 => Places::of(other, one, other, other),
-            2 => Places::of(other, other, one, other),
-            _ => Places::of(other, other, other, one),
+            first: place.copied(),
+            second: place.copied(),
+            third: place.copied(),
+            fourth: place.copied(),
         }
     }
 
@@ -102,6 +85,20 @@ impl<'a> Places<'a> {
         }
     }
 
+    /// Whether what is taken at place `i` may be what a trace has next of which this is left.
+    pub(crate) fn agrees(&self, i: usize, rest: &[LetterMask]) -> bool
+        requires { i < 4 }
+        ensures { (p : Seen) → slice_get (four self.now) i ≡ Some p
+            → (IsTrue result ↔ Agrees p.taken rest.now) }
+    {
+        match i {
+            0 => self.first.agrees(rest),
+            1 => self.second.agrees(rest),
+            2 => self.third.agrees(rest),
+            _ => self.fourth.agrees(rest),
+        }
+    }
+
     /// Puts another at place `i`, and copies no other.
     pub(crate) fn put(&mut self, i: usize, place: &Place<'a>)
         requires { i < 4 }
@@ -113,6 +110,21 @@ impl<'a> Places<'a> {
             2 => self.third = place.copied(),
             _ => self.fourth = place.copied(),
         }
+    }
+
+    /// The same with another at place `i`.
+    pub(crate) fn with(&self, i: usize, place: &Place<'a>) -> Places<'a>
+        requires { i < 4 }
+        ensures { four result ≡ set (four self.now) i place.now }
+    {
+        let mut with = Places {
+            first: self.first.copied(),
+            second: self.second.copied(),
+            third: self.third.copied(),
+            fourth: self.fourth.copied(),
+        };
+        with.put(i, place);
+        with
     }
 
     /// The same spots with nothing taken.

@@ -8,8 +8,11 @@ ghost use Rattle.hy_finite.specs.declared.lengths.Lengths.{Lengths};
 ghost use Rattle.hy_finite.specs.declared.lengths.Lengths.TheVariants.{Pad};
 ghost use Rattle.hy_finite.specs.Traces.{Trace};
 ghost use Rattle.trace_trie.specs.Cursors.{rests_at, AreLetters};
+ghost use Rattle.trace_trie.specs.Numbered.{Numbered, under, led_by};
 ghost use Rattle.tuple_walk.specs.Alone.{IsAloneAt};
+ghost use Rattle.tuple_walk.specs.declared.place.Taken.TheVariants.{Letter};
 ghost use Rattle.tuple_walk.specs.Places.{rests_of, letters_at, whole_of, HasEnded, IsMoved, IsWay};
+ghost use Rattle.tuple_walk.specs.Serving.{Agrees};
 
 use crate::place::{Place, Taken};
 use hy_bits::LetterMask;
@@ -108,6 +111,8 @@ impl<'a> Spot<'a> {
         ensures moved { (rule : Lengths) → IsMoved rule result }
         ensures way { (a : NameSet) → slice_get (letters_at self.now) i ≡ Some a
             → IsWay (rests_of self.now) (Some a) (whole_of result) }
+        ensures kept { (p : Numbered) → Agrees result.taken p.1 → Contains (rests_of self.now) p
+            → Contains (whole_of result) p }
     {
         match self {
             Spot::Alone(number, rest) => Place {
@@ -122,6 +127,30 @@ impl<'a> Spot<'a> {
                     spot: Spot::of(child),
                 }
             }
+        }
+    }
+
+    /// The place behind a letter, if some of the rests go on by it.
+    pub(crate) fn behind(&self, letter: LetterMask) -> Option<Place<'a>>
+        ensures moved { IfSome result (λ p. (rule : Lengths) → IsMoved rule p) }
+        ensures taken { IfSome result (λ p. p.taken ≡ Letter letter) }
+        ensures way { IfSome result (λ p. whole_of p ≡ led_by letter (under letter (rests_of self.now))) }
+        ensures none { IfNone result (under letter (rests_of self.now) ≡ []) }
+    {
+        let child = self.node().child_of(letter)?;
+        Some(Place {
+            taken: Taken::Letter(letter),
+            spot: Spot::of(child),
+        })
+    }
+
+    /// The node at the spot.
+    pub(crate) fn node(&self) -> Cursor<'a>
+        ensures { rests_at result ≡ rests_of self.now }
+    {
+        match self {
+            Spot::Alone(number, rest) => Cursor::of_one(*number, rest),
+            Spot::Node(cursor) => *cursor,
         }
     }
 

@@ -3,15 +3,17 @@
 ghost use Rattle.std.specs.Prelude.{◌≡◌, ◌-◌, ◌<◌, ◌≤◌, ℕ, cond, not, ◌&&◌, [], ◌∷◌, length, IfSome, IfNone};
 ghost use Rattle.std.specs.List.{Contains};
 ghost use Rattle.fin_monitor.specs.Machines.{states_of, is_accepting};
-ghost use Rattle.trace_trie.specs.Numbered.{tail};
 ghost use Rattle.trace_trie.specs.Cursors.{letters_of, rests_at};
 ghost use Rattle.tuple_walk.specs.Alone.{left_of};
-ghost use Rattle.tuple_walk.specs.Pairs.{pair_of, beside, found, stops_of, over_of, MayGoOn};
+ghost use Rattle.tuple_walk.specs.Pairs.{pair_of, beside, sought_beside, found, stops_of, over_of, MayGoOn};
 ghost use Rattle.tuple_walk.specs.Places.{HasNoGap};
-ghost use Rattle.tuple_walk.specs.Searches.{IsSearch, IsSearchBy, AreSteps, AreStepsBy};
-ghost use Rattle.tuple_walk.specs.Walks.{machine_in};
+ghost use Rattle.tuple_walk.specs.Searches.{IsSearch, IsSearchBy, IsOnly, AreReady, AreSteps, AreStepsBy};
+ghost use Rattle.tuple_walk.specs.Serving.{sought_of};
+ghost use Rattle.tuple_walk.specs.Walks.{machine_in, rests_in};
 
 use crate::alone::letter_at;
+use crate::given::{Given, behind_first};
+use crate::places::Places;
 use crate::spot::Spot;
 use crate::tuple::Tuple;
 use crate::walk::Walk;
@@ -22,6 +24,47 @@ use std::sync::ledger::Ledger;
 use trace_trie::Cursor;
 
 impl<'a, L: Ledger> Walk<'a, L> {
+    /// The only place of two at which the new trace may come, if there is just one.
+    pub(crate) fn only_of_two(&self, given: &Given<'a>) -> Option<usize>
+        ensures two { IfSome result (λ _. (machine_in self.now).variables ≡ 2) }
+        ensures only { IfSome result (IsOnly (sought_of given.now).marks) }
+    {
+        if self.monitor.vars() == 2 {
+            given.only()
+        } else {
+            None
+        }
+    }
+
+    /// As `search`, where the formula has two variables, and the new trace stands at one place alone.
+    #[inline(never)]
+    pub(crate) fn search_pair(
+        &self,
+        places: &Places<'a>,
+        given: &Given<'a>,
+        place: usize,
+        q: u32,
+        steps: &mut Steps<L>,
+    ) -> Option<Tuple>
+        requires two { (machine_in self.now).variables ≡ 2 }
+        requires state { q < states_of (machine_in self.now) }
+        requires only { IsOnly (sought_of given.now).marks place }
+        requires ready { AreReady (sought_of given.now) (rests_in self.now places.now) }
+        ensures searched { IsSearch (sought_of given.now) (machine_in self.now) self.now.lengths q 0
+            (rests_in self.now places.now) result }
+        ensures steps { steps.old ≤ steps.new }
+        ensures counted { AreSteps (sought_of given.now) self.now.lengths
+            (rests_in self.now places.now) (steps.new - steps.old) }
+    {
+        let first = place == 0;
+        let (_, other) = places_of(first);
+        let node = places.at(other as usize).spot.node();
+        match self.search_beside(first, given.rest, &node, q, steps) {
+            Some(number) => Some(self.pair(first, given.number, number)),
+            None => None,
+        }
+    }
+
     /// As `search`, with what is left of the given trace at one place, the first or the second, and
     /// a node at the other: the number of a trace of the node. No place is made.
     #[cycle(beside)]
@@ -37,11 +80,11 @@ impl<'a, L: Ledger> Walk<'a, L> {
         requires two { (machine_in self.now).variables ≡ 2 }
         requires state { q < states_of (machine_in self.now) }
         requires some { 0 < length (rests_at node.now) }
-        ensures searched { (number : ℕ) → IsSearch (machine_in self.now) self.now.lengths q 0
-            (beside first (number, given.now) (rests_at node.now)) (found first number result) }
+        ensures searched { (number : ℕ) → IsSearch (sought_beside first (number, given.now))
+            (machine_in self.now) self.now.lengths q 0 (beside first (number, given.now) (rests_at node.now)) (found first number result) }
         ensures steps { steps.old ≤ steps.new }
-        ensures counted { (number : ℕ) → AreSteps self.now.lengths
-            (beside first (number, given.now) (rests_at node.now)) (steps.new - steps.old) }
+        ensures counted { (number : ℕ) → AreSteps (sought_beside first (number, given.now))
+            self.now.lengths (beside first (number, given.now) (rests_at node.now)) (steps.new - steps.old) }
     {
         if self.monitor.is_settled(q) {
             return None;
@@ -65,11 +108,11 @@ impl<'a, L: Ledger> Walk<'a, L> {
         requires two { (machine_in self.now).variables ≡ 2 }
         requires state { q < states_of (machine_in self.now) }
         requires some { 0 < length (rests_at node.now) }
-        ensures searched { (number : ℕ) → IsSearch (machine_in self.now) self.now.lengths q 0
-            (beside first (number, given.now) (rests_at node.now)) (found first number result) }
+        ensures searched { (number : ℕ) → IsSearch (sought_beside first (number, given.now))
+            (machine_in self.now) self.now.lengths q 0 (beside first (number, given.now) (rests_at node.now)) (found first number result) }
         ensures steps { steps.old ≤ steps.new }
-        ensures counted { (number : ℕ) → AreSteps self.now.lengths
-            (beside first (number, given.now) (rests_at node.now)) (steps.new - steps.old) }
+        ensures counted { (number : ℕ) → AreSteps (sought_beside first (number, given.now))
+            self.now.lengths (beside first (number, given.now) (rests_at node.now)) (steps.new - steps.old) }
     {
         let ended = given.is_empty();
         if self.rejects_beside(ended, node.first().is_some(), q) {
@@ -103,12 +146,12 @@ impl<'a, L: Ledger> Walk<'a, L> {
         requires two { (machine_in self.now).variables ≡ 2 }
         requires state { q < states_of (machine_in self.now) }
         requires goes { MayGoOn self.now.lengths given.now }
-        ensures searched { (number : ℕ) → IsSearchBy (machine_in self.now) self.now.lengths q
-            (cond first 1 0) (letters_of node.now)
+        ensures searched { (number : ℕ) → IsSearchBy (sought_beside first (number, given.now))
+            (machine_in self.now) self.now.lengths q (cond first 1 0) (letters_of node.now)
             (beside first (number, given.now) (rests_at node.now)) (found first number result) }
         ensures steps { steps.old ≤ steps.new }
-        ensures counted { (number : ℕ) → AreStepsBy self.now.lengths
-            (cond first 1 0) (letters_of node.now)
+        ensures counted { (number : ℕ) → AreStepsBy (sought_beside first (number, given.now))
+            self.now.lengths (cond first 1 0) (letters_of node.now)
             (beside first (number, given.now) (rests_at node.now)) (steps.new - steps.old) }
     {
         let (own, other) = places_of(first);
@@ -140,12 +183,12 @@ impl<'a, L: Ledger> Walk<'a, L> {
     ) -> Option<u32>
         requires two { (machine_in self.now).variables ≡ 2 }
         requires state { q < states_of (machine_in self.now) }
-        ensures searched { (number : ℕ) → IsSearch (machine_in self.now) self.now.lengths q 0
-            (beside first (number, given.now) ((only.entry.0, only.entry.1.now) ∷ []))
+        ensures searched { (number : ℕ) → IsSearch (sought_beside first (number, given.now))
+            (machine_in self.now) self.now.lengths q 0 (beside first (number, given.now) ((only.entry.0, only.entry.1.now) ∷ []))
             (found first number result) }
         ensures steps { steps.old ≤ steps.new }
-        ensures counted { (number : ℕ) → AreSteps self.now.lengths
-            (beside first (number, given.now) ((only.entry.0, only.entry.1.now) ∷ [])) (steps.new - steps.old) }
+        ensures counted { (number : ℕ) → AreSteps (sought_beside first (number, given.now))
+            self.now.lengths (beside first (number, given.now) ((only.entry.0, only.entry.1.now) ∷ [])) (steps.new - steps.old) }
     {
         let rests = in_order(first, given, only.1);
         if self.rejects_rests(&rests, q, steps) {
@@ -203,13 +246,6 @@ impl<'a, L: Ledger> Walk<'a, L> {
             Lengths::Pad => node.first(),
         }
     }
-}
-
-/// What is left of a trace behind its first letter, if it has one.
-fn behind_first<'t>(trace: &'t [LetterMask]) -> &'t [LetterMask]
-    ensures { result.now ≡ tail trace.now }
-{
-    if trace.is_empty() { &[] } else { &trace[1..] }
 }
 
 /// The place of the given trace and the other one.

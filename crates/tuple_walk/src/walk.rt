@@ -1,16 +1,18 @@
 //! The walk down from one place for each variable.
 
-ghost use Rattle.std.specs.Prelude.{◌≡◌, ◌-◌, ◌<◌, ◌≤◌, true, map, drop, Some, None, IfNone};
+ghost use Rattle.std.specs.Prelude.{◌≡◌, ◌-◌, ◌<◌, ◌≤◌, true, map, Some, None, IfNone};
 ghost use Rattle.std.specs.List.{list_any};
 ghost use Rattle.hy_formula.specs.Quantifiers.{Each};
 ghost use Rattle.fin_monitor.specs.Codes.{code_of, joint_letter};
 ghost use Rattle.fin_monitor.specs.Machines.{codes, states_of};
-ghost use Rattle.tuple_walk.specs.Four.{four, first_places, letters_in};
-ghost use Rattle.tuple_walk.specs.Places.{taken_of, letter_or, is_letter, IsOpen, IsMoved, AreSome};
-ghost use Rattle.tuple_walk.specs.Searches.{IsSearch, IsSearchBy, AreSteps, AreStepsBy};
-ghost use Rattle.tuple_walk.specs.Walks.{AreChosen, machine_in, places_in, rests_in, wholes_in};
+ghost use Rattle.tuple_walk.specs.Four.{four, letters_in};
+ghost use Rattle.tuple_walk.specs.Places.{taken_of, letter_or, is_letter, IsOpen};
+ghost use Rattle.tuple_walk.specs.Searches.{IsSearch, IsSearchBy, IsNarrowed, AreReady, AreSteps, AreStepsBy};
+ghost use Rattle.tuple_walk.specs.Serving.{sought_of};
+ghost use Rattle.tuple_walk.specs.Walks.{AreChosen, IsLast, IsFree, machine_in, places_in, rests_in, wholes_in};
 
 use crate::counted_monitor::CountedMonitor;
+use crate::given::Given;
 use crate::places::Places;
 use crate::tuple::Tuple;
 use hy_base::Steps;
@@ -30,31 +32,38 @@ pub(crate) struct Walk<'a, L: Ledger> {
 }
 
 impl<'a, L: Ledger> Walk<'a, L> {
-    /// A tuple from the places that is rejected from state `q` on.
+    /// A tuple from the places with the new trace at one of those where it stands, that is rejected
+    /// from state `q` on.
     #[cycle(walk)]
     pub(crate) fn search(
         &self,
         places: &mut Places<'a>,
+        given: &Given<'a>,
         q: u32,
         steps: &mut Steps<L>,
     ) -> Option<Tuple>
         requires some { 1 ≤ (machine_in self.now).variables }
         requires state { q < states_of (machine_in self.now) }
         requires open { Each IsOpen (places_in self.now places.old) }
-        requires members { AreSome (rests_in self.now places.old) }
-        ensures searched { IsSearch (machine_in self.now) self.now.lengths q 0
+        requires ready { AreReady (sought_of given.now) (rests_in self.now places.old) }
+        ensures searched { IsSearch (sought_of given.now) (machine_in self.now) self.now.lengths q 0
             (rests_in self.now places.old) result }
         ensures steps { steps.old ≤ steps.new }
-        ensures counted { AreSteps self.now.lengths (rests_in self.now places.old)
-            (steps.new - steps.old) }
+        ensures counted { AreSteps (sought_of given.now) self.now.lengths
+            (rests_in self.now places.old) (steps.new - steps.old) }
     {
         if self.are_alone(places) {
-            return self.follow(places, q, steps);
+            return self.follow(places, given, q, steps);
         }
-        if self.rejects(places, q) {
-            return self.tuple_of(places);
+        match self.only_of_two(given) {
+            Some(place) => return self.search_pair(places, given, place, q, steps),
+            None => {}
         }
-        self.choose(places, 0, q, steps)
+        match self.stopped(places, given, q) {
+            Some(tuple) => return Some(tuple),
+            None => {}
+        }
+        self.choose(places, given, 0, q, steps)
     }
 
     /// As `search`, where what a step takes is chosen at the first `i` places; at least one step.
@@ -64,30 +73,28 @@ impl<'a, L: Ledger> Walk<'a, L> {
     fn choose(
         &self,
         places: &mut Places<'a>,
+        given: &Given<'a>,
         i: usize,
         q: u32,
         steps: &mut Steps<L>,
     ) -> Option<Tuple>
         requires some { 1 ≤ (machine_in self.now).variables }
         requires state { q < states_of (machine_in self.now) }
-        requires within { i ≤ (machine_in self.now).variables }
-        requires moved { Each (IsMoved self.now.lengths) (first_places i places.old) }
-        requires open { Each IsOpen (drop i (places_in self.now places.old)) }
-        requires members { AreSome (wholes_in self.now places.old) }
-        ensures searched { IsSearch (machine_in self.now) self.now.lengths q 1
+        requires chosen { AreChosen self.now places.old given.now i }
+        ensures searched { IsSearch (sought_of given.now) (machine_in self.now) self.now.lengths q 1
             (wholes_in self.now places.old) result }
         ensures same { IfNone result (four places.new ≡ four places.old) }
         ensures steps { steps.old ≤ steps.new }
-        ensures counted { AreSteps self.now.lengths (wholes_in self.now places.old)
-            (steps.new - steps.old) }
+        ensures counted { AreSteps (sought_of given.now) self.now.lengths
+            (wholes_in self.now places.old) (steps.new - steps.old) }
     {
         if i == self.monitor.vars() as usize {
             if self.some_letter(places) {
-                return self.advance(places, q, steps);
+                return self.advance(places, given, q, steps);
             }
             return None;
         }
-        self.choose_at(places, i, q, steps)
+        self.choose_at(places, given, i, q, steps)
     }
 
     /// As `choose`, at a place. It is apart, so that behind the last place there is no call.
@@ -95,21 +102,26 @@ impl<'a, L: Ledger> Walk<'a, L> {
     fn choose_at(
         &self,
         places: &mut Places<'a>,
+        given: &Given<'a>,
         i: usize,
         q: u32,
         steps: &mut Steps<L>,
     ) -> Option<Tuple>
         requires some { 1 ≤ (machine_in self.now).variables }
         requires state { q < states_of (machine_in self.now) }
-        requires chosen { AreChosen self.now places.old i }
-        ensures searched { IsSearch (machine_in self.now) self.now.lengths q 1
+        requires within { i < (machine_in self.now).variables }
+        requires chosen { AreChosen self.now places.old given.now i }
+        ensures searched { IsSearch (sought_of given.now) (machine_in self.now) self.now.lengths q 1
             (wholes_in self.now places.old) result }
         ensures same { IfNone result (four places.new ≡ four places.old) }
         ensures steps { steps.old ≤ steps.new }
-        ensures counted { AreSteps self.now.lengths (wholes_in self.now places.old)
-            (steps.new - steps.old) }
+        ensures counted { AreSteps (sought_of given.now) self.now.lengths
+            (wholes_in self.now places.old) (steps.new - steps.old) }
     {
-        match self.choose_letter(places, i, q, steps) {
+        if self.has_to_come(places, given, i) {
+            return self.choose_given(places, given, i, q, steps);
+        }
+        match self.choose_letter(places, given, i, q, steps) {
             Some(tuple) => return Some(tuple),
             None => {}
         }
@@ -119,10 +131,10 @@ impl<'a, L: Ledger> Walk<'a, L> {
             return None;
         }
         let here = places.at(i);
-        match self.gap(&here.spot) {
+        match self.gap_at(given, i, &here.spot) {
             Some(place) => {
                 places.put(i, &place);
-                let found = self.choose(places, i + 1, q, steps);
+                let found = self.choose(places, given, i + 1, q, steps);
                 places.put(i, &here);
                 found
             }
@@ -130,32 +142,66 @@ impl<'a, L: Ledger> Walk<'a, L> {
         }
     }
 
-    /// As `choose`, with a letter at place `i`.
+    /// As `choose`, at a place where the new trace has to come.
     #[cycle(walk)]
-    fn choose_letter(
+    fn choose_given(
         &self,
         places: &mut Places<'a>,
+        given: &Given<'a>,
         i: usize,
         q: u32,
         steps: &mut Steps<L>,
     ) -> Option<Tuple>
         requires some { 1 ≤ (machine_in self.now).variables }
         requires state { q < states_of (machine_in self.now) }
-        requires chosen { AreChosen self.now places.old i }
-        ensures searched { IsSearchBy (machine_in self.now) self.now.lengths q i
-            (letters_in i (four places.old))
+        requires last { IsLast self.now places.old given.now i }
+        requires chosen { AreChosen self.now places.old given.now i }
+        ensures searched { IsSearch (sought_of given.now) (machine_in self.now) self.now.lengths q 1
             (wholes_in self.now places.old) result }
         ensures same { IfNone result (four places.new ≡ four places.old) }
         ensures steps { steps.old ≤ steps.new }
-        ensures counted { AreStepsBy self.now.lengths i (letters_in i (four places.old))
-            (wholes_in self.now places.old)
+        ensures counted { AreSteps (sought_of given.now) self.now.lengths
+            (wholes_in self.now places.old) (steps.new - steps.old) }
+    {
+        let here = places.at(i);
+        match self.given_place(given, &here.spot) {
+            Some(place) => {
+                places.put(i, &place);
+                let found = self.choose(places, given, i + 1, q, steps);
+                places.put(i, &here);
+                found
+            }
+            None => None,
+        }
+    }
+
+    /// As `choose`, with a letter at place `i`, where the new trace need not come there.
+    #[cycle(walk)]
+    fn choose_letter(
+        &self,
+        places: &mut Places<'a>,
+        given: &Given<'a>,
+        i: usize,
+        q: u32,
+        steps: &mut Steps<L>,
+    ) -> Option<Tuple>
+        requires some { 1 ≤ (machine_in self.now).variables }
+        requires state { q < states_of (machine_in self.now) }
+        requires free { IsFree self.now places.old given.now i }
+        requires chosen { AreChosen self.now places.old given.now i }
+        ensures searched { IsSearchBy (sought_of given.now) (machine_in self.now) self.now.lengths q i
+            (letters_in i (four places.old)) (wholes_in self.now places.old) result }
+        ensures same { IfNone result (four places.new ≡ four places.old) }
+        ensures steps { steps.old ≤ steps.new }
+        ensures counted { AreStepsBy (sought_of given.now) self.now.lengths i
+            (letters_in i (four places.old)) (wholes_in self.now places.old)
             (steps.new - steps.old) }
     {
         let here = places.at(i);
         here.spot.letters_differ();
         for k in 0..here.spot.len() {
             places.put(i, &here.spot.letter(k));
-            match self.choose(places, i + 1, q, steps) {
+            match self.choose(places, given, i + 1, q, steps) {
                 Some(tuple) => return Some(tuple),
                 None => {}
             }
@@ -166,29 +212,49 @@ impl<'a, L: Ledger> Walk<'a, L> {
 
     /// As `choose`, where all is chosen, and a letter somewhere.
     #[cycle(walk)]
-    fn advance(&self, places: &Places<'a>, q: u32, steps: &mut Steps<L>) -> Option<Tuple>
+    fn advance(
+        &self,
+        places: &Places<'a>,
+        given: &Given<'a>,
+        q: u32,
+        steps: &mut Steps<L>,
+    ) -> Option<Tuple>
         requires some { 1 ≤ (machine_in self.now).variables }
         requires state { q < states_of (machine_in self.now) }
-        requires moved { Each (IsMoved self.now.lengths) (places_in self.now places.now) }
         requires letter { list_any is_letter (map taken_of (places_in self.now places.now)) ≡ true }
-        requires members { AreSome (wholes_in self.now places.now) }
-        ensures searched { IsSearch (machine_in self.now) self.now.lengths q 1
+        requires chosen { AreChosen self.now places.now given.now (machine_in self.now).variables }
+        ensures searched { IsSearch (sought_of given.now) (machine_in self.now) self.now.lengths q 1
             (wholes_in self.now places.now) result }
         ensures steps { steps.old ≤ steps.new }
-        ensures counted { AreSteps self.now.lengths (wholes_in self.now places.now)
-            (steps.new - steps.old) }
+        ensures counted { AreSteps (sought_of given.now) self.now.lengths
+            (wholes_in self.now places.now) (steps.new - steps.old) }
     {
         let q = self.monitor.step(q, self.joint(places), steps);
         // From a settled state on nothing is rejected, so no place need be opened.
         if self.monitor.is_settled(q) {
             return None;
         }
+        let left = given.behind(places);
         // Where one trace alone is left at each place none need be opened either.
         if self.are_alone(places) {
-            return self.follow(places, q, steps);
+            return self.follow(places, &left, q, steps);
         }
         let mut next = places.opened();
-        self.search(&mut next, q, steps)
+        self.narrow(&mut next, &left);
+        self.search(&mut next, &left, q, steps)
+    }
+
+    /// Leaves the new trace alone where it stands, if that is one place only.
+    pub(crate) fn narrow(&self, places: &mut Places<'a>, given: &Given<'a>)
+        requires { Each IsOpen (places_in self.now places.old) }
+        ensures open { Each IsOpen (places_in self.now places.new) }
+        ensures narrowed { IsNarrowed (sought_of given.now) (rests_in self.now places.old)
+            (rests_in self.now places.new) }
+    {
+        match given.only() {
+            Some(i) => places.put(i, &given.place()),
+            None => {}
+        }
     }
 
     /// The code of the letters that are taken.

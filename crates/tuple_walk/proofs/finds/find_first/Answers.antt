@@ -1,34 +1,45 @@
-use Rattle.std.proofs.Common.{◌-◌, refl, arith}
-use Rattle.tuple_walk.specs.Counted.{machine_on}
+use Rattle.std.proofs.Common.{◌-◌, arith}
 use Rattle.trace_trie.specs.Numbered.{Numbered}
-use Rattle.tuple_walk.proofs.Starting.{first-search, first-most}
+use Rattle.tuple_walk.specs.Counted.{machine_on}
+use Rattle.tuple_walk.specs.Serving.{sought_of}
+use Rattle.tuple_walk.proofs.Starting.{copies-ready, found-violating, found-first, first-meets, first-most}
 use Rattle.tuple_walk.proofs.finds.find_first.Goals as goal
+
+pub search_version-requires-clause-ready : goal.search_version-requires-clause-ready
+search_version-requires-clause-ready g c =
+    let x : Numbered = (c.args.number, c.args.trace.now) in
+    copies-ready (sought_of c.first.result) c.args.version.now x (machine_on c.args.monitor).variables
+    c.first.ensures.given c.requires.member c.requires.some
+    (c.first.ensures.all 0 (omega arith) (omega arith))
 
 pub returns-clause-found : goal.returns-clause-found
 returns-clause-found g c =
     let x : Numbered = (c.args.number, c.args.trace.now) in
-    (first-search (machine_on c.args.monitor) c.args.monitor.monitor.now.right c.args.lengths
-    c.args.version.now c.numbers_ascend.ensures.traces x c.requires.member 0 c.requires.some refl
-    c.search_at.result c.search_at.ensures.searched).0
+    found-violating (machine_on c.args.monitor) c.args.monitor.monitor.now.right c.requires.some
+    c.args.lengths c.args.version.now c.numbers_ascend.ensures.traces (sought_of c.first.result) x
+    c.first.ensures.given c.search_version.result c.search_version.ensures.searched
 
 pub returns-clause-given : goal.returns-clause-given
 returns-clause-given g c =
     let x : Numbered = (c.args.number, c.args.trace.now) in
-    (first-search (machine_on c.args.monitor) c.args.monitor.monitor.now.right c.args.lengths
-    c.args.version.now c.numbers_ascend.ensures.traces x c.requires.member 0 c.requires.some refl
-    c.search_at.result c.search_at.ensures.searched).1
+    found-first (machine_on c.args.monitor) c.args.monitor.monitor.now.right c.requires.some
+    c.args.lengths c.args.version.now c.numbers_ascend.ensures.traces (sought_of c.first.result) x
+    c.first.ensures.given c.first.ensures.within
+    c.search_version.result c.search_version.ensures.searched
 
 pub returns-clause-none : goal.returns-clause-none
 returns-clause-none g c =
     let x : Numbered = (c.args.number, c.args.trace.now) in
-    (first-search (machine_on c.args.monitor) c.args.monitor.monitor.now.right c.args.lengths
-    c.args.version.now c.numbers_ascend.ensures.traces x c.requires.member 0 c.requires.some refl
-    c.search_at.result c.search_at.ensures.searched).2
+    first-meets (machine_on c.args.monitor) c.args.monitor.monitor.now.right c.requires.some
+    c.args.lengths c.args.version.now c.numbers_ascend.ensures.traces (sought_of c.first.result) x
+    c.first.ensures.given (c.first.ensures.all 0 (omega arith) (omega arith))
+    c.search_version.result c.search_version.ensures.searched
 
 pub returns-clause-bounded : goal.returns-clause-bounded
 returns-clause-bounded g c = λ prefixes all.
     let x : Numbered = (c.args.number, c.args.trace.now) in
-    let most = first-most (machine_on c.args.monitor) c.args.monitor.monitor.now.right c.args.lengths
-    c.args.version.now c.numbers_ascend.ensures.traces x c.requires.member 0 c.requires.some refl
-    (c.search_at.new.steps - c.args.steps.now) c.search_at.ensures.counted prefixes all in
-    omega (arith, most, c.search_at.ensures.steps)
+    let most = first-most (machine_on c.args.monitor) c.args.monitor.monitor.now.right c.requires.some
+    c.args.lengths c.args.version.now c.numbers_ascend.ensures.traces (sought_of c.first.result) x
+    c.first.ensures.given c.first.ensures.within
+    (c.search_version.new.steps - c.args.steps.now) c.search_version.ensures.counted prefixes all in
+    omega (arith, most, c.search_version.ensures.steps)

@@ -1,4 +1,4 @@
-use Rattle.std.proofs.Common.{◌+◌, ◌*◌, ◌≤◌, List, length, IfSome, IfNone, sym, subst}
+use Rattle.std.proofs.Common.{◌+◌, ◌≤◌, List, length, IfSome, IfNone, sym, subst}
 use Rattle.std.specs.List.{Contains}
 use Rattle.fin_monitor.specs.Machines.{Machine}
 use Rattle.tuple_walk.specs.Finds.{AreViolating, AllMeet, FirstMeet, traces_of}
@@ -59,9 +59,8 @@ pub returns-else-self-clause-bounded : goal.returns-else-self-clause-bounded
 returns-else-self-clause-bounded g c bound is =
     let P : Machine → Type 0 = λ m. (prefixes : List (List Row)) → ((rows : List Row)
     → IsJointPrefix c.args.rule (traces_of c.args.kept.now) c.args.trace.now m.variables rows
-    → Contains prefixes rows)
-    → c.find.new.steps ≤ c.args.steps.now + m.variables * length prefixes in
+    → Contains prefixes rows) → c.find.new.steps ≤ c.args.steps.now + length prefixes in
     joint-bound c.args.self.now.symmetric c.args.rule (watched c.args.self.now)
     (traces_of c.args.kept.now) c.args.trace.now c.args.steps.now c.find.new.steps
-    c.if-self.false c.args.self.now.exact
+    c.args.self.now.some c.if-self.false c.args.self.now.exact
     (subst P c.new-monitor.ensures c.find.ensures.bounded) bound is

@@ -1,4 +1,4 @@
-use Rattle.std.proofs.Common.{◌≡◌, ◌+◌, ◌*◌, ◌≤◌, ◌∷◌, List, [], length, IfSome, IfNone, sym, subst}
+use Rattle.std.proofs.Common.{◌≡◌, ◌+◌, ◌≤◌, ◌∷◌, List, [], length, IfSome, IfNone, sym, subst}
 use Rattle.std.specs.List.{Contains}
 use Rattle.fin_monitor.specs.Machines.{Machine}
 use Rattle.tuple_walk.specs.Finds.{AreViolating, AllMeet}
@@ -28,8 +28,7 @@ pub returns-clause-bounded : goal.returns-clause-bounded
 returns-clause-bounded g c bound is =
     let P : Machine → Type 0 = λ m. (prefixes : List (List Row)) → ((rows : List Row)
     → IsJointPrefix c.args.rule (c.args.trace.now ∷ []) c.args.trace.now m.variables rows
-    → Contains prefixes rows)
-    → c.find_alone.new.steps ≤ c.args.steps.now + m.variables * length prefixes in
+    → Contains prefixes rows) → c.find_alone.new.steps ≤ c.args.steps.now + length prefixes in
     lone-steps c.args.rule (watched c.args.self.now) c.args.trace.now c.requires.one
     (c.args.trace.now ∷ []) c.args.steps.now c.find_alone.new.steps
     (subst P c.new-monitor.ensures c.find_alone.ensures.bounded) bound is

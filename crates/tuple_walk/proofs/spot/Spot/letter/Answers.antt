@@ -1,4 +1,5 @@
 use Rattle.std.proofs.Common.{◌≡◌, ◌<◌, length, List, slice_get, Some, sym, ap, ◌∙◌, subst}
+use Rattle.std.specs.List.{Contains}
 use Rattle.hy_bits.specs.Letter.{Letter as NameSet}
 use Rattle.hy_formula.proofs.Each.{each-at}
 use Rattle.trace_trie.specs.Cursors.{letters_of, rests_at}
@@ -6,7 +7,7 @@ use Rattle.trace_trie.specs.Numbered.{Numbered, under, led_by}
 use Rattle.tuple_walk.specs.declared.spot.Spot.{Spot}
 use Rattle.tuple_walk.specs.Places.{rests_of, letters_at, IsWay}
 use Rattle.tuple_walk.proofs.Lists.{get-contains}
-use Rattle.tuple_walk.proofs.Ways.{letter-way}
+use Rattle.tuple_walk.proofs.Ways.{letter-way, kept-under}
 use Rattle.tuple_walk.proofs.spot.Spot.letter.Goals as goal
 
 pub returns-in-Node-clause-way : goal.returns-in-Node-clause-way
@@ -26,3 +27,13 @@ returns-in-Node-clause-way c a e =
     let P : Spot → Type 0 = λ s. IsWay (rests_of s) (Some a) (led_by first (rests_of c.of.result)) in
     let Q : List Numbered → Type 0 = IsWay rests (Some a) in
     subst P (sym c.in-Node.is) (subst Q (sym led) way)
+
+pub returns-in-Node-clause-kept : goal.returns-in-Node-clause-kept
+returns-in-Node-clause-kept c p first =
+    let a = c.at-letter.result.0 in
+    let below : rests_of c.of.result ≡ under a (rests_at c.in-Node.cursor) =
+    c.of.ensures ∙ c.at-letter.ensures.child in
+    let P : List Numbered → Type 0 = λ l. Contains (led_by a l) p in
+    let Q : Spot → Type 0 = λ s. Contains (rests_of s) p → Contains (led_by a (rests_of c.of.result)) p in
+    subst Q (sym c.in-Node.is)
+    (λ there. subst P (sym below) (kept-under a (rests_at c.in-Node.cursor) p first there))

@@ -7,7 +7,7 @@ use Rattle.hy_bits.specs.Letter.{Letter}
 use Rattle.fin_monitor.specs.Codes.{part_of}
 use Rattle.fin_monitor.specs.Machines.{settled_state, codes}
 use Rattle.trace_trie.specs.Cursors.{letters_of, rests_at, AreLetters}
-use Rattle.tuple_walk.specs.Pairs.{pair_of, beside, over_of}
+use Rattle.tuple_walk.specs.Pairs.{pair_of, beside, sought_beside, over_of}
 use Rattle.tuple_walk.specs.Searches.{AreAcceptedBy, AreStepsBy}
 use Rattle.tuple_walk.specs.Walks.{machine_in}
 use Rattle.tuple_walk.proofs.Choosing.{no-steps_by, steps-letters}
@@ -26,6 +26,7 @@ search_beside-returns-then-is_settled-clause-searched g t c = λ number.
     settled-accepted (machine_in w) w.monitor.monitor.now.right w.lengths c.args.q
     (eqb-true c.args.q (settled_state (machine_in w))
     (sym c.is_settled.ensures ∙ c.if-is_settled.true))
+    (sought_beside c.args.first (number, c.args.given.now))
     (beside c.args.first (number, c.args.given.now) (rests_at c.args.node.now))
 
 pub search_beside-search_node-requires : goal.search_beside-search_node-requires
@@ -41,10 +42,11 @@ search_letters-loop-k-init g t c = record {
   accepted = λ number tuple h some a e f. absurd (contains-none a e);
   steps = omega arith;
   counted = λ number.
+      let s = sought_beside c.args.first (number, c.args.given.now) in
       let ls = beside c.args.first (number, c.args.given.now) (rests_at c.args.node.now) in
-      let P : ℕ → Type 0 = AreStepsBy c.args.self.now.lengths (cond c.args.first 1 0) [] ls in
+      let P : ℕ → Type 0 = AreStepsBy s c.args.self.now.lengths (cond c.args.first 1 0) [] ls in
       let none : 0 ≡ c.args.steps.now - c.args.steps.now = omega arith in
-      subst P none (no-steps_by c.args.self.now.lengths ls (cond c.args.first 1 0) []);
+      subst P none (no-steps_by s c.args.self.now.lengths ls (cond c.args.first 1 0) []);
 }
 
 pub search_letters-step-next-requires-clause-code :
@@ -122,8 +124,8 @@ search_letters-returns-in-Some-clause-counted g t c = λ number.
     c.places_of-own.result.0 c.places_of-own.result.1 c.part-part.result c.part.result
     c.places_of-own.ensures.given c.places_of-own.ensures.other c.letter_at.ensures
     c.part-part.ensures.part c.part.ensures.part c.step-next.ensures.next in
-    steps-letters w.lengths (beside first (number, t) rests) (cond first 1 0) letters
-    (c.loop-k.k + 1) (c.search_beside.new.steps - c.args.steps.now)
+    steps-letters (sought_beside first (number, t)) w.lengths (beside first (number, t) rests)
+    (cond first 1 0) letters (c.loop-k.k + 1) (c.search_beside.new.steps - c.args.steps.now)
     (letter-steps m w.lengths c.args.q c.step-next.result first number t
     c.behind_first-left.result c.behind_first-left.ensures c.requires.goes rests letters c.letters_differ.ensures
     c.loop-k.k a c.at-letter.ensures.letter c.at-letter.result.1 c.at-letter.ensures.child next
@@ -179,7 +181,8 @@ pub search_letters-returns-clause-searched : goal.search_letters-returns-clause-
 search_letters-returns-clause-searched g t c = λ number.
     let w = c.args.self.now in
     let letters = letters_of c.args.node.now in
-    let P : List Letter → Type 0 = λ l. AreAcceptedBy (machine_in w) w.lengths c.args.q
+    let P : List Letter → Type 0 = λ l. AreAcceptedBy
+    (sought_beside c.args.first (number, c.args.given.now)) (machine_in w) w.lengths c.args.q
     (cond c.args.first 1 0) l
     (beside c.args.first (number, c.args.given.now) (rests_at c.args.node.now)) in
     subst P (take_all c.loop-k.k letters
@@ -190,7 +193,7 @@ search_letters-returns-clause-steps g t c = c.loop-k.invariant.steps
 
 pub search_letters-returns-clause-counted : goal.search_letters-returns-clause-counted
 search_letters-returns-clause-counted g t c = λ number.
-    steps-letters c.args.self.now.lengths
+    steps-letters (sought_beside c.args.first (number, c.args.given.now)) c.args.self.now.lengths
     (beside c.args.first (number, c.args.given.now) (rests_at c.args.node.now))
     (cond c.args.first 1 0) (letters_of c.args.node.now) c.loop-k.k
     (c.loop-k.steps - c.args.steps.now) (c.loop-k.invariant.counted number)
@@ -220,7 +223,8 @@ search_node-returns-then-is_over-clause-searched g t c = λ number.
     c.first.ensures.some c.first.ensures.none (machine_in w) c.args.q
     c.is_empty-ended.result c.is_some.result c.rejects_beside.result c.is_empty-ended.ensures
     c.is_some.ensures c.rejects_beside.ensures c.if-rejects_beside.false in
-    from-none (machine_in w) w.lengths c.args.q (beside c.args.first (number, given) rests)
+    from-none (sought_beside c.args.first (number, given)) (machine_in w) w.lengths c.args.q
+    (beside c.args.first (number, given) rests)
     (over-accepted (machine_in w) w.lengths c.args.q c.args.first number given rests
     (sym (c.is_over.ensures ∙ ap (over_of w.lengths) c.is_empty-ended.ensures)
     ∙ c.if-is_over.true)) here

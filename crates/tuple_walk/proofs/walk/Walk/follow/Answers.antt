@@ -8,6 +8,7 @@ use Rattle.trace_trie.specs.Numbered.{Numbered}
 use Rattle.tuple_walk.specs.Alone.{IsAlone, left_of}
 use Rattle.tuple_walk.specs.Finds.{traces_of}
 use Rattle.tuple_walk.specs.Four.{four}
+use Rattle.tuple_walk.specs.Serving.{sought_of}
 use Rattle.tuple_walk.specs.Walks.{machine_in, rests_in}
 use Rattle.tuple_walk.proofs.Following.{ones, ones-more, left-counted, left-accepted, left-rejected}
 use Rattle.tuple_walk.proofs.Lists.{take-more, each-get}
@@ -55,16 +56,16 @@ returns-then-rejects_rests-clause-searched g c =
     let w = c.args.self.now in
     left-rejected (machine_in w).variables (four c.args.places.now) w.monitor.monitor.now.right.few
     c.loop-i.rests c.loop-i.i c.vars-count.result (omega (arith, c.vars-count.ensures.vars))
-    (omega arith) c.loop-i.invariant.1 (machine_in w) w.lengths c.args.q
+    (omega arith) c.loop-i.invariant.1 (sought_of c.args.given.now) c.requires.ready (machine_in w) w.lengths c.args.q
     (OnTrue_at c.if-rejects_rests.true c.rejects_rests.ensures.rejected) c.tuple_of.result
-    c.tuple_of.ensures.some c.tuple_of.ensures.none c.requires.members
+    c.tuple_of.ensures.some c.tuple_of.ensures.none
 
 pub returns-then-rejects_rests-clause-counted : goal.returns-then-rejects_rests-clause-counted
 returns-then-rejects_rests-clause-counted g c =
     let w = c.args.self.now in
     left-counted (machine_in w).variables (four c.args.places.now) w.monitor.monitor.now.right.few
     c.loop-i.rests c.loop-i.i c.vars-count.result (omega (arith, c.vars-count.ensures.vars))
-    (omega arith) c.loop-i.invariant.1 w.lengths (c.rejects_rests.new.steps - c.args.steps.now)
+    (omega arith) c.loop-i.invariant.1 (sought_of c.args.given.now) c.requires.ready w.lengths (c.rejects_rests.new.steps - c.args.steps.now)
     c.rejects_rests.ensures.counted
 
 pub returns-else-rejects_rests-clause-searched : goal.returns-else-rejects_rests-clause-searched
@@ -72,7 +73,7 @@ returns-else-rejects_rests-clause-searched g c =
     let w = c.args.self.now in
     left-accepted (machine_in w).variables (four c.args.places.now) w.monitor.monitor.now.right.few
     c.loop-i.rests c.loop-i.i c.vars-count.result (omega (arith, c.vars-count.ensures.vars))
-    (omega arith) c.loop-i.invariant.1 (machine_in w) w.lengths c.args.q
+    (omega arith) c.loop-i.invariant.1 (sought_of c.args.given.now) c.requires.ready (machine_in w) w.lengths c.args.q
     (OnFalse_at c.if-rejects_rests.false c.rejects_rests.ensures.accepted)
 
 pub returns-else-rejects_rests-clause-counted : goal.returns-else-rejects_rests-clause-counted
@@ -80,5 +81,5 @@ returns-else-rejects_rests-clause-counted g c =
     let w = c.args.self.now in
     left-counted (machine_in w).variables (four c.args.places.now) w.monitor.monitor.now.right.few
     c.loop-i.rests c.loop-i.i c.vars-count.result (omega (arith, c.vars-count.ensures.vars))
-    (omega arith) c.loop-i.invariant.1 w.lengths (c.rejects_rests.new.steps - c.args.steps.now)
+    (omega arith) c.loop-i.invariant.1 (sought_of c.args.given.now) c.requires.ready w.lengths (c.rejects_rests.new.steps - c.args.steps.now)
     c.rejects_rests.ensures.counted

@@ -6,7 +6,8 @@ use Rattle.fin_monitor.proofs.CodeBits.{code-lt}
 use Rattle.tuple_walk.specs.Four.{four}
 use Rattle.tuple_walk.specs.Places.{letter_or, letter_taken, taken_of}
 use Rattle.tuple_walk.specs.Walks.{machine_in, places_in}
-use Rattle.tuple_walk.proofs.Scanning.{code-more, code-none, get-map, get-unmap, map-twice}
+use Rattle.tuple_walk.proofs.Scanning.{code-more, code-none, get-map, map-twice}
+use Rattle.tuple_walk.proofs.Lists.{get-unmap}
 use Rattle.tuple_walk.proofs.walk.Walk.joint.Goals as goal
 
 pub loop-i-init : goal.loop-i-init

@@ -4,7 +4,8 @@ use Rattle.std.proofs.lemmas.List.{length-map, length-take-le, take_all}
 use Rattle.tuple_walk.specs.Four.{four}
 use Rattle.tuple_walk.specs.Places.{taken_of, has_taken, is_letter}
 use Rattle.tuple_walk.specs.Walks.{machine_in}
-use Rattle.tuple_walk.proofs.Scanning.{any-more, any-of, get-map, get-unmap}
+use Rattle.tuple_walk.proofs.Scanning.{any-more, any-of, get-map}
+use Rattle.tuple_walk.proofs.Lists.{get-unmap}
 use Rattle.tuple_walk.proofs.walk.Walk.some_letter.Goals as goal
 
 pub loop-i-init : goal.loop-i-init

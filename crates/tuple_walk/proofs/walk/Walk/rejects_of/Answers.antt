@@ -1,13 +1,13 @@
-use Rattle.std.proofs.Common.{◌≡◌, ◌+◌, suc, refl, sym, ap, ◌∙◌, arith}
+use Rattle.std.proofs.Common.{◌≡◌, ◌+◌, suc, List, refl, sym, ap, ◌∙◌, subst, arith}
 use Rattle.std.proofs.lemmas.Bool.{eqb-true}
-use Rattle.hy_finite.specs.Traces.{judged}
-use Rattle.fin_monitor.specs.Machines.{next_state, is_accepting, settled_state}
+use Rattle.hy_finite.specs.Traces.{Trace, judged, trace_words}
+use Rattle.fin_monitor.specs.Machines.{next_state, is_accepting, settled_state, code_at}
 use Rattle.tuple_walk.specs.Alone.{left_of}
 use Rattle.tuple_walk.specs.Searches.{state_over}
 use Rattle.tuple_walk.specs.Walks.{machine_in}
 use Rattle.tuple_walk.proofs.Following.{settled-later}
 use Rattle.tuple_walk.proofs.Starting.{over-next}
-use Rattle.tuple_walk.proofs.walk.Walk.rejects_rests.Goals as goal
+use Rattle.tuple_walk.proofs.walk.Walk.rejects_of.Goals as goal
 
 pub loop-i-init : goal.loop-i-init
 loop-i-init g c =
@@ -19,9 +19,11 @@ loop-i-preserved g c =
     let ts = left_of c.args.rests.now in
     let i = c.loop-i.i in
     let one : suc i ≡ i + 1 = omega arith in
+    let P : List Trace → Type 0 = λ l. c.joint_at.result ≡ code_at m (trace_words l) i in
+    let code = subst P c.with_parts-lent.ensures.traces c.joint_at.ensures.code in
     record {
       over = c.step-state.ensures.next
-          ∙ (λ j. next_state m (c.loop-i.invariant.over j) (c.joint_at.ensures.code j))
+          ∙ (λ j. next_state m (c.loop-i.invariant.over j) (code j))
           ∙ sym (over-next m c.args.q i ts)
           ∙ ap (state_over m c.args.q ts) one;
       within = c.step-state.ensures.within;

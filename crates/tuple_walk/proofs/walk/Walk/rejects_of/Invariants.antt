@@ -3,7 +3,7 @@ use Rattle.fin_monitor.specs.Machines.{states_of}
 use Rattle.tuple_walk.specs.Alone.{left_of}
 use Rattle.tuple_walk.specs.Searches.{state_over}
 use Rattle.tuple_walk.specs.Walks.{machine_in}
-use Rattle.tuple_walk.proofs.walk.Walk.rejects_rests.Given as goal
+use Rattle.tuple_walk.proofs.walk.Walk.rejects_of.Given as goal
 
 abbrev pub invariant-loop-i : goal.invariant-loop-i
 invariant-loop-i g l =
