@@ -43,13 +43,12 @@ pub struct Monitor {
 }
 
 impl Monitor {
-    ghost use Rattle.std.specs.Prelude.{ℕ, ◌≤◌, ◌↔◌, length, IfOk, IfErr, OnOk, List as Sequence};
+    ghost use Rattle.std.specs.Prelude.{◌≤◌, ◌↔◌, length, IfOk, IfErr, OnOk, List as Sequence};
     ghost use Rattle.hy_formula.specs.Trees.{vars_below};
     ghost use Rattle.hy_finite.specs.declared.lengths.Lengths.{Lengths};
     ghost use Rattle.hy_finite.specs.Traces.{Trace, judged, trace_words, Meets};
-    ghost use Rattle.hy_bits.specs.Letter.{Letter as NameSet};
     ghost use Rattle.fin_monitor.specs.Codes.{code_of, part_of};
-    ghost use Rattle.fin_monitor.specs.Parts.{ArePartsOf, part_in};
+    ghost use Rattle.fin_monitor.specs.Parts.{ArePartsOf};
     ghost use Rattle.fin_monitor.specs.Limits.{IsTaken, IsRefusal};
     ghost use Rattle.fin_monitor.specs.Machines.{codes, states_of, next_state, is_accepting, state_after, settled_state};
     ghost use Rattle.fin_monitor.specs.Seen.{machine_of};
@@ -149,9 +148,7 @@ impl Monitor {
     #[inline(always)]
     pub fn parts_of(&self, var: u8) -> &VariableParts
         requires { var < (machine_of self.now).variables }
-        ensures parts { ArePartsOf result.now (machine_of self.now).atoms var }
-        ensures within { (letter : NameSet) → part_in result.now letter < codes (machine_of self.now) }
-        ensures small { codes (machine_of self.now) ≤ 65536 }
+        ensures { ArePartsOf result.now (machine_of self.now).atoms var }
     {
         self.parts.at(var as usize)
     }
