@@ -74,16 +74,28 @@ set-back [] i x e = refl
 set-back (y ∷ ys) zero x e = let is : y ≡ x = cc in ap (λ z. z ∷ ys) (sym is)
 set-back (y ∷ ys) (suc i) x e = ap (λ zs. y ∷ zs) (set-back ys i x e)
 
--- as before, where nothing is found from places of which one is put anew, and it is put back
-pub put-back : {A R : Type 0} (found put back before : List A) (i : ℕ) (x here : A)
-    → put ≡ set before i x → slice_get before i ≡ Some here → back ≡ set found i here
-    → (r : Option R) → IfNone r (found ≡ put) → IfNone r (back ≡ before)
-put-back found put back before i x here is at e (Some y) same = tt
-put-back {A} found put back before i x here is at e None same =
-    e
-    ∙ ap (λ (l : List A). set l i here) (same ∙ is)
-    ∙ set-set before i x here
-    ∙ set-back before i here at
+-- as before, where nothing is found, all but one place is kept, and that one is put back
+pub put-back : {A R : Type 0} (found back before : List A) (i : ℕ) (here : A)
+    → slice_get before i ≡ Some here → back ≡ set found i here
+    → (r : Option R) → IfNone r ((x : A) → set found i x ≡ set before i x) → IfNone r (back ≡ before)
+put-back found back before i here at e (Some y) kept = tt
+put-back found back before i here at e None kept = e ∙ kept here ∙ set-back before i here at
+
+-- all but one place is kept, where nothing is found from places of which that one is put anew
+pub put-kept : {A R : Type 0} (found put before : List A) (i : ℕ) (x : A) → put ≡ set before i x
+    → (r : Option R) → IfNone r (found ≡ put) → IfNone r ((y : A) → set found i y ≡ set before i y)
+put-kept found put before i x is (Some r) same = tt
+put-kept {A} found put before i x is None same =
+    λ y. ap (λ (l : List A). set l i y) (same ∙ is) ∙ set-set before i x y
+
+pub none-same : {A R : Type 0} (r : Option R) (x : A) → IfNone r (x ≡ x)
+none-same (Some y) x = tt
+none-same None x = refl
+
+pub take-before : {A : Type 0} (i : ℕ) (xs : List A) (x : A) → take i (set xs i x) ≡ take i xs
+take-before zero xs x = refl
+take-before (suc i) [] x = refl
+take-before (suc i) (y ∷ ys) x = ap (λ zs. y ∷ zs) (take-before i ys x)
 
 pub some-set : (ls : List (List Numbered)) (i : ℕ) (w : List Numbered) → AreSome ls → 0 < length w
     → AreSome (set ls i w)

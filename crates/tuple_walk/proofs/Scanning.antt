@@ -7,6 +7,8 @@ use Rattle.std.specs.FinSet.{empty, contains, contains-empty}
 use Rattle.std.specs.Ordering.{nat_cmp}
 use Rattle.std.proofs.Math.Bool.{or-false}
 use Rattle.std.proofs.lemmas.Bool.{OnFalse_at, OnFalse_from, cases_eq, ne_eqb}
+use Rattle.std.proofs.lemmas.List.{map_push, take-map}
+use Rattle.std.proofs.lemmas.List.Folds.{list_any-append}
 use Rattle.hy_base.proofs.Members.{contains-here, contains-later}
 use Rattle.hy_bits.specs.Letter.{Letter}
 use Rattle.hy_formula.specs.Quantifiers.{Each}
@@ -18,9 +20,10 @@ use Rattle.fin_monitor.specs.Machines.{Machine, is_accepting}
 use Rattle.fin_monitor.proofs.CodeBits.{code-or}
 use Rattle.trace_trie.specs.Numbered.{Numbered}
 use Rattle.tuple_walk.specs.declared.place.Place.{Place}
-use Rattle.tuple_walk.specs.Places.{HasEnded, letter_or, letter_taken, taken_of}
+use Rattle.tuple_walk.specs.Places.{HasEnded, letter_or, letter_taken, taken_of, has_taken, is_letter}
 use Rattle.tuple_walk.specs.Searches.{IsTupleOf, CanStop, AreEnded}
 use Rattle.tuple_walk.proofs.Ending.{goes-on}
+use Rattle.tuple_walk.proofs.Lists.{get-of, take-more}
 use Rattle.tuple_walk.proofs.Stepping.{left_at}
 
 -- a place among the first n
@@ -81,31 +84,18 @@ rejects-accepts m lengths q ls b some going =
 
 -- ---- letters
 
-pub any-more : {A : Type 0} (p : A → Bool) (xs : List A) (i : ℕ) (x : A) → slice_get xs i ≡ Some x
-    → p x ≡ false → list_any p (take i xs) ≡ false → list_any p (take (suc i) xs) ≡ false
-any-more p [] i x e f h = absurd (cc)
-any-more p (y ∷ ys) zero x e f h =
-    let is : y ≡ x = cc in
-    ap (λ b. b || false) (ap p is ∙ f)
-any-more p (y ∷ ys) (suc i) x e f h = at (p y) refl h (any-more p ys i x e f)
-  where
-    at : (b : Bool) → p y ≡ b → (b || list_any p (take i ys)) ≡ false
-        → (list_any p (take i ys) ≡ false → list_any p (take (suc i) ys) ≡ false)
-        → (p y || list_any p (take (suc i) ys)) ≡ false
-    at true g h more = absurd (cc)
-    at false g h more = ap (λ b. b || list_any p (take (suc i) ys)) g ∙ more h
-
-pub any-of : {A : Type 0} (p : A → Bool) (xs : List A) (i : ℕ) (x : A) → slice_get xs i ≡ Some x
-    → p x ≡ true → list_any p xs ≡ true
-any-of p [] i x e f = absurd (cc)
-any-of p (y ∷ ys) zero x e f =
-    let is : y ≡ x = cc in
-    ap (λ b. b || list_any p ys) (ap p is ∙ f)
-any-of p (y ∷ ys) (suc i) x e f = at (p y) (any-of p ys i x e f)
-  where
-    at : (b : Bool) → list_any p ys ≡ true → (b || list_any p ys) ≡ true
-    at true more = refl
-    at false more = more
+-- whether there is one at one place more
+pub any-with : (ps : List Place) (i : ℕ) (p : Place) (b : Bool) → slice_get ps i ≡ Some p
+    → b ≡ list_any is_letter (map taken_of (take i ps))
+    → (b || has_taken p) ≡ list_any is_letter (map taken_of (take (i + 1) ps))
+any-with ps i p b at is =
+    let one : suc i ≡ i + 1 = omega arith in
+    let before = map taken_of (take i ps) in
+    ap (λ a. a || has_taken p) is
+    ∙ ap (λ a. list_any is_letter before || a) (sym (or-false (has_taken p)))
+    ∙ sym (list_any-append is_letter before (taken_of p ∷ []))
+    ∙ ap (list_any is_letter) (sym (map_push taken_of (take i ps) p)
+    ∙ ap (map taken_of) (sym (take-more ps i p at)) ∙ ap (λ k. map taken_of (take k ps)) one)
 
 pub get-map : {A B : Type 0} (f : A → B) (n : ℕ) (xs : List A) (i : ℕ) (x : A) → i < n
     → slice_get xs i ≡ Some x → slice_get (map f (take n xs)) i ≡ Some (f x)
@@ -160,11 +150,20 @@ code-none [] = refl
 code-none (a ∷ atoms) =
     (λ i. one_if (no-name a.variable a.name i) + 2 * code-none atoms i)
 
-pub map-twice : (n : ℕ) (ps : List Place) (i : ℕ) (a : Letter)
-    → slice_get (map letter_taken (take n ps)) i ≡ Some a
-    → slice_get (map letter_or (map taken_of (take n ps))) i ≡ Some a
-map-twice n ps i a e = ap (λ (l : List Letter). slice_get l i) (twice (take n ps)) ∙ e
-  where
-    twice : (qs : List Place) → map letter_or (map taken_of qs) ≡ map letter_taken qs
-    twice [] = refl
-    twice (q ∷ qs) = ap (λ (l : List Letter). letter_taken q ∷ l) (twice qs)
+-- the code of what is taken at one place more
+pub code-with : (ps : List Place) (i : ℕ) (p : Place) (atoms : List IndexedAtom) (code : ℕ)
+    → slice_get ps i ≡ Some p
+    → code ≡ code_of (joint_letter (map letter_or (map taken_of (take i ps)))) atoms
+    → bit_or code (part_of atoms i (letter_taken p))
+    ≡ code_of (joint_letter (map letter_or (map taken_of (take (i + 1) ps)))) atoms
+code-with ps i p atoms code at is =
+    let letters = map letter_or (map taken_of ps) in
+    let one : suc i ≡ i + 1 = omega arith in
+    let first : (k : ℕ) → take k letters ≡ map letter_or (map taken_of (take k ps)) =
+    λ k. take-map letter_or k (map taken_of ps) ∙ ap (map letter_or) (take-map taken_of k ps) in
+    ap (λ c. bit_or c (part_of atoms i (letter_taken p)))
+    (is ∙ ap (λ (l : List Letter). code_of (joint_letter l) atoms) (sym (first i)))
+    ∙ code-more letters i (letter_taken p) atoms
+    (get-of letter_or (map taken_of ps) i (taken_of p) (get-of taken_of ps i p at))
+    ∙ ap (λ (l : List Letter). code_of (joint_letter l) atoms)
+    (first (suc i) ∙ ap (λ k. map letter_or (map taken_of (take k ps))) one)

@@ -17,8 +17,7 @@ use Rattle.tuple_walk.specs.declared.place.Place.{Place}
 use Rattle.tuple_walk.specs.Alone.{sought_alone}
 use Rattle.tuple_walk.specs.Finds.{traces_of, AreViolating, IsFirst, AllMeet, FirstMeet}
 use Rattle.tuple_walk.specs.JointPrefixes.{Row, IsPrefixOf, IsJointPrefix, IsFirstPrefix}
-use Rattle.tuple_walk.specs.Places.{IsOpen}
-use Rattle.tuple_walk.specs.Searches.{state_over, IsAccepted, AreFrom, IsTupleOf, HasAt, Sought, AreRejected, IsSearch, AreReady, IsNarrowed, IsPrefixIn, AreSteps}
+use Rattle.tuple_walk.specs.Searches.{state_over, IsAccepted, AreFrom, IsTupleOf, HasAt, Sought, AreRejected, IsSearch, AreReady, IsPrefixIn, AreSteps}
 use Rattle.tuple_walk.proofs.Lists.{apart-most, get-contains, get-of, some-in, some-same}
 use Rattle.tuple_walk.proofs.Stepping.{left_at, all-judged, pairs-tuple}
 
@@ -67,23 +66,13 @@ copies-ready s list x n given member some first =
     }
 
 -- the same place four times
-pub all-open : (n : ℕ) (ps : List Place) (p : Place) → n ≤ 4 → ps ≡ replicate 4 p → IsOpen p
-    → Each IsOpen (take n ps)
-all-open n ps p le e is =
-    let P : List Place → Type 0 = λ qs. Each IsOpen qs in
-    subst P (sym (ap (take n) e ∙ take-replicate n 4 p le)) (each-copies IsOpen n p is)
-
-pub all-narrowed : (s : Sought) (n : ℕ) (ps : List Place) (p : Place) (list : List Numbered)
-    (new : List (List Numbered)) → n ≤ 4 → ps ≡ replicate 4 p → left_at p ≡ list
-    → IsNarrowed s (map left_at (take n ps)) new → IsNarrowed s (replicate n list) new
-all-narrowed s n ps p list new le e is narrowed =
-    let P : List (List Numbered) → Type 0 = λ lists. IsNarrowed s lists new in
-    let same : map left_at (take n ps) ≡ replicate n list =
+pub all-left : (n : ℕ) (ps : List Place) (p : Place) (list : List Numbered) → n ≤ 4
+    → ps ≡ replicate 4 p → left_at p ≡ list → map left_at (take n ps) ≡ replicate n list
+all-left n ps p list le e is =
     ap (λ qs. map left_at (take n qs)) e
     ∙ ap (map left_at) (take-replicate n 4 p le)
     ∙ map-copies left_at n p
-    ∙ ap (replicate n) is in
-    subst P same narrowed
+    ∙ ap (replicate n) is
 
 -- ---- states of whole tuples
 

@@ -1,5 +1,5 @@
 -- Four places as a list, and what may still come at the first ones.
-use Rattle.std.specs.Prelude.{ℕ, zero, suc, List, [], ◌∷◌, map, take}
+use Rattle.std.specs.Prelude.{◌≡◌, ℕ, zero, suc, List, [], ◌∷◌, map, take, set}
 use Rattle.hy_bits.specs.Letter.{Letter}
 use Rattle.trace_trie.specs.Numbered.{Numbered}
 use Rattle.tuple_walk.specs.declared.place.Place.{Place}
@@ -23,3 +23,11 @@ abbrev pub letters_in : ℕ → List Place → List Letter
 letters_in i [] = []
 letters_in zero (p ∷ places) = letters_at p.spot
 letters_in (suc i) (p ∷ places) = letters_in i places
+
+-- the places with one of them put anew
+abbrev pub placed : Places → ℕ → Place → List Place
+placed places i place = set (four places) i place
+
+-- They differ at most at this place.
+abbrev pub AreKept : ℕ → Places → Places → Type 0
+AreKept i old new = (place : Place) → placed new i place ≡ placed old i place

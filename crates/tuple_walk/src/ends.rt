@@ -22,6 +22,7 @@ use std::sync::ledger::Ledger;
 impl<'a, L: Ledger> Walk<'a, L> {
     /// A tuple with the new trace at a place where it stands, that is rejected where it has no position
     /// left.
+    #[inline(never)]
     pub(crate) fn stopped(&self, places: &Places<'a>, given: &Given<'a>, q: u32) -> Option<Tuple>
         requires some { 1 ≤ (machine_in self.now).variables }
         requires state { q < states_of (machine_in self.now) }

@@ -169,8 +169,7 @@ impl<'a, L: Ledger> Walk<'a, L> {
         ensures counted { AreSteps (sought_of given.now) self.now.lengths
             (replicate (machine_in self.now).variables version.now) (steps.new - steps.old) }
     {
-        let mut places = Places::all(&Place::at(&Spot::of(version.root())));
-        self.narrow(&mut places, given);
-        self.search(&mut places, given, self.monitor.start(), steps)
+        let places = Places::all(&Place::at(&Spot::of(version.root())));
+        self.search_left(&places, given, self.monitor.start(), steps)
     }
 }

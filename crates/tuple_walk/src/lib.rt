@@ -3,6 +3,7 @@
 #![tactic(auto)]
 
 mod alone;
+mod choice;
 mod counted_monitor;
 mod ends;
 mod finds;

@@ -1,14 +1,11 @@
-//! The way past the end of a trace, and whether a step takes a letter.
+//! The way past the end of a trace.
 
-ghost use Rattle.std.specs.Prelude.{◌≡◌, map, IfSome, IfNone, None};
+ghost use Rattle.std.specs.Prelude.{◌≡◌, IfSome, IfNone, None};
 ghost use Rattle.std.specs.Bool.{OnTrue};
-ghost use Rattle.std.specs.List.{list_any};
 ghost use Rattle.hy_finite.specs.declared.lengths.Lengths.TheVariants.{Min};
-ghost use Rattle.tuple_walk.specs.Places.{whole_of, rests_of, taken_of, is_letter, HasNoGap, IsMoved, IsWay};
-ghost use Rattle.tuple_walk.specs.Walks.{places_in};
+ghost use Rattle.tuple_walk.specs.Places.{whole_of, rests_of, HasNoGap, IsMoved, IsWay};
 
 use crate::place::Place;
-use crate::places::Places;
 use crate::spot::Spot;
 use crate::walk::Walk;
 use hy_finite::Lengths;
@@ -35,17 +32,5 @@ impl<'a, L: Ledger> Walk<'a, L> {
             Lengths::Min => true,
             Lengths::Pad => false,
         }
-    }
-
-    /// Whether a letter is taken at some place.
-    pub(crate) fn some_letter(&self, places: &Places<'a>) -> bool
-        ensures { result ≡ list_any is_letter (map taken_of (places_in self.now places.now)) }
-    {
-        for i in 0..self.monitor.vars() as usize {
-            if places.has_letter(i) {
-                return true;
-            }
-        }
-        false
     }
 }

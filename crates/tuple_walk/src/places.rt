@@ -3,7 +3,7 @@
 ghost use Rattle.std.specs.Prelude.{◌≡◌, ◌↔◌, ◌<◌, IsTrue, map, replicate, set, slice_get, Some};
 ghost use Rattle.trace_trie.specs.Cursors.{AreLetters};
 ghost use Rattle.tuple_walk.specs.declared.place.Place.{Place as Seen};
-ghost use Rattle.tuple_walk.specs.Places.{open_at, letter_taken, has_taken, letters_at, rests_of};
+ghost use Rattle.tuple_walk.specs.Places.{open_at, letters_at, rests_of};
 ghost use Rattle.tuple_walk.specs.Four.{four};
 ghost use Rattle.tuple_walk.specs.Serving.{Agrees};
 
@@ -56,32 +56,6 @@ impl<'a> Places<'a> {
             1 => self.second.spot.letters_differ(),
             2 => self.third.spot.letters_differ(),
             _ => self.fourth.spot.letters_differ(),
-        }
-    }
-
-    /// The letter that is taken at place `i`, empty where there is none.
-    pub(crate) fn letter(&self, i: usize) -> LetterMask
-        requires { i < 4 }
-        ensures { slice_get (map letter_taken (four self.now)) i ≡ Some result }
-    {
-        match i {
-            0 => self.first.letter(),
-            1 => self.second.letter(),
-            2 => self.third.letter(),
-            _ => self.fourth.letter(),
-        }
-    }
-
-    /// Whether a letter is taken at place `i`.
-    pub(crate) fn has_letter(&self, i: usize) -> bool
-        requires { i < 4 }
-        ensures { slice_get (map has_taken (four self.now)) i ≡ Some result }
-    {
-        match i {
-            0 => self.first.has_letter(),
-            1 => self.second.has_letter(),
-            2 => self.third.has_letter(),
-            _ => self.fourth.has_letter(),
         }
     }
 

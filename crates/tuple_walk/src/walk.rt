@@ -1,18 +1,18 @@
 //! The walk down from one place for each variable.
 
-ghost use Rattle.std.specs.Prelude.{◌≡◌, ◌-◌, ◌<◌, ◌≤◌, true, map, Some, None, IfNone};
-ghost use Rattle.std.specs.List.{list_any};
+ghost use Rattle.std.specs.Prelude.{◌≡◌, ◌+◌, ◌-◌, ◌<◌, ◌≤◌, IfNone};
 ghost use Rattle.hy_formula.specs.Quantifiers.{Each};
-ghost use Rattle.fin_monitor.specs.Codes.{code_of, joint_letter};
-ghost use Rattle.fin_monitor.specs.Machines.{codes, states_of};
-ghost use Rattle.tuple_walk.specs.Four.{four, letters_in};
-ghost use Rattle.tuple_walk.specs.Places.{taken_of, letter_or, is_letter, IsOpen};
+ghost use Rattle.fin_monitor.specs.Machines.{states_of};
+ghost use Rattle.tuple_walk.specs.Four.{four, letters_in, placed, AreKept};
+ghost use Rattle.tuple_walk.specs.Places.{IsOpen};
 ghost use Rattle.tuple_walk.specs.Searches.{IsSearch, IsSearchBy, IsNarrowed, AreReady, AreSteps, AreStepsBy};
 ghost use Rattle.tuple_walk.specs.Serving.{sought_of};
-ghost use Rattle.tuple_walk.specs.Walks.{AreChosen, IsLast, IsFree, machine_in, places_in, rests_in, wholes_in};
+ghost use Rattle.tuple_walk.specs.Walks.{AreChosen, IsChoice, IsLast, IsFree, machine_in, places_in, rests_in, wholes_at, wholes_in};
 
+use crate::choice::Choice;
 use crate::counted_monitor::CountedMonitor;
 use crate::given::Given;
+use crate::place::Place;
 use crate::places::Places;
 use crate::tuple::Tuple;
 use hy_base::Steps;
@@ -32,10 +32,40 @@ pub(crate) struct Walk<'a, L: Ledger> {
 }
 
 impl<'a, L: Ledger> Walk<'a, L> {
-    /// A tuple from the places with the new trace at one of those where it stands, that is rejected
-    /// from state `q` on.
+    /// A tuple from the spots of the places, with the new trace at one of those where it stands, that
+    /// is rejected from state `q` on.
+    ///
+    /// It is never inlined, so that what it opens stands on the stack only as long as it runs.
     #[cycle(walk)]
-    pub(crate) fn search(
+    #[inline(never)]
+    pub(crate) fn search_left(
+        &self,
+        places: &Places<'a>,
+        given: &Given<'a>,
+        q: u32,
+        steps: &mut Steps<L>,
+    ) -> Option<Tuple>
+        requires some { 1 ≤ (machine_in self.now).variables }
+        requires state { q < states_of (machine_in self.now) }
+        requires ready { AreReady (sought_of given.now) (rests_in self.now places.now) }
+        ensures searched { IsSearch (sought_of given.now) (machine_in self.now) self.now.lengths q 0
+            (rests_in self.now places.now) result }
+        ensures steps { steps.old ≤ steps.new }
+        ensures counted { AreSteps (sought_of given.now) self.now.lengths
+            (rests_in self.now places.now) (steps.new - steps.old) }
+    {
+        // Where one trace alone is left at each place none need be opened.
+        if self.are_alone(places) {
+            return self.follow(places, given, q, steps);
+        }
+        let mut open = places.opened();
+        self.narrow(&mut open, given);
+        self.search(&mut open, given, q, steps)
+    }
+
+    /// As `search_left`, from places at which nothing is taken.
+    #[cycle(walk)]
+    fn search(
         &self,
         places: &mut Places<'a>,
         given: &Given<'a>,
@@ -63,65 +93,40 @@ impl<'a, L: Ledger> Walk<'a, L> {
             Some(tuple) => return Some(tuple),
             None => {}
         }
-        self.choose(places, given, 0, q, steps)
+        let choice = Choice {
+            q,
+            count: 0,
+            code: 0,
+            some_letter: false,
+        };
+        self.choose(places, given, &choice, steps)
     }
 
-    /// As `search`, where what a step takes is chosen at the first `i` places; at least one step.
-    /// Where nothing is found the places are as before.
+    /// As `search`, where a step is chosen at the first places; at least one step. Where nothing is
+    /// found the places are as before but for the one that was to be chosen.
     #[cycle(walk)]
-    #[inline(always)]
     fn choose(
         &self,
         places: &mut Places<'a>,
         given: &Given<'a>,
-        i: usize,
-        q: u32,
+        choice: &Choice,
         steps: &mut Steps<L>,
     ) -> Option<Tuple>
-        requires some { 1 ≤ (machine_in self.now).variables }
-        requires state { q < states_of (machine_in self.now) }
-        requires chosen { AreChosen self.now places.old given.now i }
-        ensures searched { IsSearch (sought_of given.now) (machine_in self.now) self.now.lengths q 1
-            (wholes_in self.now places.old) result }
+        requires within { choice.now.count < (machine_in self.now).variables }
+        requires chosen { AreChosen self.now (four places.old) given.now choice.now.count }
+        requires choice { IsChoice self.now (four places.old) choice.now }
+        ensures searched { IsSearch (sought_of given.now) (machine_in self.now) self.now.lengths
+            choice.now.q 1 (wholes_in self.now places.old) result }
         ensures same { IfNone result (four places.new ≡ four places.old) }
         ensures steps { steps.old ≤ steps.new }
         ensures counted { AreSteps (sought_of given.now) self.now.lengths
             (wholes_in self.now places.old) (steps.new - steps.old) }
     {
-        if i == self.monitor.vars() as usize {
-            if self.some_letter(places) {
-                return self.advance(places, given, q, steps);
-            }
-            return None;
-        }
-        self.choose_at(places, given, i, q, steps)
-    }
-
-    /// As `choose`, at a place. It is apart, so that behind the last place there is no call.
-    #[cycle(walk)]
-    fn choose_at(
-        &self,
-        places: &mut Places<'a>,
-        given: &Given<'a>,
-        i: usize,
-        q: u32,
-        steps: &mut Steps<L>,
-    ) -> Option<Tuple>
-        requires some { 1 ≤ (machine_in self.now).variables }
-        requires state { q < states_of (machine_in self.now) }
-        requires within { i < (machine_in self.now).variables }
-        requires chosen { AreChosen self.now places.old given.now i }
-        ensures searched { IsSearch (sought_of given.now) (machine_in self.now) self.now.lengths q 1
-            (wholes_in self.now places.old) result }
-        ensures same { IfNone result (four places.new ≡ four places.old) }
-        ensures steps { steps.old ≤ steps.new }
-        ensures counted { AreSteps (sought_of given.now) self.now.lengths
-            (wholes_in self.now places.old) (steps.new - steps.old) }
-    {
+        let i = choice.count;
         if self.has_to_come(places, given, i) {
-            return self.choose_given(places, given, i, q, steps);
+            return self.choose_given(places, given, choice, steps);
         }
-        match self.choose_letter(places, given, i, q, steps) {
+        match self.choose_letter(places, given, choice, steps) {
             Some(tuple) => return Some(tuple),
             None => {}
         }
@@ -133,8 +138,7 @@ impl<'a, L: Ledger> Walk<'a, L> {
         let here = places.at(i);
         match self.gap_at(given, i, &here.spot) {
             Some(place) => {
-                places.put(i, &place);
-                let found = self.choose(places, given, i + 1, q, steps);
+                let found = self.choose_with(places, given, choice, &place, steps);
                 places.put(i, &here);
                 found
             }
@@ -144,108 +148,116 @@ impl<'a, L: Ledger> Walk<'a, L> {
 
     /// As `choose`, at a place where the new trace has to come.
     #[cycle(walk)]
+    #[inline(never)]
     fn choose_given(
         &self,
         places: &mut Places<'a>,
         given: &Given<'a>,
-        i: usize,
-        q: u32,
+        choice: &Choice,
         steps: &mut Steps<L>,
     ) -> Option<Tuple>
-        requires some { 1 ≤ (machine_in self.now).variables }
-        requires state { q < states_of (machine_in self.now) }
-        requires last { IsLast self.now places.old given.now i }
-        requires chosen { AreChosen self.now places.old given.now i }
-        ensures searched { IsSearch (sought_of given.now) (machine_in self.now) self.now.lengths q 1
-            (wholes_in self.now places.old) result }
+        requires last { IsLast self.now places.old given.now choice.now.count }
+        requires chosen { AreChosen self.now (four places.old) given.now choice.now.count }
+        requires choice { IsChoice self.now (four places.old) choice.now }
+        ensures searched { IsSearch (sought_of given.now) (machine_in self.now) self.now.lengths
+            choice.now.q 1 (wholes_in self.now places.old) result }
         ensures same { IfNone result (four places.new ≡ four places.old) }
         ensures steps { steps.old ≤ steps.new }
         ensures counted { AreSteps (sought_of given.now) self.now.lengths
             (wholes_in self.now places.old) (steps.new - steps.old) }
     {
-        let here = places.at(i);
+        let here = places.at(choice.count);
         match self.given_place(given, &here.spot) {
             Some(place) => {
-                places.put(i, &place);
-                let found = self.choose(places, given, i + 1, q, steps);
-                places.put(i, &here);
+                let found = self.choose_with(places, given, choice, &place, steps);
+                places.put(choice.count, &here);
                 found
             }
             None => None,
         }
     }
 
-    /// As `choose`, with a letter at place `i`, where the new trace need not come there.
+    /// As `choose`, with a letter, where the new trace need not come at the place.
     #[cycle(walk)]
     fn choose_letter(
         &self,
         places: &mut Places<'a>,
         given: &Given<'a>,
-        i: usize,
-        q: u32,
+        choice: &Choice,
         steps: &mut Steps<L>,
     ) -> Option<Tuple>
-        requires some { 1 ≤ (machine_in self.now).variables }
-        requires state { q < states_of (machine_in self.now) }
-        requires free { IsFree self.now places.old given.now i }
-        requires chosen { AreChosen self.now places.old given.now i }
-        ensures searched { IsSearchBy (sought_of given.now) (machine_in self.now) self.now.lengths q i
-            (letters_in i (four places.old)) (wholes_in self.now places.old) result }
+        requires free { IsFree self.now places.old given.now choice.now.count }
+        requires chosen { AreChosen self.now (four places.old) given.now choice.now.count }
+        requires choice { IsChoice self.now (four places.old) choice.now }
+        ensures searched { IsSearchBy (sought_of given.now) (machine_in self.now) self.now.lengths
+            choice.now.q choice.now.count (letters_in choice.now.count (four places.old))
+            (wholes_in self.now places.old) result }
         ensures same { IfNone result (four places.new ≡ four places.old) }
         ensures steps { steps.old ≤ steps.new }
-        ensures counted { AreStepsBy (sought_of given.now) self.now.lengths i
-            (letters_in i (four places.old)) (wholes_in self.now places.old)
+        ensures counted { AreStepsBy (sought_of given.now) self.now.lengths choice.now.count
+            (letters_in choice.now.count (four places.old)) (wholes_in self.now places.old)
             (steps.new - steps.old) }
     {
-        let here = places.at(i);
+        let here = places.at(choice.count);
         here.spot.letters_differ();
         for k in 0..here.spot.len() {
-            places.put(i, &here.spot.letter(k));
-            match self.choose(places, given, i + 1, q, steps) {
+            match self.choose_with(places, given, choice, &here.spot.letter(k), steps) {
                 Some(tuple) => return Some(tuple),
                 None => {}
             }
         }
-        places.put(i, &here);
+        places.put(choice.count, &here);
         None
     }
 
-    /// As `choose`, where all is chosen, and a letter somewhere.
+    /// As `choose`, with a place that is chosen next. The last one is stepped before anything is put
+    /// there, so that a step to the settled state copies no place.
     #[cycle(walk)]
-    fn advance(
+    #[inline(always)]
+    fn choose_with(
         &self,
-        places: &Places<'a>,
+        places: &mut Places<'a>,
         given: &Given<'a>,
-        q: u32,
+        choice: &Choice,
+        place: &Place<'a>,
         steps: &mut Steps<L>,
     ) -> Option<Tuple>
-        requires some { 1 ≤ (machine_in self.now).variables }
-        requires state { q < states_of (machine_in self.now) }
-        requires letter { list_any is_letter (map taken_of (places_in self.now places.now)) ≡ true }
-        requires chosen { AreChosen self.now places.now given.now (machine_in self.now).variables }
-        ensures searched { IsSearch (sought_of given.now) (machine_in self.now) self.now.lengths q 1
-            (wholes_in self.now places.now) result }
+        requires chosen { AreChosen self.now (placed places.old choice.now.count place.now) given.now
+            (choice.now.count + 1) }
+        requires choice { IsChoice self.now (placed places.old choice.now.count place.now) choice.now }
+        ensures searched { IsSearch (sought_of given.now) (machine_in self.now) self.now.lengths
+            choice.now.q 1 (wholes_at self.now (placed places.old choice.now.count place.now)) result }
+        ensures kept { IfNone result (AreKept choice.now.count places.old places.new) }
         ensures steps { steps.old ≤ steps.new }
         ensures counted { AreSteps (sought_of given.now) self.now.lengths
-            (wholes_in self.now places.now) (steps.new - steps.old) }
+            (wholes_at self.now (placed places.old choice.now.count place.now)) (steps.new - steps.old) }
     {
-        let q = self.monitor.step(q, self.joint(places), steps);
-        // From a settled state on nothing is rejected, so no place need be opened.
+        let code = choice.code | self.monitor.part(choice.count as u8, place.letter());
+        let some_letter = choice.some_letter | place.has_letter();
+        if choice.count + 1 < self.monitor.vars() as usize {
+            places.put(choice.count, place);
+            let next = Choice {
+                q: choice.q,
+                count: choice.count + 1,
+                code,
+                some_letter,
+            };
+            return self.choose(places, given, &next, steps);
+        }
+        if !some_letter {
+            return None;
+        }
+        let q = self.monitor.step(choice.q, code, steps);
+        // From a settled state on nothing is rejected.
         if self.monitor.is_settled(q) {
             return None;
         }
-        let left = given.behind(places);
-        // Where one trace alone is left at each place none need be opened either.
-        if self.are_alone(places) {
-            return self.follow(places, &left, q, steps);
-        }
-        let mut next = places.opened();
-        self.narrow(&mut next, &left);
-        self.search(&mut next, &left, q, steps)
+        places.put(choice.count, place);
+        self.search_left(places, &given.behind(places), q, steps)
     }
 
     /// Leaves the new trace alone where it stands, if that is one place only.
-    pub(crate) fn narrow(&self, places: &mut Places<'a>, given: &Given<'a>)
+    fn narrow(&self, places: &mut Places<'a>, given: &Given<'a>)
         requires { Each IsOpen (places_in self.now places.old) }
         ensures open { Each IsOpen (places_in self.now places.new) }
         ensures narrowed { IsNarrowed (sought_of given.now) (rests_in self.now places.old)
@@ -255,18 +267,5 @@ impl<'a, L: Ledger> Walk<'a, L> {
             Some(i) => places.put(i, &given.place()),
             None => {}
         }
-    }
-
-    /// The code of the letters that are taken.
-    fn joint(&self, places: &Places<'a>) -> u32
-        ensures code { result ≡ code_of (joint_letter (map letter_or (map taken_of
-            (places_in self.now places.now)))) (machine_in self.now).atoms }
-        ensures within { result < codes (machine_in self.now) }
-    {
-        let mut code = 0;
-        for i in 0..self.monitor.vars() {
-            code |= self.monitor.part(i, places.letter(i as usize));
-        }
-        code
     }
 }
