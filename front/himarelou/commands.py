@@ -240,7 +240,7 @@ def main(words: Sequence[str]) -> int:
     """The exit status of a command."""
     for it in (signal.SIGTERM, signal.SIGHUP):
         if signal.getsignal(it) == signal.SIG_DFL:  # nohup ignores one, and so it stays
-            signal.signal(it, lambda *_: signal.raise_signal(signal.SIGINT))
+            signal.signal(it, signal.default_int_handler)  # not by SIGINT, which a script has what it starts with & ignore
     said = parser().parse_args(words)
     try:
         if said.version:

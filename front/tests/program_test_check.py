@@ -160,9 +160,11 @@ class Stopping(Folder):
 
     names = ()
 
-    def stopped(self, folder, count, how=signal.SIGINT):
-        """Stops a check of a folder at its line of this number: the lines up to it, and the status."""
-        process = subprocess.Popen([HIMARELOU, "check", folder, *self.names, "--jobs", "1"], cwd=self.folder, stdout=subprocess.PIPE, text=True)
+    def stopped(self, folder, count, how=signal.SIGINT, interrupts=signal.SIG_DFL):
+        """Stops a check of a folder at its line of this number: the lines up to it, and the status. However these tests were started,
+        the check begins with SIGINT as said."""
+        process = subprocess.Popen([HIMARELOU, "check", folder, *self.names, "--jobs", "1"], cwd=self.folder, stdout=subprocess.PIPE, text=True,
+                                   preexec_fn=lambda: signal.signal(signal.SIGINT, interrupts))
         lines = [process.stdout.readline() for _ in range(count)]
         process.send_signal(how)
         process.communicate(timeout=60)
@@ -205,6 +207,8 @@ class Stopping(Folder):
         self.assertEqual(self.stopped(".", 4), (lines, 130))
         for how in (signal.SIGINT, signal.SIGTERM, signal.SIGHUP):
             self.assertEqual(self.stopped(".", 3, how), (lines[:2] + lines[3:], 130))
+        # as behind & of a script
+        self.assertEqual(self.stopped(".", 3, signal.SIGTERM, signal.SIG_IGN), (lines[:2] + lines[3:], 130))
 
 
 def contents_of(path):
