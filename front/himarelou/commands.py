@@ -9,7 +9,7 @@ import sys
 from collections.abc import Sequence
 from concurrent.futures import FIRST_COMPLETED, ThreadPoolExecutor, wait
 from pathlib import Path
-from typing import NoReturn
+from typing import NoReturn, TextIO
 
 from himarelou.aiger import read_circuit, written
 from himarelou.check import Check, Monitor
@@ -23,7 +23,7 @@ from himarelou.project import Project, find, read_project
 from himarelou.result import Result, Screen, as_json, as_junit, status_of
 from himarelou.runs import failing_part, played, runs_with_strategy
 from himarelou.schema import IDENTIFIER, Design, Question
-from himarelou.store import FOLDER, Store, replaced
+from himarelou.store import FOLDER, Store, handed_out
 from himarelou.statement import in_order_of_ports, ports_of
 from himarelou.task import text_of
 
@@ -41,7 +41,7 @@ def check(said: argparse.Namespace) -> int:
     status = status_of(results) if is_whole else STOPPED
     for file, data in ((said.json, as_json(project.path, results, status)), (said.junit, as_junit(project.path, results))):
         if file:
-            replaced(file, data)
+            handed_out(file, data)
     return status
 
 
@@ -71,10 +71,12 @@ def run_all(circuits: Circuits, questions: Sequence[Question], jobs: int, screen
                     result = future.result()
                     results[result.name] = result
                     screen.ended(result)
-        except (KeyboardInterrupt, Stopped):
+        except BaseException as why:
             is_whole = False
             circuits.runner.stop()
             pool.shutdown(wait=True, cancel_futures=True)
+            if not isinstance(why, (KeyboardInterrupt, Stopped)):
+                raise
     return [results[it.name] for it in questions if it.name in results], is_whole
 
 
@@ -87,9 +89,8 @@ def circuit(said: argparse.Namespace) -> int:
                     parameters=tuple(_pair("--set", it) for it in said.set), include=tuple(said.include), sv=said.sv,
                     clocks=said.clocks, memory=said.memory, start=said.start)
     made = make(Runner(), design, Path())
-    for line in [*made.findings, *(f"assumed: {it}" for it in made.assumptions), made.size()]:
-        print(line, file=sys.stderr)
-    replaced(said.out, written(made.circuit, said.out.suffix == ".aag"))
+    tell([*made.findings, *(f"assumed: {it}" for it in made.assumptions), made.size()])
+    handed_out(said.out, written(made.circuit, said.out.suffix == ".aag"))
     return 0
 
 
@@ -237,26 +238,60 @@ COMMANDS = {
 
 
 def main(words: Sequence[str]) -> int:
-    """The exit status of a command."""
+    """The exit status of a command. What can't be written on standard error is left out, and the status is the same."""
     for it in (signal.SIGTERM, signal.SIGHUP):
         if signal.getsignal(it) == signal.SIG_DFL:  # nohup ignores one, and so it stays
             signal.signal(it, signal.default_int_handler)  # not by SIGINT, which a script has what it starts with & ignore
-    said = parser().parse_args(words)
+    sys.stderr = sys.stderr or open(os.devnull, "w", encoding="utf-8")
+    status, lines = ended(words)
+    tell(lines)
+    return status
+
+
+def ended(words: Sequence[str]) -> tuple[int, list[str]]:
+    """The exit status of a command, and what went wrong in a line, if something did."""
     try:
-        if said.version:
-            print(version())
-            return 0
-        if said.command is None:
-            parser().print_help(sys.stderr)
-            return 2
-        status = said.run(said)
+        if sys.stdout is None:
+            raise Broken("there is no standard output")
+        status = answered(words)
         sys.stdout.flush()
-        return status
+        return status, []
     except Fault as fault:
-        print(f"himarelou: {fault}", file=sys.stderr)
-        return fault.status
+        return fault.status, [f"himarelou: {fault}"]
     except (KeyboardInterrupt, Stopped):
-        return STOPPED
-    except BrokenPipeError:
-        os.dup2(os.open(os.devnull, os.O_WRONLY), sys.stdout.fileno())
-        return 3
+        return STOPPED, []
+    except OSError as error:
+        # who opens a file says so as a fault: what is left is standard output, and a reader that left early wants no line
+        _to_nowhere(sys.stdout)
+        of = shown(str(error.filename)) if error.filename else "standard output"
+        return Broken.status, [] if isinstance(error, BrokenPipeError) else [f"himarelou: {of}: {error.strerror}"]
+
+
+def answered(words: Sequence[str]) -> int:
+    """The exit status of a command, as far as what it prints can be written."""
+    try:
+        said = parser().parse_args(words)
+    except SystemExit as ended:
+        return ended.code
+    if said.version:
+        print(version())
+        return 0
+    if said.command is None:
+        parser().print_help(sys.stderr)
+        return 2
+    return said.run(said)
+
+
+def tell(lines: Sequence[str]) -> None:
+    """Says lines on standard error, where that can be written."""
+    try:
+        for line in lines:
+            print(line, file=sys.stderr)
+        sys.stderr.flush()
+    except OSError:
+        _to_nowhere(sys.stderr)
+
+
+def _to_nowhere(stream: TextIO) -> None:
+    """Has what a stream has not written yet go nowhere, so that the end of the program does not try again."""
+    os.dup2(os.open(os.devnull, os.O_WRONLY), stream.fileno())

@@ -218,6 +218,65 @@ def contents_of(path):
     return b""
 
 
+class Streams(Folder):
+    """What can't be written is said in a line, or left out on standard error; a file that is named is written as what it is."""
+
+    def setUp(self):
+        super().setUp()
+        self.put("cell.aag", CELL)
+        self.put("himarelou.toml", LEAK + 'expect = "violated"\n')
+
+    def ended(self, *words, by=HIMARELOU, **streams):
+        return subprocess.run([by, *words], cwd=self.folder, env={**os.environ, "XDG_STATE_HOME": str(self.folder / "state")},
+                              text=True, check=False, timeout=60, **streams)
+
+    def test_full_output(self):
+        for words in ("check",), ("--version",), ("check", "--help"):
+            with self.subTest(words), open("/dev/full", "wb") as full:
+                ended = self.ended(*words, stdout=full, stderr=subprocess.PIPE)
+                self.assertEqual((ended.returncode, ended.stderr), (3, "himarelou: standard output: No space left on device\n"))
+
+    def test_no_output(self):
+        ended = self.ended("-c", 'exec "$0" check >&-', HIMARELOU, by="sh", capture_output=True)
+        self.assertEqual((ended.returncode, ended.stderr), (3, "himarelou: there is no standard output\n"))
+
+    def test_full_error(self):
+        for words, status in ((), 2), (("check",), 0), (("check", "nothing"), 2), (("check", "--jobs", "0"), 2), (("circuit", "a.v", "b.v"), 2):
+            with self.subTest(words), open("/dev/full", "wb") as full:
+                self.assertEqual(self.ended(*words, stdout=subprocess.DEVNULL, stderr=full).returncode, status)
+
+    def test_reader_that_left(self):
+        ended = self.ended("-c", '{ "$0" check; echo $? >&2; } | :', HIMARELOU, by="sh", capture_output=True)
+        self.assertEqual(ended.stderr, "3\n")
+
+    def test_results_behind_a_link(self):
+        (self.folder / "link.json").symlink_to("real.json")
+        for _ in range(2):
+            self.run_front("check", "--json", "link.json")
+            self.assertTrue((self.folder / "link.json").is_symlink())
+            self.assertEqual(len(json.loads((self.folder / "real.json").read_text())["checks"]), 1)
+
+    def test_results_in_a_pipe(self):
+        os.mkfifo(self.folder / "pipe")
+        reader = os.open(self.folder / "pipe", os.O_RDONLY | os.O_NONBLOCK)
+        self.run_front("check", "--json", "pipe")
+        self.assertEqual(len(json.loads(os.read(reader, 1 << 16))["checks"]), 1)
+        self.assertTrue((self.folder / "pipe").is_fifo())
+        os.close(reader)
+
+    def test_results_on_standard_output(self):
+        """As /dev/stdout, into a pipe and into a file, behind the lines that stand there."""
+        (self.folder / "output").symlink_to("/proc/self/fd/1")
+        printed = self.ended("check", "--json", "output", stdout=subprocess.PIPE).stdout
+        with open(self.folder / "lines", "w", encoding="utf-8") as file:
+            self.ended("check", "--json", "output", stdout=file)
+        for text in (printed, (self.folder / "lines").read_text()):
+            lines, result = text.split("\n{", 1)
+            self.assertTrue(lines.endswith("1 checks: 1 as expected"))
+            self.assertEqual(len(json.loads("{" + result)["checks"]), 1)
+        self.assertTrue((self.folder / "output").is_symlink())
+
+
 class Terminal(Folder):
     def seen(self, **environment):
         """What stands on a terminal."""
