@@ -8,6 +8,7 @@ import re
 from collections.abc import Iterable, Iterator, Sequence
 from dataclasses import dataclass, field
 from pathlib import Path
+from typing import BinaryIO
 
 from himarelou.faults import Broken, Fault
 
@@ -82,11 +83,16 @@ def read_bytes(path: Path) -> bytes:
         raise Fault(f"{path}: a pipe, and no file")
     try:
         with open(path, "rb") as file:
-            data = file.read(MOST_BYTES + 1)
+            return bounded(file, str(path))
     except OSError as error:
         raise Broken(f"{path}: {error.strerror}") from error
+
+
+def bounded(file: BinaryIO, name: str) -> bytes:
+    """The bytes that are left of an open file, where they are not too many."""
+    data = file.read(MOST_BYTES + 1)
     if len(data) > MOST_BYTES:
-        raise Fault(f"{path}: more than {MOST_BYTES} bytes")
+        raise Fault(f"{name}: more than {MOST_BYTES} bytes")
     return data
 
 

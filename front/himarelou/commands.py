@@ -11,7 +11,7 @@ from concurrent.futures import FIRST_COMPLETED, ThreadPoolExecutor, wait
 from pathlib import Path
 from typing import NoReturn, TextIO
 
-from himarelou.aiger import read_circuit, written
+from himarelou.aiger import bounded, read_circuit, written
 from himarelou.check import Check, Monitor
 from himarelou.design import Circuits, make
 from himarelou.faults import Broken, Fault, Stopped, did_you_mean, shown
@@ -104,7 +104,14 @@ def _pair(option: str, word: str, other: bool | None = None) -> tuple[str, str |
 
 def _text_of(file: str) -> Text:
     """The text of a file, of which `-` is standard input."""
-    return Text(file, sys.stdin.buffer.read().decode("utf-8", "surrogateescape")) if file == "-" else text_of(Path(file))
+    if file != "-":
+        return text_of(Path(file))
+    if sys.stdin is None:
+        raise Broken("there is no standard input")
+    try:
+        return Text(file, bounded(sys.stdin.buffer, "standard input").decode("utf-8", "surrogateescape"))
+    except OSError as error:
+        raise Broken(f"standard input: {error.strerror}") from error
 
 
 def formula(said: argparse.Namespace) -> int:

@@ -49,12 +49,12 @@ def read_project(path: Path) -> Project:
             data = file.read(MOST_BYTES + 1)
         if len(data) > MOST_BYTES:
             raise Fault(f"{name}: more than {MOST_BYTES} bytes")
-        text = data.decode()
+        text = data.decode("utf-8-sig")
         return _Reader(Project(path, lines_of(text)), tomllib.loads(text)).read()
     except OSError as error:
         raise Fault(f"{name}: {error.strerror}") from error
     except UnicodeDecodeError as error:
-        raise Fault(f"{name}:{data.count(10, 0, error.start) + 1}: no UTF-8") from error
+        raise Fault(f"{name}:{error.object.count(10, 0, error.start) + 1}: no UTF-8") from error
     except RecursionError as error:
         raise Fault(f"{name}: too many lists or tables in one another") from error
     except ValueError as error:

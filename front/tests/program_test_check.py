@@ -240,6 +240,15 @@ class Streams(Folder):
         ended = self.ended("-c", 'exec "$0" check >&-', HIMARELOU, by="sh", capture_output=True)
         self.assertEqual((ended.returncode, ended.stderr), (3, "himarelou: there is no standard output\n"))
 
+    def test_no_input(self):
+        ended = self.ended("-c", 'exec "$0" formula - <&-', HIMARELOU, by="sh", capture_output=True)
+        self.assertEqual((ended.returncode, ended.stderr), (3, "himarelou: there is no standard input\n"))
+
+    def test_endless_input(self):
+        with open("/dev/zero", "rb") as endless:
+            ended = self.ended("formula", "-", stdin=endless, capture_output=True)
+        self.assertEqual((ended.returncode, ended.stderr), (2, "himarelou: standard input: more than 67108864 bytes\n"))
+
     def test_full_error(self):
         for words, status in ((), 2), (("check",), 0), (("check", "nothing"), 2), (("check", "--jobs", "0"), 2), (("circuit", "a.v", "b.v"), 2):
             with self.subTest(words), open("/dev/full", "wb") as full:

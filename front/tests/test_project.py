@@ -91,6 +91,10 @@ class Reading(Folder):
 
     def test_no_text(self):
         self.refused(b"[circuit]\n\xff", "2: no UTF-8")
+        self.refused(b"\xef\xbb\xbf[circuit]\n\xff", "2: no UTF-8")
+
+    def test_byte_order_mark(self):
+        self.assertEqual(self.read(b"\xef\xbb\xbf" + WHOLE.encode()).questions, self.read(WHOLE).questions)
 
     def test_lines(self):
         text = 'a = """\n[x]\nb = 1\n"""\n[t."q r"] # c\nd.e = [\n  1,\n  2]\nf = "[x]"\n\'g\' = 3\n'
