@@ -1,5 +1,6 @@
 """The subcommands: their words, each with a help of its own, and what they do."""
 import argparse
+import contextlib
 import os
 import re
 import shutil
@@ -269,9 +270,8 @@ def ended(words: Sequence[str]) -> tuple[int, list[str]]:
         return STOPPED, []
     except OSError as error:
         # who opens a file says so as a fault: what is left is standard output, and a reader that left early wants no line
-        _to_nowhere(sys.stdout)
-        of = shown(str(error.filename)) if error.filename else "standard output"
-        return Broken.status, [] if isinstance(error, BrokenPipeError) else [f"himarelou: {of}: {error.strerror}"]
+        of = shown(str(error.filename)) if error.filename else "standard output" if _is_lost(sys.stdout) else ""
+        return Broken.status, [] if isinstance(error, BrokenPipeError) else [": ".join(filter(None, ("himarelou", of, error.strerror)))]
 
 
 def answered(words: Sequence[str]) -> int:
@@ -291,14 +291,17 @@ def answered(words: Sequence[str]) -> int:
 
 def tell(lines: Sequence[str]) -> None:
     """Says lines on standard error, where that can be written."""
-    try:
+    with contextlib.suppress(OSError):
         for line in lines:
             print(line, file=sys.stderr)
-        sys.stderr.flush()
+    _is_lost(sys.stderr)
+
+
+def _is_lost(stream: TextIO) -> bool:
+    """Whether what was printed can't be written; then it goes nowhere, so that the end of the program does not try again."""
+    try:
+        stream.flush()
+        return False
     except OSError:
-        _to_nowhere(sys.stderr)
-
-
-def _to_nowhere(stream: TextIO) -> None:
-    """Has what a stream has not written yet go nowhere, so that the end of the program does not try again."""
-    os.dup2(os.open(os.devnull, os.O_WRONLY), stream.fileno())
+        os.dup2(os.open(os.devnull, os.O_WRONLY), stream.fileno())
+        return True

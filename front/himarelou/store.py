@@ -4,7 +4,6 @@ import hashlib
 import hmac
 import json
 import os
-import stat
 import sys
 import tempfile
 from functools import cache
@@ -69,20 +68,17 @@ def replaced(path: Path, data: bytes) -> None:
 
 def handed_out(path: Path, data: bytes) -> None:
     """Writes a file that the user names: as `replaced`, behind a link, too; standard output, a pipe or a device as it is."""
-    try:
-        there = path.stat()
-    except OSError:
-        there = None
-    if there and os.path.samestat(there, os.fstat(sys.stdout.fileno())):
+    if path.exists() and os.path.samestat(path.stat(), os.fstat(sys.stdout.fileno())):
         sys.stdout.flush()
         sys.stdout.buffer.write(data)
-    elif there and not stat.S_ISREG(there.st_mode):
-        try:
+        return
+    try:
+        if path.exists() and not path.is_file():
             path.write_bytes(data)
-        except OSError as error:
-            raise Broken(f"{shown(str(path))}: {error.strerror}") from error
-    else:
-        replaced(Path(os.path.realpath(path)), data)
+        else:
+            replaced(Path(os.path.realpath(path)), data)
+    except OSError as error:
+        raise Broken(f"{shown(str(path))}: {error.strerror}") from error
 
 
 def _seal(text: str) -> str:

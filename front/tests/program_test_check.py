@@ -226,8 +226,8 @@ class Streams(Folder):
         self.put("cell.aag", CELL)
         self.put("himarelou.toml", LEAK + 'expect = "violated"\n')
 
-    def ended(self, *words, by=HIMARELOU, **streams):
-        return subprocess.run([by, *words], cwd=self.folder, env={**os.environ, "XDG_STATE_HOME": str(self.folder / "state")},
+    def ended(self, *words, by=HIMARELOU, in_folder=None, **streams):
+        return subprocess.run([by, *words], cwd=in_folder or self.folder, env={**os.environ, "XDG_STATE_HOME": str(self.folder / "state")},
                               text=True, check=False, timeout=60, **streams)
 
     def test_full_output(self):
@@ -284,6 +284,13 @@ class Streams(Folder):
             self.assertTrue(lines.endswith("1 checks: 1 as expected"))
             self.assertEqual(len(json.loads("{" + result)["checks"]), 1)
         self.assertTrue((self.folder / "output").is_symlink())
+
+    def test_folder_that_is_gone(self):
+        gone = self.folder / "gone"
+        gone.mkdir()
+        ended = self.ended("-I", "-B", "-S", str(TOP / "front"), "check", "--json", "r.json", str(self.folder), by=sys.executable,
+                           in_folder=gone, preexec_fn=gone.rmdir, capture_output=True)
+        self.assertEqual((ended.returncode, ended.stderr), (3, "himarelou: r.json: No such file or directory\n"))
 
 
 class Terminal(Folder):
