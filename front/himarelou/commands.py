@@ -278,8 +278,8 @@ def answered(words: Sequence[str]) -> int:
     """The exit status of a command, as far as what it prints can be written."""
     try:
         said = parser().parse_args(words)
-    except SystemExit as ended:
-        return ended.code
+    except SystemExit as left:  # a help was shown, or a word is wrong
+        return left.code
     if said.version:
         print(version())
         return 0

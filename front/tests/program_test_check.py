@@ -255,8 +255,11 @@ class Streams(Folder):
                 self.assertEqual(self.ended(*words, stdout=subprocess.DEVNULL, stderr=full).returncode, status)
 
     def test_reader_that_left(self):
-        ended = self.ended("-c", '{ "$0" check; echo $? >&2; } | :', HIMARELOU, by="sh", capture_output=True)
-        self.assertEqual(ended.stderr, "3\n")
+        reader, writer = os.pipe()
+        os.close(reader)
+        ended = self.ended("check", stdout=writer, stderr=subprocess.PIPE)
+        os.close(writer)
+        self.assertEqual((ended.returncode, ended.stderr), (3, ""))
 
     def test_results_behind_a_link(self):
         (self.folder / "link.json").symlink_to("real.json")
